@@ -1,0 +1,60 @@
+-- A test of every row of a table decides a fact of every row of its map.
+use Rattle.std.proofs.Common.{◌≡◌, ◌∙◌, ap, sym, subst, refl, cond, Bool, true, false, List, [], ◌∷◌, Some, None}
+use Rattle.std.specs.Prelude.{◌&&◌}
+use Rattle.std.specs.List.{list_all, AllByRecursion}
+use Rattle.std.specs.List.Sorted.{IsStrictlySortedBy}
+use Rattle.std.specs.Map.{keys_of}
+use Rattle.std.specs.BTreeMap.{is_at}
+use Rattle.std.specs.declared.cmp.Ordering.{Ordering}
+use Rattle.std.specs.declared.cmp.Ordering.TheVariants.{Less}
+use Rattle.std.specs.Ordering.{is_eq}
+use Rattle.std.specs.Cmp.{IsTotalOrder}
+use Rattle.std.specs.FinMap.{from_entries, IsAntisymmetric}
+use Rattle.adm_register.specs.TableRows.{row_at}
+use Rattle.adm_register.proofs.TableMaps.{get_rows}
+use Rattle.adm_register.specs.WellFormed.{AllRows}
+use Rattle.adm_register.proofs.Maps.{tied, same_key, both_true}
+
+not_Some : {A : Type 0} (x : A) → None ≡ Some x → ⊥
+not_Some x e = cc
+
+same_Some : {A : Type 0} (x y : A) → Some x ≡ Some y → x ≡ y
+same_Some x y e = cc
+
+module _ {K V : Type 0} {R : K → K → Ordering} (p : K → V → Bool) where
+  found : IsAntisymmetric R → (rows : List (K × V)) → list_all (λ e. p e.0 e.1) rows ≡ true → (key : K) (row : V) → row_at R rows key ≡ Some row → p key row ≡ true
+  found same [] all key row there = absurd (not_Some row there)
+  found same (e ∷ es) all key row there =
+      let both = both_true _ _ all in
+      elim (is_at (R key) e.0) as (λ b. is_at (R key) e.0 ≡ b → cond b (Some e.1) (row_at R es key) ≡ Some row → p key row ≡ true) [
+        | true ↦ λ tie here. subst (λ k. p k row ≡ true) (sym (same_key same key e.0 tie)) (subst (λ v. p e.0 v ≡ true) (same_Some e.1 row here) both.0)
+        | false ↦ λ tie here. found same es both.1 key row here
+      ] refl there
+
+  -- the test of every row says it of the map
+  pub AllRows-from_list_all : IsTotalOrder R → IsAntisymmetric R → (rows : List (K × V)) → list_all (λ e. p e.0 e.1) rows ≡ true → AllRows (λ key row. p key row ≡ true) (from_entries {R = R} rows)
+  AllRows-from_list_all total same rows all key row there = found same rows all key row (sym (get_rows total rows key) ∙ there)
+
+none_at : {K V : Type 0} (R : K → K → Ordering) (key : K) (rows : List (K × V)) → AllByRecursion (λ other. R key other ≡ Less) (keys_of rows) → row_at R rows key ≡ None
+none_at R key [] above = refl
+none_at R key (e ∷ es) above = ap (λ r. cond (is_eq r) (Some e.1) (row_at R es key)) above.0 ∙ none_at R key es above.1
+
+module _ {K V : Type 0} {R : K → K → Ordering} (p : K → V → Bool) (total : IsTotalOrder R) (same : IsAntisymmetric R) where
+  apart : (first : K) (rows : List (K × V)) → AllByRecursion (λ other. R first other ≡ Less) (keys_of rows) → (key : K) (row : V) → row_at R rows key ≡ Some row → is_at (R key) first ≡ false
+  apart first rows above key row there =
+      elim (is_at (R key) first) as (λ b. is_at (R key) first ≡ b → b ≡ false) [
+        | true ↦ λ tie. absurd (not_Some row (sym (none_at R first rows above) ∙ ap (row_at R rows) (sym (same_key same key first tie)) ∙ there))
+        | false ↦ λ tie. refl
+      ] refl
+
+  passes : (rows : List (K × V)) → IsStrictlySortedBy R (keys_of rows) → ((key : K) (row : V) → row_at R rows key ≡ Some row → p key row ≡ true) → list_all (λ e. p e.0 e.1) rows ≡ true
+  unfolding IsStrictlySortedBy
+  passes [] sorted all = refl
+  passes (e ∷ es) sorted all =
+      let here : p e.0 e.1 ≡ true = all e.0 e.1 (ap (λ b. cond b (Some e.1) (row_at R es e.0)) (tied total e.0)) in
+      let rest : list_all (λ e. p e.0 e.1) es ≡ true = passes es sorted.1 (λ key row there. all key row (ap (λ b. cond b (Some e.1) (row_at R es key)) (apart e.0 es sorted.0 key row there) ∙ there)) in
+      λ i. here i && rest i
+
+  -- and the map of every row
+  pub list_all-from_AllRows : (rows : List (K × V)) → IsStrictlySortedBy R (keys_of rows) → AllRows (λ key row. p key row ≡ true) (from_entries {R = R} rows) → list_all (λ e. p e.0 e.1) rows ≡ true
+  list_all-from_AllRows rows sorted all = passes rows sorted (λ key row there. all key row (get_rows total rows key ∙ there))

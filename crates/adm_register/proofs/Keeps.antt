@@ -1,0 +1,28 @@
+-- Commands keep a register well formed.
+use Rattle.std.proofs.Common.{◌≡◌, refl, cond, Bool, true, false, ℕ, ◌≤◌, ◌<◌, ◌+◌, List, [], ◌∷◌, None, arith}
+use Rattle.std.specs.declared.cmp.Ordering.{Ordering}
+use Rattle.std.specs.Cmp.{IsTotalOrder}
+use Rattle.std.specs.FinMap.{FinMap, insert, empty, len, contains_key, len-empty, len-insert}
+use Rattle.adm_types.specs.Seasons.{SeasonFacts}
+use Rattle.adm_types.specs.declared.rows.School.{School}
+use Rattle.adm_types.specs.declared.commands.Refusal.{Refusal}
+use Rattle.adm_register.specs.State.{code_cmp, only_season}
+use Rattle.adm_register.specs.WellFormed.{WellFormed, SchoolFits}
+use Rattle.adm_register.specs.Tests.{first_failing, AllPass}
+use Rattle.adm_register.proofs.Maps.{AllRows-empty}
+
+pub only_season-WellFormed : (season : SeasonFacts) → WellFormed (only_season season)
+only_season-WellFormed season = record {
+  few_schools = omega (arith, len-empty code_cmp School);
+  schools = AllRows-empty code_cmp SchoolFits;
+}
+
+-- where no test is the first that fails, all pass
+pub all_pass : (tests : List (Bool × Refusal)) → first_failing tests ≡ None → AllPass tests
+all_pass [] e = tt
+all_pass ((true, refusal) ∷ tests) e = (refl, all_pass tests e)
+all_pass ((false, refusal) ∷ tests) e = cc
+
+pub len-insert_room : {K V : Type 0} {R : K → K → Ordering} → IsTotalOrder R → (rows : FinMap R V) (key : K) (row : V) (limit : ℕ) → len rows < limit → len (insert rows key row) ≤ limit
+len-insert_room total rows key row limit room =
+    rw (len-insert total rows key row) (elim (contains_key rows key) as (λ b. cond b (len rows) (len rows + 1) ≤ limit) [ true ↦ omega arith | false ↦ omega arith ])

@@ -1,0 +1,79 @@
+-- What holds of each row of a map, before and after a change of one row.
+use Rattle.std.proofs.Common.{◌≡◌, ◌∙◌, ap, sym, subst, refl, cond, Bool, true, false, ℕ, List, [], ◌∷◌, Some, None}
+use Rattle.std.specs.Prelude.{Option, is_some, not, ◌&&◌}
+use Rattle.std.specs.declared.cmp.Ordering.{Ordering}
+use Rattle.std.specs.declared.cmp.Ordering.TheVariants.{Less, Equal, Greater}
+use Rattle.std.specs.Ordering.{eq_by_cmp, is_eq}
+use Rattle.std.specs.Cmp.{IsTotalOrder, eq_by_cmp_equiv}
+use Rattle.std.specs.FinMap.{FinMap, get, insert, remove, empty, contains_key, get-empty, get-insert, get-remove, IsAntisymmetric, nat_cmp-IsAntisymmetric, slice_cmp-IsAntisymmetric}
+use Rattle.adm_register.specs.State.{code_cmp}
+use Rattle.adm_register.specs.WellFormed.{AllRows}
+
+pub code_cmp-IsAntisymmetric : IsAntisymmetric code_cmp
+code_cmp-IsAntisymmetric = slice_cmp-IsAntisymmetric nat_cmp-IsAntisymmetric
+
+not_Some : {A : Type 0} (x : A) → None ≡ Some x → ⊥
+not_Some x e = cc
+
+same_Some : {A : Type 0} (x y : A) → Some x ≡ Some y → x ≡ y
+same_Some x y e = cc
+
+pub AllRows-empty : {K V : Type 0} (R : K → K → Ordering) (P : K → V → Type 0) → AllRows P (empty {X = V} {R = R})
+AllRows-empty R P key row there = absurd (not_Some row (sym (get-empty R key) ∙ there))
+
+pub AllRows-weaker : {K V : Type 0} {R : K → K → Ordering} (P Q : K → V → Type 0) (rows : FinMap R V) → ((key : K) (row : V) → P key row → Q key row) → AllRows P rows → AllRows Q rows
+AllRows-weaker P Q rows weaker all key row there = weaker key row (all key row there)
+
+is_equal : (r : Ordering) → is_eq r ≡ true → r ≡ Equal
+is_equal Less e = cc
+is_equal Equal e = refl
+is_equal Greater e = cc
+
+-- a key ties with itself
+pub tied : {K : Type 0} {R : K → K → Ordering} → IsTotalOrder R → (key : K) → eq_by_cmp R key key ≡ true
+tied total key = (eq_by_cmp_equiv total).refl key
+
+pub same_key : {K : Type 0} {R : K → K → Ordering} → IsAntisymmetric R → (q key : K) → eq_by_cmp R q key ≡ true → q ≡ key
+same_key {R = R} same q key tie = same q key (is_equal (R q key) tie)
+
+pub not_true : (b : Bool) → not b ≡ true → b ≡ false
+not_true true e = cc
+not_true false e = refl
+
+pub none_of : {A : Type 0} (o : Option A) → not (is_some o) ≡ true → o ≡ None
+none_of None e = refl
+none_of (Some x) e = cc
+
+pub both_true : (a b : Bool) → (a && b) ≡ true → (a ≡ true) × (b ≡ true)
+both_true true b e = (refl, e)
+both_true false b e = cc
+
+module _ {K V : Type 0} {R : K → K → Ordering} (total : IsTotalOrder R) (same : IsAntisymmetric R) where
+  -- the rows of the other keys fit, and so does the new one
+  pub AllRows-insert_others : (P : K → V → Type 0) (rows : FinMap R V) (key : K) (row : V) → ((q : K) (r : V) → get rows q ≡ Some r → eq_by_cmp R q key ≡ false → P q r) → P key row → AllRows P (insert rows key row)
+  AllRows-insert_others P rows key row others fits q r there =
+      elim (eq_by_cmp R q key) as (λ b. eq_by_cmp R q key ≡ b → cond b (Some row) (get rows q) ≡ Some r → P q r) [
+        | true ↦ λ tie here. subst (λ k. P k r) (sym (same q key (is_equal _ tie))) (subst (P key) (same_Some row r here) fits)
+        | false ↦ λ tie here. others q r here tie
+      ] refl (sym (get-insert total rows key row q) ∙ there)
+
+  pub AllRows-insert : (P : K → V → Type 0) (rows : FinMap R V) (key : K) (row : V) → AllRows P rows → P key row → AllRows P (insert rows key row)
+  AllRows-insert P rows key row all fits q r there =
+      elim (eq_by_cmp R q key) as (λ b. eq_by_cmp R q key ≡ b → cond b (Some row) (get rows q) ≡ Some r → P q r) [
+        | true ↦ λ tie here. subst (λ k. P k r) (sym (same q key (is_equal _ tie))) (subst (P key) (same_Some row r here) fits)
+        | false ↦ λ tie here. all q r here
+      ] refl (sym (get-insert total rows key row q) ∙ there)
+
+  pub AllRows-remove : (P : K → V → Type 0) (rows : FinMap R V) (key : K) → AllRows P rows → AllRows P (remove rows key)
+  AllRows-remove P rows key all q r there =
+      elim (eq_by_cmp R q key) as (λ b. cond b None (get rows q) ≡ Some r → P q r) [
+        | true ↦ λ here. absurd (not_Some r here)
+        | false ↦ λ here. all q r here
+      ] (sym (get-remove total rows key q) ∙ there)
+
+module _ {K V : Type 0} {R : K → K → Ordering} (total : IsTotalOrder R) where
+  pub contains_key-insert : (rows : FinMap R V) (key : K) (row : V) (q : K) → contains_key rows q ≡ true → contains_key (insert rows key row) q ≡ true
+  contains_key-insert rows key row q there =
+      ap is_some (get-insert total rows key row q)
+      ∙ elim (eq_by_cmp R q key) as (λ b. is_some (cond b (Some row) (get rows q)) ≡ true) [ true ↦ refl | false ↦ there ]
+

@@ -1,0 +1,8 @@
+use Rattle.std.proofs.Common.{◌∙◌, sym, subst}
+use Rattle.adm_register.specs.WellFormed.{WellFormed}
+use Rattle.adm_register.proofs.KeepsAddSchool.{add_school-keeps}
+use Rattle.adm_register.proofs.registers.Register.add_school.Goals as goal
+
+pub invariant_of-result : goal.invariant_of-result
+invariant_of-result c =
+    subst WellFormed (sym c.in_ok-tables-in-None.ensures) (add_school-keeps c.self.inside.tables c.args.school.now c.self.invariant (sym c.refusal_of.ensures ∙ c.in-None.is))

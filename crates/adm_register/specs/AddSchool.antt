@@ -1,0 +1,21 @@
+-- To add a school.
+use Rattle.std.specs.Prelude.{Bool, not, nat_lt, List, [], ◌∷◌}
+use Rattle.std.specs.FinMap.{insert, len, contains_key}
+use Rattle.adm_types.specs.declared.rows.School.{School}
+use Rattle.adm_types.specs.declared.commands.Refusal.{Refusal}
+use Rattle.adm_types.specs.declared.commands.Refusal.TheVariants.{SchoolKnown, BadText, OutOfRange, RegisterFull}
+use Rattle.adm_types.specs.Limits.{is_name, is_school_in_range}
+use Rattle.adm_register.specs.State.{State}
+
+-- its code is new, its name and its numbers are in their limits, and there are fewer than 200 schools
+unfoldable pub tests : State → School → List (Bool × Refusal)
+tests old school =
+    (not (contains_key old.schools school.code), SchoolKnown)
+    ∷ (is_name school.name, BadText)
+    ∷ (is_school_in_range school, OutOfRange)
+    ∷ (nat_lt (len old.schools) 200, RegisterFull)
+    ∷ []
+
+-- the school is added
+unfoldable pub after : State → School → State
+after old school = record old { schools = insert old.schools school.code school }

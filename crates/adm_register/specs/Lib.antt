@@ -1,0 +1,7 @@
+pub mod TableRows
+pub mod State
+pub mod WellFormed
+pub mod Tests
+pub mod AddSchool
+pub mod Outcome
+pub mod Rows

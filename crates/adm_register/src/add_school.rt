@@ -1,0 +1,31 @@
+// To add a school.
+ghost use Rattle.std.specs.Prelude.{◌≡◌, IfOk};
+ghost use Rattle.adm_register.specs.Tests.{first_failing};
+ghost use Rattle.adm_register.specs.AddSchool.{tests, after};
+
+use crate::tables::Tables;
+use crate::tests_of::first_failing;
+use adm_types::limits::{is_name, is_school_in_range};
+use adm_types::{Refusal, School};
+use std::alloc::{AllocError, Global};
+
+/// Why the school is refused.
+#[tactic(auto, unfolding(crate::specs::AddSchool::tests))]
+pub(crate) fn refusal_of(old: &Tables, school: &School) -> Option<Refusal>
+    ensures { result ≡ first_failing (tests old.now school.now) }
+{
+    first_failing(&[
+        (!old.has_school(school.code), Refusal::SchoolKnown),
+        (is_name(&school.name), Refusal::BadText),
+        (is_school_in_range(school), Refusal::OutOfRange),
+        (old.school_count() < 200, Refusal::RegisterFull),
+    ])
+}
+
+/// The rows with the school.
+#[tactic(auto, unfolding(crate::specs::AddSchool::after))]
+pub(crate) fn after(old: &Tables, alloc: Global, school: &School) -> Result<Tables, AllocError>
+    ensures { IfOk result (λ new. new ≡ after old.now school.now) }
+{
+    old.put_school(alloc, school.clone()?)
+}

@@ -1,0 +1,37 @@
+// Whether rows are a register's.
+ghost use Rattle.std.specs.Prelude.{◌≡◌, ◌↔◌, IsTrue};
+ghost use Rattle.std.specs.List.{list_all};
+ghost use Rattle.std.specs.List.Sorted.{IsStrictlySortedBy};
+ghost use Rattle.std.specs.Map.{keys_of};
+ghost use Rattle.adm_register.specs.State.{code_cmp};
+ghost use Rattle.adm_register.specs.WellFormed.{AllRows, SchoolFits, fits_school};
+
+use crate::tables::Tables;
+use std::collections::BTreeMap;
+use adm_types::limits::{is_name, is_school_in_range};
+use adm_types::{School, SchoolCode};
+
+/// Whether each school is in its limits.
+pub(crate) fn schools_fit(tables: &Tables) -> bool
+    ensures { IsTrue result ↔ AllRows SchoolFits tables.now.schools }
+{
+    match tables.schools() {
+        None => true,
+        Some(schools) => all_schools_fit(schools),
+    }
+}
+
+fn all_schools_fit(schools: &BTreeMap<SchoolCode, School>) -> bool
+    ensures all { result ≡ list_all (λ entry. fits_school entry.0 entry.1) schools.now.entries }
+    ensures ordered { IsStrictlySortedBy code_cmp (keys_of schools.now.entries) }
+{
+    schools
+        .iter()
+        .all(|(code, school)| fits_school(code, school))
+}
+
+fn fits_school(code: &SchoolCode, school: &School) -> bool
+    ensures { result ≡ fits_school code.now school.now }
+{
+    school.code == *code && is_name(&school.name) && is_school_in_range(school)
+}

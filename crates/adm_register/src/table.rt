@@ -1,0 +1,145 @@
+// Tables of rows by their keys. A changed table is a new one, and the old one stays as it was.
+
+
+ghost use Rattle.std.specs.Prelude.{◌≡◌, [], length, IfOk, Some, None, if◌then◌else◌, option_copied};
+ghost use Rattle.std.specs.Map.{remove_entry, keys_of, values_of};
+ghost use Rattle.std.specs.List.Sorted.{IsStrictlySortedBy};
+ghost use Rattle.std.specs.BTreeMap.{insert_entry, is_at};
+ghost use Rattle.adm_register.specs.TableRows.{row_at, rows_in};
+
+use std::alloc::{AllocError, Global};
+use std::collections::BTreeMap;
+use std::marker::Model;
+use std::rc::Rc;
+use adm_types::Exact;
+
+/// Rows by their keys.
+#[derive(Drop)]
+pub(crate) struct Table<K: Ord, V> {
+    rows: Option<Rc<BTreeMap<K, V>>>,
+}
+
+impl<K: Ord, V> Model for Table<K, V> {
+    ghost use Rattle.std.specs.Prelude.{List};
+    ghost use Rattle.std.specs.Coded.{coded_list, coded×};
+    ghost use Rattle.adm_register.specs.TableRows.{rows_of};
+
+    ghost Value = { List (K × V) };
+
+    ghost coded = { coded_list (coded× K.code V.code) };
+
+    ghost view = { λ t. rows_of t.rows };
+}
+
+impl<K: Ord, V> Table<K, V> {
+    /// A table without rows. It takes no memory.
+    pub(crate) fn new() -> Self
+        ensures { result ≡ [] }
+    {
+        Table { rows: None }
+    }
+
+    /// The row of a key.
+    pub(crate) fn get(&self, key: &K) -> Option<&V>
+        ensures { option_copied result ≡ row_at K.cmp self.now key.now }
+    {
+        match &self.rows {
+            Some(rows) => rows.get(key),
+            None => None,
+        }
+    }
+
+    /// The rows as a map; `None` where there are none.
+    pub(crate) fn map(&self) -> Option<&BTreeMap<K, V>>
+        ensures { rows_in result ≡ self.now }
+    {
+        match &self.rows {
+            Some(rows) => Some(&**rows),
+            None => None,
+        }
+    }
+
+    /// How many rows there are. They are in the order of their keys.
+    pub(crate) fn len(&self) -> usize
+        ensures value { result ≡ length self.now }
+        ensures ordered { IsStrictlySortedBy K.cmp (keys_of self.now) }
+    {
+        match &self.rows {
+            Some(rows) => rows.len(),
+            None => 0,
+        }
+    }
+}
+
+impl<K: Ord + Drop, V: Drop> Table<K, V> {
+    /// The same rows again, which the two tables share.
+    pub(crate) fn share(&self) -> Result<Self, AllocError>
+        ensures { IfOk result (λ shared. shared ≡ self.now) }
+    {
+        match &self.rows {
+            Some(rows) => Ok(Table {
+                rows: Some(rows.clone()?),
+            }),
+            None => Ok(Table { rows: None }),
+        }
+    }
+}
+
+impl<K: Ord + Exact, V: Exact> Table<K, V> {
+    /// The rows, in the order of their keys.
+    pub(crate) fn to_vec(&self, alloc: Global) -> Result<Vec<V>, AllocError>
+        ensures rows { IfOk result (λ rows. rows.items ≡ values_of self.now) }
+        ensures ordered { IsStrictlySortedBy K.cmp (keys_of self.now) }
+    {
+        match &self.rows {
+            Some(rows) => copies_of(alloc, rows),
+            None => Ok(Vec::new(alloc)),
+        }
+    }
+
+    /// A table of its own with the same rows.
+    fn own(&self, alloc: Global) -> Result<BTreeMap<K, V>, AllocError>
+        ensures { IfOk result (λ rows. rows.entries ≡ self.now) }
+    {
+        match &self.rows {
+            Some(rows) => (**rows).clone(),
+            None => Ok(BTreeMap::new(alloc)),
+        }
+    }
+
+    /// The table with this row at the key, in place of the one that was there.
+    pub(crate) fn with(&self, alloc: Global, key: K, row: V) -> Result<Self, AllocError>
+        ensures rows { IfOk result (λ table. table ≡ insert_entry K.cmp self.now key row) }
+        ensures found { IfOk result (λ table. (q : K) → row_at K.cmp table q ≡ (if is_at (K.cmp key) q then Some row else row_at K.cmp self.now q)) }
+    {
+        let mut rows = self.own(alloc)?;
+        rows.insert(key, row)?;
+        Ok(Table {
+            rows: Some(Rc::new(alloc, rows)?),
+        })
+    }
+
+    /// The table without the row of the key.
+    pub(crate) fn without(&self, alloc: Global, key: &K) -> Result<Self, AllocError>
+        ensures rows { IfOk result (λ table. table ≡ remove_entry (is_at (K.cmp key.now)) self.now) }
+        ensures found { IfOk result (λ table. (q : K) → row_at K.cmp table q ≡ (if is_at (K.cmp key.now) q then None else row_at K.cmp self.now q)) }
+    {
+        let mut rows = self.own(alloc)?;
+        rows.remove(key);
+        Ok(Table {
+            rows: Some(Rc::new(alloc, rows)?),
+        })
+    }
+}
+
+/// The values of a map, in the order of its keys.
+fn copies_of<K: Ord, V: Exact>(alloc: Global, map: &BTreeMap<K, V>) -> Result<Vec<V>, AllocError>
+    ensures values { IfOk result (λ copies. copies.items ≡ values_of map.now.entries) }
+    ensures ordered { IsStrictlySortedBy K.cmp (keys_of map.now.entries) }
+{
+    let mut copies = Vec::new(alloc);
+    for value in map.values() {
+        copies.push(value.clone()?)?;
+    }
+    Ok(copies)
+}

@@ -1,0 +1,102 @@
+// The rows of a register, of which nothing is asked.
+ghost use Rattle.std.specs.Prelude.{◌≡◌, IfOk, option_copied};
+ghost use Rattle.std.specs.FinMap as map;
+ghost use Rattle.adm_register.specs.Rows.{rows_of};
+ghost use Rattle.adm_register.specs.State.{only_season};
+ghost use Rattle.adm_register.specs.TableRows.{rows_in};
+
+use crate::Rows;
+use crate::table::Table;
+use adm_types::{School, SchoolCode, Season, Seq};
+use std::alloc::{AllocError, Global};
+use std::collections::BTreeMap;
+use std::marker::Model;
+
+/// A season and tables of rows.
+#[derive(Drop)]
+pub(crate) struct Tables {
+    season: Season,
+    schools: Table<SchoolCode, School>,
+}
+
+impl Model for Tables {
+    ghost use Rattle.std.specs.FinMap.{from_entries};
+    ghost use Rattle.adm_register.specs.State.{State, coded_state};
+
+    ghost Value = { State };
+
+    ghost coded = { coded_state };
+
+    ghost view = { λ r. record { season = r.season; schools = from_entries r.schools } };
+}
+
+impl Tables {
+    pub(crate) fn new(season: Season) -> Tables
+        ensures { result ≡ only_season season }
+    {
+        Tables {
+            season,
+            schools: Table::new(),
+        }
+    }
+
+    /// The same rows again, which the two share.
+    pub(crate) fn share(&self) -> Result<Tables, AllocError>
+        ensures { IfOk result (λ shared. shared ≡ self.now) }
+    {
+        Ok(Tables {
+            season: self.season.clone()?,
+            schools: self.schools.share()?,
+        })
+    }
+
+    pub(crate) fn season(&self) -> &Season
+        ensures { result.now ≡ self.now.season }
+    {
+        &self.season
+    }
+
+    pub(crate) fn school(&self, code: SchoolCode) -> Option<&School>
+        ensures { option_copied result ≡ map.get self.now.schools code }
+    {
+        self.schools.get(&code)
+    }
+
+    pub(crate) fn has_school(&self, code: SchoolCode) -> bool
+        ensures { result ≡ map.contains_key self.now.schools code }
+    {
+        self.school(code).is_some()
+    }
+
+    pub(crate) fn school_count(&self) -> usize
+        ensures { result ≡ map.len self.now.schools }
+    {
+        self.schools.len()
+    }
+
+    /// The schools as a map; `None` where there are none.
+    pub(crate) fn schools(&self) -> Option<&BTreeMap<SchoolCode, School>>
+        ensures { map.from_entries (rows_in result) ≡ self.now.schools }
+    {
+        self.schools.map()
+    }
+
+    /// With this school at its code.
+    pub(crate) fn put_school(&self, alloc: Global, school: School) -> Result<Tables, AllocError>
+        ensures { IfOk result (λ new. new ≡ record self.now { schools = map.insert self.now.schools school.code school }) }
+    {
+        let mut new = self.share()?;
+        new.schools = self.schools.with(alloc, school.code, school)?;
+        Ok(new)
+    }
+
+    /// All rows, each table's in the order of its key.
+    pub(crate) fn rows(&self, alloc: Global) -> Result<Rows, AllocError>
+        ensures { IfOk result (λ rows. rows ≡ rows_of self.now) }
+    {
+        Ok(Rows {
+            season: self.season.clone()?,
+            schools: Seq::from_vec(self.schools.to_vec(alloc)?),
+        })
+    }
+}

@@ -1,0 +1,11 @@
+use Rattle.std.proofs.Common.{◌∙◌, ap}
+use Rattle.jiff.specs.Words.{parse_date}
+use Rattle.adm_types.proofs.DayTexts.{if_none_weaker, none_read, none_unread}
+use Rattle.adm_types.proofs.days.Day.parse.Goals as goal
+
+pub returns-in-Ok-clause-none : goal.returns-in-Ok-clause-none
+returns-in-Ok-clause-none c =
+    if_none_weaker _ _ c.written.result c.written.ensures.none (none_read c.args.text.now c.in-Ok.date (c.in-Ok.ensures ∙ ap parse_date c.as_bytes.ensures.value))
+
+pub returns-in-Err-clause-none : goal.returns-in-Err-clause-none
+returns-in-Err-clause-none c = none_unread c.args.text.now c.in-Err.field-0 (c.in-Err.ensures ∙ ap parse_date c.as_bytes.ensures.value)

@@ -1,0 +1,8 @@
+use Rattle.std.proofs.Common.{take}
+use Rattle.adm_types.proofs.Codes.{IsUtf8-from_code, ok_where}
+use Rattle.adm_types.proofs.school_code.SchoolCode.as_str.Goals as goal
+
+pub unwrap-requires : goal.unwrap-requires
+unwrap-requires c =
+    ok_where _ _ _ c.from_utf8.result c.from_utf8.ensures.cases
+    (rw c.from-len.ensures (IsUtf8-from_code (take c.self.inside.len c.self.inside.bytes) c.self.invariant.2))

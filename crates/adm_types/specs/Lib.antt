@@ -1,0 +1,5 @@
+pub mod Code
+pub mod Limits
+pub mod Seasons
+pub mod DayText
+pub mod Fields

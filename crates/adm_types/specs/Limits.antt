@@ -1,0 +1,47 @@
+-- The limits of names, points, schools, children and lists of schools.
+use Rattle.std.specs.Prelude.{ℕ, Bool, true, not, ◌&&◌, List, [], ◌∷◌, length, nat_le, nat_eq}
+use Rattle.std.specs.List.{list_any, list_all}
+use Rattle.std.specs.Str.{chars}
+use Rattle.std.specs.Char.{is_control}
+use Rattle.std.specs.Cmp.Lexicographic.{pointwise}
+use Rattle.adm_types.specs.declared.rows.Point.{Point}
+use Rattle.adm_types.specs.declared.rows.Criterion.{Criterion}
+use Rattle.adm_types.specs.declared.rows.Criterion.TheVariants.{Sibling, Within, Flag}
+use Rattle.adm_types.specs.declared.rows.School.{School}
+use Rattle.adm_types.specs.declared.rows.Child.{Child}
+
+-- a number from low to high
+abbrev pub is_from : ℕ → ℕ → ℕ → Bool
+is_from low high n = nat_le low n && nat_le n high
+
+-- 1 to 80 bytes without control characters
+abbrev pub is_name : List ℕ → Bool
+is_name text = is_from 1 80 (length text) && not (list_any is_control (chars text))
+
+-- each coordinate at most 1,500,000 metres
+abbrev pub is_on_map : Point → Bool
+is_on_map p = nat_le p.east 1500000 && nat_le p.north 1500000
+
+-- a distance from 1 to 2,200,000 metres, a flag from 0 to 15
+abbrev pub is_criterion : Criterion → Bool
+is_criterion Sibling = true
+is_criterion (Within metres) = is_from 1 2200000 metres
+is_criterion (Flag flag) = nat_le flag 15
+
+-- an admission number from 1 to 500, a point on the map, and at most 8 criteria, each in its range
+abbrev pub is_school_in_range : School → Bool
+is_school_in_range s =
+    is_from 1 500 s.pan && is_on_map s.at && nat_le (length s.criteria) 8 && list_all is_criterion s.criteria
+
+-- the code is one of the codes
+abbrev pub is_listed : List (List ℕ) → List ℕ → Bool
+is_listed codes code = list_any (λ other. pointwise nat_eq other code) codes
+
+-- no code comes twice
+abbrev pub is_without_repeat : List (List ℕ) → Bool
+is_without_repeat [] = true
+is_without_repeat (code ∷ codes) = not (is_listed codes code) && is_without_repeat codes
+
+-- a home on the map, and at most 6 siblings' schools without repeat
+abbrev pub is_child_in_range : Child → Bool
+is_child_in_range c = is_on_map c.home && nat_le (length c.siblings) 6 && is_without_repeat c.siblings

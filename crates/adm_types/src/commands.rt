@@ -1,0 +1,55 @@
+// What a register is asked to do, what it answers, and why it refuses.
+use crate::{ChildNo, School};
+
+/// A command to the register.
+#[derive(Drop)]
+pub enum Command {
+    /// Adds a school.
+    AddSchool(School),
+}
+
+/// What an accepted command answers.
+#[derive(Clone, Copy, PartialEq, Eq, Debug)]
+pub enum Reply {
+    /// It was done.
+    Done,
+    /// A round was held: its number from 1, how many children were offered a school that they did
+    /// not hold, how many keep the school that they held, and how many were allotted none.
+    Round {
+        round: u32,
+        offers: u32,
+        kept: u32,
+        unplaced: u32,
+    },
+    /// One vacancy was offered to this child.
+    Filled(ChildNo),
+    /// An import was done: how many rows were added, and how many were known before.
+    Imported { added: u64, known: u64 },
+}
+
+/// Why a command is refused: the first of its tests that fails. The numbers are part of the format.
+#[derive(Clone, Copy, PartialEq, Eq, Debug)]
+pub enum Refusal {
+    UnknownSchool = 1,
+    UnknownChild = 2,
+    SchoolKnown = 3,
+    ChildKnown = 4,
+    BadText = 5,
+    OutOfRange = 6,
+    RegisterFull = 7,
+    BadPreferences = 8,
+    HasPlan = 9,
+    AlreadyApplied = 10,
+    TooSoon = 11,
+    WrongDraw = 12,
+    LotCount = 13,
+    LotsRepeated = 14,
+    NotOffered = 15,
+    NotWaiting = 16,
+    NoVacancy = 17,
+    EmptyList = 18,
+    ListClosed = 19,
+    RowDiffers = 20,
+    AlreadyReminded = 21,
+    NotReminded = 22,
+}

@@ -1,0 +1,25 @@
+// The values of a school-admissions season: what codes, numbers, days, rows and commands are.
+#![tactic(auto)]
+
+mod child_no;
+mod commands;
+mod days;
+mod exact;
+mod fields;
+pub mod limits;
+mod rows;
+mod school_code;
+mod seasons;
+mod seq;
+mod text;
+
+pub use child_no::ChildNo;
+pub use commands::{Command, Refusal, Reply};
+pub use days::Day;
+pub use exact::Exact;
+pub use fields::plain;
+pub use rows::{Application, Child, Criterion, Place, PlaceState, Point, School};
+pub use school_code::SchoolCode;
+pub use seasons::{Phase, Season, SeasonFault};
+pub use seq::Seq;
+pub use text::Text;

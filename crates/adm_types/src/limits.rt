@@ -1,0 +1,83 @@
+// The limits that the tests of commands name.
+ghost use Rattle.std.specs.Prelude.{◌≡◌};
+ghost use Rattle.std.specs.List.{list_any, list_all};
+ghost use Rattle.std.specs.Str.{chars};
+ghost use Rattle.std.specs.Char.{is_control};
+ghost use Rattle.adm_types.specs.Limits.{is_name, is_on_map, is_criterion, is_school_in_range, is_listed, is_without_repeat, is_child_in_range};
+
+use crate::{Child, Criterion, Point, School, SchoolCode, Text};
+
+/// Whether a text has a control character.
+fn has_control(text: &str) -> bool
+    ensures { result ≡ list_any is_control (chars text.now) }
+{
+    text.chars().any(|c| c.is_control())
+}
+
+/// Whether a text has 1 to 80 bytes and no control character.
+pub fn is_name(text: &Text) -> bool
+    ensures { result ≡ is_name text.now }
+{
+    let text = text.as_str();
+    let fits = 1 <= text.len() && text.len() <= 80;
+    fits && !has_control(text)
+}
+
+/// Whether a point lies on the map.
+pub fn is_on_map(point: &Point) -> bool
+    ensures { result ≡ is_on_map point.now }
+{
+    point.east <= 1_500_000 && point.north <= 1_500_000
+}
+
+/// Whether a criterion's number is in its range.
+pub fn is_criterion(criterion: &Criterion) -> bool
+    ensures { result ≡ is_criterion criterion.now }
+{
+    match criterion {
+        Criterion::Sibling => true,
+        Criterion::Within(metres) => 1 <= *metres && *metres <= 2_200_000,
+        Criterion::Flag(flag) => *flag <= 15,
+    }
+}
+
+/// Whether each criterion's number is in its range.
+fn are_criteria(criteria: &[Criterion]) -> bool
+    ensures { result ≡ list_all is_criterion criteria.now }
+{
+    criteria.iter().all(|criterion| is_criterion(criterion))
+}
+
+/// Whether a school's admission number, point and criteria are in their ranges.
+pub fn is_school_in_range(school: &School) -> bool
+    ensures { result ≡ is_school_in_range school.now }
+{
+    let criteria = school.criteria.as_slice();
+    let pan = 1 <= school.pan && school.pan <= 500;
+    pan && is_on_map(&school.at) && criteria.len() <= 8 && are_criteria(criteria)
+}
+
+/// Whether a code is in a list.
+pub fn is_listed(codes: &[SchoolCode], code: &SchoolCode) -> bool
+    ensures { result ≡ is_listed codes.now code.now }
+{
+    codes.iter().any(|other| other == code)
+}
+
+/// Whether no code comes twice.
+pub fn is_without_repeat(codes: &[SchoolCode]) -> bool
+    ensures { result ≡ is_without_repeat codes.now }
+{
+    match codes.split_first() {
+        None => true,
+        Some((code, others)) => !is_listed(others, code) && is_without_repeat(others),
+    }
+}
+
+/// Whether a child's home and its siblings' schools are in their ranges.
+pub fn is_child_in_range(child: &Child) -> bool
+    ensures { result ≡ is_child_in_range child.now }
+{
+    let siblings = child.siblings.as_slice();
+    is_on_map(&child.home) && siblings.len() <= 6 && is_without_repeat(siblings)
+}
