@@ -2,7 +2,7 @@
 use Rattle.std.proofs.Common.{◌≡◌, refl, cond, Bool, true, false, ℕ, ◌≤◌, ◌<◌, ◌+◌, List, [], ◌∷◌, None, arith}
 use Rattle.std.specs.declared.cmp.Ordering.{Ordering}
 use Rattle.std.specs.Cmp.{IsTotalOrder}
-use Rattle.std.specs.FinMap.{FinMap, insert, empty, len, contains_key, len-empty, len-insert}
+use Rattle.std.specs.FinMap.{FinMap, insert, len, contains_key, len-empty, len-insert}
 use Rattle.adm_types.specs.Seasons.{SeasonFacts}
 use Rattle.adm_types.specs.declared.rows.School.{School}
 use Rattle.adm_types.specs.declared.commands.Refusal.{Refusal}

@@ -6,3 +6,6 @@ pub mod KeepsAddSchool
 pub mod Repeats
 pub mod EachRow
 pub mod SchoolChecks
+pub mod Keyed
+pub mod SameRows
+pub mod RowsAgain

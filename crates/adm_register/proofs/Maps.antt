@@ -1,5 +1,5 @@
 -- What holds of each row of a map, before and after a change of one row.
-use Rattle.std.proofs.Common.{◌≡◌, ◌∙◌, ap, sym, subst, refl, cond, Bool, true, false, ℕ, List, [], ◌∷◌, Some, None}
+use Rattle.std.proofs.Common.{◌≡◌, ◌∙◌, ap, sym, subst, refl, cond, Bool, true, false, Some, None}
 use Rattle.std.specs.Prelude.{Option, is_some, not, ◌&&◌}
 use Rattle.std.specs.declared.cmp.Ordering.{Ordering}
 use Rattle.std.specs.declared.cmp.Ordering.TheVariants.{Less, Equal, Greater}
@@ -76,4 +76,3 @@ module _ {K V : Type 0} {R : K → K → Ordering} (total : IsTotalOrder R) wher
   contains_key-insert rows key row q there =
       ap is_some (get-insert total rows key row q)
       ∙ elim (eq_by_cmp R q key) as (λ b. is_some (cond b (Some row) (get rows q)) ≡ true) [ true ↦ refl | false ↦ there ]
-

@@ -4,15 +4,22 @@ ghost use Rattle.std.specs.List.{list_all};
 ghost use Rattle.std.specs.List.Sorted.{IsStrictlySortedBy};
 ghost use Rattle.std.specs.Map.{keys_of};
 ghost use Rattle.adm_register.specs.State.{code_cmp};
-ghost use Rattle.adm_register.specs.WellFormed.{AllRows, SchoolFits, fits_school};
+ghost use Rattle.adm_register.specs.WellFormed.{AllRows, SchoolFits, WellFormed, fits_school};
 
 use crate::tables::Tables;
-use std::collections::BTreeMap;
 use adm_types::limits::{is_name, is_school_in_range};
 use adm_types::{School, SchoolCode};
+use std::collections::BTreeMap;
+
+/// Whether the rows are a register's.
+pub(crate) fn is_well_formed(tables: &Tables) -> bool
+    ensures { IsTrue result ↔ WellFormed tables.now }
+{
+    tables.school_count() <= 200 && schools_fit(tables)
+}
 
 /// Whether each school is in its limits.
-pub(crate) fn schools_fit(tables: &Tables) -> bool
+fn schools_fit(tables: &Tables) -> bool
     ensures { IsTrue result ↔ AllRows SchoolFits tables.now.schools }
 {
     match tables.schools() {

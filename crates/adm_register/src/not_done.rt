@@ -1,6 +1,6 @@
 // Why a command was not done.
-use std::alloc::AllocError;
 use adm_types::Refusal;
+use std::alloc::AllocError;
 
 /// Why a command was not done. The register is as it was.
 #[derive(Clone, Copy, PartialEq, Eq, Debug)]

@@ -1,13 +1,14 @@
 // The register, and the commands that change it.
-ghost use Rattle.std.specs.Prelude.{◌≡◌, IfOk, option_copied};
+ghost use Rattle.std.specs.Prelude.{◌≡◌, Err, IfOk, option_copied};
 ghost use Rattle.std.specs.FinMap as map;
-ghost use Rattle.adm_register.specs.State.{only_season};
+ghost use Rattle.adm_register.specs.State.{State, only_season};
 ghost use Rattle.adm_register.specs.WellFormed.{WellFormed};
 ghost use Rattle.adm_register.specs.Outcome.{Decides};
-ghost use Rattle.adm_register.specs.Rows.{rows_of};
+ghost use Rattle.adm_register.specs.Rows.{rows_of, AreRowsOf};
 
+use crate::checks::is_well_formed;
 use crate::tables::Tables;
-use crate::{NotDone, Rows, add_school};
+use crate::{NotDone, Rows, RowsFault, add_school};
 use adm_types::{Command, Reply, School, SchoolCode, Season};
 use std::alloc::{AllocError, Global};
 use std::marker::Model;
@@ -38,6 +39,23 @@ impl Register {
     {
         Register {
             tables: Tables::new(season),
+        }
+    }
+
+    /// The register of these rows, in whatever order they come. What it costs grows with the rows.
+    pub fn from_rows(alloc: Global, rows: Rows) -> Result<Register, RowsFault>
+        ensures register { IfOk result (λ register. AreRowsOf rows register × WellFormed register) }
+        ensures bad_row { result ≡ Err RowsFault.BadRow → (state : State) → WellFormed state → AreRowsOf rows state → ⊥ }
+    {
+        match Tables::of_rows(alloc, rows)? {
+            Some(tables) => {
+                if is_well_formed(&tables) {
+                    Ok(Register { tables })
+                } else {
+                    Err(RowsFault::BadRow)
+                }
+            }
+            None => Err(RowsFault::BadRow),
         }
     }
 

@@ -1,17 +1,26 @@
 // Tables of rows by their keys. A changed table is a new one, and the old one stays as it was.
-
-
-ghost use Rattle.std.specs.Prelude.{◌≡◌, [], length, IfOk, Some, None, if◌then◌else◌, option_copied};
+ghost use Rattle.std.specs.Prelude.{◌≡◌, [], length, map, IfOk, IfSome, IfNone, Some, None, if◌then◌else◌, option_copied};
 ghost use Rattle.std.specs.Map.{remove_entry, keys_of, values_of};
-ghost use Rattle.std.specs.List.Sorted.{IsStrictlySortedBy};
+ghost use Rattle.std.specs.List.{IsDistinct};
+ghost use Rattle.std.specs.List.Sorted.{IsStrictlySortedBy, IsPermutation};
+ghost use Rattle.std.specs.Ordering.{eq_by_cmp};
 ghost use Rattle.std.specs.BTreeMap.{insert_entry, is_at};
 ghost use Rattle.adm_register.specs.TableRows.{row_at, rows_in};
 
+use adm_types::Exact;
 use std::alloc::{AllocError, Global};
 use std::collections::BTreeMap;
 use std::marker::Model;
 use std::rc::Rc;
-use adm_types::Exact;
+
+/// A row that has its key in it.
+pub(crate) trait Keyed<K> {
+    ghost key: { Self → K };
+
+    /// The key of the row.
+    fn key(&self) -> K
+        ensures { result ≡ key self.now };
+}
 
 /// Rows by their keys.
 #[derive(Drop)]
@@ -129,6 +138,26 @@ impl<K: Ord + Exact, V: Exact> Table<K, V> {
         Ok(Table {
             rows: Some(Rc::new(alloc, rows)?),
         })
+    }
+}
+
+impl<K: Ord + Drop, V: Keyed<K> + Drop> Table<K, V> {
+    /// The table of these rows by their keys; `None` where two rows have one key.
+    pub(crate) fn of_rows(alloc: Global, rows: Vec<V>) -> Result<Option<Self>, AllocError>
+        ensures made { IfOk result (λ made. IfSome made (λ table. IsPermutation rows.items (values_of table) × (map V.key (values_of table) ≡ keys_of table) × IsStrictlySortedBy K.cmp (keys_of table))) }
+        ensures repeated { IfOk result (λ made. IfNone made (IsDistinct (eq_by_cmp K.cmp) (map V.key rows.items) → ⊥)) }
+    {
+        let mut map = BTreeMap::new(alloc);
+        for row in rows {
+            let key = row.key();
+            if map.contains_key(&key) {
+                return Ok(None);
+            }
+            map.insert(key, row)?;
+        }
+        Ok(Some(Table {
+            rows: Some(Rc::new(alloc, map)?),
+        }))
     }
 }
 

@@ -1,16 +1,27 @@
 // The rows of a register, of which nothing is asked.
-ghost use Rattle.std.specs.Prelude.{◌≡◌, IfOk, option_copied};
+ghost use Rattle.std.specs.Prelude.{◌≡◌, IfOk, IfSome, IfNone, option_copied, map as each};
+ghost use Rattle.std.specs.List.{IsDistinct};
+ghost use Rattle.std.specs.Ordering.{eq_by_cmp};
 ghost use Rattle.std.specs.FinMap as map;
-ghost use Rattle.adm_register.specs.Rows.{rows_of};
-ghost use Rattle.adm_register.specs.State.{only_season};
+ghost use Rattle.adm_register.specs.Rows.{rows_of, AreRowsOf};
+ghost use Rattle.adm_register.specs.State.{only_season, code_cmp};
 ghost use Rattle.adm_register.specs.TableRows.{rows_in};
+ghost use Rattle.adm_register.specs.WellFormed.{AllRows};
 
 use crate::Rows;
-use crate::table::Table;
+use crate::table::{Keyed, Table};
 use adm_types::{School, SchoolCode, Season, Seq};
 use std::alloc::{AllocError, Global};
 use std::collections::BTreeMap;
 use std::marker::Model;
+
+impl Keyed<SchoolCode> for School {
+    ghost key = { λ school. school.code };
+
+    fn key(&self) -> SchoolCode {
+        self.code
+    }
+}
 
 /// A season and tables of rows.
 #[derive(Drop)]
@@ -88,6 +99,18 @@ impl Tables {
         let mut new = self.share()?;
         new.schools = self.schools.with(alloc, school.code, school)?;
         Ok(new)
+    }
+
+    /// The tables of these rows; `None` where two rows of a table have one key.
+    pub(crate) fn of_rows(alloc: Global, rows: Rows) -> Result<Option<Tables>, AllocError>
+        ensures made { IfOk result (λ made. IfSome made (λ tables. AreRowsOf rows tables × AllRows (λ code school. school.code ≡ code) tables.schools)) }
+        ensures repeated { IfOk result (λ made. IfNone made (IsDistinct (eq_by_cmp code_cmp) (each (λ school. school.code) rows.schools) → ⊥)) }
+    {
+        let Rows { season, schools } = rows;
+        match Table::of_rows(alloc, schools.into_vec())? {
+            Some(schools) => Ok(Some(Tables { season, schools })),
+            None => Ok(None),
+        }
     }
 
     /// All rows, each table's in the order of its key.

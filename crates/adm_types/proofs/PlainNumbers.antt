@@ -1,6 +1,6 @@
 -- What `parse` reads of a text with the digits of a plain number.
-use Rattle.std.proofs.Common.{◌≡◌, ℕ, ◌<◌, ◌^◌, ap, refl, true, false, cond, List, length, Some, None, Ok, Err, arith, rules}
-use Rattle.std.specs.Prelude.{Option, Result, nat_lt, ◌&&◌, Bool}
+use Rattle.std.proofs.Common.{◌≡◌, ℕ, ◌<◌, ◌^◌, refl, true, false, cond, List, length, Some, None, Ok, Err, arith, rules}
+use Rattle.std.specs.Prelude.{Result, nat_lt, ◌&&◌, Bool}
 use Rattle.std.specs.List.{list_all}
 use Rattle.std.specs.Result.{OkIff, result_ok}
 use Rattle.std.specs.Char.{is_ascii_digit}

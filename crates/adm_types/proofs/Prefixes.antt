@@ -1,7 +1,6 @@
 -- What follows a prefix of a text.
 use Rattle.std.proofs.Common.{◌≡◌, ◌∙◌, ℕ, ap, sym, subst, refl, true, false, List, length, drop, Some, None}
-use Rattle.std.specs.Prelude.{Option, nat_eq}
-
+use Rattle.std.specs.Prelude.{nat_eq}
 use Rattle.std.specs.List.{starts_with}
 use Rattle.std.specs.Str.{IsCharBoundary}
 use Rattle.std.specs.Str.Pattern.{FindsTextPrefix}

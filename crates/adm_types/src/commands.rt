@@ -24,7 +24,10 @@ pub enum Reply {
     /// One vacancy was offered to this child.
     Filled(ChildNo),
     /// An import was done: how many rows were added, and how many were known before.
-    Imported { added: u64, known: u64 },
+    Imported {
+        added: u64,
+        known: u64,
+    },
 }
 
 /// Why a command is refused: the first of its tests that fails. The numbers are part of the format.

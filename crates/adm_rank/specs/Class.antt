@@ -1,0 +1,24 @@
+-- The class of a child at a school (School Admissions Code 2021, section 1; the criteria are this profile's).
+use Rattle.std.specs.Prelude.{ℕ, ◌+◌, ◌/◌, ◌%◌, ◌^◌, ◌==◌, Bool, nat_le, if◌then◌else◌}
+use Rattle.std.specs.List.{position_or_len}
+use Rattle.adm_types.specs.declared.rows.Criterion.{Criterion}
+use Rattle.adm_types.specs.declared.rows.Criterion.TheVariants.{Sibling, Within, Flag}
+use Rattle.adm_types.specs.declared.rows.School.{School}
+use Rattle.adm_types.specs.declared.rows.Child.{Child}
+use Rattle.adm_types.specs.Limits.{is_listed}
+use Rattle.adm_rank.specs.Distance.{distance_of}
+
+-- whether the bit of a flag stands among the flags
+abbrev pub has_flag : ℕ → ℕ → Bool
+has_flag flags flag = flags / 2 ^ flag % 2 == 1
+
+-- whether a child meets a criterion of the school: a sibling there, a home at most so many metres away, a verified flag
+abbrev pub meets : School → Child → Criterion → Bool
+meets school child Sibling = is_listed child.siblings school.code
+meets school child (Within metres) = nat_le (distance_of school.at child.home) metres
+meets school child (Flag flag) = has_flag child.flags flag
+
+-- 0 for a child looked after now or before; else 1 plus the place, from 0, of the first criterion that it meets;
+-- else 1 plus the number of criteria
+unfoldable pub class_of : School → Child → ℕ
+class_of school child = if child.looked_after then 0 else (1 + position_or_len (meets school child) school.criteria)

@@ -1,0 +1,15 @@
+// How a child ranks at a school: its distance, its class, and the key of both with a lot.
+#![tactic(auto)]
+
+mod classes;
+mod distances;
+mod keys;
+mod laws;
+
+pub use classes::class;
+pub use distances::distance;
+pub use keys::{RankKey, key};
+pub use laws::order_is_total;
+
+#[cfg(test)]
+mod tests;

@@ -1,0 +1,5 @@
+pub mod CodeLemmas
+pub mod Each
+pub mod KeyLemmas
+pub mod Known
+pub mod Puts

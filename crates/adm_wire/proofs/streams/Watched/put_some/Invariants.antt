@@ -1,0 +1,8 @@
+use Rattle.std.proofs.Common.{◌≡◌}
+use Rattle.std.specs.Io.KnownBytes.{Keeps}
+use Rattle.adm_wire.proofs.streams.Watched.put_some.Given as goal
+
+abbrev pub invariant-loop : goal.invariant-loop
+invariant-loop g l =
+    Keeps (g.W.Write.contents l.initial.self.stream) (g.W.Write.contents l.self.stream)
+    × (l.self.has_failed ≡ l.initial.self.has_failed)

@@ -1,0 +1,40 @@
+-- What bytes say: a command, or the first fault.
+use Rattle.std.specs.Prelude.{ℕ, List, codes, Option, None, Result, Ok, if◌then◌else◌}
+use Rattle.std.specs.Str.{is_utf8}
+use Rattle.serde_json.specs.Data.{Data}
+use Rattle.serde_json.specs.Find.{as_object}
+use Rattle.serde_json.specs.Read.{read}
+use Rattle.adm_types.specs.declared.commands.Command.{Command}
+use Rattle.adm_types.specs.declared.commands.Command.TheVariants as c
+use Rattle.adm_wire.specs.declared.fault.WireFault.{WireFault}
+use Rattle.adm_wire.specs.declared.fault.WireFault.TheVariants.{NotJson, UnknownCommand, WrongKind}
+use Rattle.adm_wire.specs.declared.name.Name.{Name}
+use Rattle.adm_wire.specs.declared.name.Name.TheVariants as n
+use Rattle.adm_wire.specs.Forms.{school_form}
+use Rattle.adm_wire.specs.Kinds.{a_text}
+use Rattle.adm_wire.specs.Names.{name_of}
+use Rattle.adm_wire.specs.Reading.{◌>>=◌, some_or, field_at}
+
+-- a command of this name
+unfoldable pub form_of : Name → Data → Result Command WireFault
+form_of n.AddSchool d = do
+  s ← school_form d
+  Ok (c.AddSchool s)
+
+-- what JSON data says
+unfoldable pub command_in : Data → Result Command WireFault
+command_in d = do
+  ms ← some_or WrongKind (as_object d)
+  s ← field_at a_text (codes "cmd") d
+  name ← some_or UnknownCommand (name_of s)
+  form_of name d
+
+-- the JSON value that bytes are, where they are a JSON text in UTF-8
+unfoldable pub json_of : List ℕ → Option Data
+json_of bytes = if is_utf8 bytes then read bytes else None
+
+-- what bytes say
+unfoldable pub command_of : List ℕ → Result Command WireFault
+command_of bytes = do
+  d ← some_or NotJson (json_of bytes)
+  command_in d

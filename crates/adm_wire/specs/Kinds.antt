@@ -1,0 +1,65 @@
+-- The kinds of a field's value, and the keys of an object.
+use Rattle.std.specs.Prelude.{ℕ, ◌^◌, ◌&&◌, ◌||◌, List, [], ◌∷◌, length, Bool, nat_lt, nat_le, Option, Some, None, option_and_then, option_map, unwrap_or, Result, Ok, Err, if◌then◌else◌}
+use Rattle.std.specs.Str.{bytes_eq}
+use Rattle.std.specs.List.{list_any, list_all}
+use Rattle.serde_json.specs.Data.{Data, Items, no_items, item, Members, no_members, member}
+use Rattle.serde_json.specs.Find.{as_number, as_u64, as_str, as_array, as_object}
+use Rattle.adm_types.specs.Fields.{criterion_of}
+use Rattle.adm_types.specs.declared.rows.Criterion.{Criterion}
+use Rattle.adm_wire.specs.declared.fault.WireFault.{WireFault}
+use Rattle.adm_wire.specs.declared.fault.WireFault.TheVariants.{ExtraField}
+
+-- ---- kinds of a value
+
+-- a whole number below 2 ^ 32, written without a fraction and an exponent
+abbrev pub a_number : Data → Option ℕ
+a_number d = option_and_then (λ n. if nat_lt n (2 ^ 32) then Some n else None) (option_and_then as_u64 (as_number d))
+
+-- any text
+abbrev pub a_text : Data → Option (List ℕ)
+a_text = as_str
+
+-- a capital letter or a digit
+abbrev pub is_code_byte : ℕ → Bool
+is_code_byte b = (nat_le 65 b && nat_le b 90) || (nat_le 48 b && nat_le b 57)
+
+-- 1 to 8 capital letters and digits
+abbrev pub is_code : List ℕ → Bool
+is_code text = nat_le 1 (length text) && (nat_le (length text) 8 && list_all is_code_byte text)
+
+-- the code that a text is
+unfoldable pub code_of : List ℕ → Option (List ℕ)
+code_of text = if is_code text then Some text else None
+
+-- the code of a school
+abbrev pub a_code : Data → Option (List ℕ)
+a_code d = option_and_then code_of (a_text d)
+
+-- an oversubscription criterion
+abbrev pub a_criterion : Data → Option Criterion
+a_criterion d = option_and_then criterion_of (a_text d)
+
+-- what each item says, where all are of the kind
+abbrev pub each : {A : Type 0} → (Data → Option A) → Items → Option (List A)
+each kind no_items = Some []
+each kind (item d ds) = option_and_then (λ x. option_map (λ xs. x ∷ xs) (each kind ds)) (kind d)
+
+-- a list of values of the kind
+abbrev pub a_list : {A : Type 0} → (Data → Option A) → Data → Option (List A)
+a_list kind d = option_and_then (each kind) (as_array d)
+
+-- ---- the keys of an object
+
+abbrev pub member_keys : Members → List (List ℕ)
+member_keys no_members = []
+member_keys (member k d ms) = k ∷ member_keys ms
+
+abbrev pub keys_of : Data → List (List ℕ)
+keys_of d = unwrap_or (option_map member_keys (as_object d)) []
+
+abbrev pub is_one_of : List (List ℕ) → List ℕ → Bool
+is_one_of known key = list_any (λ k. bytes_eq k key) known
+
+-- this, unless a member has a key that is not known
+abbrev pub only : {A : Type 0} → List (List ℕ) → Data → A → Result A WireFault
+only known d x = if list_all (is_one_of known) (keys_of d) then Ok x else Err ExtraField

@@ -1,0 +1,36 @@
+-- Reading gives a value, or the first fault.
+use Rattle.std.specs.Prelude.{◌≡◌, ℕ, List, Option, Some, None, Result, Ok, Err}
+use Rattle.serde_json.specs.Data.{Data}
+use Rattle.serde_json.specs.Find.{get}
+use Rattle.adm_wire.specs.declared.fault.WireFault.{WireFault}
+use Rattle.adm_wire.specs.declared.fault.WireFault.TheVariants.{MissingField, WrongKind, Memory}
+
+-- the next reading, unless this one found a fault
+infixl 10 ◌>>=◌
+abbrev pub ◌>>=◌ : {A B : Type 0} → Result A WireFault → (A → Result B WireFault) → Result B WireFault
+(Ok x) >>= f = f x
+(Err e) >>= f = Err e
+
+-- the value, or this fault where there is none
+abbrev pub some_or : {A : Type 0} → WireFault → Option A → Result A WireFault
+some_or fault None = Err fault
+some_or fault (Some x) = Ok x
+
+-- the value in a field of this kind
+abbrev pub field_at : {A : Type 0} → (Data → Option A) → List ℕ → Data → Result A WireFault
+field_at kind key d = some_or MissingField (get key d) >>= λ v. some_or WrongKind (kind v)
+
+-- A call that failed for another cause than memory failed as reading does.
+abbrev pub Fails : {A : Type 0} → WireFault → Result A WireFault → Type 0
+Fails Memory read = Unit {0}
+Fails e read = read ≡ Err e
+
+-- What a call returned, seen by view, is what reading gives, unless memory ran out.
+abbrev pub GivesSeen : {A B : Type 0} → (A → B) → Result A WireFault → Result B WireFault → Type 0
+GivesSeen view (Ok x) read = read ≡ Ok (view x)
+GivesSeen view (Err e) read = Fails e read
+
+-- What a call returned is what reading gives, unless memory ran out.
+abbrev pub Gives : {A : Type 0} → Result A WireFault → Result A WireFault → Type 0
+Gives (Ok x) read = read ≡ Ok x
+Gives (Err e) read = Fails e read

@@ -1,0 +1,113 @@
+-- The texts of answers: JSON without spaces, the keys in the order of the alphabet.
+use Rattle.std.specs.Prelude.{ℕ, ◌==◌, List, ◌++◌, codes, decimal, true, if◌then◌else◌}
+use Rattle.serde_json.specs.Data.{Data, object, member, no_members, boolean, number, unsigned}
+use Rattle.adm_wire.specs.declared.fault.WireFault.{WireFault}
+use Rattle.adm_wire.specs.declared.fault.WireFault.TheVariants as f
+use Rattle.adm_types.specs.declared.commands.Reply.{Reply}
+use Rattle.adm_types.specs.declared.commands.Reply.TheVariants.{Done, Round, Filled, Imported}
+use Rattle.adm_types.specs.declared.commands.Refusal.{Refusal}
+use Rattle.adm_types.specs.declared.commands.Refusal.TheVariants as r
+
+-- how many of a round's outcomes were fresh offers, kept places and children without a place
+abbrev pub round_text : ℕ → ℕ → ℕ → ℕ → List ℕ
+round_text round offers kept unplaced =
+    codes "{\"done\":true,\"kept\":" ++ (decimal kept ++ (codes ",\"offers\":" ++ (decimal offers ++ (codes ",\"round\":" ++ (decimal round ++ (codes ",\"unplaced\":" ++ (decimal unplaced ++ codes "}")))))))
+
+-- the same as JSON data, for a private clause
+abbrev pub round_data : ℕ → ℕ → ℕ → ℕ → Data
+round_data round offers kept unplaced =
+    object (member (codes "done") (boolean true) (member (codes "kept") (number (unsigned kept)) (member (codes "offers") (number (unsigned offers)) (member (codes "round") (number (unsigned round)) (member (codes "unplaced") (number (unsigned unplaced)) no_members)))))
+
+-- the child to which a fill offered the vacancy
+abbrev pub filled_text : ℕ → List ℕ
+filled_text child = codes "{\"child\":" ++ (decimal child ++ codes ",\"done\":true}")
+
+-- how many rows of an import were added, and how many were known before
+abbrev pub imported_text : ℕ → ℕ → List ℕ
+imported_text added known = codes "{\"added\":" ++ (decimal added ++ (codes ",\"done\":true,\"known\":" ++ (decimal known ++ codes "}")))
+
+-- what an accepted command answers
+abbrev pub reply_text : Reply → List ℕ
+reply_text Done = codes "{\"done\":true}"
+reply_text (Round round offers kept unplaced) = round_text round offers kept unplaced
+reply_text (Filled child) = filled_text child
+reply_text (Imported added known) = imported_text added known
+
+-- the number of a refusal
+abbrev pub number_of : Refusal → ℕ
+number_of r.UnknownSchool = 1
+number_of r.UnknownChild = 2
+number_of r.SchoolKnown = 3
+number_of r.ChildKnown = 4
+number_of r.BadText = 5
+number_of r.OutOfRange = 6
+number_of r.RegisterFull = 7
+number_of r.BadPreferences = 8
+number_of r.HasPlan = 9
+number_of r.AlreadyApplied = 10
+number_of r.TooSoon = 11
+number_of r.WrongDraw = 12
+number_of r.LotCount = 13
+number_of r.LotsRepeated = 14
+number_of r.NotOffered = 15
+number_of r.NotWaiting = 16
+number_of r.NoVacancy = 17
+number_of r.EmptyList = 18
+number_of r.ListClosed = 19
+number_of r.RowDiffers = 20
+number_of r.AlreadyReminded = 21
+number_of r.NotReminded = 22
+
+-- the name of a refusal
+abbrev pub name_of : Refusal → List ℕ
+name_of r.UnknownSchool = codes "UnknownSchool"
+name_of r.UnknownChild = codes "UnknownChild"
+name_of r.SchoolKnown = codes "SchoolKnown"
+name_of r.ChildKnown = codes "ChildKnown"
+name_of r.BadText = codes "BadText"
+name_of r.OutOfRange = codes "OutOfRange"
+name_of r.RegisterFull = codes "RegisterFull"
+name_of r.BadPreferences = codes "BadPreferences"
+name_of r.HasPlan = codes "HasPlan"
+name_of r.AlreadyApplied = codes "AlreadyApplied"
+name_of r.TooSoon = codes "TooSoon"
+name_of r.WrongDraw = codes "WrongDraw"
+name_of r.LotCount = codes "LotCount"
+name_of r.LotsRepeated = codes "LotsRepeated"
+name_of r.NotOffered = codes "NotOffered"
+name_of r.NotWaiting = codes "NotWaiting"
+name_of r.NoVacancy = codes "NoVacancy"
+name_of r.EmptyList = codes "EmptyList"
+name_of r.ListClosed = codes "ListClosed"
+name_of r.RowDiffers = codes "RowDiffers"
+name_of r.AlreadyReminded = codes "AlreadyReminded"
+name_of r.NotReminded = codes "NotReminded"
+
+-- a name and a number
+abbrev pub named_text : List ℕ → ℕ → List ℕ
+named_text name refused = codes "{\"name\":\"" ++ (name ++ (codes "\",\"refused\":" ++ (decimal refused ++ codes "}")))
+
+-- a name, a number and the row of an import
+abbrev pub row_text : List ℕ → ℕ → ℕ → List ℕ
+row_text name refused row = codes "{\"name\":\"" ++ (name ++ (codes "\",\"refused\":" ++ (decimal refused ++ (codes ",\"row\":" ++ (decimal row ++ codes "}")))))
+
+-- a refusal, with its row; 0 is no row
+abbrev pub refusal_text : Refusal → ℕ → List ℕ
+refusal_text refusal row = if row == 0 then named_text (name_of refusal) (number_of refusal) else row_text (name_of refusal) (number_of refusal) row
+
+-- the text of what memory was wanting for
+abbrev pub memory_text : List ℕ
+memory_text = codes "{\"memory\":true}"
+
+-- the text of a command to a desk that had failed
+abbrev pub failed_text : List ℕ
+failed_text = codes "{\"failed\":true}"
+
+-- faults 1 to 5 by their numbers and names; want of memory has no number
+abbrev pub fault_text : WireFault → List ℕ
+fault_text f.NotJson = codes "{\"fault\":1,\"name\":\"NotJson\"}"
+fault_text f.UnknownCommand = codes "{\"fault\":2,\"name\":\"UnknownCommand\"}"
+fault_text f.MissingField = codes "{\"fault\":3,\"name\":\"MissingField\"}"
+fault_text f.WrongKind = codes "{\"fault\":4,\"name\":\"WrongKind\"}"
+fault_text f.ExtraField = codes "{\"fault\":5,\"name\":\"ExtraField\"}"
+fault_text f.Memory = memory_text

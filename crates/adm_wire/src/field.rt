@@ -1,0 +1,91 @@
+// One field of a command's object, read by its kind.
+ghost use Rattle.std.specs.Prelude.{◌≡◌, Option};
+ghost use Rattle.serde_json.specs.Data.{Data};
+ghost use Rattle.serde_json.specs.View.{view, items_view};
+ghost use Rattle.adm_wire.specs.Kinds as kinds;
+ghost use Rattle.adm_wire.specs.Reading.{Gives, some_or, field_at};
+ghost use Rattle.adm_wire.specs.declared.fault.WireFault.TheVariants.{WrongKind};
+
+use crate::WireFault;
+use adm_types::{Criterion, SchoolCode, Seq, Text};
+use serde_json::Value;
+use std::alloc::Global;
+
+/// A kind of value that a field of a command may have.
+pub(crate) trait Kind: Drop {
+    // What JSON data says, where it is of the kind.
+    ghost kind: { Data → Option Self };
+
+    fn read(alloc: Global, value: &Value) -> Result<Self, WireFault>
+        ensures { Gives result (some_or WrongKind (kind (view value.now))) };
+}
+
+impl Kind for u32 {
+    ghost kind = { kinds.a_number };
+
+    fn read(_alloc: Global, value: &Value) -> Result<u32, WireFault> {
+        let number = value.as_u64().ok_or(WireFault::WrongKind)?;
+        u32::try_from(number).map_err(|_| WireFault::WrongKind)
+    }
+}
+
+impl Kind for SchoolCode {
+    ghost kind = { kinds.a_code };
+
+    fn read(_alloc: Global, value: &Value) -> Result<SchoolCode, WireFault> {
+        let text = value.as_str().ok_or(WireFault::WrongKind)?;
+        code(text).ok_or(WireFault::WrongKind)
+    }
+}
+
+impl Kind for Criterion {
+    ghost kind = { kinds.a_criterion };
+
+    fn read(_alloc: Global, value: &Value) -> Result<Criterion, WireFault> {
+        let text = value.as_str().ok_or(WireFault::WrongKind)?;
+        Criterion::read(text).ok_or(WireFault::WrongKind)
+    }
+}
+
+impl Kind for Text {
+    ghost kind = { kinds.a_text };
+
+    fn read(alloc: Global, value: &Value) -> Result<Text, WireFault> {
+        let text = value.as_str().ok_or(WireFault::WrongKind)?;
+        Ok(Text::from_string(String::from_str(alloc, text)?))
+    }
+}
+
+impl<T: Kind> Kind for Seq<T> {
+    ghost kind = { kinds.a_list T.kind };
+
+    fn read(alloc: Global, value: &Value) -> Result<Seq<T>, WireFault> {
+        let items = value.as_array().ok_or(WireFault::WrongKind)?;
+        read_each(alloc, items.as_slice())
+    }
+}
+
+fn read_each<T: Kind>(alloc: Global, items: &[Value]) -> Result<Seq<T>, WireFault>
+    ensures { Gives result (some_or WrongKind (kinds.each T.kind (items_view items.now))) }
+{
+    let mut list = Vec::new(alloc);
+    for item in items {
+        list.push(T::read(alloc, item)?)?;
+    }
+    Ok(Seq::from_vec(list))
+}
+
+// The code that a text is.
+fn code(text: &str) -> Option<SchoolCode>
+    ensures { result ≡ kinds.code_of text.now }
+{
+    SchoolCode::new(text)
+}
+
+/// The value of a field of an object.
+pub(crate) fn field<T: Kind>(alloc: Global, object: &Value, key: &str) -> Result<T, WireFault>
+    ensures { Gives result (field_at T.kind key.now (view object.now)) }
+{
+    let value = object.get(key).ok_or(WireFault::MissingField)?;
+    T::read(alloc, value)
+}

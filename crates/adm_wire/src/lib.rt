@@ -1,0 +1,18 @@
+// Commands, answers and streams as bytes: what comes in at the desk's door and what goes out.
+//! Commands and answers as JSON, and readers and writers that tell whether they failed.
+#![tactic(auto)]
+
+mod fault;
+mod field;
+mod keys;
+mod name;
+mod read;
+mod streams;
+#[cfg(test)]
+mod tests;
+mod texts;
+
+pub use fault::WireFault;
+pub use read::read_command;
+pub use streams::{Input, Output, ReadFailed, Watched, WriteFailed};
+pub use texts::{failed_text, fault_text, memory_text, refusal_text, reply_text};

@@ -1,0 +1,88 @@
+// The reader of a command: bytes to JSON, JSON to a command.
+ghost use Rattle.std.specs.Prelude.{◌≡◌};
+ghost use Rattle.serde_json.specs.View.{view};
+ghost use Rattle.adm_wire.specs.Commands.{form_of, command_in, command_of, json_of};
+ghost use Rattle.adm_wire.specs.Forms.{school_form};
+ghost use Rattle.adm_wire.specs.Reading.{Gives, GivesSeen, some_or};
+ghost use Rattle.adm_wire.specs.declared.fault.WireFault.TheVariants.{NotJson};
+
+use crate::WireFault;
+use crate::field::field;
+use crate::keys::only;
+use crate::name::{Name, read_name};
+use adm_types::{Command, Point, School, Text};
+use serde_json::Value;
+use std::alloc::Global;
+
+#[tactic(auto, unfolding(crate::specs::Forms::school_form))]
+fn school(alloc: Global, object: &Value) -> Result<School, WireFault>
+    ensures { Gives result (school_form (view object.now)) }
+{
+    let code = field(alloc, object, "school")?;
+    let name = field(alloc, object, "name")?;
+    let pan = field(alloc, object, "pan")?;
+    let east = field(alloc, object, "east")?;
+    let north = field(alloc, object, "north")?;
+    let criteria = field(alloc, object, "criteria")?;
+    only(
+        object,
+        &["cmd", "school", "name", "pan", "east", "north", "criteria"],
+    )?;
+    Ok(School {
+        code,
+        name,
+        pan,
+        at: Point { east, north },
+        criteria,
+    })
+}
+
+#[tactic(auto, unfolding(crate::specs::Commands::form_of))]
+fn command(alloc: Global, name: Name, object: &Value) -> Result<Command, WireFault>
+    ensures { Gives result (form_of name (view object.now)) }
+{
+    match name {
+        Name::AddSchool => Ok(Command::AddSchool(school(alloc, object)?)),
+    }
+}
+
+#[tactic(auto, unfolding(crate::specs::Commands::command_in))]
+fn command_in(alloc: Global, value: &Value) -> Result<Command, WireFault>
+    ensures { Gives result (command_in (view value.now)) }
+{
+    if !value.is_object() {
+        return Err(WireFault::WrongKind);
+    }
+    let text: Text = field(alloc, value, "cmd")?;
+    let name = read_name(text.as_str()).ok_or(WireFault::UnknownCommand)?;
+    command(alloc, name, value)
+}
+
+fn json(alloc: Global, bytes: &[u8]) -> Result<Value, WireFault>
+    ensures { GivesSeen view result (some_or NotJson (json_of bytes.now)) }
+{
+    match Value::from_slice(alloc, bytes) {
+        Ok(value) => Ok(value),
+        Err(error) => {
+            if error.is_memory() {
+                Err(WireFault::Memory)
+            } else {
+                Err(WireFault::NotJson)
+            }
+        }
+    }
+}
+
+/// The command that bytes say, as one JSON object in the written form of the command that its `cmd` names.
+///
+/// The fault is the first in the order of the tests; Memory may come at any point. What a JSON text is, how deep it
+/// may nest (127 levels) and which of two equal keys counts (the last) is as `serde_json` reads a value. It costs what
+/// the length of the bytes costs.
+#[tactic(auto, unfolding(crate::specs::Commands::command_of))]
+pub fn read_command(alloc: Global, bytes: &[u8]) -> Result<Command, WireFault>
+    // The command or the fault is the one that the bytes say, unless memory runs out.
+    ensures { Gives result (command_of bytes.now) }
+{
+    let value = json(alloc, bytes)?;
+    command_in(alloc, &value)
+}

@@ -1,0 +1,4 @@
+// What no clause says: worked examples, and streams that are interrupted or fail.
+mod commands;
+mod streams;
+mod texts;
