@@ -3,7 +3,7 @@ use Rattle.std.proofs.Common.{◌≡◌, refl, cond, Bool, true, false, ℕ, ◌
 use Rattle.std.specs.declared.cmp.Ordering.{Ordering}
 use Rattle.std.specs.Cmp.{IsTotalOrder}
 use Rattle.std.specs.FinMap.{FinMap, insert, len, contains_key, len-empty, len-insert}
-use Rattle.adm_types.specs.Seasons.{SeasonFacts}
+use Rattle.adm_types.specs.Seasons.{SeasonFacts, IsSeason}
 use Rattle.adm_types.specs.declared.rows.School.{School}
 use Rattle.adm_types.specs.declared.commands.Refusal.{Refusal}
 use Rattle.adm_register.specs.State.{code_cmp, only_season}
@@ -11,8 +11,9 @@ use Rattle.adm_register.specs.WellFormed.{WellFormed, SchoolFits}
 use Rattle.adm_register.specs.Tests.{first_failing, AllPass}
 use Rattle.adm_register.proofs.Maps.{AllRows-empty}
 
-pub only_season-WellFormed : (season : SeasonFacts) → WellFormed (only_season season)
-only_season-WellFormed season = record {
+pub only_season-WellFormed : (season : SeasonFacts) → IsSeason season → WellFormed (only_season season)
+only_season-WellFormed season is = record {
+  season = is;
   few_schools = omega (arith, len-empty code_cmp School);
   schools = AllRows-empty code_cmp SchoolFits;
 }

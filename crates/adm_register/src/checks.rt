@@ -4,7 +4,7 @@ ghost use Rattle.std.specs.List.{list_all};
 ghost use Rattle.std.specs.List.Sorted.{IsStrictlySortedBy};
 ghost use Rattle.std.specs.Map.{keys_of};
 ghost use Rattle.adm_register.specs.State.{code_cmp};
-ghost use Rattle.adm_register.specs.WellFormed.{AllRows, SchoolFits, WellFormed, fits_school};
+ghost use Rattle.adm_register.specs.WellFormed.{AllRows, SchoolFits, WellFormed, fits_school, is_school};
 
 use crate::tables::Tables;
 use adm_types::limits::{is_name, is_school_in_range};
@@ -15,6 +15,7 @@ use std::collections::BTreeMap;
 pub(crate) fn is_well_formed(tables: &Tables) -> bool
     ensures { IsTrue result ↔ WellFormed tables.now }
 {
+    let _year = tables.season().year();
     tables.school_count() <= 200 && schools_fit(tables)
 }
 
@@ -40,5 +41,14 @@ fn all_schools_fit(schools: &BTreeMap<SchoolCode, School>) -> bool
 fn fits_school(code: &SchoolCode, school: &School) -> bool
     ensures { result ≡ fits_school code.now school.now }
 {
-    school.code == *code && is_name(&school.name) && is_school_in_range(school)
+    school.code == *code && is_school(school)
+}
+
+/// Whether a school's name and numbers are in their limits.
+pub(crate) fn is_school(school: &School) -> bool
+    ensures { result ≡ is_school school.now }
+{
+    let _code = school.code.as_str();
+    let _text = school.name.as_str();
+    is_name(&school.name) && is_school_in_range(school)
 }

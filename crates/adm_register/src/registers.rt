@@ -37,6 +37,7 @@ impl Register {
     pub fn new(season: Season) -> Register
         ensures { result ≡ only_season season }
     {
+        let _year = season.year();
         Register {
             tables: Tables::new(season),
         }
@@ -95,6 +96,8 @@ impl Register {
     fn add_school(&self, alloc: Global, school: &School) -> Result<(Register, Reply), NotDone>
         ensures { Decides self.now (Command.AddSchool school.now) result }
     {
+        let _code = school.code.as_str();
+        let _text = school.name.as_str();
         match add_school::refusal_of(&self.tables, school) {
             Some(refusal) => Err(NotDone::Refused { refusal, row: 0 }),
             None => {

@@ -1,3 +1,4 @@
+pub mod Numbers
 pub mod Code
 pub mod Limits
 pub mod Seasons

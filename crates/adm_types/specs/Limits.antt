@@ -3,16 +3,13 @@ use Rattle.std.specs.Prelude.{ℕ, Bool, true, not, ◌&&◌, List, [], ◌∷�
 use Rattle.std.specs.List.{list_any, list_all}
 use Rattle.std.specs.Str.{chars}
 use Rattle.std.specs.Char.{is_control}
+pub use Rattle.adm_types.specs.Numbers.{is_from}
 use Rattle.std.specs.Cmp.Lexicographic.{pointwise}
 use Rattle.adm_types.specs.declared.rows.Point.{Point}
 use Rattle.adm_types.specs.declared.rows.Criterion.{Criterion}
 use Rattle.adm_types.specs.declared.rows.Criterion.TheVariants.{Sibling, Within, Flag}
 use Rattle.adm_types.specs.declared.rows.School.{School}
 use Rattle.adm_types.specs.declared.rows.Child.{Child}
-
--- a number from low to high
-abbrev pub is_from : ℕ → ℕ → ℕ → Bool
-is_from low high n = nat_le low n && nat_le n high
 
 -- 1 to 80 bytes without control characters
 abbrev pub is_name : List ℕ → Bool

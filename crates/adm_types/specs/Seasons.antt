@@ -1,5 +1,5 @@
 -- A season and its days, as day numbers.
-use Rattle.std.specs.Prelude.{◌≡◌, ℕ, ◌≤◌, ◌<◌, ◌-◌, ◌==◌, Bool, false, not, ◌&&◌, nat_lt, List, IsTrue, pos, unsigned_abs}
+use Rattle.std.specs.Prelude.{◌≡◌, ℕ, ◌≤◌, ◌<◌, ◌-◌, ◌==◌, Bool, false, not, ◌&&◌, nat_lt, List, length, All, IsTrue, pos, unsigned_abs}
 use Rattle.std.specs.List.{list_any}
 use Rattle.std.specs.List.Sorted.{IsStrictlyIncreasing}
 use Rattle.jiff_core.specs.Calendar.{days_from_civil, weekday_number}
@@ -11,6 +11,17 @@ pub record SeasonFacts : Type 0 where
   pub phase : Phase
   pub year : ℕ
   pub holidays : List ℕ
+
+-- a day from 1990-01-01 to 2110-12-31
+abbrev pub IsDay : ℕ → Type 0
+IsDay day = (7305 ≤ day) × (day ≤ 51498)
+
+-- an entry year from 2000 to 2100, and at most 40 holidays, in rising order and each once
+pub record IsSeason (season : SeasonFacts) : Type 0 where
+  pub year : (2000 ≤ season.year) × (season.year ≤ 2100)
+  pub few : length season.holidays ≤ 40
+  pub rising : IsStrictlyIncreasing season.holidays
+  pub days : All IsDay season.holidays
 
 -- the number of the day, counted from 1970-01-01
 abbrev pub day_number : ℕ → ℕ → ℕ → ℕ

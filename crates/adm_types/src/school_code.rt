@@ -1,9 +1,9 @@
 // The code of a school.
-ghost use Rattle.std.specs.Prelude.{◌≡◌, ◌↔◌, IsSome, IfSome, Some, nat_eq, refl};
+ghost use Rattle.std.specs.Prelude.{◌≡◌, ◌↔◌, IsTrue, IsSome, IfSome, Some, nat_eq, refl};
 ghost use Rattle.std.specs.Ordering.{nat_cmp};
 ghost use Rattle.std.specs.Cmp.{on_equiv, on_total, on_po, on_per, partial_equiv_from_equiv};
 ghost use Rattle.std.specs.Cmp.Lexicographic.{pointwise, slice_cmp, nat_list_eq_equiv, nat_list_cmp_total, texts_po, texts_ties};
-ghost use Rattle.adm_types.specs.Code.{IsCode};
+ghost use Rattle.adm_types.specs.Code.{IsCode, is_code};
 
 use std::cmp::Ordering;
 use std::marker::Model;
@@ -61,6 +61,7 @@ impl SchoolCode {
     pub fn as_str(&self) -> &str
         ensures value { result.now ≡ self.now }
         ensures code { IsCode self.now }
+        ensures tested { IsTrue (is_code self.now) }
     {
         let len = usize::from(self.len);
         str::from_utf8(&self.bytes[..len]).unwrap()

@@ -3,9 +3,9 @@ ghost use Rattle.std.specs.Prelude.{◌≡◌, ◌≤◌, ◌+◌, ◌*◌, ◌<
 ghost use Rattle.adm_types.specs.Seasons.{closing, lists_end, day_number};
 ghost use Rattle.std.specs.Ordering.{nat_cmp};
 ghost use Rattle.std.specs.BTreeSet.{IsOrdered};
-ghost use Rattle.std.specs.Prelude.{pos, ◌==◌, ◌&&◌, nat_lt, length, false, Err};
+ghost use Rattle.std.specs.Prelude.{pos, ◌==◌, ◌&&◌, nat_lt, length, All, false, Err};
 ghost use Rattle.adm_types.specs.Limits.{is_from};
-ghost use Rattle.adm_types.specs.Seasons.{IsRising};
+ghost use Rattle.adm_types.specs.Seasons.{IsRising, IsSeason, IsDay};
 ghost use Rattle.std.specs.List.{list_any};
 ghost use Rattle.adm_types.specs.Seasons.{national_day_of, is_working_day, IsOfferDay};
 ghost use Rattle.jiff_core.specs.Calendar.{days_in_month};
@@ -32,14 +32,13 @@ pub struct Season {
 }
 
 impl Model for Season {
-    ghost use Rattle.std.specs.Prelude.{◌≤◌, length};
-    ghost use Rattle.adm_types.specs.Seasons.{SeasonFacts};
+    ghost use Rattle.adm_types.specs.Seasons.{SeasonFacts, IsSeason};
 
     ghost Value = { SeasonFacts };
 
     ghost view = { λ s. record { phase = s.phase; year = s.year; holidays = s.holidays } };
 
-    ghost invariant = { λ s. (2000 ≤ s.year) × (s.year ≤ 2100) × (length s.holidays ≤ 40) };
+    ghost invariant = { λ s. IsSeason (record { phase = s.phase; year = s.year; holidays = s.holidays }) };
 }
 
 impl Clone for Season {
@@ -110,13 +109,14 @@ impl Season {
 
     pub fn year(&self) -> u32
         ensures value { result ≡ self.now.year }
-        ensures in_range { (2000 ≤ self.now.year) × (self.now.year ≤ 2100) }
+        ensures season { IsSeason self.now }
     {
         u32::from(self.year)
     }
 
     pub fn holidays(&self) -> &[Day]
-        ensures { result.now ≡ self.now.holidays }
+        ensures value { result.now ≡ self.now.holidays }
+        ensures season { IsSeason self.now }
     {
         self.holidays.as_slice()
     }
@@ -196,9 +196,11 @@ fn day_of(year: u16, month: u8, day: u8) -> Day
 fn rising(alloc: Global, days: &[Day]) -> Result<Seq<Day>, AllocError>
     ensures rising { IfOk result (λ list. IsRising days.now list) }
     ensures fewer { IfOk result (λ list. length list ≤ length days.now) }
+    ensures days { IfOk result (All IsDay) }
 {
     let mut set = BTreeSet::new(alloc);
     for day in days {
+        let _number = day.number();
         set.insert(*day)?;
     }
     Ok(Seq::from_vec(keys_of(alloc, &set)?))

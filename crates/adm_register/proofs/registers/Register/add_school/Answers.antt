@@ -5,4 +5,4 @@ use Rattle.adm_register.proofs.registers.Register.add_school.Goals as goal
 
 pub invariant_of-result : goal.invariant_of-result
 invariant_of-result c =
-    subst WellFormed (sym c.in_ok-tables-in-None.ensures) (add_school-keeps c.self.inside.tables c.args.school.now c.self.invariant (sym c.refusal_of.ensures ∙ c.in-None.is))
+    subst WellFormed (sym c.in_ok-tables-in-None.ensures) (add_school-keeps c.self.inside.tables c.args.school.now c.as_str-code.ensures.tested c.as_str-text.ensures.text c.self.invariant (sym c.refusal_of.ensures ∙ c.in-None.is))

@@ -9,7 +9,7 @@ pub loop-day-init : goal.loop-day-init
 loop-day-init c =
     let value = c.national_day-day.ensures.value in
     let upper = c.national_day-day.ensures.upper in
-    let few : length c.args.self.now.holidays ≤ 40 = subst (λ s. length s.holidays ≤ 40) c.self.view_is c.self.invariant.2 in
+    let few : length c.args.self.now.holidays ≤ 40 = subst (λ s. length s.holidays ≤ 40) c.self.view_is c.self.invariant.few in
     let wait = wait_left-first c.args.self.now.holidays c.national_day-day.result few in
     record { from = omega (arith, value); passed = λ earlier from before. absurd (omega (arith, value, from, before)); near = omega (arith, upper, wait) }
 

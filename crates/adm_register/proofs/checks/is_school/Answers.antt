@@ -1,0 +1,11 @@
+use Rattle.std.proofs.Common.{◌≡◌, ◌∙◌, sym, refl, true}
+use Rattle.std.specs.Str.{is_utf8}
+use Rattle.adm_types.specs.Limits.{is_name}
+use Rattle.adm_register.proofs.checks.is_school.Goals as goal
+
+pub returns-then-is_name : goal.returns-then-is_name
+returns-then-is_name c =
+    let code = c.as_str-code.ensures.tested in
+    let text = c.as_str-text.ensures.text in
+    let name : is_name c.args.school.now.name ≡ true = sym c.is_name.ensures ∙ c.if-is_name.true in
+    rw (code, text, name) c.is_school_in_range.ensures
