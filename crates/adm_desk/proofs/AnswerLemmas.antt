@@ -1,0 +1,139 @@
+-- Lines answered one after another.
+use Rattle.std.proofs.Common.{◌≡◌, ℕ, zero, suc, cond, ◌+◌, ◌-◌, ◌||◌, List, [], ◌∷◌, ◌++◌, length, take, drop, Option, Bool, true, false, refl, sym, ap, ◌∙◌, append_assoc, arith, count_by, subst, length-append}
+use Rattle.std.proofs.lemmas.List.{append-nil, take-append-drop}
+use Rattle.std.proofs.lemmas.List.Folds.{list_any-append}
+use Rattle.std.proofs.lemmas.Grind.{flat_map-append}
+use Rattle.std.proofs.lemmas.List.Sums.{sum_by-append}
+use Rattle.std.proofs.Math.Seq.{take-append-add, drop-append-add, take-length}
+use Rattle.adm_types.specs.declared.commands.Command.{Command}
+use Rattle.adm_desk.specs.declared.answer.Answer.{Answer}
+use Rattle.adm_desk.specs.declared.answer.LineAnswer.{LineAnswer}
+use Rattle.adm_desk.specs.declared.run.Run.{Run}
+use Rattle.adm_desk.specs.Lines.{AnswersLines, line_text, text_of, is_done, is_refused, is_failed}
+use Rattle.adm_desk.specs.Written.{Answered, Stopped, Counts, counted, IsBeginning, Takes, Breaks, joined, IsPlain}
+use Rattle.adm_desk.proofs.Known.{Appends-then, Appends-nothing}
+use Rattle.adm_desk.proofs.CutLemmas.{Cuts-then, Cuts-nothing, whole-then, All-append}
+
+AnswersLines-append : {D : Type 0} (step : D → Command → Answer → D → Type 0) (old mid new : D) (ls ms : List (List ℕ)) (xs ys : List LineAnswer)
+    → AnswersLines step old ls xs mid → AnswersLines step mid ms ys new → AnswersLines step old (ls ++ ms) (xs ++ ys) new
+AnswersLines-append {D} step old mid new [] ms [] ys p q = let P : D → Type 0 = λ h. AnswersLines step h ms ys new in subst P p q
+AnswersLines-append step old mid new [] ms (x ∷ xs) ys p q = absurd p
+AnswersLines-append step old mid new (l ∷ ls) ms [] ys p q = absurd p
+AnswersLines-append step old mid new (l ∷ ls) ms (x ∷ xs) ys p q = (p.0, p.1, AnswersLines-append step p.0 mid new ls ms xs ys p.2 q)
+
+pub text_of-append : (xs ys : List LineAnswer) → text_of (xs ++ ys) ≡ text_of xs ++ text_of ys
+text_of-append xs ys = flat_map-append (λ a. line_text a ++ 10 ∷ []) xs ys
+
+count_by-append : {X : Type 0} (p : X → Bool) (xs ys : List X) → count_by p (xs ++ ys) ≡ count_by p xs + count_by p ys
+count_by-append p xs ys = sum_by-append (λ x. cond (p x) 1 0) xs ys
+
+counted-then : (a b c m n : ℕ) → b ≡ counted a m → c ≡ counted b n → c ≡ counted a (m + n)
+counted-then a b c m n p q = omega arith
+
+or-then : (a b c p q : Bool) → b ≡ (a || p) → c ≡ (b || q) → c ≡ (a || (p || q))
+or-then true b c p q e f = rw (f, e) refl
+or-then false b c p q e f = rw (f, e) refl
+
+Counts-then : (a b c : Run) (xs ys : List LineAnswer) → Counts a b xs → Counts b c ys → Counts a c (xs ++ ys)
+Counts-then a b c xs ys p q = record {
+  done = rw (count_by-append is_done xs ys) (counted-then a.done b.done c.done _ _ p.done q.done);
+  refused = rw (count_by-append is_refused xs ys) (counted-then a.refused b.refused c.refused _ _ p.refused q.refused);
+  failed = rw (list_any-append is_failed xs ys) (or-then a.failed b.failed c.failed _ _ p.failed q.failed);
+}
+
+pub Answered-then : {D : Type 0} (step : D → Command → Answer → D → Type 0) (old mid new : D) (u v w : Option (List ℕ)) (a b c : Run) (ls ms : List (List ℕ))
+    → Answered step old mid u v a b ls → Answered step mid new v w b c ms → Answered step old new u w a c (ls ++ ms)
+Answered-then step old mid new u v w a b c ls ms p q = record {
+  answers = p.answers ++ q.answers;
+  answered = AnswersLines-append step old mid new ls ms p.answers q.answers p.answered q.answered;
+  written = rw (text_of-append p.answers q.answers) (Appends-then u v w _ _ p.written q.written);
+  counted = Counts-then a b c p.answers q.answers p.counted q.counted;
+}
+
+whole_beginning : (xs : List LineAnswer) → IsBeginning xs (text_of xs)
+whole_beginning xs =
+    let k = length xs - 1 in (
+      length (text_of (drop k xs)),
+      rw (take-length (text_of (drop k xs))) (ap text_of (sym (take-append-drop k xs)) ∙ text_of-append (take k xs) (drop k xs)),
+    )
+
+take-nil : (n : ℕ) → take n (text_of []) ≡ []
+take-nil zero = refl
+take-nil (suc n) = refl
+
+after_front : (xs ys : List LineAnswer) (k n : ℕ) (text : List ℕ) → text ≡ text_of (take k ys) ++ take n (text_of (drop k ys))
+    → text_of xs ++ text ≡ text_of (take (length xs + k) (xs ++ ys)) ++ take n (text_of (drop (length xs + k) (xs ++ ys)))
+after_front xs ys k n text e =
+    rw (e, take-append-add xs ys k, drop-append-add xs ys k, text_of-append xs (take k ys))
+    (sym (append_assoc (text_of xs) (text_of (take k ys)) (take n (text_of (drop k ys)))))
+
+later_beginning : (xs ys : List LineAnswer) (text : List ℕ) → IsBeginning ys text → IsBeginning (xs ++ ys) (text_of xs ++ text)
+later_beginning xs [] text h =
+    let none : text ≡ [] = h.1 ∙ take-nil h.0 in
+    rw (append-nil xs, none, append-nil (text_of xs)) (whole_beginning xs)
+later_beginning xs (y ∷ ys) text h =
+    let same : length (xs ++ y ∷ ys) - 1 ≡ length xs + (length (y ∷ ys) - 1) = omega (arith, length-append xs (y ∷ ys)) in
+    (h.0, rw same (after_front xs (y ∷ ys) (length (y ∷ ys) - 1) h.0 text h.1))
+
+pub Answered-stopped : {D : Type 0} (step : D → Command → Answer → D → Type 0) (old mid new : D) (u v w : Option (List ℕ)) (a b : Run) (ls ms : List (List ℕ))
+    → Answered step old mid u v a b ls → Stopped step mid new v w ms → Stopped step old new u w (ls ++ ms)
+Answered-stopped step old mid new u v w a b ls ms p q = record {
+  answers = p.answers ++ q.answers;
+  text = text_of p.answers ++ q.text;
+  answered = AnswersLines-append step old mid new ls ms p.answers q.answers p.answered q.answered;
+  beginning = later_beginning p.answers q.answers q.text q.beginning;
+  written = Appends-then u v w _ _ p.written q.written;
+}
+
+pub Answered-nothing : {D : Type 0} (step : D → Command → Answer → D → Type 0) (h : D) (w : Option (List ℕ)) (run : Run) → Answered step h h w w run run []
+Answered-nothing step h w run = record {
+  answers = [];
+  answered = refl;
+  written = Appends-nothing w;
+  counted = record { done = omega arith; refused = omega arith; failed = or_false run.failed };
+}
+  where
+    or_false : (b : Bool) → b ≡ (b || false)
+    or_false true = refl
+    or_false false = refl
+
+pub Stopped-nothing : {D : Type 0} (step : D → Command → Answer → D → Type 0) (h : D) (w : Option (List ℕ)) → Stopped step h h w w []
+Stopped-nothing step h w = record {
+  answers = [];
+  text = [];
+  answered = refl;
+  beginning = (0, refl);
+  written = Appends-nothing w;
+}
+
+pub Takes-nothing : {D : Type 0} (step : D → Command → Answer → D → Type 0) (h : D) (w : Option (List ℕ)) (run : Run) (pending : List ℕ) → Takes step h h w w run run pending pending []
+Takes-nothing step h w run pending = record { lines = []; cut = Cuts-nothing pending; answered = Answered-nothing step h w run }
+
+pub Takes-then : {D : Type 0} (step : D → Command → Answer → D → Type 0) (old mid new : D) (u v w : Option (List ℕ)) (a b c : Run) (p q r xs ys : List ℕ)
+    → Takes step old mid u v a b p q xs → Takes step mid new v w b c q r ys → Takes step old new u w a c p r (xs ++ ys)
+Takes-then step old mid new u v w a b c p q r xs ys first next = record {
+  lines = first.lines ++ next.lines;
+  cut = Cuts-then p xs q ys r first.lines next.lines first.cut next.cut;
+  answered = Answered-then step old mid new u v w a b c first.lines next.lines first.answered next.answered;
+}
+
+pub Takes-breaks : {D : Type 0} (step : D → Command → Answer → D → Type 0) (old mid new : D) (u v w : Option (List ℕ)) (a b : Run) (p q xs ys : List ℕ)
+    → Takes step old mid u v a b p q xs → Breaks step mid new v w q ys → Breaks step old new u w p (xs ++ ys)
+Takes-breaks step old mid new u v w a b p q xs ys first next = record {
+  lines = first.lines ++ next.lines;
+  more = next.more;
+  whole = whole-then p xs q ys next.more first.lines next.lines first.cut.whole next.whole;
+  plain = λ plain. let before = first.cut.plain plain in All-append IsPlain first.lines next.lines before.0 (next.plain before.1);
+  stopped = Answered-stopped step old mid new u v w a b first.lines next.lines first.answered next.stopped;
+}
+
+-- bytes that were not taken lie behind
+pub Breaks-longer : {D : Type 0} (step : D → Command → Answer → D → Type 0) (old new : D) (u v : Option (List ℕ)) (p xs ys : List ℕ)
+    → Breaks step old new u v p xs → Breaks step old new u v p (xs ++ ys)
+Breaks-longer step old new u v p xs ys b = record {
+  lines = b.lines;
+  more = b.more ++ ys;
+  whole = sym (append_assoc p xs ys) ∙ (ap (λ zs. zs ++ ys) b.whole ∙ append_assoc (joined b.lines) b.more ys);
+  plain = b.plain;
+  stopped = b.stopped;
+}

@@ -1,0 +1,5 @@
+pub mod AnswerLemmas
+pub mod CutLemmas
+pub mod Known
+pub mod RunLemmas
+pub mod Runs

@@ -1,0 +1,22 @@
+use Rattle.std.proofs.Common.{[], ◌∷◌, refl, rules, ◌++◌, ◌≡◌}
+use Rattle.adm_desk.proofs.CutLemmas.{Cuts-byte}
+use Rattle.adm_desk.proofs.AnswerLemmas.{Answered-nothing, Stopped-nothing}
+use Rattle.adm_desk.proofs.lines.take_byte.Goals as goal
+
+pub returns-then-is_ok-clause-bytes : goal.returns-then-is_ok-clause-bytes
+returns-then-is_ok-clause-bytes g c =
+    let items : c.push.new.self.items ≡ c.args.pending.now.items ++ c.args.byte ∷ [] = search rules in
+    rw items record {
+      lines = [];
+      cut = Cuts-byte c.args.pending.now.items c.args.byte c.if-byte-eq10.false;
+      answered = Answered-nothing g.H.Handler.step _ _ _;
+    }
+
+pub returns-else-is_ok-clause-bytes : goal.returns-else-is_ok-clause-bytes
+returns-else-is_ok-clause-bytes g c = record {
+  lines = [];
+  more = c.args.pending.now.items ++ c.args.byte ∷ [];
+  whole = refl;
+  plain = λ _. tt;
+  stopped = Stopped-nothing g.H.Handler.step _ _;
+}

@@ -1,0 +1,8 @@
+use Rattle.std.proofs.Common.{take}
+use Rattle.adm_desk.specs.Written.{Takes}
+use Rattle.adm_desk.proofs.lines.take_bytes.Given as goal
+
+abbrev pub invariant-loop-byte : goal.invariant-loop-byte
+invariant-loop-byte g l =
+    Takes g.H.Handler.step (g.H.Handler.view l.fn.handler) (g.H.Handler.view l.handler) (g.W.Output.contents l.fn.writer) (g.W.Output.contents l.writer)
+    l.fn.run l.run l.fn.pending.items l.pending.items (take l.byte-index l.bytes)

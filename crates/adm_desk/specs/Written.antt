@@ -1,0 +1,94 @@
+-- What a call over a reader and a writer did.
+use Rattle.std.specs.Prelude.{◌≡◌, ◌≢◌, ℕ, ◌+◌, ◌-◌, ◌^◌, ◌||◌, min, max, List, [], ◌∷◌, ◌++◌, Bool, true, Option, length, take, drop, count_by}
+use Rattle.std.specs.List.{list_any, flat_map, AllByRecursion}
+use Rattle.std.specs.Io.KnownBytes.{Appends}
+use Rattle.adm_types.specs.declared.commands.Command.{Command}
+use Rattle.adm_desk.specs.declared.answer.Answer.{Answer}
+use Rattle.adm_desk.specs.declared.answer.LineAnswer.{LineAnswer}
+use Rattle.adm_desk.specs.declared.run.Run.{Run}
+use Rattle.adm_desk.specs.declared.run.RunFault.{RunFault}
+use Rattle.adm_desk.specs.declared.run.RunFault.TheVariants.{Read, Write, Memory}
+use Rattle.adm_desk.specs.Lines.{AnswersLines, lines_of, ended, text_of, is_done, is_refused, is_failed}
+
+-- a count that stops at the largest number
+abbrev pub counted : ℕ → ℕ → ℕ
+counted old n = max old (min (old + n) (2 ^ 64 - 1))
+
+-- the counts have grown by those of these answers
+pub record Counts (old new : Run) (answers : List LineAnswer) : Type 0 where
+  pub done : new.done ≡ counted old.done (count_by is_done answers)
+  pub refused : new.refused ≡ counted old.refused (count_by is_refused answers)
+  pub failed : new.failed ≡ (old.failed || list_any is_failed answers)
+
+-- the answers but for a part of the last one
+abbrev pub IsBeginning : List LineAnswer → List ℕ → Type 0
+IsBeginning answers text = (n : ℕ) × (text ≡ text_of (take (length answers - 1) answers) ++ take n (text_of (drop (length answers - 1) answers)))
+
+-- the lines were answered, each answer was written whole, and the counts are theirs
+pub record Answered {D : Type 0} (step : D → Command → Answer → D → Type 0) (old new : D) (old_text new_text : Option (List ℕ)) (old_run new_run : Run) (lines : List (List ℕ)) : Type 0 where
+  pub answers : List LineAnswer
+  pub answered : AnswersLines step old lines answers new
+  pub written : Appends old_text new_text (text_of answers)
+  pub counted : Counts old_run new_run answers
+
+-- the lines were answered, each answer was written whole, and the run counts them
+pub record Finished {D : Type 0} (step : D → Command → Answer → D → Type 0) (old new : D) (old_text new_text : Option (List ℕ)) (run : Run) (lines : List (List ℕ)) : Type 0 where
+  pub answers : List LineAnswer
+  pub answered : AnswersLines step old lines answers new
+  pub written : Appends old_text new_text (text_of answers)
+  pub done : run.done ≡ min (count_by is_done answers) (2 ^ 64 - 1)
+  pub refused : run.refused ≡ min (count_by is_refused answers) (2 ^ 64 - 1)
+  pub failed : run.failed ≡ list_any is_failed answers
+
+-- The reader failed after these bytes: the lines that had ended were answered, and their answers written.
+pub record AnsweredUpTo {D : Type 0} (step : D → Command → Answer → D → Type 0) (old new : D) (old_text new_text : Option (List ℕ)) (bytes : List ℕ) : Type 0 where
+  pub answers : List LineAnswer
+  pub answered : AnswersLines step old (take (ended bytes) (lines_of bytes)) answers new
+  pub written : Appends old_text new_text (text_of answers)
+
+-- the lines were answered, and the answers were written but for a part of the last one
+pub record Stopped {D : Type 0} (step : D → Command → Answer → D → Type 0) (old new : D) (old_text new_text : Option (List ℕ)) (lines : List (List ℕ)) : Type 0 where
+  pub answers : List LineAnswer
+  pub text : List ℕ
+  pub answered : AnswersLines step old lines answers new
+  pub beginning : IsBeginning answers text
+  pub written : Appends old_text new_text text
+
+-- ---- for private clauses
+
+abbrev pub IsPlain : List ℕ → Type 0
+IsPlain line = AllByRecursion (λ b. b ≢ 10) line
+
+-- a last piece, where it is a line
+abbrev pub last_line : List ℕ → List (List ℕ)
+last_line [] = []
+last_line (b ∷ bs) = (b ∷ bs) ∷ []
+
+-- each line, and LF
+abbrev pub joined : List (List ℕ) → List ℕ
+joined lines = flat_map (λ line. line ++ 10 ∷ []) lines
+
+-- The bytes pending and these bytes are these lines, and then the bytes pending now.
+pub record Cuts (old_pending bytes : List ℕ) (lines : List (List ℕ)) (pending : List ℕ) : Type 0 where
+  pub whole : old_pending ++ bytes ≡ joined lines ++ pending
+  pub plain : IsPlain old_pending → AllByRecursion IsPlain lines × IsPlain pending
+
+-- the bytes were taken, and their lines answered
+pub record Takes {D : Type 0} (step : D → Command → Answer → D → Type 0) (old new : D) (old_text new_text : Option (List ℕ)) (old_run new_run : Run) (old_pending pending bytes : List ℕ) : Type 0 where
+  pub lines : List (List ℕ)
+  pub cut : Cuts old_pending bytes lines pending
+  pub answered : Answered step old new old_text new_text old_run new_run lines
+
+-- the bytes were taken up to some place, and it stopped there
+pub record Breaks {D : Type 0} (step : D → Command → Answer → D → Type 0) (old new : D) (old_text new_text : Option (List ℕ)) (old_pending bytes : List ℕ) : Type 0 where
+  pub lines : List (List ℕ)
+  pub more : List ℕ
+  pub whole : old_pending ++ bytes ≡ joined lines ++ more
+  pub plain : IsPlain old_pending → AllByRecursion IsPlain lines
+  pub stopped : Stopped step old new old_text new_text lines
+
+-- no fault here is of the reader's, and a fault of the writer's shows in it
+abbrev pub OfWriter : RunFault → Bool → Type 0
+OfWriter Read failed = ⊥
+OfWriter Write failed = failed ≡ true
+OfWriter Memory failed = Unit {0}

@@ -1,0 +1,199 @@
+// Lines of commands from a reader, each answered by a line to a writer.
+ghost use Rattle.std.specs.Prelude.{◌≡◌, ◌≢◌, ◌^◌, ◌<◌, ◌-◌, ℕ, true, length, [], ◌∷◌, ◌++◌, List, take, MatchResult, IfOk, IfErr, OnOk, IfSome, IsErrOf};
+ghost use Rattle.std.specs.Io.KnownBytes.{Appends, Consumes, IsAtEnd};
+ghost use Rattle.adm_desk.specs.Lines.{AnswersLine, lines_of, line_text};
+ghost use Rattle.adm_desk.specs.Written.{Answered, Finished, AnsweredUpTo, Stopped, last_line, Counts, Takes, Breaks, OfWriter};
+
+use crate::{Answer, Handler, LineAnswer, Run, RunFault};
+use adm_wire::{Input, Output, read_command};
+use std::alloc::Global;
+
+/// Answers one line.
+fn answer_line<H: Handler>(alloc: Global, handler: &mut H, line: &[u8]) -> LineAnswer
+    ensures { AnswersLine H.step (H.view handler.old) line.now result (H.view handler.new) }
+{
+    match read_command(alloc, line) {
+        Ok(command) => LineAnswer::Handled(handler.handle(&command)),
+        Err(fault) => LineAnswer::Faulty(fault),
+    }
+}
+
+/// Counts an answer.
+fn count(run: &mut Run, answer: &LineAnswer)
+    ensures { Counts run.old run.new (answer.now ∷ []) }
+{
+    let Run {
+        done,
+        refused,
+        failed: _,
+    } = *run;
+    match answer {
+        LineAnswer::Handled(Answer::Done(_)) => run.done = done.saturating_add(1),
+        LineAnswer::Handled(Answer::Failed) => run.failed = true,
+        LineAnswer::Handled(Answer::Refused { .. } | Answer::Memory) | LineAnswer::Faulty(_) => {
+            run.refused = refused.saturating_add(1);
+        }
+    }
+}
+
+/// Writes an answer as a line.
+fn write_answer<W: Output>(
+    alloc: Global,
+    writer: &mut W,
+    answer: &LineAnswer,
+) -> Result<(), RunFault>
+    ensures bytes { MatchResult result
+        (λ _. Appends (W.contents writer.old) (W.contents writer.new) (line_text answer.now ++ 10 ∷ []))
+        (λ _. (n : ℕ) × Appends (W.contents writer.old) (W.contents writer.new)
+        (take n (line_text answer.now ++ 10 ∷ []))) }
+    ensures fault { IfErr result (λ e. OfWriter e (W.has_failed writer.new)) }
+{
+    let Ok(mut text) = answer.text(alloc) else {
+        return Err(RunFault::Memory);
+    };
+    if text.push_str("\n").is_err() {
+        return Err(RunFault::Memory);
+    }
+    match writer.put(text.as_bytes()) {
+        Ok(()) => Ok(()),
+        Err(_) => Err(RunFault::Write),
+    }
+}
+
+/// Answers a line and writes its answer.
+fn run_line<H: Handler, W: Output>(
+    alloc: Global,
+    handler: &mut H,
+    writer: &mut W,
+    run: &mut Run,
+    line: &[u8],
+) -> Result<(), RunFault>
+    ensures bytes { MatchResult result
+        (λ _. Answered H.step (H.view handler.old) (H.view handler.new) (W.contents writer.old) (W.contents writer.new) run.old run.new (line.now ∷ []))
+        (λ _. Stopped H.step (H.view handler.old) (H.view handler.new) (W.contents writer.old) (W.contents writer.new) (line.now ∷ [])) }
+    ensures fault { IfErr result (λ e. OfWriter e (W.has_failed writer.new)) }
+{
+    let answer = answer_line(alloc, handler, line);
+    count(run, &answer);
+    write_answer(alloc, writer, &answer)
+}
+
+/// Takes one byte: at LF the pending line is answered.
+fn take_byte<H: Handler, W: Output>(
+    handler: &mut H,
+    writer: &mut W,
+    run: &mut Run,
+    pending: &mut Vec<u8>,
+    byte: u8,
+) -> Result<(), RunFault>
+    ensures bytes { MatchResult result
+        (λ _. Takes H.step (H.view handler.old) (H.view handler.new) (W.contents writer.old) (W.contents writer.new) run.old run.new pending.old.items pending.new.items (byte ∷ []))
+        (λ _. Breaks H.step (H.view handler.old) (H.view handler.new) (W.contents writer.old) (W.contents writer.new) pending.old.items (byte ∷ [])) }
+    ensures fault { IfErr result (λ e. OfWriter e (W.has_failed writer.new)) }
+{
+    if byte == b'\n' {
+        let alloc = *pending.allocator();
+        match run_line(alloc, handler, writer, run, pending.as_slice()) {
+            Ok(()) => {
+                pending.clear();
+                Ok(())
+            }
+            Err(fault) => Err(fault),
+        }
+    } else if pending.push(byte).is_ok() {
+        Ok(())
+    } else {
+        Err(RunFault::Memory)
+    }
+}
+
+/// Takes bytes, one after another.
+fn take_bytes<H: Handler, W: Output>(
+    handler: &mut H,
+    writer: &mut W,
+    run: &mut Run,
+    pending: &mut Vec<u8>,
+    bytes: &[u8],
+) -> Result<(), RunFault>
+    ensures bytes { MatchResult result
+        (λ _. Takes H.step (H.view handler.old) (H.view handler.new) (W.contents writer.old) (W.contents writer.new) run.old run.new pending.old.items pending.new.items bytes.now)
+        (λ _. Breaks H.step (H.view handler.old) (H.view handler.new) (W.contents writer.old) (W.contents writer.new) pending.old.items bytes.now) }
+    ensures fault { IfErr result (λ e. OfWriter e (W.has_failed writer.new)) }
+{
+    for byte in bytes {
+        match take_byte(handler, writer, run, pending, *byte) {
+            Ok(()) => {}
+            Err(fault) => return Err(fault),
+        }
+    }
+    Ok(())
+}
+
+/// Answers the last line, where it has no LF.
+fn finish<H: Handler, W: Output>(
+    alloc: Global,
+    handler: &mut H,
+    writer: &mut W,
+    run: Run,
+    pending: &[u8],
+) -> Result<Run, RunFault>
+    ensures bytes { MatchResult result
+        (λ r. Answered H.step (H.view handler.old) (H.view handler.new) (W.contents writer.old) (W.contents writer.new) run r (last_line pending.now))
+        (λ _. Stopped H.step (H.view handler.old) (H.view handler.new) (W.contents writer.old) (W.contents writer.new) (last_line pending.now)) }
+    ensures fault { IfErr result (λ e. OfWriter e (W.has_failed writer.new)) }
+{
+    let mut run = run;
+    if pending.is_empty() {
+        return Ok(run);
+    }
+    match run_line(alloc, handler, writer, &mut run, pending) {
+        Ok(()) => Ok(run),
+        Err(fault) => Err(fault),
+    }
+}
+
+/// Answers the lines that the reader gives, to its end, and writes an answer for each. A fault of the
+/// reader leaves the lines answered that ended before it.
+pub fn run_lines<H: Handler, R: Input, W: Output>(
+    alloc: Global,
+    handler: &mut H,
+    reader: &mut R,
+    writer: &mut W,
+) -> Result<Run, RunFault>
+    // The reader was read to its end, and each of its lines was answered, written and counted.
+    ensures end { OnOk result (IsAtEnd (R.remaining reader.new)) }
+    ensures ok { IfOk result (λ run. IfSome (R.remaining reader.old) (λ input.
+        Finished H.step (H.view handler.old) (H.view handler.new) (W.contents writer.old) (W.contents writer.new) run (lines_of input))) }
+
+    // A fault of the reader: it failed, and what had been read before was answered line by line.
+    ensures read_failed { IsErrOf result RunFault.Read → IfSome (R.remaining reader.old) (λ input. length input < 2 ^ 64 - 1 → R.has_failed reader.new ≡ true) }
+    ensures read { IsErrOf result RunFault.Read → (bytes : List ℕ) × Consumes (R.remaining reader.old) (R.remaining reader.new) bytes
+        × AnsweredUpTo H.step (H.view handler.old) (H.view handler.new) (W.contents writer.old) (W.contents writer.new) bytes }
+
+    // A fault of the writer, or of memory: some first lines were answered, and only of the last answer a part may be missing.
+    ensures write_failed { IsErrOf result RunFault.Write → W.has_failed writer.new ≡ true }
+    ensures stopped { IfErr result (λ e. e ≢ RunFault.Read → IfSome (R.remaining reader.old) (λ input. (k : ℕ)
+        × Stopped H.step (H.view handler.old) (H.view handler.new) (W.contents writer.old) (W.contents writer.new) (take k (lines_of input)))) }
+{
+    let mut run = Run {
+        done: 0,
+        refused: 0,
+        failed: false,
+    };
+    let mut pending = Vec::new(alloc);
+    let mut buffer = [0; 4096];
+    for _turn in 0..u64::MAX {
+        let count = match reader.read_some(&mut buffer) {
+            Ok(count) => count,
+            Err(_) => return Err(RunFault::Read),
+        };
+        if count == 0 {
+            return finish(alloc, handler, writer, run, pending.as_slice());
+        }
+        match take_bytes(handler, writer, &mut run, &mut pending, &buffer[..count]) {
+            Ok(()) => {}
+            Err(fault) => return Err(fault),
+        }
+    }
+    Err(RunFault::Read)
+}

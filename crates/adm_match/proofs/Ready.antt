@@ -1,0 +1,14 @@
+-- A problem without a fault is ready to be allotted.
+use Rattle.std.proofs.Common.{◌≡◌, List, None, sym, subst}
+use Rattle.adm_match.specs.declared.problem.Seats.{Seats}
+use Rattle.adm_match.specs.Market.{Candidate, Market, market_of, first_fault}
+use Rattle.adm_match.specs.Distinct.{Distinct, Seated}
+use Rattle.adm_match.proofs.Posed.{posed}
+use Rattle.adm_match.proofs.Distinct.{distinct}
+use Rattle.adm_match.proofs.Relisted.{seated}
+
+pub ready_distinct : (es es' : List Candidate) (ss ss' : List Seats) → first_fault (market_of es ss) ≡ None → es' ≡ es → ss' ≡ ss → Distinct (market_of es' ss')
+ready_distinct es es' ss ss' ok e s = subst (λ (m : Market). Distinct m) (λ i. market_of (sym e i) (sym s i)) (distinct (market_of es ss) (posed (market_of es ss) ok))
+
+pub ready_seated : (es es' : List Candidate) (ss ss' : List Seats) → first_fault (market_of es ss) ≡ None → es' ≡ es → ss' ≡ ss → Seated (market_of es' ss')
+ready_seated es es' ss ss' ok e s = subst (λ (m : Market). Seated m) (λ i. market_of (sym e i) (sym s i)) (seated (market_of es ss) (posed (market_of es ss) ok))

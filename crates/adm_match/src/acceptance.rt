@@ -1,0 +1,126 @@
+// Deferred acceptance with a queue of entrants without a school, and a heap of guests at each school.
+ghost use Rattle.std.specs.Prelude.{◌≡◌, ◌<◌, ◌==◌, ℕ, length, map, IfOk, All, None, true, false, ◌&&◌, is_none, nat_lt};
+ghost use Rattle.std.specs.List.{list_any};
+ghost use Rattle.adm_match.specs.Stability.{IsBest, school_of, is_entrant, proposals_of};
+ghost use Rattle.adm_match.specs.Market.{market_of};
+ghost use Rattle.adm_match.specs.Turns.{IsFree, AllDone, Sound};
+ghost use Rattle.adm_match.specs.Distinct.{Distinct, Seated};
+ghost use Rattle.adm_match.specs.Keeping.{nobody_kept};
+ghost use Rattle.adm_match.specs.Queue.{Directs, Mirrored, Turned, Queued};
+
+use crate::allotment::{Offers, offers_of};
+use crate::directory::{Directory, directory_of, place_of_child, place_of_school};
+use crate::kept::{Kept, take_at};
+use crate::problem::{Entrant, Problem, Seats};
+use crate::standings::{Standing, keep, release, start};
+use std::alloc::{AllocError, Global};
+use std::collections::VecDeque;
+
+/// Each school of the problem, keeping nobody, in the order of the seats.
+fn schools_of(alloc: Global, seats: &[Seats]) -> Result<Vec<Kept>, AllocError>
+    ensures { IfOk result (λ schools. schools.items ≡ map nobody_kept seats.now) }
+{
+    seats
+        .iter()
+        .map(|seat| Kept::new(alloc, seat.quota))
+        .collect(alloc)
+}
+
+/// The place of every entrant, in their order.
+fn queue_of(alloc: Global, entrants: &[Entrant]) -> Result<VecDeque<usize>, AllocError>
+    ensures waiting { IfOk result (λ queue. (k : ℕ) → k < length entrants.now → list_any (λ q. q == k) queue.items ≡ true) }
+    ensures within { IfOk result (λ queue. All (λ q. q < length entrants.now) queue.items) }
+{
+    let mut queue = VecDeque::new(alloc);
+    for index in 0..entrants.len() {
+        queue.push_back(index)?;
+    }
+    Ok(queue)
+}
+
+/// Whether no school keeps the entrant, and it has a school left on its list.
+fn is_free(entrant: &Entrant, row: Standing) -> bool
+    ensures { result ≡ (is_none row.school && nat_lt row.refusals (length entrant.now.list)) }
+{
+    let length = entrant.list.len();
+    row.school.is_none() && row.refusals < length
+}
+
+/// Takes the free entrant at the index to the next school of its list. The answer is the place of
+/// the entrant whom that school sends back, if any.
+fn take(
+    entrants: &[Entrant],
+    seats: &[Seats],
+    directory: &Directory,
+    rows: &mut [Standing],
+    schools: &mut [Kept],
+    index: usize,
+) -> Result<Option<usize>, AllocError>
+    requires distinct { Distinct (market_of entrants.now seats.now) }
+    requires seated { Seated (market_of entrants.now seats.now) }
+    requires directs { Directs (market_of entrants.now seats.now) directory.now }
+    requires sound { Sound (market_of entrants.now seats.now) rows.old }
+    requires mirrored { Mirrored (market_of entrants.now seats.now) rows.old schools.old }
+    requires free { IsFree entrants.now rows.old index }
+    ensures { IfOk result (Turned (market_of entrants.now seats.now) rows.old rows.new schools.new index) }
+{
+    let entrant = &entrants[index];
+    let wish = entrant.list[rows[index].refusals];
+    let at = place_of_school(directory, seats, wish.school);
+    let tenant = entrant.is_tenant_of(wish.school);
+    let out = take_at(schools, at, entrant.child, wish.key, tenant)?;
+    keep(rows, index, wish.school);
+    let Some(child) = out else {
+        return Ok(None);
+    };
+    let place = place_of_child(directory, entrants, child);
+    release(&entrants[place], rows, place);
+    Ok(Some(place))
+}
+
+/// Where the entrants stand when no turn is left.
+fn settle(alloc: Global, entrants: &[Entrant], seats: &[Seats]) -> Result<Vec<Standing>, AllocError>
+    requires distinct { Distinct (market_of entrants.now seats.now) }
+    requires seated { Seated (market_of entrants.now seats.now) }
+    ensures sound { IfOk result (λ rows. Sound (market_of entrants.now seats.now) rows.items) }
+    ensures done { IfOk result (λ rows. AllDone entrants.now rows.items) }
+{
+    let directory = directory_of(alloc, entrants, seats)?;
+    let mut rows = start(alloc, entrants)?;
+    let mut schools = schools_of(alloc, seats)?;
+    let mut queue = queue_of(alloc, entrants)?;
+    while let Some(index) = queue.pop_front() {
+        let entrant = &entrants[index];
+        if is_free(entrant, rows[index]) {
+            let out = take(entrants, seats, &directory, &mut rows, &mut schools, index)?;
+            if let Some(place) = out {
+                queue.push_back(place)?;
+            }
+        }
+    }
+    Ok(rows)
+}
+
+/// The best stable allocation of entrants that can be told apart, at schools that have seats.
+pub(crate) fn allot(alloc: Global, entrants: &[Entrant], seats: &[Seats]) -> Result<Offers, AllocError>
+    requires distinct { Distinct (market_of entrants.now seats.now) }
+    requires seated { Seated (market_of entrants.now seats.now) }
+    ensures best { IfOk result (λ offers. IsBest (market_of entrants.now seats.now) (school_of offers)) }
+    ensures others { IfOk result (λ offers. (child : ℕ) → is_entrant (market_of entrants.now seats.now) child ≡ false → school_of offers child ≡ None) }
+    ensures proposals { IfOk result (λ offers. offers.proposals ≡ proposals_of (market_of entrants.now seats.now) (school_of offers)) }
+{
+    let rows = settle(alloc, entrants, seats)?;
+    offers_of(alloc, &rows)
+}
+
+/// The best stable allocation of the problem: deferred acceptance, in which the children propose.
+/// Its cost grows with the list entries gone through, times the logarithm of the entrants.
+pub fn offers(alloc: Global, problem: &Problem) -> Result<Offers, AllocError>
+    // It is stable, and in every stable allocation each entrant has the same school, or one later
+    // on its list, or none.
+    ensures best { IfOk result (λ offers. IsBest problem.now (school_of offers)) }
+    ensures others { IfOk result (λ offers. (child : ℕ) → is_entrant problem.now child ≡ false → school_of offers child ≡ None) }
+    ensures proposals { IfOk result (λ offers. offers.proposals ≡ proposals_of problem.now (school_of offers)) }
+{
+    allot(alloc, &problem.entrants, &problem.seats)
+}

@@ -1,0 +1,102 @@
+ghost use Rattle.std.specs.Prelude.{◌≡◌, ◌<◌, Some, length, slice_get, slice_set, [], IfOk, OnErr, IfSome, IfNone};
+ghost use Rattle.std.specs.BinaryHeap.{heap_items, IsHeap};
+ghost use Rattle.adm_match.specs.Keeping.{Keeping, Takes, RanksLast, guest_cmp};
+
+use adm_rank::RankKey;
+use adm_types::ChildNo;
+use std::alloc::{AllocError, Global};
+use std::collections::BinaryHeap;
+use std::marker::Model;
+
+/// A child that a school keeps, and that is no tenant of it. The greatest ranks last.
+#[derive(Clone, Copy, Debug, PartialEq, Eq, PartialOrd, Ord)]
+pub struct Guest {
+    pub key: RankKey,
+    pub child: ChildNo,
+}
+
+/// Takes out the guest that ranks last.
+fn pop_last(guests: &mut BinaryHeap<Guest>) -> Option<ChildNo>
+    requires { IsHeap guest_cmp (heap_items guests.old) }
+    ensures heap { IsHeap guest_cmp (heap_items guests.new) }
+    ensures last { IfSome result (RanksLast (heap_items guests.old) (heap_items guests.new)) }
+    ensures none { IfNone result ((heap_items guests.old ≡ []) × (heap_items guests.new ≡ [])) }
+{
+    match guests.pop() {
+        Some(guest) => Some(guest.child),
+        None => None,
+    }
+}
+
+/// Whom a school keeps: its tenants, and the guests in a heap whose top ranks last.
+#[derive(Drop)]
+pub struct Kept {
+    quota: u32,
+    tenants: Vec<ChildNo>,
+    guests: BinaryHeap<Guest>,
+}
+
+impl Model for Kept {
+    ghost use Rattle.std.specs.BinaryHeap.{heap_items, IsHeap};
+    ghost use Rattle.adm_match.specs.Keeping.{Keeping, keeping_of, guest_cmp};
+
+    ghost Value = { Keeping };
+
+    ghost view = { λ k. keeping_of k.quota k.tenants.items (heap_items k.guests) };
+
+    ghost invariant = { λ k. IsHeap guest_cmp (heap_items k.guests) };
+}
+
+impl Kept {
+    ghost use Rattle.adm_match.specs.Keeping.{keeping_of};
+
+    /// Keeps nobody. It takes no memory.
+    pub fn new(alloc: Global, quota: u32) -> Kept
+        ensures { result ≡ keeping_of quota [] [] }
+    {
+        Kept {
+            quota,
+            tenants: Vec::new(alloc),
+            guests: BinaryHeap::new(alloc),
+        }
+    }
+
+    /// Keeps the child too. Where more than the quota are then kept and some of them is no tenant,
+    /// the guest that ranks last is kept no more, and is the answer.
+    pub fn take(
+        &mut self,
+        child: ChildNo,
+        key: RankKey,
+        tenant: bool,
+    ) -> Result<Option<ChildNo>, AllocError>
+        ensures ok { IfOk result (Takes self.old self.new child key tenant) }
+        // After want of memory it keeps whom it kept.
+        ensures err { OnErr result (self.new ≡ self.old) }
+    {
+        if tenant {
+            self.tenants.push(child)?;
+        } else {
+            self.guests.push(Guest { key, child })?;
+        }
+        if self.tenants.len() + self.guests.len() <= self.quota as usize {
+            return Ok(None);
+        }
+        Ok(pop_last(&mut self.guests))
+    }
+}
+
+/// One school of several takes a child.
+pub fn take_at(
+    schools: &mut [Kept],
+    at: usize,
+    child: ChildNo,
+    key: RankKey,
+    tenant: bool,
+) -> Result<Option<ChildNo>, AllocError>
+    requires { at < length schools.old }
+    ensures ok { IfOk result (λ out. (old : Keeping) → slice_get schools.old at ≡ Some old → (new : Keeping) × (schools.new ≡ slice_set schools.old at new) × Takes old new child key tenant out) }
+    ensures err { OnErr result (schools.new ≡ schools.old) }
+{
+    let kept = &mut schools[at];
+    kept.take(child, key, tenant)
+}

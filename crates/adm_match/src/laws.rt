@@ -1,0 +1,16 @@
+ghost use Rattle.adm_match.specs.Relisting.{NoGain, SamePlaced, OneBest};
+
+/// A child never gains by listing other schools, or its schools in another order.
+pub fn no_gain()
+    ensures { NoGain }
+{}
+
+/// All stable allocations of a problem place the same children.
+pub fn same_placed()
+    ensures { SamePlaced }
+{}
+
+/// Each problem has one best allocation.
+pub fn one_best()
+    ensures { OneBest }
+{}

@@ -1,0 +1,24 @@
+// The matching of children to schools: the best stable allocation of a problem.
+#![tactic(auto)]
+
+mod acceptance;
+mod allotment;
+mod blocking;
+mod directory;
+mod faults;
+mod kept;
+mod laws;
+mod problem;
+mod scan;
+mod standings;
+
+pub use acceptance::offers;
+pub use allotment::Offers;
+pub use blocking::first_block;
+pub use kept::{Guest, Kept, take_at};
+pub use laws::{no_gain, one_best, same_placed};
+pub use scan::offers_by_scan;
+pub use problem::{BadProblem, Entrant, Problem, Seats, Wish};
+
+#[cfg(test)]
+mod tests;

@@ -1,0 +1,125 @@
+// Deferred acceptance by a plain scan: the reference to which tests hold the body that runs.
+ghost use Rattle.std.specs.Prelude.{◌≡◌, ◌<◌, ◌≤◌, ◌⊎◌, IfSome, IfNone, IfOk, length, None, not, ◌&&◌, ℕ, false};
+ghost use Rattle.adm_match.specs.Stability.{IsBest, school_of, is_entrant, proposals_of};
+ghost use Rattle.adm_match.specs.Market.{market_of, has, is_tenant, first_fault, quota_of};
+ghost use Rattle.adm_match.specs.Turns.{kept_at, IsFree, AllDone, IsLast, NoGuest, AreRanked, Sound, left};
+
+use crate::allotment::{Offers, offers_of};
+use crate::problem::{Entrant, Problem, Seats, quota_of};
+use crate::standings::{Standing, keep, release, start};
+use adm_types::SchoolCode;
+use std::alloc::{AllocError, Global};
+
+/// How many entrants the school keeps.
+fn kept_at(rows: &[Standing], school: SchoolCode) -> usize
+    ensures { result ≡ kept_at rows.now school }
+{
+    rows.iter().filter(|row| row.is_at(school)).count()
+}
+
+/// Whether the school keeps the entrant, which is no tenant of it.
+fn is_guest(entrant: &Entrant, row: Standing, school: SchoolCode) -> bool
+    ensures { result ≡ (has row.school school && not (is_tenant entrant.now school)) }
+{
+    row.is_at(school) && !entrant.is_tenant_of(school)
+}
+
+/// The first entrant that no school keeps and that has a school left on its list.
+fn next_free(entrants: &[Entrant], rows: &[Standing]) -> Option<usize>
+    requires { length rows.now ≡ length entrants.now }
+    ensures free { IfSome result (λ k. IsFree entrants.now rows.now k) }
+    ensures done { IfNone result (AllDone entrants.now rows.now) }
+{
+    for index in 0..rows.len() {
+        let entrant = &entrants[index];
+        let row = rows[index];
+        if row.school.is_none() && row.refusals < entrant.list.len() {
+            return Some(index);
+        }
+    }
+    None
+}
+
+/// Of the entrants that the school keeps and that are no tenants of it, the one that ranks last.
+fn last_guest(entrants: &[Entrant], rows: &[Standing], school: SchoolCode) -> Option<usize>
+    requires same { length rows.now ≡ length entrants.now }
+    requires ranked { AreRanked entrants.now rows.now school }
+    ensures last { IfSome result (λ k. IsLast entrants.now rows.now school k) }
+    ensures none { IfNone result (NoGuest entrants.now rows.now school) }
+{
+    let mut last: Option<usize> = None;
+    for index in 0..rows.len() {
+        let entrant = &entrants[index];
+        let row = rows[index];
+        if is_guest(entrant, row, school) {
+            last = match last {
+                Some(place) if !entrants[place].ranks_before(entrant, school) => Some(place),
+                _ => Some(index),
+            };
+        }
+    }
+    last
+}
+
+/// The entrant that the school sends back, where it keeps more than its quota and some of them is
+/// no tenant.
+fn sent_back(
+    entrants: &[Entrant],
+    seats: &[Seats],
+    rows: &[Standing],
+    school: SchoolCode,
+) -> Option<usize>
+    requires same { length rows.now ≡ length entrants.now }
+    requires ranked { AreRanked entrants.now rows.now school }
+    ensures over { IfSome result (λ _. quota_of seats.now school < kept_at rows.now school) }
+    ensures last { IfSome result (λ k. IsLast entrants.now rows.now school k) }
+    ensures none { IfNone result ((kept_at rows.now school ≤ quota_of seats.now school) ⊎ NoGuest entrants.now rows.now school) }
+{
+    if kept_at(rows, school) <= quota_of(seats, school) as usize {
+        return None;
+    }
+    last_guest(entrants, rows, school)
+}
+
+/// Takes the entrant at the index to the next school of its list. The school keeps it, and may
+/// send one back.
+fn take(entrants: &[Entrant], seats: &[Seats], rows: &mut [Standing], index: usize)
+    requires posed { first_fault (market_of entrants.now seats.now) ≡ None }
+    requires sound { Sound (market_of entrants.now seats.now) rows.old }
+    requires free { IsFree entrants.now rows.old index }
+    ensures sound { Sound (market_of entrants.now seats.now) rows.new }
+    ensures falls { left entrants.now rows.new < left entrants.now rows.old }
+{
+    let entrant = &entrants[index];
+    let school = entrant.list[rows[index].refusals].school;
+    keep(rows, index, school);
+    if let Some(last) = sent_back(entrants, seats, rows, school) {
+        release(&entrants[last], rows, last);
+    }
+}
+
+/// Where the entrants stand when no turn is left.
+fn settle(alloc: Global, entrants: &[Entrant], seats: &[Seats]) -> Result<Vec<Standing>, AllocError>
+    requires { first_fault (market_of entrants.now seats.now) ≡ None }
+    ensures sound { IfOk result (λ rows. Sound (market_of entrants.now seats.now) rows.items) }
+    ensures done { IfOk result (λ rows. AllDone entrants.now rows.items) }
+{
+    let mut rows = start(alloc, entrants)?;
+    while let Some(index) = next_free(entrants, &rows) {
+        take(entrants, seats, &mut rows, index);
+    }
+    Ok(rows)
+}
+
+/// The best stable allocation of the problem, as `offers` gives it, by a plain scan: in each turn it
+/// looks for an entrant that has no school and still has one on its list, and takes it there.
+pub fn offers_by_scan(alloc: Global, problem: &Problem) -> Result<Offers, AllocError>
+    // It is stable, and in every stable allocation each entrant has the same school, or one later
+    // on its list, or none.
+    ensures best { IfOk result (λ offers. IsBest problem.now (school_of offers)) }
+    ensures others { IfOk result (λ offers. (child : ℕ) → is_entrant problem.now child ≡ false → school_of offers child ≡ None) }
+    ensures proposals { IfOk result (λ offers. offers.proposals ≡ proposals_of problem.now (school_of offers)) }
+{
+    let rows = settle(alloc, &problem.entrants, &problem.seats)?;
+    offers_of(alloc, &rows)
+}

@@ -1,0 +1,68 @@
+// The command line as `clap` sees it.
+ghost use Rattle.std.specs.Prelude.{◌≡◌, IfOk, false};
+ghost use Rattle.clap.specs.Words.{app_of, rule_of};
+ghost use Rattle.clap.specs.declared.builder.command.Command.TheViews.{out-Command as fields_of};
+ghost use Rattle.clap.specs.declared.builder.value_parser.ValueParser.{ValueParser};
+ghost use Rattle.adm_words.specs.Program.{IsPhases, required_rule, phase_rule, holiday_rule, year_rule, init_app, do_app, program_app};
+
+use clap::{Arg, ArgAction, Command, value_parser};
+use std::alloc::{AllocError, Global};
+
+static PHASES: [&str; 2] = ["primary", "secondary"];
+
+fn required<'a>(alloc: Global, id: &'a str) -> Arg<'a>
+    ensures rule { rule_of result ≡ required_rule id.now }
+    ensures local { result.global ≡ false }
+{
+    Arg::new(alloc, id).required(true).action(ArgAction::Set)
+}
+
+fn phase<'a>(alloc: Global) -> Arg<'a>
+    ensures rule { (phases : ValueParser) × IsPhases phases × (rule_of result ≡ phase_rule phases) }
+    ensures local { result.global ≡ false }
+{
+    required(alloc, "phase").value_parser(PHASES.as_slice())
+}
+
+fn year<'a>(alloc: Global) -> Arg<'a>
+    ensures rule { rule_of result ≡ year_rule }
+    ensures local { result.global ≡ false }
+{
+    required(alloc, "year").value_parser(value_parser!(u32).range(2000..=2100))
+}
+
+fn holiday<'a>(alloc: Global) -> Arg<'a>
+    ensures rule { rule_of result ≡ holiday_rule }
+    ensures local { result.global ≡ false }
+{
+    Arg::new(alloc, "holiday")
+        .action(ArgAction::Append)
+        .num_args(0..)
+}
+
+fn do_command<'a>(alloc: Global) -> Result<Command<'a>, AllocError>
+    ensures app { IfOk result (λ c. app_of c ≡ do_app) }
+    ensures local { IfOk result (λ c. (fields_of c).has_globals ≡ false) }
+{
+    Command::new(alloc, "do").arg(required(alloc, "file"))
+}
+
+fn init_command<'a>(alloc: Global) -> Result<Command<'a>, AllocError>
+    ensures app { IfOk result (λ c. (phases : ValueParser) × IsPhases phases × (app_of c ≡ init_app phases)) }
+    ensures local { IfOk result (λ c. (fields_of c).has_globals ≡ false) }
+{
+    Command::new(alloc, "init")
+        .arg(required(alloc, "file"))?
+        .arg(phase(alloc))?
+        .arg(year(alloc))?
+        .arg(holiday(alloc))
+}
+
+pub(crate) fn program<'a>(alloc: Global) -> Result<Command<'a>, AllocError>
+    ensures { IfOk result (λ c. (phases : ValueParser) × IsPhases phases × (app_of c ≡ program_app phases)) }
+{
+    Command::new(alloc, "admissions")
+        .subcommand_required(true)
+        .subcommand(init_command(alloc)?)?
+        .subcommand(do_command(alloc)?)
+}

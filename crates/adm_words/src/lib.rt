@@ -1,0 +1,15 @@
+// The program's command line: the words, read as what they ask for.
+//! What the words of a command line ask for.
+#![tactic(auto)]
+
+mod actions;
+mod command;
+mod faults;
+mod lines;
+mod reading;
+#[cfg(test)]
+mod tests;
+
+pub use actions::Action;
+pub use faults::{WordsFault, fault_text};
+pub use reading::action;

@@ -1,0 +1,38 @@
+// The reader of the words: clap takes or refuses them, and the line is read from what it found.
+ghost use Rattle.std.specs.Prelude.{map};
+ghost use Rattle.adm_words.specs.Lines.{ReadsWords};
+
+use crate::command::program;
+use crate::lines::read_line;
+use crate::{Action, WordsFault};
+use clap::Error;
+use clap::error::ErrorKind;
+use std::alloc::{AllocError, Global};
+
+/// What the words ask for, with the program's name first.
+///
+/// The words are those of a line `init FILE PHASE YEAR [HOLIDAY...]`, with PHASE `primary` or `secondary` and YEAR from 2000
+/// to 2100, or of a line `do FILE`, as `clap` reads words. Words comes where `clap` refuses them, a request for help
+/// included; BadDate where a HOLIDAY is no day YYYY-MM-DD from 1990-01-01 to 2110-12-31. It costs what the length of the
+/// words costs.
+pub fn action<'a>(alloc: Global, words: &'a [&'a str]) -> Result<Action<'a>, WordsFault>
+    ensures { ReadsWords (map (λ w. w.now) words.entry.now) result }
+{
+    let command = program(alloc)?;
+    match command.try_get_matches_from(words) {
+        Ok(matches) => match read_line(alloc, &matches) {
+            Some(result) => result,
+            None => Err(WordsFault::Words(lacking(alloc)?)),
+        },
+        Err(error) => match error.kind() {
+            ErrorKind::OutOfMemory => Err(WordsFault::Memory),
+            _ => Err(WordsFault::Words(error)),
+        },
+    }
+}
+
+/// What is said of words that lack a value. `clap` refuses such words itself, as tests show.
+fn lacking(alloc: Global) -> Result<Error, AllocError> {
+    let mut command = program(alloc)?;
+    command.error(ErrorKind::MissingRequiredArgument, "a value is missing")
+}

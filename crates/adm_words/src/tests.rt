@@ -1,0 +1,170 @@
+// What no clause says: worked examples, and that clap refuses words that lack a value.
+use crate::{Action, WordsFault, action, fault_text};
+use adm_types::Phase;
+use std::test::Fail;
+
+#[test]
+fn a_register_is_made(rt: HostRuntime) -> Result<(), Fail> {
+    let words = ["admissions", "init", "reg.db", "secondary", "2025"];
+    match action(rt.alloc(), &words) {
+        Ok(
+            Action::Init {
+                file,
+                phase,
+                year,
+                holidays,
+            },
+        ) => {
+            assert!(rt; file == "reg.db");
+            assert!(rt; phase == Phase::Secondary);
+            assert!(rt; year == 2025);
+            assert!(rt; holidays.as_slice().is_empty());
+            Ok(())
+        }
+        _ => Err("a register")?,
+    }
+}
+
+#[test]
+fn holidays_keep_their_order(rt: HostRuntime) -> Result<(), Fail> {
+    let words = [
+        "admissions",
+        "init",
+        "f",
+        "primary",
+        "2022",
+        "2022-04-18",
+        "2022-04-15",
+        "2022-04-18",
+    ];
+    match action(rt.alloc(), &words) {
+        Ok(
+            Action::Init {
+                phase,
+                holidays,
+                ..
+            },
+        ) => {
+            assert!(rt; phase == Phase::Primary);
+            match holidays.as_slice() {
+                [first, second, third] => {
+                    assert!(rt; first.number() == 19_100);
+                    assert!(rt; second.number() == 19_097);
+                    assert!(rt; third.number() == 19_100);
+                    Ok(())
+                }
+                _ => Err("three holidays")?,
+            }
+        }
+        _ => Err("a register")?,
+    }
+}
+
+#[test]
+fn lines_are_answered(rt: HostRuntime) -> Result<(), Fail> {
+    match action(rt.alloc(), &["admissions", "do", "a b.db"]) {
+        Ok(Action::Do { file }) => {
+            assert!(rt; file == "a b.db");
+            Ok(())
+        }
+        _ => Err("lines")?,
+    }
+}
+
+const YEARS: [(&str, Option<u32>); 9] = [
+    ("1999", None),
+    ("2000", Some(2000)),
+    ("2100", Some(2100)),
+    ("2101", None),
+    ("+2025", Some(2025)),
+    ("02025", Some(2025)),
+    ("2025.0", None),
+    ("4294969321", None),
+    ("", None),
+];
+
+#[test]
+fn years_are_from_2000_to_2100(rt: HostRuntime) {
+    for (text, wanted) in YEARS {
+        let words = ["admissions", "init", "f", "secondary", text];
+        let year = match action(rt.alloc(), &words) {
+            Ok(Action::Init { year, .. }) => Some(year),
+            _ => None,
+        };
+        assert!(rt; year == wanted);
+    }
+}
+
+const WRONG: [&[&str]; 12] = [
+    &[],
+    &["admissions"],
+    &["admissions", "open", "f"],
+    &["admissions", "do"],
+    &["admissions", "do", "f", "g"],
+    &["admissions", "do", "--count", "f"],
+    &["admissions", "init"],
+    &["admissions", "init", "f", "secondary"],
+    &["admissions", "init", "f", "Secondary", "2025"],
+    &["admissions", "init", "f", "2025", "secondary"],
+    &["admissions", "--help"],
+    &["admissions", "init", "f", "secondary", "2025", "--help"],
+];
+
+#[test]
+fn wrong_words(rt: HostRuntime) {
+    for words in WRONG {
+        assert!(rt; matches!(action(rt.alloc(), words), Err(WordsFault::Words(_))));
+    }
+}
+
+#[test]
+fn bad_dates(rt: HostRuntime) {
+    for date in [
+        "2025-13-01",
+        "2025-1-1",
+        "1989-12-31",
+        "2111-01-01",
+        "2025-02-29",
+        "",
+        "holiday",
+    ] {
+        let words = [
+            "admissions",
+            "init",
+            "f",
+            "secondary",
+            "2025",
+            "2025-01-01",
+            date,
+        ];
+        assert!(rt; matches!(action(rt.alloc(), &words), Err(WordsFault::BadDate)));
+    }
+}
+
+#[test]
+fn faults_are_told(rt: HostRuntime) -> Result<(), Fail> {
+    let alloc = rt.alloc();
+    assert!(rt; fault_text(alloc, &WordsFault::BadDate)?.as_str() == "fault: BadDate\n");
+    assert!(rt; fault_text(alloc, &WordsFault::Memory)?.as_str() == "fault: Memory\n");
+    match action(alloc, &["admissions", "open", "f"]) {
+        Err(fault) => {
+            let text = fault_text(alloc, &fault)?;
+            assert!(rt;
+                text.as_str()
+                    == "error: unrecognized subcommand 'open'\n\nUsage: admissions <COMMAND>\n\nFor more information, try '--help'.\n"
+            );
+        }
+        Ok(_) => Err("a fault")?,
+    }
+    match action(alloc, &["admissions", "--help"]) {
+        Err(fault) => {
+            let text = fault_text(alloc, &fault)?;
+            assert!(rt;
+                text.as_str()
+                    .starts_with("Usage: admissions <COMMAND>\n\nCommands:\n")
+            );
+        }
+        Ok(_) => Err("a fault")?,
+    }
+    Ok(())
+}
