@@ -3,6 +3,7 @@ pub mod TableCopies
 pub mod Maps
 pub mod Keeps
 pub mod KeepsAddSchool
+pub mod ExtendsAddSchool
 pub mod Repeats
 pub mod EachRow
 pub mod SchoolChecks

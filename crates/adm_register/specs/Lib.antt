@@ -3,5 +3,6 @@ pub mod State
 pub mod WellFormed
 pub mod Tests
 pub mod AddSchool
+pub mod Extends
 pub mod Outcome
 pub mod Rows

@@ -3,6 +3,7 @@ ghost use Rattle.std.specs.Prelude.{◌≡◌, Err, IfOk, option_copied};
 ghost use Rattle.std.specs.FinMap as map;
 ghost use Rattle.adm_register.specs.State.{State, only_season};
 ghost use Rattle.adm_register.specs.WellFormed.{WellFormed};
+ghost use Rattle.adm_register.specs.Extends.{Extends};
 ghost use Rattle.adm_register.specs.Outcome.{Decides};
 ghost use Rattle.adm_register.specs.Rows.{rows_of, AreRowsOf};
 
@@ -87,6 +88,7 @@ impl Register {
     /// What it costs grows with the table that the command changes; the others are shared.
     pub fn decide(&self, alloc: Global, command: &Command) -> Result<(Register, Reply), NotDone>
         ensures step { Decides self.now command.now result }
+        ensures extends { IfOk result (λ done. Extends self.now done.0 × WellFormed done.0) }
     {
         match command {
             Command::AddSchool(school) => self.add_school(alloc, school),
@@ -94,7 +96,8 @@ impl Register {
     }
 
     fn add_school(&self, alloc: Global, school: &School) -> Result<(Register, Reply), NotDone>
-        ensures { Decides self.now (Command.AddSchool school.now) result }
+        ensures step { Decides self.now (Command.AddSchool school.now) result }
+        ensures extends { IfOk result (λ done. Extends self.now done.0 × WellFormed done.0) }
     {
         let _code = school.code.as_str();
         let _text = school.name.as_str();

@@ -1,8 +1,19 @@
 use Rattle.std.proofs.Common.{◌∙◌, sym, subst}
+use Rattle.adm_register.specs.Extends.{Extends}
 use Rattle.adm_register.specs.WellFormed.{WellFormed}
+use Rattle.adm_register.proofs.ExtendsAddSchool.{add_school-extends}
 use Rattle.adm_register.proofs.KeepsAddSchool.{add_school-keeps}
 use Rattle.adm_register.proofs.registers.Register.add_school.Goals as goal
 
 pub invariant_of-result : goal.invariant_of-result
 invariant_of-result c =
-    subst WellFormed (sym c.in_ok-tables-in-None.ensures) (add_school-keeps c.self.inside.tables c.args.school.now c.as_str-code.ensures.tested c.as_str-text.ensures.text c.self.invariant (sym c.refusal_of.ensures ∙ c.in-None.is))
+    subst WellFormed (sym c.in_ok-tables-in-None.ensures)
+    (add_school-keeps c.self.inside.tables c.args.school.now c.as_str-code.ensures.tested c.as_str-text.ensures.text c.self.invariant (sym c.refusal_of.ensures ∙ c.in-None.is))
+
+pub returns-in_ok-tables-in-None-clause-extends : goal.returns-in_ok-tables-in-None-clause-extends
+returns-in_ok-tables-in-None-clause-extends c =
+    let passes = sym c.refusal_of.ensures ∙ c.in-None.is in
+    let extends = subst (Extends c.self.inside.tables) (sym c.in_ok-tables-in-None.ensures) (add_school-extends c.self.inside.tables c.args.school.now passes) in
+    let kept = subst WellFormed (sym c.in_ok-tables-in-None.ensures)
+      (add_school-keeps c.self.inside.tables c.args.school.now c.as_str-code.ensures.tested c.as_str-text.ensures.text c.self.invariant passes) in
+    (subst (λ s. Extends s c.in_ok-tables-in-None.tables) c.self.view_is extends, kept)

@@ -1,0 +1,29 @@
+-- To add a school leaves the season and the other schools.
+use Rattle.std.proofs.Common.{◌≡◌, ◌∙◌, ap, sym, subst, refl, cond, true, false, ℕ, List, Some, None}
+use Rattle.std.specs.Prelude.{is_some, not}
+use Rattle.std.specs.Ordering.{eq_by_cmp}
+use Rattle.std.specs.Cmp.Lexicographic.{nat_list_cmp_total}
+use Rattle.std.specs.FinMap.{get, get-insert}
+use Rattle.adm_types.specs.declared.rows.School.{School}
+use Rattle.adm_register.specs.State.{State, code_cmp}
+use Rattle.adm_register.specs.Extends.{Extends}
+use Rattle.adm_register.specs.Tests.{first_failing}
+use Rattle.adm_register.specs.AddSchool as add_school
+use Rattle.adm_register.proofs.Keeps.{all_pass}
+use Rattle.adm_register.proofs.Maps.{same_key, none_of, code_cmp-IsAntisymmetric}
+
+not_both : {A : Type 0} (x : A) → None ≡ Some x → ⊥
+not_both x e = cc
+
+pub add_school-extends : (old : State) (school : School) → first_failing (add_school.tests old school) ≡ None → Extends old (add_school.after old school)
+unfolding add_school.tests add_school.after
+add_school-extends old school passes = record {
+  season = refl;
+  schools = λ code row there.
+      let absent : get old.schools school.code ≡ None = none_of _ (all_pass (add_school.tests old school) passes).0 in
+      get-insert nat_list_cmp_total old.schools school.code school code
+      ∙ elim (eq_by_cmp code_cmp code school.code) as (λ b. eq_by_cmp code_cmp code school.code ≡ b → cond b (Some school) (get old.schools code) ≡ Some row) [
+        | true ↦ λ tie. absurd (not_both row (sym absent ∙ ap (get old.schools) (sym (same_key code_cmp-IsAntisymmetric code school.code tie)) ∙ there))
+        | false ↦ λ tie. there
+      ] refl;
+}
