@@ -7,7 +7,7 @@ use adm_types::Command;
 use std::alloc::{AllocError, Global};
 
 /// What answers commands.
-pub trait Handler {
+pub(crate) trait Handler {
     ghost use Rattle.adm_desk.specs.declared.answer.Answer.{Answer};
     ghost use Rattle.adm_types.specs.declared.commands.Command.{Command};
 
@@ -24,7 +24,7 @@ pub trait Handler {
 }
 
 /// Handles the commands in order. Room for all answers is made first, so an `Err` has handled nothing.
-pub fn handle_all<H: Handler>(
+pub(crate) fn handle_all<H: Handler>(
     alloc: Global,
     handler: &mut H,
     commands: &[Command],

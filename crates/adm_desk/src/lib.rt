@@ -2,11 +2,11 @@
 #![tactic(auto)]
 
 mod answer;
+mod desk;
 mod handler;
 mod lines;
 mod run;
 
 pub use answer::{Answer, LineAnswer};
-pub use handler::{Handler, handle_all};
-pub use lines::run_lines;
+pub use desk::Desk;
 pub use run::{Run, RunFault};

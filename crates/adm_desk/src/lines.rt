@@ -4,7 +4,8 @@ ghost use Rattle.std.specs.Io.KnownBytes.{Appends, Consumes, IsAtEnd};
 ghost use Rattle.adm_desk.specs.Lines.{AnswersLine, lines_of, line_text};
 ghost use Rattle.adm_desk.specs.Written.{Answered, Finished, AnsweredUpTo, Stopped, last_line, Counts, Takes, Breaks, OfWriter};
 
-use crate::{Answer, Handler, LineAnswer, Run, RunFault};
+use crate::handler::Handler;
+use crate::{Answer, LineAnswer, Run, RunFault};
 use adm_wire::{Input, Output, read_command};
 use std::alloc::Global;
 
@@ -154,7 +155,7 @@ fn finish<H: Handler, W: Output>(
 
 /// Answers the lines that the reader gives, to its end, and writes an answer for each. A fault of the
 /// reader leaves the lines answered that ended before it.
-pub fn run_lines<H: Handler, R: Input, W: Output>(
+pub(crate) fn run_lines<H: Handler, R: Input, W: Output>(
     alloc: Global,
     handler: &mut H,
     reader: &mut R,

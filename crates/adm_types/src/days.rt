@@ -5,9 +5,11 @@ ghost use Rattle.jiff.specs.Words.{epoch_day, date_text};
 ghost use Rattle.std.specs.Prelude.{ℕ, IfNone};
 ghost use Rattle.adm_types.specs.DayText.{IsDayText};
 
+use arrayvec::ArrayString;
 use jiff::civil::Date;
 use jiff::fmt::temporal;
 use jiff_core::civil;
+use std::fmt;
 use std::marker::Model;
 
 /// A day from 1990-01-01 to 2110-12-31, which contracts see as its number, counted from 1970-01-01.
@@ -72,6 +74,16 @@ impl Day {
         i64::from(self.number)
     }
 
+    /// The day as a text YYYY-MM-DD, which `parse` reads. It takes no memory.
+    pub fn text(&self) -> ArrayString<13>
+        ensures { IsDayText result.bytes self.now }
+    {
+        match civil::Date::from_unix_epoch_day(i64::from(self.number)) {
+            Ok(date) => temporal::DateTimePrinter::new().date_text(date),
+            Err(_) => unreachable!(),
+        }
+    }
+
     /// The day of a date from 1990-01-01 to 2110-12-31.
     pub(crate) fn on(date: Date) -> Day
         requires { (pos 7305 ≤ℤ epoch_day date) × (epoch_day date ≤ℤ pos 51498) }
@@ -100,5 +112,12 @@ impl Day {
             Ok(date) => date.weekday().index() < 5,
             Err(_) => unreachable!(),
         }
+    }
+}
+
+/// As `text` says, YYYY-MM-DD.
+impl fmt::Display for Day {
+    fn fmt<W: fmt::Write>(&self, f: &mut fmt::Formatter<W>) -> fmt::Result {
+        f.write_str(self.text().as_str())
     }
 }

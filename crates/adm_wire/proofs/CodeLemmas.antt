@@ -5,8 +5,8 @@ use Rattle.std.specs.Bool.{Decides}
 use Rattle.std.specs.List.{list_all}
 use Rattle.std.proofs.lemmas.Bool.{leb-true, le-leb}
 use Rattle.std.proofs.lemmas.Bool.Decides.{Decides-and, Decides-or, Decides-by_and}
-use Rattle.adm_types.specs.Code.{IsCode, IsCodeByte}
-use Rattle.adm_wire.specs.Kinds.{is_code_byte, is_code, code_of}
+use Rattle.adm_types.specs.Code.{IsCode, IsCodeByte, is_code_byte, is_code}
+use Rattle.adm_wire.specs.Kinds.{code_of}
 
 at_most : (a b : ℕ) → Decides (nat_le a b) (a ≤ b)
 at_most a b = (leb-true a b, le-leb a b)
@@ -20,8 +20,8 @@ bytes_decided = Decides-by_and is_code_byte IsCodeByte (list_all is_code_byte) b
 
 code_decided : (text : List ℕ) → Decides (is_code text) (IsCode text)
 code_decided text =
-    let both = Decides-and _ _ (at_most 1 (length text)) (Decides-and _ _ (at_most (length text) 8) (bytes_decided text)) in
-    (λ e. let h = both.0 e in (h.0, h.1.0, h.1.1), λ h. both.1 (h.0, (h.1, h.2)))
+    let both = Decides-and _ _ (Decides-and _ _ (at_most 1 (length text)) (at_most (length text) 8)) (bytes_decided text) in
+    (λ e. let h = both.0 e in (h.0.0, h.0.1, h.1), λ h. both.1 ((h.0, h.1), h.2))
 
 by_test : (text : List ℕ) (b : Bool) (result : Option (List ℕ)) → is_code text ≡ b → (IsSome result ↔ IsCode text) → IfSome result (λ code. code ≡ text) → result ≡ code_of text
 unfolding code_of

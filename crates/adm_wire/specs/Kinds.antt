@@ -1,9 +1,10 @@
 -- The kinds of a field's value, and the keys of an object.
-use Rattle.std.specs.Prelude.{ℕ, ◌^◌, ◌&&◌, ◌||◌, List, [], ◌∷◌, length, Bool, nat_lt, nat_le, Option, Some, None, option_and_then, option_map, unwrap_or, Result, Ok, Err, if◌then◌else◌}
+use Rattle.std.specs.Prelude.{ℕ, ◌^◌, List, [], ◌∷◌, Bool, nat_lt, Option, Some, None, option_and_then, option_map, unwrap_or, Result, Ok, Err, if◌then◌else◌}
 use Rattle.std.specs.Str.{bytes_eq}
 use Rattle.std.specs.List.{list_any, list_all}
 use Rattle.serde_json.specs.Data.{Data, Items, no_items, item, Members, no_members, member}
 use Rattle.serde_json.specs.Find.{as_number, as_u64, as_str, as_array, as_object}
+use Rattle.adm_types.specs.Code.{is_code}
 use Rattle.adm_types.specs.Fields.{criterion_of}
 use Rattle.adm_types.specs.declared.rows.Criterion.{Criterion}
 use Rattle.adm_wire.specs.declared.fault.WireFault.{WireFault}
@@ -18,14 +19,6 @@ a_number d = option_and_then (λ n. if nat_lt n (2 ^ 32) then Some n else None) 
 -- any text
 abbrev pub a_text : Data → Option (List ℕ)
 a_text = as_str
-
--- a capital letter or a digit
-abbrev pub is_code_byte : ℕ → Bool
-is_code_byte b = (nat_le 65 b && nat_le b 90) || (nat_le 48 b && nat_le b 57)
-
--- 1 to 8 capital letters and digits
-abbrev pub is_code : List ℕ → Bool
-is_code text = nat_le 1 (length text) && (nat_le (length text) 8 && list_all is_code_byte text)
 
 -- the code that a text is
 unfoldable pub code_of : List ℕ → Option (List ℕ)

@@ -5,7 +5,7 @@ use Rattle.std.specs.Char.{is_ascii_digit}
 use Rattle.std.specs.List.{list_all}
 use Rattle.std.specs.Str.Parse.{digits_value, without_leading_plus}
 use Rattle.adm_types.specs.DayText.{IsDayText}
-use Rattle.adm_types.specs.Limits.{is_from}
+use Rattle.adm_types.specs.Numbers.{is_from}
 use Rattle.adm_types.specs.declared.seasons.Phase.{Phase}
 use Rattle.adm_types.specs.declared.seasons.Phase.TheVariants.{Primary, Secondary}
 use Rattle.clap.specs.Words.{Row, Text, first_of, all_of, fault_of, subcommand_of, IsAmong, kind_of}

@@ -1,0 +1,26 @@
+# How the program is built, shown, tested, measured and installed.
+#
+#   make build    the proved program, at bin/admissions
+#   make demo     the examples, run and compared with what they must print
+#   make test     every proof, wrong body, test and example; its last line is 'N passed, M failed'
+#   make bench    what commands cost, beside a baseline in the same run
+#   make install  PREFIX=/usr/local by default
+PREFIX ?= /usr/local
+EXAMPLES := first_path
+
+.PHONY: build demo test bench install
+
+build:
+	tools/build
+
+demo: build
+	@tools/examples bin/admissions $(EXAMPLES)
+
+test:
+	@tools/test $(EXAMPLES)
+
+bench: build
+	bench/first_path/run bin/admissions
+
+install: build
+	install -D -m 755 bin/admissions $(DESTDIR)$(PREFIX)/bin/admissions

@@ -1,0 +1,53 @@
+-- How a desk stands, and what a command may be answered.
+use Rattle.std.specs.Prelude.{◌≡◌, Bool, true, false, Ok, Err, List, [], ◌∷◌, refl}
+use Rattle.std.specs.Coded.{Coded, code_by, coded×, coded_bool}
+use Rattle.sqlite.specs.State.{State as Disk}
+use Rattle.adm_types.specs.declared.commands.Command.{Command}
+use Rattle.adm_types.specs.declared.commands.Reply.{Reply}
+use Rattle.adm_register.specs.State.{State as Register, coded_state}
+use Rattle.adm_register.specs.Outcome.{Step}
+use Rattle.adm_store.specs.StandsFor.{LeavesOnly, LeavesEither}
+use Rattle.adm_desk.specs.declared.answer.Answer.{Answer}
+use Rattle.adm_desk.specs.declared.answer.Answer.TheVariants.{Done, Refused, Memory, Failed}
+
+-- the register of the acknowledged commands, whether a commit has failed, and the connection
+pub record Standing (C : Type 0) : Type 0 where
+  pub register : Register
+  pub failed : Bool
+  pub conn : C
+
+-- a standing is stored as the tuple of its fields
+abbrev pub coded_standing : {C : Type 0} → Coded C → Coded (Standing C)
+coded_standing {C} conn =
+    code_by (Register × (Bool × C)) (coded× coded_state (coded× coded_bool conn))
+    (λ s. (s.register, (s.failed, s.conn)))
+    (λ p. record { register = p.0; failed = p.1.0; conn = p.1.1 })
+    (λ _. refl)
+
+-- The command in work: accepted, it would leave the register `after`, and each thing that a crash may leave stands for
+-- the register before it or for that one.
+pub record InWork (register : Register) (command : Command) (left : Disk) : Type 0 where
+  pub after : Register
+  pub reply : Reply
+  pub accepted : Step register command (Ok reply) after
+  pub leaves : LeavesEither register after left
+
+-- A command is answered, where `disk` is what a connection's file may be.
+-- Done: an accepted step, and all that a crash may leave stands for the register after it.
+-- Refused: by the first test that fails, and nothing changes.
+-- Memory: nothing changes.
+-- Failed: the register stays that of the acknowledged commands; from then on each answer is Failed, and the connection stays.
+abbrev pub Handles : {C : Type 0} → (C → Disk) → Standing C → Command → Answer → Standing C → Type 0
+Handles disk old command (Done reply) new = (old.failed ≡ false) × Step old.register command (Ok reply) new.register × (new.failed ≡ false) × LeavesOnly new.register (disk new.conn)
+Handles disk old command (Refused refusal row) new = (old.failed ≡ false) × Step old.register command (Err refusal) old.register × (row ≡ 0) × (new ≡ old)
+Handles disk old command Memory new = (old.failed ≡ false) × (new ≡ old)
+Handles disk old command Failed new = (new.failed ≡ true) × (new.register ≡ old.register) × (old.failed ≡ true → new ≡ old) × (old.failed ≡ false → InWork old.register command (disk new.conn))
+
+-- ---- for a private clause
+
+-- the new register was written, or memory ran out before, or the commit failed
+abbrev pub Keeps : {C : Type 0} → (C → Disk) → Standing C → Register → Reply → Answer → Standing C → Type 0
+Keeps disk old after reply (Done r) new = (r ≡ reply) × (new.register ≡ after) × (new.failed ≡ false) × LeavesOnly after (disk new.conn)
+Keeps disk old after reply (Refused refusal row) new = ⊥
+Keeps disk old after reply Memory new = new ≡ old
+Keeps disk old after reply Failed new = (new.failed ≡ true) × (new.register ≡ old.register) × LeavesEither old.register after (disk new.conn)

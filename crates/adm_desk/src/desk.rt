@@ -1,0 +1,196 @@
+// The desk: one register and its file.
+ghost use Rattle.std.specs.Prelude.{◌≡◌, ◌≢◌, ◌^◌, ◌<◌, ◌-◌, ℕ, List, length, take, true, false, if◌then◌else◌, IfOk, IfErr, IfSome, OnOk, OnErr, IsErrOf, Some, None, option_copied};
+ghost use Rattle.std.specs.Io.KnownBytes.{Consumes, IsAtEnd};
+ghost use Rattle.sqlite.specs.Held.{state};
+ghost use Rattle.sqlite.specs.State.{Survives};
+ghost use Rattle.adm_register.specs.Extends.{Extends};
+ghost use Rattle.adm_register.specs.WellFormed.{WellFormed};
+ghost use Rattle.adm_store.specs.StandsFor.{LeavesOnly, LeavesNone};
+ghost use Rattle.adm_desk.specs.Steps.{IsRun};
+ghost use Rattle.adm_desk.specs.Standing.{Handles, Keeps, Standing};
+ghost use Rattle.adm_desk.specs.Lines.{lines_of};
+ghost use Rattle.adm_desk.specs.Written.{Finished, AnsweredUpTo, Stopped};
+
+use crate::handler::{self, Handler};
+use crate::{Answer, Run, RunFault, lines};
+use adm_register::{NotDone, Register};
+use adm_store::{OpenFault, Store, changes};
+use adm_types::{Command, Reply};
+use adm_wire::{Input, Output};
+use sqlite::{Alter, Connection};
+use std::alloc::{AllocError, Global};
+use std::marker::Model;
+
+/// One register, and the connection to the file that keeps it.
+///
+/// Where it has not answered Failed, all that a crash may leave stands for its register.
+pub struct Desk<S: Alter> {
+    alloc: Global,
+    store: Store<S>,
+    register: Register,
+    failed: bool,
+}
+
+impl<S: Alter + Drop> Drop for Desk<S> {
+    fn drop(self) {
+        let Desk {
+            alloc: _,
+            store: _,
+            register: _,
+            failed: _,
+        } = self;
+    }
+}
+
+impl<S: Alter> Model for Desk<S> {
+    ghost use Rattle.std.specs.Prelude.{◌≡◌, false};
+    ghost use Rattle.sqlite.specs.Held.{Held, held_code, state};
+    ghost use Rattle.adm_store.specs.StandsFor.{LeavesOnly};
+    ghost use Rattle.adm_desk.specs.Standing.{Standing, coded_standing};
+
+    ghost Value = { Standing (Held S) };
+
+    ghost coded = { coded_standing (held_code S.code) };
+
+    ghost view = { λ d. record { register = d.register; failed = d.failed; conn = d.store } };
+
+    ghost invariant = { λ d. d.failed ≡ false → LeavesOnly d.register (state S.Store d.store) };
+}
+
+impl<S: Alter> Desk<S> {
+    /// Opens the register that the file stands for. Faults 1 to 3 come only where it stands for
+    /// none, and whatever comes, a crash leaves the file as it was found.
+    /// What it costs grows with the rows of the register.
+    pub fn open(
+        alloc: Global,
+        conn: Connection<S>,
+    ) -> Result<Desk<S>, (OpenFault, Connection<S>)>
+        requires { conn.in_transaction ≡ false }
+        ensures opened { IfOk result (λ desk. (desk.failed ≡ false) × LeavesOnly desk.register (state S.Store desk.conn)) }
+        ensures kept { IfOk result (λ desk. Survives (state S.Store conn) (state S.Store desk.conn) (λ _. ⊥)) }
+    {
+        match adm_store::open(alloc, conn) {
+            Ok((store, register)) => Ok(Desk {
+                alloc,
+                store,
+                register,
+                failed: false,
+            }),
+            Err(refused) => Err(refused),
+        }
+    }
+
+    /// The connection. It takes no memory.
+    pub fn into_connection(self) -> Connection<S>
+        ensures same { result ≡ self.conn }
+        ensures ended { result.in_transaction ≡ false }
+    {
+        let Desk {
+            alloc: _,
+            store,
+            register: _,
+            failed: _,
+        } = self;
+        store.into_connection()
+    }
+
+    /// The register; `None` exactly after a Failed. It takes no memory.
+    pub fn register(&self) -> Option<&Register>
+        ensures register { option_copied result ≡ (if self.now.failed then None else Some self.now.register) }
+        ensures leaves { self.now.failed ≡ false → LeavesOnly self.now.register (state S.Store self.now.conn) }
+    {
+        if self.failed {
+            None
+        } else {
+            Some(&self.register)
+        }
+    }
+
+    /// Answers a command. A refusal and want of memory change nothing. After one Failed every later
+    /// answer is Failed and the connection stays as it is, until the file is opened again.
+    /// What it costs grows with the table that the command changes, and what is written with the
+    /// rows that it changes.
+    pub fn handle(&mut self, command: &Command) -> Answer
+        ensures { Handles (state S.Store) self.old command.now result self.new }
+    {
+        if self.failed {
+            return Answer::Failed;
+        }
+        match self.register.decide(self.alloc, command) {
+            Ok((new, reply)) => self.keep(new, reply),
+            Err(NotDone::Refused { refusal, row }) => Answer::Refused { refusal, row },
+            Err(NotDone::Memory) => Answer::Memory,
+        }
+    }
+
+    /// Writes what the accepted command changed, and then takes its register over.
+    fn keep(&mut self, new: Register, reply: Reply) -> Answer
+        requires alive { self.old.failed ≡ false }
+        requires extends { Extends self.old.register new × WellFormed new }
+        ensures { Keeps (state S.Store) self.old new reply result self.new }
+    {
+        match changes(self.alloc, &self.register, &new) {
+            Err(_) => Answer::Memory,
+            Ok(changes) => match self.store.commit(&changes) {
+                Ok(()) => {
+                    self.register = new;
+                    Answer::Done(reply)
+                }
+                Err(_) => {
+                    self.failed = true;
+                    Answer::Failed
+                }
+            },
+        }
+    }
+
+    /// Answers the commands in order. Room for all answers is made first, so after an `Err` no
+    /// command was handled.
+    pub fn handle_all(&mut self, commands: &[Command]) -> Result<Vec<Answer>, AllocError>
+        ensures run { IfOk result (λ answers. IsRun (Handles (state S.Store)) self.old commands.now answers.items self.new) }
+        ensures err { OnErr result (self.new ≡ self.old) }
+    {
+        handler::handle_all(self.alloc, self, commands)
+    }
+
+    /// Answers the lines that the reader gives, to its end, and writes an answer for each as soon
+    /// as its command is acknowledged. Lines end with LF; a last line without one counts where it
+    /// is not empty.
+    pub fn run_lines<R: Input, W: Output>(
+        &mut self,
+        reader: &mut R,
+        writer: &mut W,
+    ) -> Result<Run, RunFault>
+        // The reader was read to its end, and each of its lines was answered, written and counted.
+        ensures end { OnOk result (IsAtEnd (R.remaining reader.new)) }
+        ensures ok { IfOk result (λ run. IfSome (R.remaining reader.old) (λ input.
+            Finished (Handles (state S.Store)) self.old self.new (W.contents writer.old) (W.contents writer.new) run (lines_of input))) }
+
+        // A fault of the reader: it failed, and what had been read before was answered line by line.
+        ensures read_failed { IsErrOf result RunFault.Read → IfSome (R.remaining reader.old) (λ input. length input < 2 ^ 64 - 1 → R.has_failed reader.new ≡ true) }
+        ensures read { IsErrOf result RunFault.Read → (bytes : List ℕ) × Consumes (R.remaining reader.old) (R.remaining reader.new) bytes
+            × AnsweredUpTo (Handles (state S.Store)) self.old self.new (W.contents writer.old) (W.contents writer.new) bytes }
+
+        // A fault of the writer, or of memory: some first lines were answered, and only of the last answer a part may be missing.
+        ensures write_failed { IsErrOf result RunFault.Write → W.has_failed writer.new ≡ true }
+        ensures stopped { IfErr result (λ e. e ≢ RunFault.Read → IfSome (R.remaining reader.old) (λ input. (k : ℕ)
+            × Stopped (Handles (state S.Store)) self.old self.new (W.contents writer.old) (W.contents writer.new) (take k (lines_of input)))) }
+    {
+        lines::run_lines(self.alloc, self, reader, writer)
+    }
+}
+
+impl<S: Alter> Handler for Desk<S> {
+    ghost use Rattle.sqlite.specs.Held.{Held, state};
+    ghost use Rattle.adm_desk.specs.Standing.{Handles, Standing};
+
+    ghost View = { Standing (Held S) };
+
+    ghost view = { λ d. d };
+
+    ghost step = { Handles (state S.Store) };
+
+    fn handle(&mut self, command: &Command) -> Answer {
+        Desk::handle(self, command)
+    }
+}
