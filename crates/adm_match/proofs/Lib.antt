@@ -21,3 +21,6 @@ pub mod Looking
 pub mod Turning
 pub mod Line
 pub mod Ready
+pub mod Twice
+pub mod Asking
+pub mod Coded

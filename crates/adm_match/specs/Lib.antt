@@ -6,3 +6,4 @@ pub mod Blocks
 pub mod Relisting
 pub mod Keeping
 pub mod Queue
+pub mod Claims

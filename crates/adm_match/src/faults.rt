@@ -1,123 +1,127 @@
-ghost use Rattle.std.specs.Prelude.{◌≡◌, ◌==◌, bytes_eq, not, ◌&&◌};
+// What is wrong with a problem: the tests of `Problem::new`, in their order.
+ghost use Rattle.std.specs.Prelude.{◌≡◌, IfOk, bytes_eq, not, false, ℕ, List, map};
 ghost use Rattle.std.specs.List.{list_any};
-ghost use Rattle.adm_match.specs.Market.{market_of, some_pair, same_code, same_school, same_child, is_not_last, share_rank, shares, is_key, repeats_school, names_unknown, repeats_child, has_tenant_not_last, has_equal_rank, first_fault};
+ghost use Rattle.std.specs.Cmp.Lexicographic.{slice_cmp};
+ghost use Rattle.std.specs.Ordering.{nat_cmp};
+ghost use Rattle.std.specs.BTreeSet.{contains};
+ghost use Rattle.adm_match.specs.Market.{market_of, some_pair, same_code, same_school, same_child, is_not_last, share_rank, repeats_school, names_unknown, has_tenant_not_last, has_equal_rank, first_fault};
 
-use adm_rank::RankKey;
-use adm_types::SchoolCode;
+use crate::claims::all_claims;
 use crate::problem::{BadProblem, Entrant, Seats, Wish};
+use crate::repeats::has_repeat;
+use adm_types::{ChildNo, SchoolCode};
+use std::alloc::{AllocError, Global};
+use std::collections::BTreeSet;
 
-/// Whether these seats have the first one's code again.
-fn has_code_of(first: &Seats, others: &[Seats]) -> bool
-    ensures { result ≡ list_any (same_code first.now) others.now }
+/// The codes of the seats, in their order.
+fn seat_codes(alloc: Global, seats: &[Seats]) -> Result<Vec<SchoolCode>, AllocError>
+    ensures { IfOk result (λ codes. codes.items ≡ map (λ seat. seat.code) seats.now) }
 {
-    others.iter().any(|other| first.code == other.code)
+    seats.iter().map(|seat| seat.code).collect(alloc)
 }
 
 /// Whether a code comes twice among the seats.
-fn seats_repeat(seats: &[Seats]) -> bool
-    ensures { result ≡ some_pair same_code seats.now }
+fn seats_repeat(alloc: Global, seats: &[Seats]) -> Result<bool, AllocError>
+    ensures { IfOk result (λ answer. answer ≡ some_pair same_code seats.now) }
 {
-    let mut rest = seats;
-    while let Some((first, others)) = rest.split_first() {
-        if has_code_of(first, others) {
-            return true;
-        }
-        rest = others;
-    }
-    false
+    let codes = seat_codes(alloc, seats)?;
+    has_repeat(alloc, &codes)
 }
 
-/// Whether these wishes name the first one's school again.
-fn has_school_of(first: &Wish, others: &[Wish]) -> bool
-    ensures { result ≡ list_any (same_school first.now) others.now }
+/// The schools of a list, in its order.
+fn listed_schools(alloc: Global, list: &[Wish]) -> Result<Vec<SchoolCode>, AllocError>
+    ensures { IfOk result (λ schools. schools.items ≡ map (λ wish. wish.school) list.now) }
 {
-    others.iter().any(|other| first.school == other.school)
+    list.iter().map(|wish| wish.school).collect(alloc)
 }
 
 /// Whether a school comes twice on the list.
-fn list_repeats(list: &[Wish]) -> bool
-    ensures { result ≡ some_pair same_school list.now }
+fn list_repeats(alloc: Global, list: &[Wish]) -> Result<bool, AllocError>
+    ensures { IfOk result (λ answer. answer ≡ some_pair same_school list.now) }
 {
-    let mut rest = list;
-    while let Some((first, others)) = rest.split_first() {
-        if has_school_of(first, others) {
-            return true;
+    let schools = listed_schools(alloc, list)?;
+    has_repeat(alloc, &schools)
+}
+
+/// Whether a school comes twice on some list.
+fn some_list_repeats(alloc: Global, entrants: &[Entrant]) -> Result<bool, AllocError>
+    ensures { IfOk result (λ answer. answer ≡ list_any (λ entrant. some_pair same_school entrant.list) entrants.now) }
+{
+    for index in 0..entrants.len() {
+        let entrant = &entrants[index];
+        if list_repeats(alloc, &entrant.list)? {
+            return Ok(true);
         }
-        rest = others;
     }
-    false
+    Ok(false)
 }
 
-/// Whether a school comes twice on the entrant's list.
-fn repeats_wish(entrant: &Entrant) -> bool
-    ensures { result ≡ some_pair same_school entrant.now.list }
+/// The codes of the seats.
+fn codes_of(alloc: Global, seats: &[Seats]) -> Result<BTreeSet<SchoolCode>, AllocError>
+    ensures { IfOk result (λ codes. (code : List ℕ) → contains (slice_cmp nat_cmp) codes code ≡ list_any (λ seat. bytes_eq seat.code code) seats.now) }
 {
-    list_repeats(&entrant.list)
+    let mut codes = BTreeSet::new(alloc);
+    for index in 0..seats.len() {
+        let seat = seats[index];
+        codes.insert(seat.code)?;
+    }
+    Ok(codes)
 }
 
-fn some_list_repeats(entrants: &[Entrant]) -> bool
-    ensures { result ≡ list_any (λ entrant. some_pair same_school entrant.list) entrants.now }
+fn is_known(codes: &BTreeSet<SchoolCode>, school: SchoolCode) -> bool
+    ensures { result ≡ contains (slice_cmp nat_cmp) codes.now school }
 {
-    entrants.iter().any(|entrant| repeats_wish(entrant))
+    codes.contains(&school)
 }
 
-/// Whether a school comes twice, among the seats or on one list.
-fn repeats_school(entrants: &[Entrant], seats: &[Seats]) -> bool
-    ensures { result ≡ repeats_school (market_of entrants.now seats.now) }
+fn list_names_unknown(list: &[Wish], codes: &BTreeSet<SchoolCode>) -> bool
+    ensures { result ≡ list_any (λ wish. not (contains (slice_cmp nat_cmp) codes.now wish.school)) list.now }
 {
-    seats_repeat(seats) || some_list_repeats(entrants)
+    list.iter().any(|wish| !is_known(codes, wish.school))
 }
 
-/// Whether the school has seats.
-fn has_seats(seats: &[Seats], school: SchoolCode) -> bool
-    ensures { result ≡ list_any (λ seat. bytes_eq seat.code school) seats.now }
+fn wants_unknown(entrant: &Entrant, codes: &BTreeSet<SchoolCode>) -> bool
+    ensures { result ≡ list_any (λ wish. not (contains (slice_cmp nat_cmp) codes.now wish.school)) entrant.now.list }
 {
-    seats.iter().any(|seat| seat.code == school)
+    list_names_unknown(&entrant.list, codes)
 }
 
-fn list_names_unknown(list: &[Wish], seats: &[Seats]) -> bool
-    ensures { result ≡ list_any (λ wish. not (list_any (λ seat. bytes_eq seat.code wish.school) seats.now)) list.now }
+fn some_want_unknown(entrants: &[Entrant], codes: &BTreeSet<SchoolCode>) -> bool
+    ensures { result ≡ list_any (λ entrant. list_any (λ wish. not (contains (slice_cmp nat_cmp) codes.now wish.school)) entrant.list) entrants.now }
 {
-    list.iter().any(|wish| !has_seats(seats, wish.school))
-}
-
-fn wants_unknown(entrant: &Entrant, seats: &[Seats]) -> bool
-    ensures { result ≡ list_any (λ wish. not (list_any (λ seat. bytes_eq seat.code wish.school) seats.now)) entrant.now.list }
-{
-    list_names_unknown(&entrant.list, seats)
+    entrants.iter().any(|entrant| wants_unknown(entrant, codes))
 }
 
 /// Whether a list names a school without seats.
-fn names_unknown(entrants: &[Entrant], seats: &[Seats]) -> bool
-    ensures { result ≡ names_unknown (market_of entrants.now seats.now) }
+fn names_unknown(alloc: Global, entrants: &[Entrant], seats: &[Seats]) -> Result<bool, AllocError>
+    ensures { IfOk result (λ answer. answer ≡ names_unknown (market_of entrants.now seats.now)) }
 {
-    entrants.iter().any(|entrant| wants_unknown(entrant, seats))
+    let codes = codes_of(alloc, seats)?;
+    Ok(some_want_unknown(entrants, &codes))
 }
 
-fn is_child_of(one: &Entrant, other: &Entrant) -> bool
-    ensures { result ≡ same_child one.now other.now }
+fn child_of(entrant: &Entrant) -> ChildNo
+    ensures { result ≡ entrant.now.child }
 {
-    one.child == other.child
+    entrant.child
 }
 
-fn has_child_of(first: &Entrant, others: &[Entrant]) -> bool
-    ensures { result ≡ list_any (same_child first.now) others.now }
+/// The children of the entrants, in their order.
+fn children_of(alloc: Global, entrants: &[Entrant]) -> Result<Vec<ChildNo>, AllocError>
+    ensures { IfOk result (λ children. children.items ≡ map (λ entrant. entrant.child) entrants.now) }
 {
-    others.iter().any(|other| is_child_of(first, other))
+    entrants
+        .iter()
+        .map(|entrant| child_of(entrant))
+        .collect(alloc)
 }
 
 /// Whether a child comes twice.
-fn repeats_child(entrants: &[Entrant]) -> bool
-    ensures { result ≡ some_pair same_child entrants.now }
+fn repeats_child(alloc: Global, entrants: &[Entrant]) -> Result<bool, AllocError>
+    ensures { IfOk result (λ answer. answer ≡ some_pair same_child entrants.now) }
 {
-    let mut rest = entrants;
-    while let Some((first, others)) = rest.split_first() {
-        if has_child_of(first, others) {
-            return true;
-        }
-        rest = others;
-    }
-    false
+    let children = children_of(alloc, entrants)?;
+    has_repeat(alloc, &children)
 }
 
 fn tenancy_is_not_last(entrant: &Entrant) -> bool
@@ -139,71 +143,37 @@ fn has_tenant_not_last(entrants: &[Entrant]) -> bool
     entrants.iter().any(|entrant| tenancy_is_not_last(entrant))
 }
 
-fn is_key(key: Option<RankKey>, other: RankKey) -> bool
-    ensures { result ≡ is_key key other }
-{
-    match key {
-        Some(key) => key == other,
-        None => false,
-    }
-}
-
-/// Whether both list the wish's school with its key, and neither is a tenant there.
-fn shares(one: &Entrant, other: &Entrant, wish: Wish) -> bool
-    ensures { result ≡ shares one.now other.now wish }
-{
-    is_key(other.key_at(wish.school), wish.key)
-        && !one.is_tenant_of(wish.school)
-        && !other.is_tenant_of(wish.school)
-}
-
-fn share_some(one: &Entrant, other: &Entrant, list: &[Wish]) -> bool
-    ensures { result ≡ list_any (shares one.now other.now) list.now }
-{
-    list.iter().any(|wish| shares(one, other, *wish))
-}
-
-fn share_rank(one: &Entrant, other: &Entrant) -> bool
-    ensures { result ≡ share_rank one.now other.now }
-{
-    share_some(one, other, &one.list)
-}
-
-fn has_rank_of(first: &Entrant, others: &[Entrant]) -> bool
-    ensures { result ≡ list_any (share_rank first.now) others.now }
-{
-    others.iter().any(|other| share_rank(first, other))
-}
-
 /// Whether a school cannot tell two entrants apart.
-fn has_equal_rank(entrants: &[Entrant]) -> bool
-    ensures { result ≡ some_pair share_rank entrants.now }
+fn has_equal_rank(alloc: Global, entrants: &[Entrant]) -> Result<bool, AllocError>
+    requires { list_any (λ entrant. some_pair same_school entrant.list) entrants.now ≡ false }
+    ensures { IfOk result (λ answer. answer ≡ some_pair share_rank entrants.now) }
 {
-    let mut rest = entrants;
-    while let Some((first, others)) = rest.split_first() {
-        if has_rank_of(first, others) {
-            return true;
-        }
-        rest = others;
-    }
-    false
+    let claims = all_claims(alloc, entrants)?;
+    has_repeat(alloc, &claims)
 }
 
 /// The first of the tests that fails.
-pub(crate) fn first_fault(entrants: &[Entrant], seats: &[Seats]) -> Option<BadProblem>
-    ensures { result ≡ first_fault (market_of entrants.now seats.now) }
+pub(crate) fn first_fault(
+    alloc: Global,
+    entrants: &[Entrant],
+    seats: &[Seats],
+) -> Result<Option<BadProblem>, AllocError>
+    ensures { IfOk result (λ fault. fault ≡ first_fault (market_of entrants.now seats.now)) }
 {
-    if repeats_school(entrants, seats) {
-        Some(BadProblem::RepeatedSchool)
-    } else if names_unknown(entrants, seats) {
-        Some(BadProblem::UnknownSchool)
-    } else if repeats_child(entrants) {
-        Some(BadProblem::RepeatedChild)
-    } else if has_tenant_not_last(entrants) {
-        Some(BadProblem::TenantNotLast)
-    } else if has_equal_rank(entrants) {
-        Some(BadProblem::EqualRank)
-    } else {
-        None
+    if seats_repeat(alloc, seats)? || some_list_repeats(alloc, entrants)? {
+        return Ok(Some(BadProblem::RepeatedSchool));
     }
+    if names_unknown(alloc, entrants, seats)? {
+        return Ok(Some(BadProblem::UnknownSchool));
+    }
+    if repeats_child(alloc, entrants)? {
+        return Ok(Some(BadProblem::RepeatedChild));
+    }
+    if has_tenant_not_last(entrants) {
+        return Ok(Some(BadProblem::TenantNotLast));
+    }
+    if has_equal_rank(alloc, entrants)? {
+        return Ok(Some(BadProblem::EqualRank));
+    }
+    Ok(None)
 }

@@ -4,11 +4,13 @@
 mod acceptance;
 mod allotment;
 mod blocking;
+mod claims;
 mod directory;
 mod faults;
 mod kept;
 mod laws;
 mod problem;
+mod repeats;
 mod scan;
 mod standings;
 
@@ -17,8 +19,9 @@ pub use allotment::Offers;
 pub use blocking::first_block;
 pub use kept::{Guest, Kept, take_at};
 pub use laws::{no_gain, one_best, same_placed};
-pub use scan::offers_by_scan;
+
 pub use problem::{BadProblem, Entrant, Problem, Seats, Wish};
+pub use scan::offers_by_scan;
 
 #[cfg(test)]
 mod tests;

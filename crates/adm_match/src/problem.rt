@@ -5,7 +5,9 @@ ghost use Rattle.adm_match.specs.Market.{quota_of};
 use crate::faults::first_fault;
 use adm_rank::RankKey;
 use adm_types::{ChildNo, SchoolCode};
+use std::alloc::{AllocError, Global};
 use std::marker::Model;
+use thiserror::Error;
 
 /// A school on a child's list, with the key by which the child ranks there.
 #[derive(Clone, Copy, Debug)]
@@ -96,20 +98,37 @@ pub struct Seats {
 }
 
 /// What is wrong with a problem.
-#[derive(Clone, Copy, Debug, PartialEq, Eq)]
+#[derive(Clone, Copy, Debug, PartialEq, Eq, Error)]
 pub enum BadProblem {
     /// A school comes twice, among the seats or on one list.
-    RepeatedSchool,
+    #[error("a school comes twice")]
+    RepeatedSchool = 1,
     /// A list names a school without seats.
-    UnknownSchool,
+    #[error("a list names a school without seats")]
+    UnknownSchool = 2,
     /// Two entrants list a school with equal keys, and neither is its tenant.
-    EqualRank,
+    #[error("two entrants have equal keys at a school")]
+    EqualRank = 3,
     /// A tenant's school is not the last of its list.
-    TenantNotLast,
+    #[error("a tenant's school is not the last of its list")]
+    TenantNotLast = 4,
     /// Memory ran out.
-    Memory,
+    #[error("out of memory")]
+    Memory = 5,
     /// A child comes twice.
-    RepeatedChild,
+    #[error("a child comes twice")]
+    RepeatedChild = 6,
+}
+
+impl From<AllocError> for BadProblem {
+    ghost use Rattle.std.specs.Prelude.{◌≡◌};
+    ghost use Rattle.adm_match.specs.declared.problem.BadProblem.TheVariants.{Memory};
+
+    ghost from_gives = { λ _ fault. fault ≡ Memory };
+
+    fn from(_: AllocError) -> BadProblem {
+        BadProblem::Memory
+    }
 }
 
 /// Entrants with their lists, and the seats of the schools. A contract sees both lists.
@@ -131,20 +150,25 @@ impl Model for Problem {
 }
 
 impl Problem {
-    ghost use Rattle.std.specs.Prelude.{MatchResult, Some, ◌≡◌, None};
+    ghost use Rattle.std.specs.Prelude.{MatchResult, Some, ◌≡◌, ◌⊎◌, None};
+    ghost use Rattle.adm_match.specs.declared.problem.BadProblem.TheVariants.{Memory};
     ghost use Rattle.adm_match.specs.Market.{market_of, first_fault};
 
     /// The problem of just these entrants and seats, or the first of the tests that fails: a school
     /// that comes twice, a list that names a school without seats, a child that comes twice, a
     /// tenant whose school is not the last of its list, two entrants with equal keys at a school.
-    /// It takes no memory.
-    pub fn new(entrants: Vec<Entrant>, seats: Vec<Seats>) -> Result<Problem, BadProblem>
+    /// The cost grows with the list entries, times their logarithm.
+    pub fn new(
+        alloc: Global,
+        entrants: Vec<Entrant>,
+        seats: Vec<Seats>,
+    ) -> Result<Problem, BadProblem>
         ensures { let market = market_of entrants.items seats.items in
             MatchResult result
             (λ problem. (first_fault market ≡ None) × (problem ≡ market))
-            (λ fault. first_fault market ≡ Some fault) }
+            (λ fault. (first_fault market ≡ Some fault) ⊎ (fault ≡ Memory)) }
     {
-        if let Some(fault) = first_fault(&entrants, &seats) {
+        if let Some(fault) = first_fault(alloc, &entrants, &seats)? {
             return Err(fault);
         }
         Ok(Problem { entrants, seats })

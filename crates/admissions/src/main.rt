@@ -1,0 +1,28 @@
+// The program: it reads the words, opens the file and runs the desk on real streams.
+#![tactic(auto)]
+
+mod run;
+#[cfg(test)]
+mod tests;
+
+use std::env;
+use std::io;
+use std::process::ExitCode;
+
+fn main(rt: HostRuntime) -> io::Result<ExitCode> {
+    let mut given = Vec::new(rt.alloc());
+    for word in env::args(&rt)? {
+        given.push(word)?;
+    }
+    let mut words = Vec::new(rt.alloc());
+    for word in &given {
+        words.push(word.as_str())?;
+    }
+    Ok(ExitCode::from(run::run_words(
+        &rt,
+        words.as_slice(),
+        rt.stdin(),
+        rt.stdout(),
+        &mut rt.stderr(),
+    )))
+}
