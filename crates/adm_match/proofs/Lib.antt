@@ -24,3 +24,4 @@ pub mod Ready
 pub mod Twice
 pub mod Asking
 pub mod Coded
+pub mod Advised

@@ -2,6 +2,7 @@
 use Rattle.std.proofs.Common.{◌≡◌, ◌≢◌, ◌⊎◌, ℕ, zero, suc, ◌+◌, ◌<◌, ◌≤◌, List, [], ◌∷◌, ◌++◌, length, map, get_or, take, drop, append-nil, Option, None, Some, Bool, true, false, cond, ◌||◌, ◌&&◌, inl, inr, refl, sym, ap, ◌∙◌, subst, arith, ◌==◌, add-one}
 use Rattle.std.specs.Prelude.{All, is_none, nat_lt, option_map}
 use Rattle.std.specs.List.{slice_get, list_any, count_by}
+use Rattle.std.specs.Option.{option_to_list}
 use Rattle.std.proofs.lemmas.Bool.{cases_Bool, cases_eq, cases_lt, false≢true, or_cases, or_left, or_right, and_parts, and_from, eqb-true, eq-eqb, ltb-true, lt-ltb}
 use Rattle.std.proofs.lemmas.Option.{none-some, same_Some, slice_get_within, slice_get-map, get_or_from_slice_get}
 use Rattle.std.proofs.lemmas.List.Folds.{list_any-append}
@@ -113,6 +114,12 @@ one_back m directory old new schools now index place queue rest queue' h is t pu
         within = push_all (λ x. x < length m.entrants) rest place (rest_all (λ x. x < length m.entrants) index rest q.within) (omega (arith, t.within, t.sound.shaped.same));
       };
     })
+
+pub some_back : (m : Market) (directory : Directory) (old new : List Standing) (schools now : List Keeping) (index : ℕ) (out : Option ℕ) (queue rest queue' : List ℕ) → Afoot m directory old schools queue → queue ≡ index ∷ rest → Turned m old new now index out → queue' ≡ rest ++ option_to_list out → Afoot m directory new now queue'
+some_back m directory old new schools now index None queue rest queue' h is t pushed =
+    subst (λ (x : List ℕ). Afoot m directory new now x) (sym (pushed ∙ append-nil rest)) (nobody_back m directory old new schools now index queue rest h is t)
+some_back m directory old new schools now index (Some place) queue rest queue' h is t pushed =
+    one_back m directory old new schools now index place queue rest queue' h is t pushed
 
 -- the place that leaves the queue is one of an entrant
 pub queued_within : (m : Market) (directory : Directory) (rows : List Standing) (schools : List Keeping) (index : ℕ) (queue rest : List ℕ) → Afoot m directory rows schools queue → queue ≡ index ∷ rest → index < length m.entrants

@@ -71,7 +71,7 @@ pub record Part (m : Market) (k : ℕ) (e e' : Candidate) : Type 0 where
   pub places : (j : ℕ) (w : Wish) → slice_get e'.list j ≡ Some w → place e'.list w.school ≡ j
   pub keys : (j : ℕ) (w : Wish) → slice_get e'.list j ≡ Some w → key_at e'.list w.school ≡ Some w.key
   pub old : (j : ℕ) (w : Wish) → slice_get e'.list j ≡ Some w → (i : ℕ) × (slice_get e.list i ≡ Some w)
-  pub free : (j : ℕ) (w : Wish) → slice_get e'.list j ≡ Some w → is_tenant e w.school ≡ false
+  pub free : (j : ℕ) (w : Wish) → slice_get e'.list j ≡ Some w → is_tenant e' w.school ≡ false → is_tenant e w.school ≡ false
 
 -- an entrant of the changed problem, and the one whose place it has
 origin : (m m' : Market) (k : ℕ) (e e' : Candidate) → Differs m m' k e e' → Part m k e e' → (j : ℕ) (x : Candidate) → slice_get m'.entrants j ≡ Some x → (y : Candidate) × (slice_get m.entrants j ≡ Some y) × (x.child ≡ y.child) × ((i : ℕ) (w : Wish) → slice_get x.list i ≡ Some w → is_tenant x w.school ≡ false → ((n : ℕ) × (slice_get y.list n ≡ Some w)) × (is_tenant y w.school ≡ false)) × ((i : ℕ) (w : Wish) → slice_get x.list i ≡ Some w → (n : ℕ) × (slice_get y.list n ≡ Some w))
@@ -83,7 +83,7 @@ origin m m' k e e' h part j x xj = elim (cases_eq j k) [
         ap (λ (z : Candidate). z.child) (sym x_is) ∙ h.child,
         λ i w iw free.
             let mine : slice_get e'.list i ≡ Some w = ap (λ (z : Candidate). slice_get z.list i) x_is ∙ iw in
-            (part.old i w mine, part.free i w mine),
+            (part.old i w mine, part.free i w mine (ap (λ (z : Candidate). is_tenant z w.school) x_is ∙ free)),
         λ i w iw. part.old i w (ap (λ (z : Candidate). slice_get z.list i) x_is ∙ iw),
       )
   | inr n ↦ (x, sym (h.others j n) ∙ xj, refl, λ i w iw free. ((i, iw), free), λ i w iw. (i, iw))
@@ -164,7 +164,7 @@ part_one m k e n w d h = record {
       let same = one_at w j x jx in
       one_key w x.school (ap (λ (z : Wish). z.school) same) ∙ ap (λ (z : Wish). Some z.key) same;
   old = λ j x jx. (n, h.at ∙ ap Some (one_at w j x jx));
-  free = λ j x jx. ap (λ (z : Wish). is_tenant e z.school) (sym (one_at w j x jx)) ∙ h.free_upto n w (omega arith) h.at;
+  free = λ j x jx _. ap (λ (z : Wish). is_tenant e z.school) (sym (one_at w j x jx)) ∙ h.free_upto n w (omega arith) h.at;
 }
 
 part_front : (m : Market) (k : ℕ) (e : Candidate) (n : ℕ) (w : Wish) → Distinct m → Wanted m k e n w → Part m k e (alone e (take (n + 1) e.list))
@@ -178,7 +178,7 @@ part_front m k e n w d h = record {
       let is = d.well.places k e j x h.here old.0 in
       key_take e.list (n + 1) x.school (omega (arith, is, old.1)) ∙ d.key_of k e j x h.here old.0;
   old = λ j x jx. (j, (at_take e.list (n + 1) j x jx).0);
-  free = λ j x jx. let old = at_take e.list (n + 1) j x jx in h.free_upto j x (omega (arith, old.1)) old.0;
+  free = λ j x jx _. let old = at_take e.list (n + 1) j x jx in h.free_upto j x (omega (arith, old.1)) old.0;
 }
 
 -- a child that is given the one school of its list wants no other

@@ -10,7 +10,7 @@ use Rattle.std.proofs.lemmas.Slice.Eq.{bytes_eq-Decides}
 use Rattle.adm_match.specs.declared.problem.Wish.{Wish}
 use Rattle.adm_match.specs.Market.{Code, Candidate, Market, place, place_of, is_tenant, key_at, is_not_last, some_pair, same_code, same_school}
 use Rattle.adm_match.specs.Stability.{Allocation, IsStable}
-use Rattle.adm_match.specs.Relisting.{wishes_for, with_list, relisted, NoGain, SamePlaced, OneBest}
+use Rattle.adm_match.specs.Relisting.{wishes_for, with_list, relist, relisted, NoGain, SamePlaced, OneBest}
 use Rattle.adm_match.proofs.Places.{has_tells, at_All, All_at, same_place, wish_at_place}
 use Rattle.adm_match.proofs.FirstBlock.{found_at, place_upto}
 use Rattle.adm_match.proofs.Posed.{Posed, posed, list_any_not}
@@ -22,9 +22,6 @@ use Rattle.adm_match.proofs.Placed.{same_placed, on_list}
 use Rattle.adm_match.proofs.Moved.{Differs}
 use Rattle.adm_match.proofs.NoGain.{Listing, no_gain}
 
-abbrev relist : ℕ → List Code → Candidate → Candidate
-relist child schools e = cond (e.child == child) (with_list e schools) e
-
 relist_there : (child : ℕ) (schools : List Code) (o : Option Candidate) → ((x : Candidate) → o ≡ Some x → x.child ≡ child → ⊥) → option_map (relist child schools) o ≡ o
 relist_there child schools None h = refl
 relist_there child schools (Some x) h = elim (cases_Bool (x.child == child)) [
@@ -32,7 +29,7 @@ relist_there child schools (Some x) h = elim (cases_Bool (x.child == child)) [
   | inr miss ↦ ap (λ b. Some (cond b (with_list x schools) x)) miss
 ]
 
-differs_relisted : (m : Market) (schools : List Code) (k : ℕ) (e : Candidate) → Distinct m → slice_get m.entrants k ≡ Some e → Differs m (relisted m e.child schools) k e (with_list e schools)
+pub differs_relisted : (m : Market) (schools : List Code) (k : ℕ) (e : Candidate) → Distinct m → slice_get m.entrants k ≡ Some e → Differs m (relisted m e.child schools) k e (with_list e schools)
 differs_relisted m schools k e d here = record {
   seats = refl;
   same = length-map m.entrants (relist e.child schools);

@@ -1,6 +1,7 @@
 // Deferred acceptance with a queue of entrants without a school, and a heap of guests at each school.
-ghost use Rattle.std.specs.Prelude.{◌≡◌, ◌<◌, ◌==◌, ℕ, length, map, IfOk, All, None, true, false, ◌&&◌, is_none, nat_lt};
+ghost use Rattle.std.specs.Prelude.{◌≡◌, ◌<◌, ◌==◌, ◌++◌, ℕ, length, map, IfOk, All, None, true, false, ◌&&◌, is_none, nat_lt};
 ghost use Rattle.std.specs.List.{list_any};
+ghost use Rattle.std.specs.Option.{option_to_list};
 ghost use Rattle.adm_match.specs.Stability.{IsBest, school_of, is_entrant, proposals_of};
 ghost use Rattle.adm_match.specs.Market.{market_of};
 ghost use Rattle.adm_match.specs.Turns.{IsFree, AllDone, Sound};
@@ -36,6 +37,19 @@ fn queue_of(alloc: Global, entrants: &[Entrant]) -> Result<VecDeque<usize>, Allo
         queue.push_back(index)?;
     }
     Ok(queue)
+}
+
+/// Puts the place of the one who was sent back, if any, at the queue's end.
+fn line_up(queue: &mut VecDeque<usize>, out: Option<usize>) -> Result<(), AllocError>
+    ensures { IfOk result (λ _. queue.new.items ≡ queue.old.items ++ option_to_list out) }
+{
+    match out {
+        Some(place) => {
+            queue.push_back(place)?;
+            Ok(())
+        }
+        None => Ok(()),
+    }
 }
 
 /// Whether no school keeps the entrant, and it has a school left on its list.
@@ -91,12 +105,18 @@ fn settle(alloc: Global, entrants: &[Entrant], seats: &[Seats]) -> Result<Vec<St
     let mut queue = queue_of(alloc, entrants)?;
     while let Some(index) = queue.pop_front() {
         let entrant = &entrants[index];
-        if is_free(entrant, rows[index]) {
-            let out = take(entrants, seats, &directory, &mut rows, &mut schools, index)?;
-            if let Some(place) = out {
-                queue.push_back(place)?;
-            }
+        if !is_free(entrant, rows[index]) {
+            continue;
         }
+        let out = take(
+            entrants,
+            seats,
+            &directory,
+            &mut rows,
+            &mut schools,
+            index,
+        )?;
+        line_up(&mut queue, out)?;
     }
     Ok(rows)
 }

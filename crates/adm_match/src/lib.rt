@@ -2,6 +2,7 @@
 #![tactic(auto)]
 
 mod acceptance;
+mod advice;
 mod allotment;
 mod blocking;
 mod claims;
@@ -10,11 +11,13 @@ mod faults;
 mod kept;
 mod laws;
 mod problem;
+mod relisting;
 mod repeats;
 mod scan;
 mod standings;
 
 pub use acceptance::offers;
+pub use advice::{WhatIfFault, what_if};
 pub use allotment::Offers;
 pub use blocking::first_block;
 pub use kept::{Guest, Kept, take_at};

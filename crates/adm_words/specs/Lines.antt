@@ -1,15 +1,15 @@
 -- A line of the command line, read from what clap found.
-use Rattle.std.specs.Prelude.{◌≡◌, ℕ, ◌^◌, ◌⊎◌, ◌&&◌, List, [], ◌∷◌, codes, length, nat_lt, Option, Some, None, option_and_then, unwrap_or, Result, Ok, Err, if◌then◌else◌}
+use Rattle.std.specs.Prelude.{◌≡◌, ℕ, ◌^◌, ◌⊎◌, ◌&&◌, List, [], ◌∷◌, codes, length, nat_lt, Option, Some, None, unwrap_or, Result, Ok, Err, if◌then◌else◌}
 use Rattle.std.specs.Str.{bytes_eq}
 use Rattle.std.specs.Char.{is_ascii_digit}
 use Rattle.std.specs.List.{list_all}
 use Rattle.std.specs.Str.Parse.{digits_value, without_leading_plus}
 use Rattle.adm_types.specs.DayText.{IsDayText}
-use Rattle.adm_types.specs.Numbers.{is_from}
 use Rattle.adm_types.specs.declared.seasons.Phase.{Phase}
 use Rattle.adm_types.specs.declared.seasons.Phase.TheVariants.{Primary, Secondary}
 use Rattle.clap.specs.Words.{Row, Text, first_of, all_of, fault_of, subcommand_of, IsAmong, kind_of}
 use Rattle.clap.specs.declared.builder.value_parser.ValueParser.{ValueParser}
+use Rattle.clap.specs.declared.error.kind.ErrorKind.{ErrorKind}
 use Rattle.adm_words.specs.Program.{IsPhases, program_app}
 use Rattle.adm_words.specs.declared.actions.Action.{Action}
 use Rattle.adm_words.specs.declared.actions.Action.TheVariants as action
@@ -21,15 +21,15 @@ pub data Line : Type 0 where
   init_line : Text → Phase → ℕ → List Text → Line
   do_line : Text → Line
 
--- the next reading, where this one gave a value
-infixl 10 ◌>>=◌
-abbrev pub ◌>>=◌ : {A B : Type 0} → Option A → (A → Option B) → Option B
-o >>= f = option_and_then f o
-
 -- ---- the values of arguments
 
-abbrev pub phase_of : Text → Option Phase
-phase_of text = if bytes_eq text (codes "primary") then Some Primary else (if bytes_eq text (codes "secondary") then Some Secondary else None)
+-- the first value that clap found; a required argument has one in all words that clap takes
+abbrev pub value_in : Text → List Row → Text
+value_in id rows = unwrap_or (first_of id rows) []
+
+-- of the two names of phases
+abbrev pub phase_of : Text → Phase
+phase_of text = if bytes_eq text (codes "primary") then Primary else Secondary
 
 -- the number that decimal digits write, below 2 ^ 32
 abbrev pub digits_number : List ℕ → Option ℕ
@@ -39,29 +39,18 @@ digits_number digits = if nat_lt 0 (length digits) && (list_all is_ascii_digit d
 abbrev pub number_of : Text → Option ℕ
 number_of text = digits_number (without_leading_plus text)
 
--- an entry year, from 2000 to 2100
-abbrev pub year_of : Text → Option ℕ
-year_of text = option_and_then (λ year. if is_from 2000 2100 year then Some year else None) (number_of text)
+-- the year that a text writes, which clap has found to be from 2000 to 2100
+abbrev pub year_of : Text → ℕ
+year_of text = unwrap_or (number_of text) 0
 
 -- ---- the lines
 
-unfoldable pub init_in : List Row → Option Line
-init_in rows = do
-  file ← first_of (codes "file") rows
-  phase ← option_and_then phase_of (first_of (codes "phase") rows)
-  year ← option_and_then year_of (first_of (codes "year") rows)
-  Some (init_line file phase year (unwrap_or (all_of (codes "holiday") rows) []))
+abbrev pub init_in : List Row → Line
+init_in rows = init_line (value_in (codes "file") rows) (phase_of (value_in (codes "phase") rows)) (year_of (value_in (codes "year") rows)) (unwrap_or (all_of (codes "holiday") rows) [])
 
-unfoldable pub do_in : List Row → Option Line
-do_in rows = do
-  file ← first_of (codes "file") rows
-  Some (do_line file)
-
--- the line that a subcommand's name and entries are, where they have each value that the line needs
-unfoldable pub line_in : Option (Text × List Row) → Option Line
-line_in entries = do
-  sub ← entries
-  if bytes_eq sub.0 (codes "init") then init_in sub.1 else (if bytes_eq sub.0 (codes "do") then do_in sub.1 else None)
+-- the line of a subcommand's name and entries, which are those of `init` or of `do`
+abbrev pub line_in : Text → List Row → Line
+line_in name rows = if bytes_eq name (codes "init") then init_in rows else do_line (value_in (codes "file") rows)
 
 -- ---- what a line asks for
 
@@ -91,21 +80,18 @@ Reads (init_line file phase year texts) (Err BadDate) = HasNoDay texts
 Reads line (Err Memory) = Unit {0}
 Reads line result = ⊥
 
--- the same of entries, which may lack a value, for private clauses
-abbrev pub ReadsLine : Option Line → Option (Result Action WordsFault) → Type 0
-ReadsLine None result = result ≡ None
-ReadsLine (Some line) None = ⊥
-ReadsLine (Some line) (Some result) = Reads line result
-
 -- clap takes the words, and this is what the line that it found asks for
 abbrev pub Takes : List Text → Result Action WordsFault → Type 0
-Takes words result = (phases : ValueParser) × IsPhases phases × (fault_of (program_app phases) words ≡ []) × (line : Line) × (line_in (subcommand_of (program_app phases) words) ≡ Some line) × Reads line result
+Takes words result = (phases : ValueParser) × IsPhases phases × (fault_of (program_app phases) words ≡ []) × (name : Text) × (rows : List Row) × (subcommand_of (program_app phases) words ≡ Some (name, rows)) × Reads (line_in name rows) result
 
--- What the words ask for, unless memory ran out. Words comes where clap refuses them, for the kind of fault that is told;
--- or, which the other half does not rule out, where clap takes them and its entries lack a value that the line needs.
+-- clap refuses the words, and this is the kind of its error
+abbrev pub Refuses : List Text → ErrorKind → Type 0
+Refuses words kind = (phases : ValueParser) × IsPhases phases × IsAmong kind (fault_of (program_app phases) words)
+
+-- what the words ask for, or that clap refuses them, unless memory ran out
 abbrev pub ReadsWords : List Text → Result Action WordsFault → Type 0
 ReadsWords words (Ok a) = Takes words (Ok a)
-ReadsWords words (Err (Words e)) = (phases : ValueParser) × IsPhases phases × (IsAmong (kind_of e) (fault_of (program_app phases) words) ⊎ ((fault_of (program_app phases) words ≡ []) × (line_in (subcommand_of (program_app phases) words) ≡ None)))
+ReadsWords words (Err (Words e)) = Refuses words (kind_of e)
 ReadsWords words (Err BadDate) = Takes words (Err BadDate)
 ReadsWords words (Err Memory) = Unit {0}
 

@@ -1,5 +1,5 @@
 // The command line as `clap` sees it.
-ghost use Rattle.std.specs.Prelude.{◌≡◌, IfOk, false};
+ghost use Rattle.std.specs.Prelude.{◌≡◌, IfOk, false, true};
 ghost use Rattle.clap.specs.Words.{app_of, rule_of};
 ghost use Rattle.clap.specs.declared.builder.command.Command.TheViews.{out-Command as fields_of};
 ghost use Rattle.clap.specs.declared.builder.value_parser.ValueParser.{ValueParser};
@@ -59,7 +59,9 @@ fn init_command<'a>(alloc: Global) -> Result<Command<'a>, AllocError>
 }
 
 pub(crate) fn program<'a>(alloc: Global) -> Result<Command<'a>, AllocError>
-    ensures { IfOk result (λ c. (phases : ValueParser) × IsPhases phases × (app_of c ≡ program_app phases)) }
+    ensures app { IfOk result (λ c. (phases : ValueParser) × IsPhases phases × (app_of c ≡ program_app phases)) }
+    ensures local { IfOk result (λ c. (fields_of c).has_globals ≡ false) }
+    ensures required { IfOk result (λ c. (fields_of c).subcommand_required ≡ true) }
 {
     Command::new(alloc, "admissions")
         .subcommand_required(true)

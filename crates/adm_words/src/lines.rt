@@ -1,14 +1,20 @@
 // One line of the command line, read from the values that clap found.
 ghost use Rattle.std.specs.Prelude.{◌≡◌, map, option_map};
-ghost use Rattle.clap.specs.Words.{first_of, all_of, found_of, rows_of, subcommand_rows_of};
-ghost use Rattle.adm_words.specs.Lines.{Reads, ReadsDays, ReadsLine, init_line, phase_of, number_of, year_of, init_in, do_in, line_in};
+ghost use Rattle.clap.specs.Words.{first_of, all_of, found_of, rows_of};
+ghost use Rattle.adm_words.specs.Lines.{Reads, ReadsDays, phase_of, number_of, year_of, value_in, init_in, line_in};
 
 use crate::{Action, WordsFault};
 use adm_types::{Day, Phase, Seq};
 use clap::ArgMatches;
 use std::alloc::Global;
 
-/// The first value of an argument.
+/// The first value of an argument; an empty text where it has none, which a required argument never has.
+fn value_of<'a>(found: &ArgMatches<'a>, id: &str) -> &'a str
+    ensures { result.now ≡ value_in id.now (rows_of (found_of found.now)) }
+{
+    text_of(found, id).unwrap_or("")
+}
+
 fn text_of<'a>(found: &ArgMatches<'a>, id: &str) -> Option<&'a str>
     ensures { option_map (λ s. s.now) result ≡ first_of id.now (rows_of (found_of found.now)) }
 {
@@ -22,15 +28,14 @@ fn texts_of<'f, 'a>(found: &'f ArgMatches<'a>, id: &str) -> Option<&'f [&'a str]
     found.get_strs(id)
 }
 
-fn read_phase(text: &str) -> Option<Phase>
+/// The phase that a text names, which is one of the two names.
+fn read_phase(text: &str) -> Phase
     ensures { result ≡ phase_of text.now }
 {
     if text == "primary" {
-        Some(Phase::Primary)
-    } else if text == "secondary" {
-        Some(Phase::Secondary)
+        Phase::Primary
     } else {
-        None
+        Phase::Secondary
     }
 }
 
@@ -41,15 +46,11 @@ fn read_number(text: &str) -> Option<u32>
     text.parse().ok()
 }
 
-fn read_year(text: &str) -> Option<u32>
+/// The year that a text writes.
+fn read_year(text: &str) -> u32
     ensures { result ≡ year_of text.now }
 {
-    let year = read_number(text)?;
-    if 2000 <= year && year <= 2100 {
-        Some(year)
-    } else {
-        None
-    }
+    read_number(text).unwrap_or(0)
 }
 
 /// The days that texts name.
@@ -66,57 +67,31 @@ fn read_days(alloc: Global, texts: &[&str]) -> Result<Seq<Day>, WordsFault>
     Ok(Seq::from_vec(days))
 }
 
-fn initial<'a>(
-    alloc: Global,
-    file: &'a str,
-    phase: Phase,
-    year: u32,
-    texts: &[&str],
-) -> Result<Action<'a>, WordsFault>
-    ensures { Reads (init_line file.now phase year (map (λ t. t.now) texts.now)) result }
+fn init<'a>(alloc: Global, found: &ArgMatches<'a>) -> Result<Action<'a>, WordsFault>
+    ensures { Reads (init_in (rows_of (found_of found.now))) result }
 {
-    let holidays = read_days(alloc, texts)?;
+    let holidays = read_days(alloc, texts_of(found, "holiday").unwrap_or(&[]))?;
     Ok(Action::Init {
-        file,
-        phase,
-        year,
+        file: value_of(found, "file"),
+        phase: read_phase(value_of(found, "phase")),
+        year: read_year(value_of(found, "year")),
         holidays,
     })
 }
 
-#[tactic(auto, unfolding(crate::specs::Lines::init_in))]
-fn init<'a>(alloc: Global, found: &ArgMatches<'a>) -> Option<Result<Action<'a>, WordsFault>>
-    ensures { ReadsLine (init_in (rows_of (found_of found.now))) result }
-{
-    let file = text_of(found, "file")?;
-    let phase = read_phase(text_of(found, "phase")?)?;
-    let year = read_year(text_of(found, "year")?)?;
-    let texts = texts_of(found, "holiday").unwrap_or(&[]);
-    Some(initial(alloc, file, phase, year, texts))
-}
-
-#[tactic(auto, unfolding(crate::specs::Lines::do_in))]
-fn do_lines<'a>(found: &ArgMatches<'a>) -> Option<Result<Action<'a>, WordsFault>>
-    ensures { ReadsLine (do_in (rows_of (found_of found.now))) result }
-{
-    let file = text_of(found, "file")?;
-    Some(Ok(Action::Do { file }))
-}
-
-/// What the line that clap found asks for; `None` where it lacks a value that the line needs.
-#[tactic(auto, unfolding(crate::specs::Lines::line_in))]
+/// What the line of this name asks for, with the values that clap found.
 pub(crate) fn read_line<'a>(
     alloc: Global,
-    matches: &ArgMatches<'a>,
-) -> Option<Result<Action<'a>, WordsFault>>
-    ensures { ReadsLine (line_in (subcommand_rows_of matches.now)) result }
+    name: &str,
+    found: &ArgMatches<'a>,
+) -> Result<Action<'a>, WordsFault>
+    ensures { Reads (line_in name.now (rows_of (found_of found.now))) result }
 {
-    let (name, found) = matches.subcommand()?;
     if name == "init" {
         init(alloc, found)
-    } else if name == "do" {
-        do_lines(found)
     } else {
-        None
+        Ok(Action::Do {
+            file: value_of(found, "file"),
+        })
     }
 }

@@ -5,9 +5,8 @@ ghost use Rattle.adm_words.specs.Lines.{ReadsWords};
 use crate::command::program;
 use crate::lines::read_line;
 use crate::{Action, WordsFault};
-use clap::Error;
 use clap::error::ErrorKind;
-use std::alloc::{AllocError, Global};
+use std::alloc::Global;
 
 /// What the words ask for, with the program's name first.
 ///
@@ -20,19 +19,13 @@ pub fn action<'a>(alloc: Global, words: &'a [&'a str]) -> Result<Action<'a>, Wor
 {
     let command = program(alloc)?;
     match command.try_get_matches_from(words) {
-        Ok(matches) => match read_line(alloc, &matches) {
-            Some(result) => result,
-            None => Err(WordsFault::Words(lacking(alloc)?)),
+        Ok(matches) => match matches.subcommand() {
+            Some((name, found)) => read_line(alloc, name, found),
+            None => unreachable!(),
         },
         Err(error) => match error.kind() {
             ErrorKind::OutOfMemory => Err(WordsFault::Memory),
             _ => Err(WordsFault::Words(error)),
         },
     }
-}
-
-/// What is said of words that lack a value. `clap` refuses such words itself, as tests show.
-fn lacking(alloc: Global) -> Result<Error, AllocError> {
-    let mut command = program(alloc)?;
-    command.error(ErrorKind::MissingRequiredArgument, "a value is missing")
 }

@@ -95,7 +95,7 @@ fn years_are_from_2000_to_2100(rt: HostRuntime) {
     }
 }
 
-const WRONG: [&[&str]; 12] = [
+const WRONG: [&[&str]; 13] = [
     &[],
     &["admissions"],
     &["admissions", "open", "f"],
@@ -103,6 +103,7 @@ const WRONG: [&[&str]; 12] = [
     &["admissions", "do", "f", "g"],
     &["admissions", "do", "--count", "f"],
     &["admissions", "init"],
+    &["admissions", "init", "f"],
     &["admissions", "init", "f", "secondary"],
     &["admissions", "init", "f", "Secondary", "2025"],
     &["admissions", "init", "f", "2025", "secondary"],

@@ -6,7 +6,7 @@ use Rattle.adm_match.specs.Market.{market_of}
 use Rattle.adm_match.specs.Keeping.{Keeping}
 use Rattle.adm_match.specs.Turns.{IsFree}
 use Rattle.adm_match.specs.Queue.{Afoot, Turned}
-use Rattle.adm_match.proofs.Line.{free_if, not_free_if, skipped, nobody_back, one_back, queued_within, empty_done, afoot_first, afoot_as, empty_if, written}
+use Rattle.adm_match.proofs.Line.{free_if, not_free_if, skipped, some_back, queued_within, empty_done, afoot_first, afoot_as, empty_if, written}
 use Rattle.adm_match.proofs.acceptance.settle.Goals as goal
 
 pub loop-index-init : goal.loop-index-init
@@ -20,34 +20,21 @@ take-requires-clause-free c =
     let ek = slice_get_read m.entrants (length m.entrants) c.in-Some.index c.index-entrants-index.result refl less c.index-entrants-index.is in
     let rk = slice_get_read c.loop-index.rows.items (length m.entrants) c.in-Some.index c.index.result.now (sym h.sound.shaped.same) less c.index.ensures in
     subst (λ (x : List Standing). IsFree m.entrants x c.in-Some.index) (sym c.deref_mut.ensures.value)
-    (free_if m.entrants c.loop-index.rows.items c.in-Some.index c.index-entrants-index.result c.index.result.now ek rk (sym c.is_free.ensures ∙ c.if-is_free.true))
-
-pub loop-index-preserved-in-Continue-branch-6 : goal.loop-index-preserved-in-Continue-branch-6
-loop-index-preserved-in-Continue-branch-6 c =
-    let m = market_of c.args.entrants.now c.args.seats.now in
-    let d = c.in_ok-directory.directory in
-    let h = c.loop-index.invariant in
-    let rows_is = written c.loop-index.rows.len c.take.new.rows c.loop-index.rows.items (omega (arith, ap length c.deref_mut.ensures.value)) (omega (arith, c.loop-index.rows.ok)) in
-    let schools_is = written c.loop-index.schools.len c.take.new.schools c.loop-index.schools.items (omega (arith, ap length c.deref_mut-then-is_free.ensures.value)) (omega (arith, c.loop-index.schools.ok)) in
-    let turned : Turned m c.loop-index.rows.items c.take.new.rows c.take.new.schools c.in-Some.index c.in_ok-out.out = subst (λ (x : List Standing). Turned m x c.take.new.rows c.take.new.schools c.in-Some.index c.in_ok-out.out) c.deref_mut.ensures.value c.in_ok-out.ensures in
-    afoot_as m d _ c.take.new.rows _ c.take.new.schools c.push_back.new.self.items rows_is schools_is
-    (one_back m d c.loop-index.rows.items c.take.new.rows c.loop-index.schools.items c.take.new.schools c.in-Some.index c.in-Some-out.place c.loop-index.queue.items c.pop_front.new.self.items c.push_back.new.self.items h c.in-Some.ensures.items
-    (subst (λ (o : Option ℕ). Turned m c.loop-index.rows.items c.take.new.rows c.take.new.schools c.in-Some.index o) c.in-Some-out.is turned) c.in_ok-push_back.ensures.items)
-
-pub loop-index-preserved-in_default-out : goal.loop-index-preserved-in_default-out
-loop-index-preserved-in_default-out c =
-    let m = market_of c.args.entrants.now c.args.seats.now in
-    let d = c.in_ok-directory.directory in
-    let h = c.loop-index.invariant in
-    let rows_is = written c.loop-index.rows.len c.take.new.rows c.loop-index.rows.items (omega (arith, ap length c.deref_mut.ensures.value)) (omega (arith, c.loop-index.rows.ok)) in
-    let schools_is = written c.loop-index.schools.len c.take.new.schools c.loop-index.schools.items (omega (arith, ap length c.deref_mut-then-is_free.ensures.value)) (omega (arith, c.loop-index.schools.ok)) in
-    let turned : Turned m c.loop-index.rows.items c.take.new.rows c.take.new.schools c.in-Some.index c.in_ok-out.out = subst (λ (x : List Standing). Turned m x c.take.new.rows c.take.new.schools c.in-Some.index c.in_ok-out.out) c.deref_mut.ensures.value c.in_ok-out.ensures in
-    afoot_as m d _ c.take.new.rows _ c.take.new.schools c.pop_front.new.self.items rows_is schools_is
-    (nobody_back m d c.loop-index.rows.items c.take.new.rows c.loop-index.schools.items c.take.new.schools c.in-Some.index c.loop-index.queue.items c.pop_front.new.self.items h c.in-Some.ensures.items
-    (subst (λ (o : Option ℕ). Turned m c.loop-index.rows.items c.take.new.rows c.take.new.schools c.in-Some.index o) c.in_default-out.is turned))
+    (free_if m.entrants c.loop-index.rows.items c.in-Some.index c.index-entrants-index.result c.index.result.now ek rk (sym c.is_free.ensures ∙ c.if-not-is_free.false))
 
 pub loop-index-preserved : goal.loop-index-preserved
 loop-index-preserved c =
+    let m = market_of c.args.entrants.now c.args.seats.now in
+    let d = c.in_ok-directory.directory in
+    let h = c.loop-index.invariant in
+    let rows_is = written c.loop-index.rows.len c.take.new.rows c.loop-index.rows.items (omega (arith, ap length c.deref_mut.ensures.value)) (omega (arith, c.loop-index.rows.ok)) in
+    let schools_is = written c.loop-index.schools.len c.take.new.schools c.loop-index.schools.items (omega (arith, ap length c.deref_mut-in-Some.ensures.value)) (omega (arith, c.loop-index.schools.ok)) in
+    let turned : Turned m c.loop-index.rows.items c.take.new.rows c.take.new.schools c.in-Some.index c.in_ok-out.out = subst (λ (x : List Standing). Turned m x c.take.new.rows c.take.new.schools c.in-Some.index c.in_ok-out.out) c.deref_mut.ensures.value c.in_ok-out.ensures in
+    afoot_as m d _ c.take.new.rows _ c.take.new.schools c.line_up.new.queue.items rows_is schools_is
+    (some_back m d c.loop-index.rows.items c.take.new.rows c.loop-index.schools.items c.take.new.schools c.in-Some.index c.in_ok-out.out c.loop-index.queue.items c.pop_front.new.self.items c.line_up.new.queue.items h c.in-Some.ensures.items turned c.in_ok-line_up.ensures)
+
+pub loop-index-preserved-then-not-is_free : goal.loop-index-preserved-then-not-is_free
+loop-index-preserved-then-not-is_free c =
     let m = market_of c.args.entrants.now c.args.seats.now in
     let d = c.in_ok-directory.directory in
     let h = c.loop-index.invariant in
@@ -55,7 +42,7 @@ loop-index-preserved c =
     let ek = slice_get_read m.entrants (length m.entrants) c.in-Some.index c.index-entrants-index.result refl less c.index-entrants-index.is in
     let rk = slice_get_read c.loop-index.rows.items (length m.entrants) c.in-Some.index c.index.result.now (sym h.sound.shaped.same) less c.index.ensures in
     skipped m d c.loop-index.rows.items c.loop-index.schools.items c.in-Some.index c.loop-index.queue.items c.pop_front.new.self.items h c.in-Some.ensures.items
-    (not_free_if m.entrants c.loop-index.rows.items c.in-Some.index c.index-entrants-index.result c.index.result.now ek rk (sym c.is_free.ensures ∙ c.if-is_free.false))
+    (not_free_if m.entrants c.loop-index.rows.items c.in-Some.index c.index-entrants-index.result c.index.result.now ek rk (sym c.is_free.ensures ∙ c.if-not-is_free.true))
 
 pub returns-clause-done : goal.returns-clause-done
 returns-clause-done c = empty_done (market_of c.args.entrants.now c.args.seats.now) c.in_ok-directory.directory c.loop-index.rows.items c.loop-index.schools.items c.loop-index.queue.items c.loop-index.invariant (empty_if c.loop-index.queue.items (omega (arith, c.in_default.ensures.cases)))

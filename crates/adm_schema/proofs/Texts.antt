@@ -1,0 +1,65 @@
+-- What each fixed text means under the register's schema.
+use Rattle.std.proofs.Common.{◌≡◌, refl}
+use Rattle.std.specs.Prelude.{[], ◌∷◌}
+use Rattle.sqlite.specs.Term.{col}
+use Rattle.sqlite.specs.Command.TheVariants.{Insert}
+use Rattle.sqlite.specs.Source.TheVariants.{Values}
+use Rattle.sqlite.specs.Listing.{understood}
+use Rattle.sqlite.proofs.Callers.{IsPlain, command_of}
+use Rattle.sqlite_tied.specs.Compute.{everything}
+use Rattle.adm_schema.specs.Queries.{Asks}
+use Rattle.adm_schema.specs.Schema.{register_schema}
+use Rattle.adm_schema.specs.Texts as text
+
+pub inserts_meta : (command_of (understood register_schema text.insert_meta) ≡ Insert 0 (Values text.meta_terms 7)) × IsPlain (understood register_schema text.insert_meta)
+unfolding understood everything
+inserts_meta = (refl, (refl, refl))
+
+pub inserts_school : (command_of (understood register_schema text.insert_school) ≡ Insert 1 (Values text.school_terms 7)) × IsPlain (understood register_schema text.insert_school)
+unfolding understood everything
+inserts_school = (refl, (refl, refl))
+
+pub asks_version : Asks register_schema text.select_version 0 text.version_column []
+unfolding understood everything
+asks_version = record { names = _; command = refl; unlisted = refl; plain = (refl, refl) }
+
+pub asks_meta : Asks register_schema text.select_meta 0 text.meta_columns []
+unfolding understood everything
+asks_meta = record { names = _; command = refl; unlisted = refl; plain = (refl, refl) }
+
+pub asks_schools : Asks register_schema text.select_schools 1 text.school_columns text.by_code
+unfolding understood everything
+asks_schools = record { names = _; command = refl; unlisted = refl; plain = (refl, refl) }
+
+pub looks_into_child : Asks register_schema text.look_into_child 3 (col 1 0 ∷ []) []
+unfolding understood everything
+looks_into_child = record { names = _; command = refl; unlisted = refl; plain = (refl, refl) }
+
+pub looks_into_application : Asks register_schema text.look_into_application 4 (col 1 0 ∷ []) []
+unfolding understood everything
+looks_into_application = record { names = _; command = refl; unlisted = refl; plain = (refl, refl) }
+
+pub looks_into_place : Asks register_schema text.look_into_place 5 (col 1 0 ∷ []) []
+unfolding understood everything
+looks_into_place = record { names = _; command = refl; unlisted = refl; plain = (refl, refl) }
+
+pub looks_into_left_list : Asks register_schema text.look_into_left_list 6 (col 1 1 ∷ []) []
+unfolding understood everything
+looks_into_left_list = record { names = _; command = refl; unlisted = refl; plain = (refl, refl) }
+
+pub looks_into_draw : Asks register_schema text.look_into_draw 8 (col 1 0 ∷ []) []
+unfolding understood everything
+looks_into_draw = record { names = _; command = refl; unlisted = refl; plain = (refl, refl) }
+
+pub looks_into_offer : Asks register_schema text.look_into_offer 9 (col 1 1 ∷ []) []
+unfolding understood everything
+looks_into_offer = record { names = _; command = refl; unlisted = refl; plain = (refl, refl) }
+
+pub looks_into_lot : Asks register_schema text.look_into_lot 11 (col 1 1 ∷ []) []
+unfolding understood everything
+looks_into_lot = record { names = _; command = refl; unlisted = refl; plain = (refl, refl) }
+
+pub looks_into_imported : Asks register_schema text.look_into_imported 14 (col 1 0 ∷ []) []
+unfolding understood everything
+looks_into_imported = record { names = _; command = refl; unlisted = refl; plain = (refl, refl) }
+

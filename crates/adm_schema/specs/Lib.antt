@@ -1,0 +1,6 @@
+pub mod Rows
+pub mod Queries
+pub mod Effects
+pub mod Schema
+pub mod Creations
+pub mod Texts

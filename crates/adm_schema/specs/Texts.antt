@@ -1,0 +1,68 @@
+-- The fixed texts that write and read the register's tables.
+use Rattle.std.specs.Prelude.{ℕ, pos, false, List, [], ◌∷◌, codes}
+use Rattle.sqlite.specs.declared.types.Value.TheVariants.{Null, Int}
+use Rattle.sqlite.specs.Collation.TheVariants.{Binary}
+use Rattle.sqlite.specs.Term.{Term, lit, col}
+use Rattle.sqlite_value.specs.declared.keys.Key.{Key}
+
+abbrev pub insert_meta : List ℕ
+insert_meta = codes "INSERT INTO meta (one, version, phase, year, holidays, draws) VALUES (1, 1, ?1, ?2, ?3, 0)"
+
+-- the rowid, and then each column
+abbrev pub meta_terms : List Term
+meta_terms = lit (Int (pos 1)) ∷ lit Null ∷ lit (Int (pos 1)) ∷ col 0 0 ∷ col 0 1 ∷ col 0 2 ∷ lit (Int (pos 0)) ∷ []
+
+abbrev pub insert_school : List ℕ
+insert_school = codes "INSERT INTO school (code, name, pan, east, north, criteria) VALUES (?1, ?2, ?3, ?4, ?5, ?6)"
+
+abbrev pub school_terms : List Term
+school_terms = lit Null ∷ col 0 0 ∷ col 0 1 ∷ col 0 2 ∷ col 0 3 ∷ col 0 4 ∷ col 0 5 ∷ []
+
+abbrev pub select_version : List ℕ
+select_version = codes "SELECT version FROM meta"
+
+abbrev pub version_column : List Term
+version_column = col 1 2 ∷ []
+
+abbrev pub select_meta : List ℕ
+select_meta = codes "SELECT one, version, phase, year, holidays, draws FROM meta"
+
+abbrev pub meta_columns : List Term
+meta_columns = col 1 0 ∷ col 1 2 ∷ col 1 3 ∷ col 1 4 ∷ col 1 5 ∷ col 1 6 ∷ []
+
+abbrev pub select_schools : List ℕ
+select_schools = codes "SELECT code, name, pan, east, north, criteria FROM school ORDER BY code"
+
+abbrev pub school_columns : List Term
+school_columns = col 1 1 ∷ col 1 2 ∷ col 1 3 ∷ col 1 4 ∷ col 1 5 ∷ col 1 6 ∷ []
+
+abbrev pub by_code : List (Term × Key)
+by_code = (col 1 1, record { collation = Binary; descending = false }) ∷ []
+
+abbrev pub look_into_child : List ℕ
+look_into_child = codes "SELECT child FROM child"
+
+abbrev pub look_into_application : List ℕ
+look_into_application = codes "SELECT child FROM application"
+
+abbrev pub look_into_place : List ℕ
+look_into_place = codes "SELECT child FROM place"
+
+abbrev pub look_into_left_list : List ℕ
+look_into_left_list = codes "SELECT child FROM left_list"
+
+abbrev pub look_into_draw : List ℕ
+look_into_draw = codes "SELECT draw FROM draw"
+
+abbrev pub look_into_offer : List ℕ
+look_into_offer = codes "SELECT draw FROM offer"
+
+abbrev pub look_into_lot : List ℕ
+look_into_lot = codes "SELECT draw FROM lot"
+
+abbrev pub look_into_imported : List ℕ
+look_into_imported = codes "SELECT child FROM imported"
+
+-- the texts that show whether each other table has a row
+abbrev pub looks : List (List ℕ)
+looks = look_into_child ∷ look_into_application ∷ look_into_place ∷ look_into_left_list ∷ look_into_draw ∷ look_into_offer ∷ look_into_lot ∷ look_into_imported ∷ []
