@@ -3,3 +3,4 @@ pub mod CutLemmas
 pub mod Known
 pub mod RunLemmas
 pub mod Runs
+pub mod StandingLemmas

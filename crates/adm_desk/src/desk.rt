@@ -5,7 +5,7 @@ ghost use Rattle.sqlite.specs.Held.{state};
 ghost use Rattle.sqlite.specs.State.{Survives};
 ghost use Rattle.adm_register.specs.Extends.{Extends};
 ghost use Rattle.adm_register.specs.WellFormed.{WellFormed};
-ghost use Rattle.adm_store.specs.StandsFor.{LeavesOnly, LeavesNone};
+ghost use Rattle.adm_store.specs.StandsFor.{IsStarted, LeavesOnly};
 ghost use Rattle.adm_desk.specs.Steps.{IsRun};
 ghost use Rattle.adm_desk.specs.Standing.{Handles, Keeps, Standing};
 ghost use Rattle.adm_desk.specs.Lines.{lines_of};
@@ -65,9 +65,12 @@ impl<S: Alter> Desk<S> {
         alloc: Global,
         conn: Connection<S>,
     ) -> Result<Desk<S>, (OpenFault, Connection<S>)>
-        requires { conn.in_transaction ≡ false }
+        requires ended { conn.in_transaction ≡ false }
+        requires started { IsStarted (state S.Store conn) }
         ensures opened { IfOk result (λ desk. (desk.failed ≡ false) × LeavesOnly desk.register (state S.Store desk.conn)) }
         ensures kept { IfOk result (λ desk. Survives (state S.Store conn) (state S.Store desk.conn) (λ _. ⊥)) }
+        ensures ended { IfErr result (λ e. e.1.in_transaction ≡ false) }
+        ensures left { IfErr result (λ e. Survives (state S.Store conn) (state S.Store e.1) (λ _. ⊥)) }
     {
         match adm_store::open(alloc, conn) {
             Ok((store, register)) => Ok(Desk {

@@ -1,13 +1,13 @@
 -- The problem in which a child lists others of its schools: it is one that can be allotted.
-use Rattle.std.proofs.Common.{◌≡◌, ℕ, zero, suc, ◌+◌, ◌<◌, ◌≤◌, List, [], ◌∷◌, ◌++◌, length, get_or, take, map, Option, None, Some, Bool, true, false, cond, not, ◌||◌, ◌&&◌, inl, inr, refl, sym, ap, ◌∙◌, subst, arith, add-one, append_assoc, append-nil, bytes_eq, ◌==◌}
+use Rattle.std.proofs.Common.{◌≡◌, ℕ, zero, suc, ◌+◌, ◌<◌, List, [], ◌∷◌, ◌++◌, length, get_or, take, map, Option, None, Some, Bool, true, false, cond, not, ◌||◌, inl, inr, refl, sym, ap, ◌∙◌, subst, add-one, append_assoc, append-nil, bytes_eq, ◌==◌}
 use Rattle.std.specs.Prelude.{find}
-use Rattle.std.specs.List.{slice_get, list_any, list_all, filter_map, cons_option}
+use Rattle.std.specs.List.{slice_get, list_any, list_all, cons_option}
 use Rattle.std.specs.Option.{option_to_list}
 use Rattle.std.specs.Ordering.{is_eq, nat_cmp}
 use Rattle.std.specs.Cmp.Lexicographic.{slice_cmp}
 use Rattle.std.proofs.Math.Seq.{take-suc}
 use Rattle.std.proofs.lemmas.Bool.{cases_Bool, false≢true, and_parts, or_parts, not-true, eqb-true}
-use Rattle.std.proofs.lemmas.Option.{none-some, same_Some, slice_get_within}
+use Rattle.std.proofs.lemmas.Option.{none-some}
 use Rattle.std.proofs.lemmas.Slice.Eq.{bytes_eq-Decides}
 use Rattle.std.proofs.lemmas.List.Elements.{filter_map-append}
 use Rattle.std.proofs.lemmas.Map.Text.{is_eq-slice_cmp}
@@ -15,8 +15,8 @@ use Rattle.adm_match.specs.declared.problem.Wish.{Wish}
 use Rattle.adm_match.specs.declared.problem.Seats.{Seats}
 use Rattle.adm_match.specs.declared.advice.WhatIfFault.{WhatIfFault}
 use Rattle.adm_match.specs.declared.advice.WhatIfFault.TheVariants.{UnknownChild, NotItsSchools}
-use Rattle.adm_match.specs.Market.{Code, Candidate, Market, market_of, has, place, place_of, is_tenant, key_at, some_pair, same_school, first_fault}
-use Rattle.adm_match.specs.Stability.{Allocation, Allotment, IsBest, school_of}
+use Rattle.adm_match.specs.Market.{Code, Candidate, Market, market_of, has, is_tenant, some_pair, same_school, first_fault}
+use Rattle.adm_match.specs.Stability.{Allotment, IsBest, school_of}
 use Rattle.adm_match.specs.Distinct.{Distinct, Seated}
 use Rattle.adm_match.specs.Relisting.{wishes_for, with_list, relist, relisted, is_wanted, may_list, list_fault, what_if_fault, IsWhatIf, IsNoGain}
 use Rattle.adm_match.proofs.FirstBlock.{found_at}

@@ -1,7 +1,7 @@
 -- Equal claims are equal ranks, where no list names a school twice.
-use Rattle.std.proofs.Common.{◌≡◌, ℕ, zero, suc, ◌+◌, ◌<◌, List, [], ◌∷◌, ◌++◌, length, get_or, take, map, Option, None, Some, Bool, true, false, cond, not, ◌||◌, ◌&&◌, inl, inr, refl, sym, ap, ◌∙◌, subst, arith, add-one, append_assoc, append-nil}
+use Rattle.std.proofs.Common.{◌≡◌, ℕ, suc, ◌+◌, ◌<◌, List, [], ◌∷◌, ◌++◌, length, get_or, take, map, Some, Bool, true, false, cond, not, ◌||◌, ◌&&◌, inl, inr, refl, sym, ap, ◌∙◌, arith, add-one, append_assoc, append-nil}
 use Rattle.std.specs.Prelude.{filter, bytes_eq, option_map, find}
-use Rattle.std.specs.List.{list_any, slice_get, flat_map}
+use Rattle.std.specs.List.{list_any, slice_get}
 use Rattle.std.specs.Ordering.{is_eq, nat_cmp, ordering_then}
 use Rattle.std.specs.Cmp.Lexicographic.{slice_cmp}
 use Rattle.std.specs.declared.cmp.Ordering.{Ordering}
@@ -9,18 +9,17 @@ use Rattle.std.specs.declared.cmp.Ordering.TheVariants.{Less, Equal, Greater}
 use Rattle.std.proofs.Math.Seq.{take-suc}
 use Rattle.std.proofs.lemmas.Bool.{cases_Bool, false≢true, and_parts, and_from, or_parts}
 use Rattle.std.proofs.lemmas.Bool.Decides.{nat_tests}
-use Rattle.std.proofs.lemmas.Option.{none-some, same_Some, slice_get_within}
 use Rattle.std.proofs.lemmas.Slice.Eq.{bytes_eq-Decides}
 use Rattle.std.proofs.lemmas.List.Folds.{list_any-append}
 use Rattle.std.proofs.lemmas.Map.Text.{is_eq-slice_cmp}
 use Rattle.adm_rank.specs.declared.keys.RankKey.{RankKey}
 use Rattle.adm_match.specs.declared.problem.Wish.{Wish}
 use Rattle.adm_match.specs.declared.claims.Claim.{Claim}
-use Rattle.adm_match.specs.Market.{Code, Candidate, place, is_tenant, key_at, is_key, some_pair, same_school, shares, share_rank}
+use Rattle.adm_match.specs.Market.{Code, Candidate, is_tenant, key_at, is_key, some_pair, same_school, shares, share_rank}
 use Rattle.adm_match.specs.Claims.{claim_of, asked, claims_of, all_claims}
 use Rattle.adm_match.proofs.Places.{list_any_of, list_any_gives}
-use Rattle.adm_match.proofs.Posed.{list_any_not, key_is, place_is}
-use Rattle.adm_match.proofs.Twice.{pair_append, pair_same, take_whole}
+use Rattle.adm_match.proofs.Posed.{list_any_not, key_is}
+use Rattle.adm_match.proofs.Twice.{pair_append, pair_same}
 
 asked_append : (e : Candidate) (xs ys : List Wish) → asked e (xs ++ ys) ≡ asked e xs ++ asked e ys
 asked_append e [] ys = refl
@@ -59,8 +58,9 @@ claims_more es i e old new l at was now =
 -- the order of claims, as it is derived
 abbrev pub claim_cmp : Claim → Claim → Ordering
 claim_cmp a b =
-    ordering_then (slice_cmp nat_cmp a.school b.school)
+    ordering_then
     (ordering_then (nat_cmp a.key.class b.key.class) (ordering_then (nat_cmp a.key.distance b.key.distance) (nat_cmp a.key.lot b.key.lot)))
+    (slice_cmp nat_cmp a.school b.school)
 
 abbrev pub same_claim : Claim → Claim → Bool
 same_claim a b = bytes_eq a.school b.school && is_key (Some b.key) a.key
@@ -75,8 +75,15 @@ eq_key a b = grind (arith, nat_tests)
 
 pub eq_claim : (a b : Claim) → is_eq (claim_cmp a b) ≡ same_claim a b
 eq_claim a b =
-    eq_then (slice_cmp nat_cmp a.school b.school) _
-    ∙ (λ i. is_eq-slice_cmp a.school b.school i && eq_key a.key b.key i)
+    eq_then _ (slice_cmp nat_cmp a.school b.school)
+    ∙ ((λ i. eq_key a.key b.key i && is_eq-slice_cmp a.school b.school i)
+    ∙ and_turned (is_key (Some b.key) a.key) (bytes_eq a.school b.school))
+  where
+    and_turned : (x y : Bool) → (x && y) ≡ (y && x)
+    and_turned true true = refl
+    and_turned true false = refl
+    and_turned false true = refl
+    and_turned false false = refl
 
 bool_same : (a b : Bool) → (a ≡ true → b ≡ true) → (b ≡ true → a ≡ true) → a ≡ b
 bool_same true b f g = sym (f refl)
@@ -127,24 +134,24 @@ any_asked p e (w ∷ ws) = elim (cases_Bool (not (is_tenant e w.school))) [
 claims_share : (e o : Candidate) (w : Wish) → some_pair same_school o.list ≡ false → (not (is_tenant e w.school) && list_any (same_claim (claim_of w)) (claims_of o)) ≡ shares e o w
 claims_share e o w apart = bool_same _ _
     (λ h.
-        let p = and_parts (not (is_tenant e w.school)) (list_any (same_claim (claim_of w)) (claims_of o)) h in
-        let one = list_any_gives (λ z. not (is_tenant o z.school) && same_claim (claim_of w) (claim_of z)) o.list (sym (any_asked (same_claim (claim_of w)) o o.list) ∙ p.1) in
-        let z = one.1 in
-        let q = and_parts (not (is_tenant o z.school)) (same_claim (claim_of w) (claim_of z)) one.3 in
-        let r = and_parts (bytes_eq w.school z.school) (is_key (Some z.key) w.key) q.1 in
-        let school : w.school ≡ z.school = (bytes_eq-Decides w.school z.school).0 r.0 in
-        let key : key_at o.list w.school ≡ Some z.key = ap (key_at o.list) school ∙ key_is o.list one.0 z apart one.2 in
-        and_from (is_key (key_at o.list w.school) w.key) (not (is_tenant e w.school) && not (is_tenant o w.school))
-        (ap (λ k. is_key k w.key) key ∙ r.1)
-        (and_from (not (is_tenant e w.school)) (not (is_tenant o w.school)) p.0 (ap (λ (s : Code). not (is_tenant o s)) school ∙ q.0)))
+    let p = and_parts (not (is_tenant e w.school)) (list_any (same_claim (claim_of w)) (claims_of o)) h in
+    let one = list_any_gives (λ z. not (is_tenant o z.school) && same_claim (claim_of w) (claim_of z)) o.list (sym (any_asked (same_claim (claim_of w)) o o.list) ∙ p.1) in
+    let z = one.1 in
+    let q = and_parts (not (is_tenant o z.school)) (same_claim (claim_of w) (claim_of z)) one.3 in
+    let r = and_parts (bytes_eq w.school z.school) (is_key (Some z.key) w.key) q.1 in
+    let school : w.school ≡ z.school = (bytes_eq-Decides w.school z.school).0 r.0 in
+    let key : key_at o.list w.school ≡ Some z.key = ap (key_at o.list) school ∙ key_is o.list one.0 z apart one.2 in
+    and_from (is_key (key_at o.list w.school) w.key) (not (is_tenant e w.school) && not (is_tenant o w.school))
+    (ap (λ k. is_key k w.key) key ∙ r.1)
+    (and_from (not (is_tenant e w.school)) (not (is_tenant o w.school)) p.0 (ap (λ (s : Code). not (is_tenant o s)) school ∙ q.0)))
     (λ h.
-        let p = and_parts (is_key (key_at o.list w.school) w.key) (not (is_tenant e w.school) && not (is_tenant o w.school)) h in
-        let q = and_parts (not (is_tenant e w.school)) (not (is_tenant o w.school)) p.1 in
-        let z = wish_behind o.list w.school w.key p.0 in
-        let there = list_any_of (λ z. not (is_tenant o z.school) && same_claim (claim_of w) (claim_of z)) o.list z.0 z.1 z.2
-        (and_from (not (is_tenant o z.1.school)) (same_claim (claim_of w) (claim_of z.1)) (ap (λ (s : Code). not (is_tenant o s)) z.3 ∙ q.1)
-        (and_from (bytes_eq w.school z.1.school) (is_key (Some z.1.key) w.key) ((bytes_eq-Decides w.school z.1.school).1 (sym z.3)) z.4)) in
-        and_from (not (is_tenant e w.school)) (list_any (same_claim (claim_of w)) (claims_of o)) q.0 (any_asked (same_claim (claim_of w)) o o.list ∙ there))
+    let p = and_parts (is_key (key_at o.list w.school) w.key) (not (is_tenant e w.school) && not (is_tenant o w.school)) h in
+    let q = and_parts (not (is_tenant e w.school)) (not (is_tenant o w.school)) p.1 in
+    let z = wish_behind o.list w.school w.key p.0 in
+    let there = list_any_of (λ z. not (is_tenant o z.school) && same_claim (claim_of w) (claim_of z)) o.list z.0 z.1 z.2
+    (and_from (not (is_tenant o z.1.school)) (same_claim (claim_of w) (claim_of z.1)) (ap (λ (s : Code). not (is_tenant o s)) z.3 ∙ q.1)
+    (and_from (bytes_eq w.school z.1.school) (is_key (Some z.1.key) w.key) ((bytes_eq-Decides w.school z.1.school).1 (sym z.3)) z.4)) in
+    and_from (not (is_tenant e w.school)) (list_any (same_claim (claim_of w)) (claims_of o)) q.0 (any_asked (same_claim (claim_of w)) o o.list ∙ there))
   where
     wish_behind : (ws : List Wish) (s : Code) (key : RankKey) → is_key (key_at ws s) key ≡ true → (k : ℕ) × (z : Wish) × (slice_get ws k ≡ Some z) × (z.school ≡ s) × (is_key (Some z.key) key ≡ true)
     wish_behind [] s key h = absurd (false≢true h)

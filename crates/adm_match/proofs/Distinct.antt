@@ -1,11 +1,9 @@
 -- What the proof needs of a problem, as facts about its entrants.
-use Rattle.std.proofs.Common.{◌≡◌, ◌≢◌, ℕ, ◌<◌, List, Some, true, false, inl, inr, refl, sym, ◌∙◌, subst}
-use Rattle.std.specs.List.{slice_get}
+use Rattle.std.proofs.Common.{◌≡◌, List, Some, false, inl, inr, refl, sym, ◌∙◌, subst}
 use Rattle.std.proofs.lemmas.Bool.{cases_order}
-use Rattle.adm_match.specs.declared.problem.Wish.{Wish}
 use Rattle.adm_match.specs.declared.standings.Standing.{Standing}
 use Rattle.adm_rank.specs.Ranking.{precedes}
-use Rattle.adm_match.specs.Market.{Code, Candidate, Market, is_tenant, key_at, both_precede}
+use Rattle.adm_match.specs.Market.{Code, Market, is_tenant, key_at, both_precede}
 use Rattle.adm_match.specs.Turns.{Shaped, AreRanked}
 use Rattle.adm_match.specs.Distinct.{Distinct}
 use Rattle.adm_match.proofs.Departure.{kept_wish}

@@ -1,14 +1,14 @@
 -- What the rows give each child.
-use Rattle.std.proofs.Common.{◌≡◌, ℕ, zero, suc, ◌+◌, ◌<◌, ◌≤◌, List, [], ◌∷◌, length, map, Option, None, Some, Bool, true, false, cond, inl, inr, refl, sym, ap, ◌∙◌, subst, arith}
+use Rattle.std.proofs.Common.{◌≡◌, ℕ, zero, suc, ◌+◌, ◌<◌, ◌≤◌, List, [], ◌∷◌, length, Option, None, Some, Bool, true, false, cond, inl, inr, refl, sym, ap, ◌∙◌, subst, arith}
 use Rattle.std.specs.Prelude.{option_map, unwrap_or, ◌==◌, is_some, Result, Ok, Err, IfOk}
 use Rattle.std.specs.List.{slice_get, find, sum_by}
 use Rattle.std.proofs.lemmas.Bool.{cases_Bool, false≢true, eq-eqb, eqb-true}
-use Rattle.std.proofs.lemmas.Option.{none-some, same_Some, slice_get-map, slice_get_within}
+use Rattle.std.proofs.lemmas.Option.{none-some, same_Some, slice_get_within}
 use Rattle.std.proofs.lemmas.List.Sums.{sum_by-cons}
 use Rattle.adm_match.specs.declared.problem.Wish.{Wish}
 use Rattle.adm_match.specs.declared.standings.Standing.{Standing}
 use Rattle.adm_match.specs.declared.problem.Seats.{Seats}
-use Rattle.adm_match.specs.Market.{Code, Candidate, Market, market_of, first_fault, place, place_of}
+use Rattle.adm_match.specs.Market.{Candidate, Market, market_of, first_fault, place, place_of}
 use Rattle.adm_match.specs.Stability.{Allocation, Allotment, IsBest, school_of, gone_through, proposals_of, is_entrant}
 use Rattle.adm_match.specs.Distinct.{Distinct}
 use Rattle.adm_match.specs.Turns.{Shaped, Sound, AllDone, Gives, Keeps, WellListed, reached, found_in}

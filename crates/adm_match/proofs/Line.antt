@@ -1,22 +1,20 @@
 -- The queue from turn to turn.
-use Rattle.std.proofs.Common.{◌≡◌, ◌≢◌, ◌⊎◌, ℕ, zero, suc, ◌+◌, ◌<◌, ◌≤◌, List, [], ◌∷◌, ◌++◌, length, map, get_or, take, drop, append-nil, Option, None, Some, Bool, true, false, cond, ◌||◌, ◌&&◌, inl, inr, refl, sym, ap, ◌∙◌, subst, arith, ◌==◌, add-one}
+use Rattle.std.proofs.Common.{◌≡◌, ◌≢◌, ◌⊎◌, ℕ, zero, suc, ◌+◌, ◌<◌, List, [], ◌∷◌, ◌++◌, length, map, take, drop, append-nil, Option, None, Some, true, false, ◌&&◌, inl, inr, refl, sym, ap, ◌∙◌, subst, arith, ◌==◌}
 use Rattle.std.specs.Prelude.{All, is_none, nat_lt, option_map}
 use Rattle.std.specs.List.{slice_get, list_any, count_by}
 use Rattle.std.specs.Option.{option_to_list}
-use Rattle.std.proofs.lemmas.Bool.{cases_Bool, cases_eq, cases_lt, false≢true, or_cases, or_left, or_right, and_parts, and_from, eqb-true, eq-eqb, ltb-true, lt-ltb}
-use Rattle.std.proofs.lemmas.Option.{none-some, same_Some, slice_get_within, slice_get-map, get_or_from_slice_get}
+use Rattle.std.proofs.lemmas.Bool.{cases_eq, cases_lt, false≢true, or_cases, or_left, or_right, and_parts, and_from, eqb-true, eq-eqb, ltb-true, lt-ltb}
+use Rattle.std.proofs.lemmas.Option.{none-some, same_Some, slice_get_within, slice_get-map}
 use Rattle.std.proofs.lemmas.List.Folds.{list_any-append}
 use Rattle.adm_match.specs.declared.problem.Seats.{Seats}
-use Rattle.adm_match.specs.declared.kept.Guest.{Guest}
 use Rattle.adm_match.specs.declared.standings.Standing.{Standing}
 use Rattle.adm_match.specs.declared.directory.Directory.{Directory}
-use Rattle.adm_match.specs.Market.{Code, Candidate, Market, has, is_tenant}
-use Rattle.adm_match.specs.Turns.{kept_at, IsFree, AllDone, Sound, left, start_of}
-use Rattle.adm_match.specs.Keeping.{Keeping, entry_of, guests_of, nobody_kept}
-use Rattle.adm_match.specs.Queue.{Directs, IsMirror, Mirrored, FreeAfter, Turned, Queued, Afoot}
+use Rattle.adm_match.specs.Market.{Code, Candidate, Market}
+use Rattle.adm_match.specs.Turns.{kept_at, IsFree, AllDone, Sound, start_of}
+use Rattle.adm_match.specs.Keeping.{Keeping, guests_of, nobody_kept}
+use Rattle.adm_match.specs.Queue.{Directs, IsMirror, Turned, Queued, Afoot}
 use Rattle.adm_match.proofs.Places.{at_All, All_at}
 use Rattle.adm_match.proofs.Turn.{starts}
-use Rattle.adm_match.proofs.Mirror.{entry_none}
 
 -- all of the rest of a list
 rest_all : (P : ℕ → Type 0) (x : ℕ) (xs : List ℕ) → All P (x ∷ xs) → All P xs

@@ -1,14 +1,14 @@
 -- What the directory finds.
-use Rattle.std.proofs.Common.{◌≡◌, ◌≢◌, ◌⊎◌, ℕ, ◌+◌, ◌<◌, List, length, get_or, Option, None, Some, Bool, true, false, cond, inl, inr, refl, sym, ap, ◌∙◌, subst, arith, rules, Bor, ◌==◌}
+use Rattle.std.proofs.Common.{◌≡◌, ℕ, ◌+◌, ◌<◌, List, length, get_or, Option, None, Some, false, inl, inr, refl, sym, ap, ◌∙◌, subst, arith, rules, Bor, ◌==◌}
 use Rattle.std.specs.Prelude.{IsSome, bytes_eq}
 use Rattle.std.specs.List.{slice_get}
 use Rattle.std.specs.Option.{option_copied}
-use Rattle.std.specs.Ordering.{nat_cmp, is_eq}
+use Rattle.std.specs.Ordering.{nat_cmp}
 use Rattle.std.specs.Cmp.Lexicographic.{slice_cmp}
 use Rattle.std.specs.BTreeMap.{BTreeMap, get, is_at, Updates}
 use Rattle.std.proofs.lemmas.Bool.{cases_Bool, cases_eq, false≢true, eqb-true}
 use Rattle.std.proofs.lemmas.Bool.Decides.{nat_tests}
-use Rattle.std.proofs.lemmas.Option.{none-some, same_Some, slice_get_within, get_or_from_slice_get, slice_get_read}
+use Rattle.std.proofs.lemmas.Option.{none-some, same_Some, slice_get_within, slice_get_read}
 use Rattle.std.proofs.lemmas.Slice.Eq.{bytes_eq-Decides}
 use Rattle.std.proofs.lemmas.Map.Text.{is_eq-slice_cmp}
 use Rattle.adm_match.specs.declared.problem.Seats.{Seats}
@@ -48,14 +48,16 @@ is_at_number q k = grind (arith, nat_tests)
 pub children_more : (es : List Candidate) (n : ℕ) (e : Candidate) (old new : BTreeMap ℕ ℕ) (child : ℕ) → ChildrenOnce es → n < length es → e ≡ get_or es n e → child ≡ e.child → ChildrenBelow es old n → Updates nat_cmp old new child (Some n) → ChildrenBelow es new (n + 1)
 children_more es n e old new child once less at is h up =
     let here : slice_get es n ≡ Some e = slice_get_read es (length es) n e refl less at in
-    record { found = λ k d l dk. elim (cases_eq k n) [
-      | inl same ↦
-          let d_is : e ≡ d = same_Some e d (sym here ∙ (ap (slice_get es) (sym same) ∙ dk)) in
-          ap (get nat_cmp new) (ap (λ (x : Candidate). x.child) (sym d_is) ∙ sym is) ∙ (up.1 ∙ ap Some (sym same))
-      | inr apart ↦
-          let before : k < n = omega arith in
-          up.2 d.child (other e d child is (λ same. once k n d e dk here before (sym same))) ∙ h.found k d before dk
-    ] }
+    record {
+      found = λ k d l dk. elim (cases_eq k n) [
+        | inl same ↦
+            let d_is : e ≡ d = same_Some e d (sym here ∙ (ap (slice_get es) (sym same) ∙ dk)) in
+            ap (get nat_cmp new) (ap (λ (x : Candidate). x.child) (sym d_is) ∙ sym is) ∙ (up.1 ∙ ap Some (sym same))
+        | inr apart ↦
+            let before : k < n = omega arith in
+            up.2 d.child (other e d child is (λ same. once k n d e dk here before (sym same))) ∙ h.found k d before dk
+      ];
+    }
   where
     other : (e d : Candidate) (child : ℕ) → child ≡ e.child → (e.child ≡ d.child → ⊥) → is_at (nat_cmp child) d.child ≡ false
     other e d child is apart = elim (cases_Bool (child == d.child)) [
@@ -69,14 +71,16 @@ pub record SchoolsBelow (seats : List Seats) (schools : BTreeMap Code ℕ) (n : 
 pub schools_more : (seats : List Seats) (n : ℕ) (seat : Seats) (old new : BTreeMap Code ℕ) → some_pair same_code seats ≡ false → n < length seats → seat ≡ get_or seats n seat → SchoolsBelow seats old n → Updates (slice_cmp nat_cmp) old new seat.code (Some n) → SchoolsBelow seats new (n + 1)
 schools_more seats n seat old new once less at h up =
     let here : slice_get seats n ≡ Some seat = slice_get_read seats (length seats) n seat refl less at in
-    record { found = λ k d l dk. elim (cases_eq k n) [
-      | inl same ↦
-          let d_is : seat ≡ d = same_Some seat d (sym here ∙ (ap (slice_get seats) (sym same) ∙ dk)) in
-          ap (get (slice_cmp nat_cmp) new) (ap (λ (x : Seats). x.code) (sym d_is)) ∙ (up.1 ∙ ap Some (sym same))
-      | inr apart ↦
-          let before : k < n = omega arith in
-          up.2 d.code (other seat d (some_pair_not same_code seats k n d seat once dk here before)) ∙ h.found k d before dk
-    ] }
+    record {
+      found = λ k d l dk. elim (cases_eq k n) [
+        | inl same ↦
+            let d_is : seat ≡ d = same_Some seat d (sym here ∙ (ap (slice_get seats) (sym same) ∙ dk)) in
+            ap (get (slice_cmp nat_cmp) new) (ap (λ (x : Seats). x.code) (sym d_is)) ∙ (up.1 ∙ ap Some (sym same))
+        | inr apart ↦
+            let before : k < n = omega arith in
+            up.2 d.code (other seat d (some_pair_not same_code seats k n d seat once dk here before)) ∙ h.found k d before dk
+      ];
+    }
   where
     other : (e d : Seats) → bytes_eq d.code e.code ≡ false → is_at (slice_cmp nat_cmp e.code) d.code ≡ false
     other e d apart = elim (cases_Bool (bytes_eq e.code d.code)) [

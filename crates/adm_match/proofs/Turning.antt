@@ -1,8 +1,8 @@
 -- One turn of the queue: the rows, the schools' keepings and the queue after it.
-use Rattle.std.proofs.Common.{◌≡◌, ◌≢◌, ◌⊎◌, ℕ, zero, suc, ◌+◌, ◌<◌, ◌≤◌, List, [], ◌∷◌, ◌++◌, length, set, get_or, Option, None, Some, Bool, true, false, cond, not, ◌&&◌, inl, inr, refl, sym, ap, ◌∙◌, subst, arith, length-set}
-use Rattle.std.specs.Prelude.{IfSome, IsPermutation, option_map, unwrap_or, bytes_eq, find, count_by}
-use Rattle.std.specs.List.{slice_get, list_any}
-use Rattle.std.proofs.lemmas.Bool.{cases_Bool, cases_order, cases_eq, false≢true, and_left}
+use Rattle.std.proofs.Common.{◌≡◌, ◌≢◌, ◌⊎◌, ℕ, ◌+◌, ◌<◌, ◌≤◌, List, [], ◌∷◌, ◌++◌, length, set, get_or, Option, None, Some, Bool, false, cond, not, ◌&&◌, inl, inr, refl, sym, ap, ◌∙◌, subst, arith, length-set}
+use Rattle.std.specs.Prelude.{option_map, unwrap_or, bytes_eq, count_by}
+use Rattle.std.specs.List.{slice_get}
+use Rattle.std.proofs.lemmas.Bool.{cases_Bool, cases_order, false≢true}
 use Rattle.std.proofs.lemmas.Option.{none-some, same_Some, slice_get_within, get_or_from_slice_get, slice_get_read}
 use Rattle.std.proofs.lemmas.Slice.Eq.{bytes_eq-Decides}
 use Rattle.std.proofs.lemmas.List.Sorted.{length_permutation}
@@ -12,19 +12,19 @@ use Rattle.adm_match.specs.declared.problem.Seats.{Seats}
 use Rattle.adm_match.specs.declared.kept.Guest.{Guest}
 use Rattle.adm_match.specs.declared.standings.Standing.{Standing}
 use Rattle.adm_match.specs.Market.{Code, Candidate, Market, has, is_tenant, key_at, quota_of, some_pair, same_code}
-use Rattle.adm_match.specs.Turns.{kept_at, Shaped, Sound, Guest as GuestAt, IsFree, IsLast, NoGuest, left, kept_by, released}
+use Rattle.adm_match.specs.Turns.{kept_at, Shaped, Sound, IsFree, IsLast, NoGuest, kept_by, released}
 use Rattle.adm_match.specs.Distinct.{Distinct, Seated, ChildrenOnce}
-use Rattle.adm_match.specs.Keeping.{Keeping, tenants_with, guests_with, RanksLast, KeepsAll, SendsBack, Takes, entry_of, guests_of, SameBag}
-use Rattle.adm_match.specs.Queue.{StandsAt, SeatedAt, IsMirror, Mirrored, FreeAfter, Turned}
+use Rattle.adm_match.specs.Keeping.{Keeping, tenants_with, guests_with, KeepsAll, SendsBack, Takes, entry_of, guests_of, SameBag}
+use Rattle.adm_match.specs.Queue.{StandsAt, SeatedAt, IsMirror, Mirrored, Turned}
 use Rattle.adm_match.proofs.Side.{after_set}
-use Rattle.adm_match.proofs.Places.{has_true, has_false, list_any_gives}
-use Rattle.adm_match.proofs.Arrival.{Arrived, stay, kept_set_more, kept_set_less, kept_set_other, none_has, other_has}
+use Rattle.adm_match.proofs.Places.{has_true, list_any_gives}
+use Rattle.adm_match.proofs.Arrival.{stay, kept_set_more, kept_set_less, kept_set_other, none_has, other_has}
 use Rattle.adm_match.proofs.Departure.{leave, kept_wish}
 use Rattle.adm_match.proofs.Posed.{some_pair_not}
 use Rattle.adm_match.proofs.Turn.{came, left_leave, last_listed}
 use Rattle.adm_rank.specs.declared.keys.RankKey.{RankKey}
 use Rattle.adm_match.proofs.Given.{find_is}
-use Rattle.adm_match.proofs.Mirror.{entry_is, entry_none, guests_set, guest_behind, entry_behind, bag_of, bag_rest, bag_contains, last_from_heap}
+use Rattle.adm_match.proofs.Mirror.{entry_is, entry_none, guests_set, entry_behind, bag_of, bag_rest, bag_contains, last_from_heap}
 
 -- two seats at different places have different codes
 pub codes_apart : (seats : List Seats) (i j : ℕ) (a b : Seats) → some_pair same_code seats ≡ false → slice_get seats i ≡ Some a → slice_get seats j ≡ Some b → i ≢ j → a.code ≡ b.code → ⊥
@@ -144,29 +144,29 @@ empty_bag es rows s gs m es_is d shaped bag none k e g =
 pub turn_keeps : (m : Market) (rows now : List Standing) (schools : List Keeping) (i at : ℕ) (e : Candidate) (r : Standing) (w : Wish) (seat : Seats) (old new : Keeping) → Coming m rows schools i at e r w seat old → now ≡ set rows i (kept_by r w.school) → Takes old new e.child w.key (is_tenant e w.school) None → Turned m rows now (set schools at new) i None
 turn_keeps m rows now schools i at e r w seat old new c now_is takes =
     subst (λ (x : List Standing). Turned m rows x (set schools at new) i None) (sym now_is) (
-      let s = w.school in
-      let mid = set rows i (kept_by r s) in
-      let here = came m rows mid i w (e, r, c.entrant, c.row, c.free, c.less) c.sound c.next refl in
-      let mine = came_here m rows i e r w seat old c.distinct c.entrant c.row c.free c.next (c.mirrored.each at seat old c.seat_at c.kept_at) c.code in
-      let quota : quota_of m.seats s ≡ old.quota = ap (quota_of m.seats) (sym c.code) ∙ (quota_at m at seat c.seated c.seat_at ∙ sym (c.mirrored.each at seat old c.seat_at c.kept_at).quota) in
-      let keeps : KeepsAll old new e.child w.key (is_tenant e s) = takes.guests in
-      let calm : (kept_at mid s ≤ quota_of m.seats s) ⊎ NoGuest m.entrants mid s = elim keeps.calm [
-        | inl room ↦ inl (omega (arith, room, mine.0, quota))
-        | inr none ↦ inr (empty_bag m.entrants mid s (guests_with old e.child w.key (is_tenant e s)) m refl c.distinct here.0.shaped mine.1 none)
-      ] in
-      record {
-        sound = stay m mid i s here.0 calm;
-        mirrored = mirrored_set m rows mid schools at seat new c.mirrored c.seat_at (record {
-          quota = takes.quota ∙ (c.mirrored.each at seat old c.seat_at c.kept_at).quota;
-          count = omega (arith, mine.0, ap length takes.tenants, length_permutation _ _ keeps.guests, ap (kept_at mid) c.code);
-          guests = λ p. ap (λ (t : Code). count_by p (guests_of m.entrants mid t)) c.code ∙ (mine.1 p ∙ bag_of _ _ keeps.guests p);
-        }) (λ j other kept apart jo was.
-            let not_here : other.code ≢ s = λ same. codes_apart m.seats j at other seat c.seated.once jo c.seat_at apart (same ∙ sym c.code) in
-            other_mirror m rows i e r (kept_by r s) other kept c.entrant c.row (none_has r.school other.code c.free) (other_has (Some s) s other.code refl not_here) was);
-        falls = omega (arith, here.1);
-        free = λ k f. inl (free_after_coming m.entrants rows i r s k f);
-        within = tt;
-      })
+    let s = w.school in
+    let mid = set rows i (kept_by r s) in
+    let here = came m rows mid i w (e, r, c.entrant, c.row, c.free, c.less) c.sound c.next refl in
+    let mine = came_here m rows i e r w seat old c.distinct c.entrant c.row c.free c.next (c.mirrored.each at seat old c.seat_at c.kept_at) c.code in
+    let quota : quota_of m.seats s ≡ old.quota = ap (quota_of m.seats) (sym c.code) ∙ (quota_at m at seat c.seated c.seat_at ∙ sym (c.mirrored.each at seat old c.seat_at c.kept_at).quota) in
+    let keeps : KeepsAll old new e.child w.key (is_tenant e s) = takes.guests in
+    let calm : (kept_at mid s ≤ quota_of m.seats s) ⊎ NoGuest m.entrants mid s = elim keeps.calm [
+      | inl room ↦ inl (omega (arith, room, mine.0, quota))
+      | inr none ↦ inr (empty_bag m.entrants mid s (guests_with old e.child w.key (is_tenant e s)) m refl c.distinct here.0.shaped mine.1 none)
+    ] in
+    record {
+      sound = stay m mid i s here.0 calm;
+      mirrored = mirrored_set m rows mid schools at seat new c.mirrored c.seat_at (record {
+        quota = takes.quota ∙ (c.mirrored.each at seat old c.seat_at c.kept_at).quota;
+        count = omega (arith, mine.0, ap length takes.tenants, length_permutation _ _ keeps.guests, ap (kept_at mid) c.code);
+        guests = λ p. ap (λ (t : Code). count_by p (guests_of m.entrants mid t)) c.code ∙ (mine.1 p ∙ bag_of _ _ keeps.guests p);
+      }) (λ j other kept apart jo was.
+          let not_here : other.code ≢ s = λ same. codes_apart m.seats j at other seat c.seated.once jo c.seat_at apart (same ∙ sym c.code) in
+          other_mirror m rows i e r (kept_by r s) other kept c.entrant c.row (none_has r.school other.code c.free) (other_has (Some s) s other.code refl not_here) was);
+      falls = omega (arith, here.1);
+      free = λ k f. inl (free_after_coming m.entrants rows i r s k f);
+      within = tt;
+    })
 
 -- the guest that ranks last is sent back, and stands at the place that the directory has for it
 pub record Leaving (m : Market) (mid : List Standing) (s : Code) (k : ℕ) (guest : Guest) : Type 0 where

@@ -1,5 +1,5 @@
 -- By which keys the entrants that are no tenants ask for the schools.
-use Rattle.std.specs.Prelude.{ℕ, Bool, not, List, map, filter}
+use Rattle.std.specs.Prelude.{not, List, map, filter}
 use Rattle.std.specs.List.{flat_map}
 use Rattle.adm_match.specs.declared.problem.Wish.{Wish}
 use Rattle.adm_match.specs.declared.claims.Claim.{Claim}

@@ -1,4 +1,4 @@
--- Whom a school keeps, and what it does when one more comes.
+-- Whom a school keeps, and what it does when one more comes (Gale and Shapley 1962; tenants are this profile's).
 use Rattle.std.specs.Prelude.{◌≡◌, ℕ, ◌+◌, ◌<◌, ◌≤◌, Bool, false, if◌then◌else◌, List, [], ◌∷◌, ◌++◌, length, Option, None, Some, All, ◌⊎◌, IsPermutation, not, ◌&&◌, option_map, count_by}
 use Rattle.std.specs.Ordering.{nat_cmp, ordering_then}
 use Rattle.std.specs.Option.{option_to_list}

@@ -1,4 +1,5 @@
--- A problem of allocation: entrants with their lists, and the seats of the schools.
+-- A problem of allocation: entrants with their lists, and the seats of the schools (Gale and Shapley 1962; tenants and
+-- the tests of a problem are this profile's).
 use Rattle.std.specs.Prelude.{ℕ, ◌+◌, Bool, false, not, ◌||◌, ◌&&◌, ◌==◌, if◌then◌else◌, List, [], ◌∷◌, length, Option, None, Some, option_map, unwrap_or, bytes_eq}
 use Rattle.std.specs.List.{list_any, position_or_len, find}
 use Rattle.adm_rank.specs.declared.keys.RankKey.{RankKey}
@@ -40,7 +41,7 @@ abbrev pub place_of : List Wish → Option Code → ℕ
 place_of list None = length list
 place_of list (Some school) = place list school
 
--- whether the entrant is a tenant of the school
+-- whether the entrant is a tenant of the school (this profile)
 abbrev pub is_tenant : Candidate → Code → Bool
 is_tenant entrant school = has entrant.tenant school
 
@@ -53,7 +54,7 @@ both_precede None key = false
 both_precede (Some first) None = false
 both_precede (Some first) (Some second) = precedes first second
 
--- whether the one ranks before the other at the school, by their keys there
+-- whether the one ranks before the other at the school, by their keys there (School Admissions Code 2021, section 1)
 abbrev pub ranks_before : Code → Candidate → Candidate → Bool
 ranks_before school one other = both_precede (key_at one.list school) (key_at other.list school)
 
@@ -120,7 +121,7 @@ share_rank one other = list_any (shares one other) one.list
 abbrev pub has_equal_rank : Market → Bool
 has_equal_rank m = some_pair share_rank m.entrants
 
--- the first of the tests that fails
+-- the first of the tests that fails (this profile)
 abbrev pub first_fault : Market → Option BadProblem
 first_fault m =
     if repeats_school m then Some RepeatedSchool

@@ -1,4 +1,4 @@
--- A problem in which one child hands in another list.
+-- A problem in which one child hands in another list (this profile).
 use Rattle.std.specs.Prelude.{◌≡◌, ℕ, ◌≤◌, Bool, true, not, ◌&&◌, ◌==◌, if◌then◌else◌, List, ◌++◌, map, Option, None, Some, is_some, All, bytes_eq, find}
 use Rattle.std.specs.List.{filter_map, list_any, list_all}
 use Rattle.std.specs.Option.{option_to_list}

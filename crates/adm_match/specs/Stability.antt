@@ -1,10 +1,11 @@
--- Allocations of a problem: which fit, which pairs block, which are stable, and which is best.
+-- Allocations of a problem: which fit, which pairs block, which are stable, and which is best (Gale and Shapley 1962).
+-- The cases of a free place, of a child without a place and of a tenant are this profile's.
 use Rattle.std.specs.Prelude.{◌≡◌, ℕ, ◌+◌, ◌<◌, ◌≤◌, Bool, true, false, not, ◌||◌, ◌&&◌, ◌==◌, nat_lt, List, length, Option, None, Some, unwrap_or, option_map, IfSome, All, Any, count_by, sum_by, find}
 use Rattle.std.specs.List.{list_any}
 use Rattle.adm_match.specs.declared.problem.Wish.{Wish}
 use Rattle.adm_match.specs.Market.{Code, Candidate, Market, has, place, place_of, is_tenant, ranks_before, quota_of}
 
--- which school each child has, or none
+-- which school each child has, or none (Gale and Shapley 1962: an assignment)
 abbrev pub Allocation : Type 0
 Allocation = ℕ → Option Code
 
@@ -20,7 +21,7 @@ is_guest a school entrant = has (a entrant.child) school && not (is_tenant entra
 abbrev pub Allocates : Market → Allocation → Type 0
 Allocates m a = All (λ entrant. IfSome (a entrant.child) (λ school. place entrant.list school < length entrant.list)) m.entrants
 
--- where some child at a school is no tenant of it, at most the quota are there
+-- where some child at a school is no tenant of it, at most the quota are there (this profile: tenants alone may be more)
 abbrev pub Fits : Market → Allocation → Type 0
 Fits m a = (school : Code) → list_any (is_guest a school) m.entrants ≡ true → count_at m a school ≤ quota_of m.seats school
 
@@ -33,7 +34,7 @@ abbrev pub ranks_after : Allocation → Code → Candidate → Candidate → Boo
 ranks_after a school entrant other = is_guest a school other && ranks_before school entrant other
 
 -- The entrant prefers the school; and it is a tenant of it, or the school has room, or some child there, no tenant
--- of it, ranks after the entrant.
+-- of it, ranks after the entrant (Gale and Shapley 1962; the tenant and the free place are this profile's).
 abbrev pub blocks : Market → Allocation → Candidate → Code → Bool
 blocks m a entrant school =
     prefers a entrant school
@@ -45,13 +46,14 @@ blocks m a entrant school =
 abbrev pub IsContent : Market → Allocation → Candidate → Type 0
 IsContent m a entrant = (school : Code) → blocks m a entrant school ≡ false
 
--- it fits, and no pair blocks
+-- it fits, and no pair blocks (Gale and Shapley 1962)
 pub record IsStable (m : Market) (a : Allocation) : Type 0 where
   pub allocates : Allocates m a
   pub fits : Fits m a
   pub unblocked : All (IsContent m a) m.entrants
 
--- it is stable, and in every stable allocation each child has the same school, or one later on its list, or none
+-- It is stable, and in every stable allocation each child has the same school, or one later on its list, or none
+-- (Gale and Shapley 1962: every applicant is at least as well off under it as under any other stable assignment).
 pub record IsBest (m : Market) (best : Allocation) : Type 0 where
   pub stable : IsStable m best
   pub none_better :
@@ -63,7 +65,7 @@ pub record IsFirstOfList (m : Market) (a : Allocation) (entrant : Candidate) (sc
   pub blocking : blocks m a entrant school ≡ true
   pub first : (other : Code) → place entrant.list other < place entrant.list school → blocks m a entrant other ≡ false
 
--- the blocking pair with the smallest child number, of that child the first on its list
+-- the blocking pair with the smallest child number, of that child the first on its list (this profile)
 pub record IsFirstBlock (m : Market) (a : Allocation) (pair : ℕ × Code) : Type 0 where
   pub blocking : Any (λ entrant. (entrant.child ≡ pair.0) × IsFirstOfList m a entrant pair.1) m.entrants
   pub smallest : All (λ entrant. entrant.child < pair.0 → IsContent m a entrant) m.entrants
@@ -77,7 +79,7 @@ pub record Allotment : Type 0 where
 abbrev pub school_of : Allotment → Allocation
 school_of allotment child = unwrap_or (option_map (λ row. row.1) (find (λ row. row.0 == child) allotment.given)) None
 
--- the list entries up to what a child has, or all of them where it has none
+-- the list entries up to what a child has, or all of them where it has none (this profile)
 abbrev pub gone_through : List Wish → Option Code → ℕ
 gone_through list None = length list
 gone_through list (Some school) = place list school + 1

@@ -1,5 +1,5 @@
 -- Where the entrants stand between two turns of deferred acceptance.
-use Rattle.std.specs.Prelude.{◌≡◌, ℕ, ◌<◌, ◌≤◌, ◌⊎◌, ◌+◌, ◌-◌, ◌≢◌, true, false, List, length, Option, None, Some, is_none, is_some, if◌then◌else◌, slice_get, count_by, sum_by, unwrap_or, option_map, find, ◌==◌}
+use Rattle.std.specs.Prelude.{◌≡◌, ℕ, ◌<◌, ◌≤◌, ◌⊎◌, ◌+◌, ◌-◌, ◌≢◌, true, false, List, length, None, Some, is_none, is_some, if◌then◌else◌, slice_get, count_by, sum_by, unwrap_or, option_map, find, ◌==◌}
 use Rattle.adm_match.specs.declared.problem.Wish.{Wish}
 use Rattle.adm_match.specs.declared.standings.Standing.{Standing}
 use Rattle.adm_match.specs.Market.{Code, Candidate, Market, has, place, place_of, is_tenant, ranks_before, quota_of}

@@ -108,21 +108,18 @@ fn settle(alloc: Global, entrants: &[Entrant], seats: &[Seats]) -> Result<Vec<St
         if !is_free(entrant, rows[index]) {
             continue;
         }
-        let out = take(
-            entrants,
-            seats,
-            &directory,
-            &mut rows,
-            &mut schools,
-            index,
-        )?;
+        let out = take(entrants, seats, &directory, &mut rows, &mut schools, index)?;
         line_up(&mut queue, out)?;
     }
     Ok(rows)
 }
 
 /// The best stable allocation of entrants that can be told apart, at schools that have seats.
-pub(crate) fn allot(alloc: Global, entrants: &[Entrant], seats: &[Seats]) -> Result<Offers, AllocError>
+pub(crate) fn allot(
+    alloc: Global,
+    entrants: &[Entrant],
+    seats: &[Seats],
+) -> Result<Offers, AllocError>
     requires distinct { Distinct (market_of entrants.now seats.now) }
     requires seated { Seated (market_of entrants.now seats.now) }
     ensures best { IfOk result (λ offers. IsBest (market_of entrants.now seats.now) (school_of offers)) }

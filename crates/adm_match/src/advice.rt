@@ -79,11 +79,7 @@ fn repeats(alloc: Global, schools: &[SchoolCode]) -> Result<bool, AllocError>
 }
 
 /// Whether the entrant wants each of the schools, and none of them comes twice.
-fn may_list(
-    alloc: Global,
-    entrant: &Entrant,
-    schools: &[SchoolCode],
-) -> Result<bool, AllocError>
+fn may_list(alloc: Global, entrant: &Entrant, schools: &[SchoolCode]) -> Result<bool, AllocError>
     ensures { IfOk result (λ answer. answer ≡ may_list entrant.now schools.now) }
 {
     let twice = repeats(alloc, schools)?;

@@ -1,3 +1,4 @@
+// Which child and school block an allocation.
 ghost use Rattle.std.specs.Prelude.{◌≡◌, ◌&&◌, not, IfSome, IfNone, find, option_map, count_by, All};
 ghost use Rattle.std.specs.List.{list_any};
 ghost use Rattle.adm_match.specs.Market.{market_of, has, ranks_before};
@@ -5,8 +6,8 @@ ghost use Rattle.adm_match.specs.Stability.{school_of, blocks, prefers, ranks_af
 ghost use Rattle.adm_match.specs.Blocks.{earlier};
 
 use crate::allotment::Offers;
-use adm_types::{ChildNo, SchoolCode};
 use crate::problem::{Entrant, Problem, Seats, Wish, quota_of};
+use adm_types::{ChildNo, SchoolCode};
 
 /// Whether the entrant was offered the school.
 fn is_at(offers: &Offers, entrant: &Entrant, school: SchoolCode) -> bool

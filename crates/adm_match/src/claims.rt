@@ -7,11 +7,12 @@ use adm_rank::RankKey;
 use adm_types::SchoolCode;
 use std::alloc::{AllocError, Global};
 
-/// A school that an entrant lists and of which it is no tenant, with the entrant's key there.
+/// A school that an entrant lists and of which it is no tenant, with the entrant's key there. Keys
+/// come first in the order, since they are told apart faster than codes.
 #[derive(Clone, Copy, Debug, PartialEq, Eq, PartialOrd, Ord)]
 pub struct Claim {
-    pub school: SchoolCode,
     pub key: RankKey,
+    pub school: SchoolCode,
 }
 
 /// Adds the claim of the entrant's wish, where it is no tenant of that school.
@@ -22,18 +23,14 @@ fn add_claim(claims: &mut Vec<Claim>, entrant: &Entrant, wish: Wish) -> Result<(
         return Ok(());
     }
     claims.push(Claim {
-        school: wish.school,
         key: wish.key,
+        school: wish.school,
     })?;
     Ok(())
 }
 
 /// Adds the claims of the entrant.
-fn add_claims(
-    claims: &mut Vec<Claim>,
-    entrant: &Entrant,
-    list: &[Wish],
-) -> Result<(), AllocError>
+fn add_claims(claims: &mut Vec<Claim>, entrant: &Entrant, list: &[Wish]) -> Result<(), AllocError>
     ensures { IfOk result (λ _. claims.new.items ≡ claims.old.items ++ asked entrant.now list.now) }
 {
     for index in 0..list.len() {

@@ -1,3 +1,4 @@
+// Whom a school keeps while entrants come: its tenants, and the others in a heap.
 ghost use Rattle.std.specs.Prelude.{◌≡◌, ◌<◌, Some, length, slice_get, slice_set, [], IfOk, OnErr, IfSome, IfNone};
 ghost use Rattle.std.specs.BinaryHeap.{heap_items, IsHeap};
 ghost use Rattle.adm_match.specs.Keeping.{Keeping, Takes, RanksLast, guest_cmp};
@@ -85,8 +86,8 @@ impl Kept {
     }
 }
 
-/// One school of several takes a child.
-pub fn take_at(
+/// One school of several keeps the child too.
+pub(crate) fn take_at(
     schools: &mut [Kept],
     at: usize,
     child: ChildNo,

@@ -1,3 +1,4 @@
+// The laws of stable allocations.
 ghost use Rattle.adm_match.specs.Relisting.{NoGain, SamePlaced, OneBest};
 
 /// A child never gains by listing other schools, or its schools in another order.

@@ -20,11 +20,7 @@ pub use acceptance::offers;
 pub use advice::{WhatIfFault, what_if};
 pub use allotment::Offers;
 pub use blocking::first_block;
-pub use kept::{Guest, Kept, take_at};
+pub use kept::Kept;
 pub use laws::{no_gain, one_best, same_placed};
-
 pub use problem::{BadProblem, Entrant, Problem, Seats, Wish};
 pub use scan::offers_by_scan;
-
-#[cfg(test)]
-mod tests;

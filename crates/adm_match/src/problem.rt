@@ -1,3 +1,4 @@
+// Problems of allocation: entrants with their lists, and the seats of the schools.
 ghost use Rattle.std.specs.Prelude.{◌≡◌, bytes_eq};
 ghost use Rattle.std.specs.List.{position};
 ghost use Rattle.adm_match.specs.Market.{quota_of};
@@ -43,14 +44,14 @@ impl Entrant {
     }
 
     /// The place of the school on the list, from 0, or the list's length.
-    pub fn place(&self, school: SchoolCode) -> usize
+    pub(crate) fn place(&self, school: SchoolCode) -> usize
         ensures { result ≡ place self.now.list school }
     {
         self.position(school).unwrap_or(self.list.len())
     }
 
     /// The place on the list of what the child has: none comes after every school.
-    pub fn place_of(&self, school: Option<SchoolCode>) -> usize
+    pub(crate) fn place_of(&self, school: Option<SchoolCode>) -> usize
         ensures { result ≡ place_of self.now.list school }
     {
         match school {
@@ -60,7 +61,7 @@ impl Entrant {
     }
 
     /// Whether the child is a tenant of the school.
-    pub fn is_tenant_of(&self, school: SchoolCode) -> bool
+    pub(crate) fn is_tenant_of(&self, school: SchoolCode) -> bool
         ensures { result ≡ is_tenant self.now school }
     {
         match self.tenant {
@@ -70,7 +71,7 @@ impl Entrant {
     }
 
     /// The key by which the child ranks at the school, if its list names it.
-    pub fn key_at(&self, school: SchoolCode) -> Option<RankKey>
+    pub(crate) fn key_at(&self, school: SchoolCode) -> Option<RankKey>
         ensures { result ≡ key_at self.now.list school }
     {
         self.list
@@ -80,7 +81,7 @@ impl Entrant {
     }
 
     /// Whether this child ranks before the other one at the school, by their keys there.
-    pub fn ranks_before(&self, other: &Entrant, school: SchoolCode) -> bool
+    pub(crate) fn ranks_before(&self, other: &Entrant, school: SchoolCode) -> bool
         ensures { result ≡ ranks_before school self.now other.now }
     {
         match (self.key_at(school), other.key_at(school)) {

@@ -15,11 +15,7 @@ fn wish_for(list: &[Wish], school: SchoolCode) -> Option<&Wish>
 }
 
 /// Adds the list's wish for the school, where there is one.
-fn add_wish(
-    wishes: &mut Vec<Wish>,
-    list: &[Wish],
-    school: SchoolCode,
-) -> Result<(), AllocError>
+fn add_wish(wishes: &mut Vec<Wish>, list: &[Wish], school: SchoolCode) -> Result<(), AllocError>
     ensures { IfOk result (λ _. wishes.new.items ≡ wishes.old.items ++ wishes_for list.now (school ∷ [])) }
 {
     if let Some(wish) = wish_for(list, school) {

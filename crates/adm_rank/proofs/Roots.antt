@@ -1,7 +1,6 @@
 -- The whole part of a square root, as the distance's definition finds it.
-use Rattle.std.proofs.Common.{◌≡◌, ℕ, zero, suc, ◌+◌, ◌*◌, ◌<◌, ◌≤◌, ◌⊎◌, cond, true, false, inl, inr, ap, ◌∙◌, subst, sym, refl, arith, leb}
+use Rattle.std.proofs.Common.{◌≡◌, ℕ, zero, suc, ◌+◌, ◌*◌, ◌<◌, ◌≤◌, cond, inl, inr, ◌∙◌, subst, sym, arith, leb}
 use Rattle.std.proofs.Math.Nat.{mul-le-mul}
-use Rattle.std.proofs.lemmas.Nat.{mul-lt}
 use Rattle.std.proofs.lemmas.Bool.{cases_Bool, cases_lt, cases_eq, le-leb, leb-true, false≢true}
 use Rattle.adm_types.specs.declared.rows.Point.{Point}
 use Rattle.adm_rank.specs.Distance.{root_upto, distance_of, squares_between}

@@ -6,7 +6,11 @@ use std::alloc::Global;
 use std::test::Fail;
 
 fn school(alloc: Global, code: SchoolCode) -> Result<School, Fail> {
-    let criteria = vec![in alloc; Criterion::Sibling, Criterion::Within(500), Criterion::Flag(3)]?;
+    let criteria = vec![in alloc;
+        Criterion::Sibling,
+        Criterion::Within(500),
+        Criterion::Flag(3),
+    ]?;
     Ok(School {
         code,
         name: Text::from_string(String::new(alloc)),

@@ -6,3 +6,4 @@ pub mod Inside
 pub mod Creates
 pub mod Creation
 pub mod Texts
+pub mod OneTest

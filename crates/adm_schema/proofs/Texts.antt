@@ -62,4 +62,3 @@ looks_into_lot = record { names = _; command = refl; unlisted = refl; plain = (r
 pub looks_into_imported : Asks register_schema text.look_into_imported 14 (col 1 0 ∷ []) []
 unfolding understood everything
 looks_into_imported = record { names = _; command = refl; unlisted = refl; plain = (refl, refl) }
-

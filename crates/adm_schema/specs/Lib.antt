@@ -4,3 +4,4 @@ pub mod Effects
 pub mod Schema
 pub mod Creations
 pub mod Texts
+pub mod Made

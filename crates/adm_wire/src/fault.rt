@@ -5,8 +5,9 @@ ghost use Rattle.adm_wire.specs.declared.fault.WireFault.TheVariants.{Memory};
 use std::alloc::{AllocError, AllocFailed};
 use thiserror::Error;
 
-/// Why the bytes are no command. The tests come in the order NotJson; WrongKind where the value is no object;
-/// MissingField and WrongKind of `cmd`; UnknownCommand; MissingField and WrongKind of each field in turn; ExtraField.
+/// Why the bytes are no command. The tests come in the order NotJson; WrongKind where the value is
+/// no object; MissingField and WrongKind of `cmd`; UnknownCommand; MissingField and WrongKind of
+/// each field in turn; ExtraField.
 #[derive(Clone, Copy, Debug, PartialEq, Eq, Error)]
 pub enum WireFault {
     /// The bytes are no JSON text.

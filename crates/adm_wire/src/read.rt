@@ -1,5 +1,4 @@
 // The reader of a command: bytes to JSON, JSON to a command.
-ghost use Rattle.std.specs.Prelude.{◌≡◌};
 ghost use Rattle.serde_json.specs.View.{view};
 ghost use Rattle.adm_wire.specs.Commands.{form_of, command_in, command_of, json_of};
 ghost use Rattle.adm_wire.specs.Forms.{school_form};
@@ -73,11 +72,12 @@ fn json(alloc: Global, bytes: &[u8]) -> Result<Value, WireFault>
     }
 }
 
-/// The command that bytes say, as one JSON object in the written form of the command that its `cmd` names.
+/// The command that bytes say, as one JSON object in the written form of the command that its
+/// `cmd` names.
 ///
-/// The fault is the first in the order of the tests; Memory may come at any point. What a JSON text is, how deep it
-/// may nest (127 levels) and which of two equal keys counts (the last) is as `serde_json` reads a value. It costs what
-/// the length of the bytes costs.
+/// The fault is the first in the order of the tests; Memory may come at any point. What a JSON
+/// text is, how deep it may nest (127 levels) and which of two equal keys counts (the last) is as
+/// `serde_json` reads a value. It costs what the length of the bytes costs.
 #[tactic(auto, unfolding(crate::specs::Commands::command_of))]
 pub fn read_command(alloc: Global, bytes: &[u8]) -> Result<Command, WireFault>
     // The command or the fault is the one that the bytes say, unless memory runs out.

@@ -23,8 +23,8 @@ pub trait Input {
     // Whether a read has failed.
     ghost has_failed: { Self → Bool };
 
-    /// Reads some bytes into the front of the buffer, and tells how many: none only at the end of the input, or where
-    /// the buffer has no room.
+    /// Reads some bytes into the front of the buffer, and tells how many: none only at the end of
+    /// the input, or where the buffer has no room.
     fn read_some(&mut self, buffer: &mut [u8]) -> Result<usize, ReadFailed>
         ensures bound { IfOk result (λ n. n ≤ length buffer.new) }
         ensures bytes { ReadConsumes (remaining self.old) (remaining self.new) result buffer.new }
@@ -47,8 +47,8 @@ pub trait Output {
         ensures fails { has_failed self.new ≡ (has_failed self.old || is_err result) };
 }
 
-/// A reader or a writer, and whether it has failed. A call that was interrupted before it read or wrote anything is made
-/// again, 2^64 - 1 times at most.
+/// A reader or a writer, and whether it has failed. A call that was interrupted before it read or
+/// wrote anything is made again, 2^64 - 1 times at most.
 #[derive(Drop)]
 pub struct Watched<S> {
     /// The stream.

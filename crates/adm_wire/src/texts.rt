@@ -1,7 +1,7 @@
 // The texts of answers: compact JSON, to the byte.
 ghost use Rattle.std.specs.Prelude.{◌≡◌, IfOk, string_bytes};
 ghost use Rattle.serde_json.specs.View.{view};
-ghost use Rattle.adm_wire.specs.Texts.{reply_text, round_data, round_text, filled_text, imported_text, named_text, row_text, refusal_text, fault_text, memory_text, failed_text, name_of, number_of};
+ghost use Rattle.adm_wire.specs.Texts.{reply_text, round_data, round_text, filled_text, imported_text, named_text, row_text, refusal_text, fault_text, memory_text, failed_text, name_of};
 
 use crate::WireFault;
 use adm_types::{ChildNo, Refusal, Reply};
@@ -69,8 +69,8 @@ fn imported_text(alloc: Global, added: u64, known: u64) -> Result<String, AllocE
     format!(in alloc; "{{\"added\":{added},\"done\":true,\"known\":{known}}}")
 }
 
-/// The text of a refusal, without LF, with the row of an import that was refused, or without a row where it is 0.
-/// The `Err` is want of memory.
+/// The text of a refusal, without LF, with the row of an import that was refused, or without a row
+/// where it is 0. The `Err` is want of memory.
 pub fn refusal_text(alloc: Global, refusal: Refusal, row: u64) -> Result<String, AllocError>
     ensures { IfOk result (λ s. string_bytes s ≡ refusal_text refusal row) }
 {

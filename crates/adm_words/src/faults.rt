@@ -1,5 +1,5 @@
 // Why words ask for nothing, and what is printed then.
-ghost use Rattle.std.specs.Prelude.{◌≡◌, IfOk, string_bytes, codes};
+ghost use Rattle.std.specs.Prelude.{◌≡◌, IfOk, string_bytes};
 ghost use Rattle.adm_words.specs.Lines.{IsFaultText};
 ghost use Rattle.adm_words.specs.declared.faults.WordsFault.TheVariants.{Memory};
 
@@ -36,7 +36,8 @@ impl<T: Drop> From<AllocFailed<T>> for WordsFault {
     }
 }
 
-/// What the standard error is to get: the text of `clap`, or `fault: `, the fault's name and LF. The `Err` is want of memory.
+/// What the standard error is to get: the text of `clap`, or `fault: `, the fault's name and LF.
+/// The `Err` is want of memory.
 pub fn fault_text(alloc: Global, fault: &WordsFault) -> Result<String, AllocError>
     ensures { IfOk result (λ text. IsFaultText fault.now (string_bytes text)) }
 {

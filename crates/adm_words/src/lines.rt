@@ -8,7 +8,8 @@ use adm_types::{Day, Phase, Seq};
 use clap::ArgMatches;
 use std::alloc::Global;
 
-/// The first value of an argument; an empty text where it has none, which a required argument never has.
+/// The first value of an argument; an empty text where it has none, which a required argument
+/// never has.
 fn value_of<'a>(found: &ArgMatches<'a>, id: &str) -> &'a str
     ensures { result.now ≡ value_in id.now (rows_of (found_of found.now)) }
 {

@@ -2,7 +2,6 @@
 use crate::{Input, Output, ReadFailed, Watched, WriteFailed};
 use std::io;
 use std::io::{ErrorKind, Read, Write};
-use std::test::Fail;
 
 /// Gives a byte at each other read, is interrupted between, and fails at the end.
 #[derive(Drop)]

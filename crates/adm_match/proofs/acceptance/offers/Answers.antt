@@ -1,4 +1,3 @@
-use Rattle.std.proofs.Common.{◌∙◌}
 use Rattle.adm_match.proofs.Ready.{ready_distinct, ready_seated}
 use Rattle.adm_match.proofs.acceptance.offers.Goals as goal
 

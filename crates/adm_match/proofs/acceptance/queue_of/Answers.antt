@@ -1,6 +1,4 @@
-use Rattle.std.proofs.Common.{◌≡◌, ◌<◌, ℕ, ◌+◌, List, ◌++◌, [], ◌∷◌, true, ◌==◌, length, refl, sym, subst, arith}
-use Rattle.std.specs.Prelude.{All}
-use Rattle.std.specs.List.{list_any}
+use Rattle.std.proofs.Common.{length}
 use Rattle.adm_match.proofs.Line.{line_more}
 use Rattle.adm_match.proofs.acceptance.queue_of.Goals as goal
 

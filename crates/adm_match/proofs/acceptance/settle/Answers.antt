@@ -1,11 +1,10 @@
 -- The queue, from the start to its end.
-use Rattle.std.proofs.Common.{◌≡◌, ◌∙◌, ℕ, List, Option, refl, sym, ap, subst, length, arith, None, Some}
+use Rattle.std.proofs.Common.{◌∙◌, List, refl, sym, ap, subst, length, arith}
 use Rattle.std.proofs.lemmas.Option.{slice_get_read}
 use Rattle.adm_match.specs.declared.standings.Standing.{Standing}
 use Rattle.adm_match.specs.Market.{market_of}
-use Rattle.adm_match.specs.Keeping.{Keeping}
 use Rattle.adm_match.specs.Turns.{IsFree}
-use Rattle.adm_match.specs.Queue.{Afoot, Turned}
+use Rattle.adm_match.specs.Queue.{Turned}
 use Rattle.adm_match.proofs.Line.{free_if, not_free_if, skipped, some_back, queued_within, empty_done, afoot_first, afoot_as, empty_if, written}
 use Rattle.adm_match.proofs.acceptance.settle.Goals as goal
 

@@ -1,5 +1,5 @@
 -- The entrant comes to the next school of its list, which keeps it, and may send one back.
-use Rattle.std.proofs.Common.{◌≡◌, ◌∙◌, List, None, Some, ap, sym, subst, arith}
+use Rattle.std.proofs.Common.{List, None, Some, ap, sym, subst, arith}
 use Rattle.std.proofs.lemmas.Option.{slice_get_within}
 use Rattle.adm_match.specs.Market.{market_of, is_tenant}
 use Rattle.adm_match.specs.Keeping.{Keeping}

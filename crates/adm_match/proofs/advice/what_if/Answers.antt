@@ -1,4 +1,4 @@
-use Rattle.std.proofs.Common.{◌∙◌, sym, ap, inl}
+use Rattle.std.proofs.Common.{◌∙◌, inl}
 use Rattle.adm_match.proofs.Advised.{told, told_fault, told_distinct, told_seated, told_answer, told_gain}
 use Rattle.adm_match.proofs.advice.what_if.Goals as goal
 

@@ -1,5 +1,5 @@
 use Rattle.std.proofs.Common.{arith}
-use Rattle.adm_match.proofs.Looking.{SchoolsBelow, schools_more, schools_all}
+use Rattle.adm_match.proofs.Looking.{schools_more, schools_all}
 use Rattle.adm_match.proofs.directory.places_of_schools.Goals as goal
 
 pub loop-index-init : goal.loop-index-init

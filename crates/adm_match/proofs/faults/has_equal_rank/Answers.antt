@@ -1,4 +1,4 @@
-use Rattle.std.proofs.Common.{◌∙◌, sym}
+use Rattle.std.proofs.Common.{◌∙◌}
 use Rattle.adm_match.proofs.Asking.{repeated_claims}
 use Rattle.adm_match.proofs.Coded.{answer_as}
 use Rattle.adm_match.proofs.faults.has_equal_rank.Goals as goal

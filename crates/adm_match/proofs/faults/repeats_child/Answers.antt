@@ -1,4 +1,4 @@
-use Rattle.std.proofs.Common.{◌∙◌, sym}
+use Rattle.std.proofs.Common.{◌∙◌}
 use Rattle.adm_match.proofs.Coded.{answer_as, children_twice}
 use Rattle.adm_match.proofs.faults.repeats_child.Goals as goal
 

@@ -1,5 +1,4 @@
-use Rattle.std.proofs.Common.{◌∙◌, sym}
-use Rattle.adm_match.proofs.Twice.{seen_more, seen_twice, seen_none}
+use Rattle.adm_match.proofs.Twice.{seen_more, seen_twice}
 use Rattle.adm_match.proofs.repeats.has_repeat.Goals as goal
 
 pub returns-then-not-added : goal.returns-then-not-added

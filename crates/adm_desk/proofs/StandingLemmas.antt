@@ -1,0 +1,32 @@
+-- What a kept command answers.
+use Rattle.std.proofs.Common.{◌≡◌, ◌∙◌, ◌≢◌, true, false, refl, sym, subst, Ok}
+use Rattle.sqlite.specs.State.{State as Disk}
+use Rattle.adm_types.specs.declared.commands.Command.{Command}
+use Rattle.adm_types.specs.declared.commands.Reply.{Reply}
+use Rattle.adm_register.specs.State.{State as Register}
+use Rattle.adm_register.specs.Outcome.{Step}
+use Rattle.adm_store.specs.StandsFor.{LeavesOnly, LeavesEither}
+use Rattle.adm_desk.specs.declared.answer.Answer.{Answer}
+use Rattle.adm_desk.specs.declared.answer.Answer.TheVariants.{Done, Refused, Memory, Failed}
+use Rattle.adm_desk.specs.Standing.{Standing, Handles, Keeps}
+
+-- an accepted step that was kept, or not, is handled
+pub handles : {C : Type 0} (disk : C → Disk) (old new : Standing C) (command : Command) (after : Register) (reply : Reply) (answer : Answer)
+    → old.failed ≡ false → Step old.register command (Ok reply) after → Keeps disk old after reply answer new → Handles disk old command answer new
+handles disk old new command after reply (Done r) alive step keeps =
+    (alive, subst (λ (x : Reply). Step old.register command (Ok x) new.register) (sym keeps.0) (subst (λ (x : Register). Step old.register command (Ok reply) x) (sym keeps.1) step),
+      keeps.2, subst (λ (x : Register). LeavesOnly x (disk new.conn)) (sym keeps.1) keeps.3)
+handles disk old new command after reply (Refused refusal row) alive step keeps = absurd keeps
+handles disk old new command after reply Memory alive step keeps = (alive, keeps)
+handles disk old new command after reply Failed alive step keeps =
+    (keeps.0, keeps.1, λ dead. absurd (differ (sym dead ∙ alive)), λ _. record { after = after; reply = reply; accepted = step; leaves = keeps.2 })
+  where
+    differ : true ≡ false → ⊥
+    differ e = cc
+
+-- after a commit that failed
+pub failed_keeps : {C : Type 0} (disk : C → Disk) (was old new : Standing C) (after : Register) (reply : Reply) (conn : C) → was ≡ old
+    → new ≡ record { register = was.register; failed = true; conn = conn } → LeavesEither was.register after (disk conn) → Keeps disk old after reply Failed new
+failed_keeps disk was old new after reply conn shown is either =
+    subst (λ (o : Standing _). Keeps disk o after reply Failed new) shown
+    (subst (λ (s : Standing _). (s.failed ≡ true) × (s.register ≡ was.register) × LeavesEither was.register after (disk s.conn)) (sym is) (refl, refl, either))

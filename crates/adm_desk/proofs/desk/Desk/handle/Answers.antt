@@ -1,0 +1,12 @@
+use Rattle.std.proofs.Common.{◌≡◌, false, subst, Ok}
+use Rattle.sqlite.specs.Held.{state}
+use Rattle.adm_register.specs.Outcome.{Step}
+use Rattle.adm_desk.specs.Standing.{Standing}
+use Rattle.adm_desk.proofs.StandingLemmas.{handles}
+use Rattle.adm_desk.proofs.desk.Desk.handle.Goals as goal
+
+pub returns-in-Ok : goal.returns-in-Ok
+returns-in-Ok g c =
+    let alive = subst (λ (s : Standing _). s.failed ≡ false) c.self.view_is c.if-self.false in
+    let step = subst (λ (s : Standing _). Step s.register c.args.command.now (Ok c.in-Ok.reply) c.in-Ok.new) c.self.view_is c.in-Ok.ensures.step in
+    handles (state g.S.Store) c.args.self.now c.keep.new.self c.args.command.now c.in-Ok.new c.in-Ok.reply c.keep.result alive step c.keep.ensures

@@ -1,0 +1,72 @@
+-- Texts that join their items by `;`, and what they are read as.
+use Rattle.std.proofs.Common.{◌≡◌, ◌∙◌, ℕ, suc, zero, ◌+◌, ◌<◌, Bool, true, false, List, [], ◌∷◌, ◌++◌, map, take, length, get_or, Some, None, Option, filter, refl, sym, ap, arith, append_assoc, append-nil}
+use Rattle.std.proofs.lemmas.List.{take_more, map-append}
+use Rattle.std.proofs.lemmas.List.Elements.{filter-append}
+use Rattle.std.specs.Option.{option_map}
+use Rattle.std.specs.Prelude.{if◌then◌else◌}
+use Rattle.adm_schema.proofs.Lists.{map_more}
+use Rattle.adm_store.specs.Forms.{joined, all_some}
+
+abbrev pub is_nil : {X : Type 0} → List X → Bool
+is_nil [] = true
+is_nil (x ∷ xs) = false
+
+-- one more piece, after a `;` where it is not the first
+abbrev joined_to : List (List ℕ) → List ℕ → List ℕ
+joined_to [] x = x
+joined_to (y ∷ ys) x = joined (y ∷ ys) ++ 59 ∷ x
+
+joined_more : (xs : List (List ℕ)) (x : List ℕ) → joined (xs ++ x ∷ []) ≡ joined_to xs x
+joined_more [] x = refl
+joined_more (y ∷ []) x = refl
+joined_more (y ∷ z ∷ xs) x = ap (λ t. y ++ 59 ∷ t) (joined_more (z ∷ xs) x) ∙ sym (append_assoc y (59 ∷ joined (z ∷ xs)) (59 ∷ x))
+
+as_first : (xs : List (List ℕ)) (x : List ℕ) → (if is_nil xs then x else joined xs ++ 59 ∷ x) ≡ joined_to xs x
+as_first [] x = refl
+as_first (y ∷ ys) x = refl
+
+nil_push : {X : Type 0} (xs : List X) (x : X) → is_nil (xs ++ x ∷ []) ≡ false
+nil_push [] x = refl
+nil_push (y ∷ ys) x = refl
+
+-- the turn of a loop that writes such a text
+pub appended : {X : Type 0} (write : X → List ℕ) (xs : List X) (i : ℕ) (x : X) (is_first : Bool) (was now piece : List ℕ) → i < length xs → x ≡ get_or xs i x → was ≡ joined (map write (take i xs)) → is_first ≡ is_nil (map write (take i xs))
+    → piece ≡ write x → now ≡ (if is_first then piece else was ++ 59 ∷ piece) → now ≡ joined (map write (take (i + 1) xs))
+appended write xs i x is_first was now piece low item so_far first text done =
+    let ys = map write (take i xs) in
+    let step : (if is_first then piece else was ++ 59 ∷ piece) ≡ (if is_nil ys then write x else joined ys ++ 59 ∷ write x) = λ k. if first k then text k else so_far k ++ 59 ∷ text k in
+    done ∙ step ∙ as_first ys (write x) ∙ sym (joined_more ys (write x)) ∙ ap joined (sym (map_more write xs i x low item))
+
+pub not_first : {X : Type 0} (write : X → List ℕ) (xs : List X) (i : ℕ) (x : X) → i < length xs → x ≡ get_or xs i x → false ≡ is_nil (map write (take (i + 1) xs))
+not_first write xs i x low item = sym (ap is_nil (map_more write xs i x low item) ∙ nil_push (map write (take i xs)) (write x))
+
+pub all_some_of : {X : Type 0} (xs : List X) → all_some (map Some xs) ≡ Some xs
+all_some_of [] = refl
+all_some_of (x ∷ xs) = ap (option_map (λ ys. x ∷ ys)) (all_some_of xs)
+
+-- one that is missing
+pub all_some_none : {X : Type 0} (xs : List (Option X)) (i : ℕ) (x : Option X) → i < length xs → x ≡ get_or xs i x → x ≡ None → all_some xs ≡ None
+all_some_none [] i x low is none = absurd (omega arith)
+all_some_none (Some y ∷ xs) zero x low is none = absurd (let e = sym is ∙ none in cc)
+all_some_none (None ∷ xs) zero x low is none = refl
+all_some_none (Some y ∷ xs) (suc i) x low is none = ap (option_map (λ ys. y ∷ ys)) (all_some_none xs i x (omega arith) is none)
+all_some_none (None ∷ xs) (suc i) x low is none = refl
+
+pub filter_more : {X : Type 0} (p : X → Bool) (xs : List X) (i : ℕ) (x : X) → i < length xs → x ≡ get_or xs i x → filter p (take (i + 1) xs) ≡ filter p (take i xs) ++ (if p x then x ∷ [] else [])
+filter_more p xs i x low is = ap (filter p) (take_more xs i x low) ∙ filter-append p (take i xs) (get_or xs i x ∷ []) ∙ ap (λ y. filter p (take i xs) ++ (if p y then y ∷ [] else [])) (sym is)
+
+-- the turn of a loop that keeps some items: one that is kept, and one that is not
+pub kept_more : {X W R : Type 0} (f : W → R) (g : X → R) (p : X → Bool) (xs : List X) (i : ℕ) (x : X) (was now : List W) (w : W) → i < length xs → x ≡ get_or xs i x → p x ≡ true
+    → map f was ≡ map g (filter p (take i xs)) → now ≡ was ++ w ∷ [] → f w ≡ g x → map f now ≡ map g (filter p (take (i + 1) xs))
+kept_more f g p xs i x was now w low is kept so_far next row =
+    ap (map f) next ∙ map-append f was (w ∷ []) ∙ (λ k. so_far k ++ row k ∷ []) ∙ sym (map-append g (filter p (take i xs)) (x ∷ []))
+    ∙ ap (map g) (sym (filter_more p xs i x low is ∙ ap (λ b. filter p (take i xs) ++ (if b then x ∷ [] else [])) kept))
+
+pub left_more : {X R : Type 0} (g : X → R) (p : X → Bool) (xs : List X) (i : ℕ) (x : X) (so : List R) → i < length xs → x ≡ get_or xs i x → p x ≡ false → so ≡ map g (filter p (take i xs)) → so ≡ map g (filter p (take (i + 1) xs))
+left_more g p xs i x so low is no_ so_far =
+    so_far ∙ ap (map g) (sym (filter_more p xs i x low is ∙ ap (λ b. filter p (take i xs) ++ (if b then x ∷ [] else [])) no_ ∙ append-nil (filter p (take i xs))))
+
+pub any_default : {X : Type 0} (xs : List X) (i : ℕ) (d e : X) → i < length xs → get_or xs i d ≡ get_or xs i e
+any_default [] i d e low = absurd (omega arith)
+any_default (x ∷ xs) zero d e low = refl
+any_default (x ∷ xs) (suc i) d e low = any_default xs i d e (omega arith)

@@ -1,0 +1,25 @@
+-- What the statement on the table `school` does.
+use Rattle.std.proofs.Common.{◌≡◌, ℕ, pos, List, ◌∷◌, Ok, refl, ap}
+use Rattle.sqlite.specs.declared.types.Value.TheVariants.{Null, Int}
+use Rattle.sqlite.specs.Order.{Row}
+use Rattle.sqlite.specs.Edit.{next_rowid, with_rowid}
+use Rattle.sqlite.specs.Cast.{cast_row}
+use Rattle.sqlite.specs.Rowids.TheVariants.{Chosen}
+use Rattle.sqlite.specs.State.{State, HasCleanDisk, ExecutesInside}
+use Rattle.adm_schema.specs.Rows.{columns_of}
+use Rattle.adm_schema.specs.Effects.{Sees, AddsRow}
+use Rattle.adm_schema.specs.Schema.{school, register_schema}
+use Rattle.adm_schema.specs.Texts.{insert_school, school_terms}
+use Rattle.adm_schema.proofs.Casts.{cast_null, cast_int}
+use Rattle.adm_schema.proofs.Statements.{inserted, adds}
+use Rattle.adm_schema.proofs.Texts.{inserts_school}
+use Rattle.adm_store.specs.declared.rows.SchoolRow.{SchoolRow}
+use Rattle.adm_store.specs.Changes.{written}
+
+stored_school : (it : SchoolRow) (rows : List Row) → with_rowid Chosen rows (cast_row school (Null ∷ written it)) ≡ Int (next_rowid rows) ∷ written it
+stored_school it rows = rw (cast_null, cast_int (pos it.pan), cast_int (pos it.east), cast_int (pos it.north))
+
+pub adds_school : (old new : State) (count : ℕ) (it : SchoolRow) → Sees register_schema old → HasCleanDisk old → ExecutesInside 0 insert_school (written it) old new (Ok count) → AddsRow school (written it) old new
+adds_school old new count it sees clean h =
+    adds register_schema school 1 refl refl refl (λ _ _. refl) old new (Null ∷ written it) (written it) (λ rows. ap (columns_of school) (stored_school it rows))
+    (inserted register_schema school 1 refl refl refl (λ _ _. refl) school_terms 7 insert_school (written it) (Null ∷ written it) old new count inserts_school.0 inserts_school.1 refl (sees clean h.1.was_open) h)

@@ -1,0 +1,7 @@
+use Rattle.std.proofs.Common.{◌≡◌, map, take}
+use Rattle.adm_store.specs.Forms.{school_row}
+use Rattle.adm_store.proofs.reading.schools_in.Given as goal
+
+-- the schools of the rows so far
+abbrev pub invariant-rows : goal.invariant-rows
+invariant-rows l = map school_row l.schools.items ≡ take l.row-index l.rows

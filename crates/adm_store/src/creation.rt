@@ -1,0 +1,97 @@
+// The tables of a new register.
+ghost use Rattle.std.specs.Prelude.{◌≡◌, ◌<◌, ◌↔◌, false, OnOk, IsTrue, Some, slice_get};
+ghost use Rattle.sqlite.specs.Held.{state};
+ghost use Rattle.sqlite.specs.State.{HasCleanDisk, Survives};
+ghost use Rattle.adm_schema.specs.Effects.{SeesNoRows};
+ghost use Rattle.adm_schema.specs.Schema.{no_schema, register_schema};
+ghost use Rattle.adm_schema.specs.Creations.{IsCreation, creations};
+ghost use Rattle.sqlite.specs.Schema.{Schema as Tables};
+ghost use Rattle.sqlite.specs.Table.{Table};
+ghost use Rattle.adm_register.specs.State.{only_season};
+ghost use Rattle.adm_types.specs.Seasons.{IsSeason};
+ghost use Rattle.adm_store.specs.Forms.{days_text};
+ghost use Rattle.adm_store.specs.StandsFor.{StandsFor};
+
+use crate::season;
+use adm_types::Season;
+use sqlite::{Alter, Connection, Error, Transaction};
+use sqlite_schema::schema::Schema;
+
+/// Whether a database has no table, no index and no view.
+pub(crate) fn is_empty(schema: &Schema) -> bool
+    ensures { IsTrue result ↔ (schema.now ≡ no_schema) }
+{
+    schema.tables.as_slice().is_empty()
+        && schema.indexes.as_slice().is_empty()
+        && schema.views.as_slice().is_empty()
+}
+
+/// The text that makes the table of this number, from 0 to 9 in the order in which they are made.
+fn creation(at: usize) -> &'static str
+    requires { at < 10 }
+    ensures { slice_get creations at ≡ Some result.now }
+{
+    match at {
+        0 =>
+            "CREATE TABLE meta (one INTEGER PRIMARY KEY CHECK (one = 1), version INTEGER NOT NULL, phase INTEGER NOT NULL, year INTEGER NOT NULL, holidays TEXT NOT NULL, draws INTEGER NOT NULL) STRICT",
+        1 =>
+            "CREATE TABLE school (code TEXT PRIMARY KEY NOT NULL, name TEXT NOT NULL, pan INTEGER NOT NULL, east INTEGER NOT NULL, north INTEGER NOT NULL, criteria TEXT NOT NULL) STRICT",
+        2 =>
+            "CREATE TABLE child (child INTEGER PRIMARY KEY, name TEXT NOT NULL, east INTEGER NOT NULL, north INTEGER NOT NULL, looked_after INTEGER NOT NULL, flags INTEGER NOT NULL, siblings TEXT NOT NULL) STRICT",
+        3 =>
+            "CREATE TABLE application (child INTEGER PRIMARY KEY, day INTEGER NOT NULL, preferences TEXT NOT NULL) STRICT",
+        4 =>
+            "CREATE TABLE place (child INTEGER PRIMARY KEY, school TEXT NOT NULL, kind INTEGER NOT NULL, day INTEGER, reminded INTEGER) STRICT",
+        5 =>
+            "CREATE TABLE left_list (child INTEGER NOT NULL, school TEXT NOT NULL, PRIMARY KEY (child, school)) STRICT",
+        6 =>
+            "CREATE TABLE draw (draw INTEGER PRIMARY KEY, round INTEGER NOT NULL, school TEXT, day INTEGER NOT NULL) STRICT",
+        7 =>
+            "CREATE TABLE offer (draw INTEGER NOT NULL, child INTEGER NOT NULL, school TEXT, fresh INTEGER NOT NULL, PRIMARY KEY (draw, child)) STRICT",
+        8 =>
+            "CREATE TABLE lot (draw INTEGER NOT NULL, school TEXT NOT NULL, child INTEGER NOT NULL, lot INTEGER NOT NULL, PRIMARY KEY (draw, school, child), UNIQUE (draw, school, lot)) STRICT",
+        _ =>
+            "CREATE TABLE imported (child INTEGER PRIMARY KEY, name TEXT NOT NULL, east INTEGER NOT NULL, north INTEGER NOT NULL, looked_after INTEGER NOT NULL, flags INTEGER NOT NULL, siblings TEXT NOT NULL, day INTEGER NOT NULL, preferences TEXT NOT NULL) STRICT",
+    }
+}
+
+fn create_table<S: Alter>(tx: &mut Transaction<'_, S>, text: &str) -> Result<(), Error>
+    ensures same_reference { tx.new.conn.ghost_name ≡ tx.old.conn.ghost_name }
+    ensures made { HasCleanDisk (state S.Store tx.new.conn.now) → OnOk result ((before after : Tables) (table : Table) → IsCreation before text.now table after → (IsTrue (state S.Store tx.old.conn.now).is_open → SeesNoRows before (state S.Store tx.old.conn.now)) → SeesNoRows after (state S.Store tx.new.conn.now)) }
+    ensures survives { Survives (state S.Store tx.old.conn.now) (state S.Store tx.new.conn.now) (λ _. ⊥) }
+{
+    tx.execute(text, &[])?;
+    Ok(())
+}
+
+/// Makes the ten tables.
+fn create_tables<S: Alter>(tx: &mut Transaction<'_, S>) -> Result<(), Error>
+    ensures same_reference { tx.new.conn.ghost_name ≡ tx.old.conn.ghost_name }
+    ensures made { HasCleanDisk (state S.Store tx.new.conn.now) → (IsTrue (state S.Store tx.old.conn.now).is_open → SeesNoRows no_schema (state S.Store tx.old.conn.now)) → OnOk result (IsTrue (state S.Store tx.new.conn.now).is_open → SeesNoRows register_schema (state S.Store tx.new.conn.now)) }
+    ensures survives { Survives (state S.Store tx.old.conn.now) (state S.Store tx.new.conn.now) (λ _. ⊥) }
+{
+    'tables: for at in 0..10 {
+        create_table(tx, creation(at))?;
+    }
+    Ok(())
+}
+
+/// Makes the tables and the row of the season, whose holidays are this text, in one transaction.
+pub(crate) fn build<S: Alter>(
+    conn: &mut Connection<S>,
+    season: &Season,
+    holidays: &str,
+) -> Result<(), Error>
+    requires ended { conn.old.in_transaction ≡ false }
+    requires empty { conn.old.schema ≡ no_schema }
+    requires season { IsSeason season.now }
+    requires text { holidays.now ≡ days_text season.now.holidays }
+    ensures ended { conn.new.in_transaction ≡ false }
+    ensures committed { HasCleanDisk (state S.Store conn.new) → OnOk result (IsTrue (state S.Store conn.new).is_open × StandsFor (state S.Store conn.new).committed.trees (only_season season.now)) }
+    ensures survives { Survives (state S.Store conn.old) (state S.Store conn.new) (λ db. StandsFor db (only_season season.now)) }
+{
+    let mut tx = conn.transaction();
+    create_tables(&mut tx)?;
+    season::insert(&mut tx, season, holidays)?;
+    tx.commit()
+}

@@ -1,0 +1,28 @@
+// Why a call of the store failed.
+/// Why a register was not created.
+#[derive(Clone, Copy, Debug, PartialEq, Eq)]
+pub enum CreateFault {
+    /// The database has a table, an index or a view.
+    InUse = 1,
+    /// The store failed.
+    Disk = 2,
+    Memory = 3,
+}
+
+/// Why a register was not opened.
+#[derive(Clone, Copy, Debug, PartialEq, Eq)]
+pub enum OpenFault {
+    /// There is no table `meta`, or it has no row.
+    NotOurs = 1,
+    /// The row of `meta` names another version than 1.
+    Version = 2,
+    /// A table is missing or made otherwise, one too many is there, or the rows are no register's.
+    BadRow = 3,
+    /// The store failed.
+    Disk = 4,
+    Memory = 5,
+}
+
+/// A change was not written: a call of `sqlite` did not succeed.
+#[derive(Clone, Copy, Debug, PartialEq, Eq)]
+pub struct Failed;

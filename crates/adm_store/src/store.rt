@@ -1,0 +1,161 @@
+// The store of a register: to create it, to open it and to write what a command changed.
+ghost use Rattle.std.specs.Prelude.{◌≡◌, ◌≢◌, ◌<◌, length, false, Err, OnOk, OnErr, IfOk, IfErr, IsTrue};
+ghost use Rattle.sqlite.specs.Held.{state};
+ghost use Rattle.sqlite.specs.State.{HasCleanDisk, Survives};
+ghost use Rattle.adm_schema.specs.Schema.{no_schema};
+ghost use Rattle.sqlite.specs.Tree.{Trees};
+ghost use Rattle.adm_register.specs.State.{only_season, State as Facts};
+ghost use Rattle.adm_store.specs.Changes.{IsStep, Commits, CommitsOrNot};
+ghost use Rattle.adm_store.specs.StandsFor.{IsStarted, StandsFor, LeavesOnly, LeavesOldOrNew};
+
+use adm_schema::is_register_schema;
+use crate::rows::Changes;
+use crate::{CreateFault, Failed, OpenFault, creation, lists, reading, schools};
+use adm_register::Register;
+use adm_types::Season;
+use sqlite::{Alter, Connection, Error, ErrorCode};
+use std::alloc::Global;
+use std::marker::Model;
+
+fn fault_of(error: Error) -> CreateFault
+    ensures { result ≢ CreateFault.InUse }
+{
+    match error {
+        Error::SqliteFailure(ErrorCode::OutOfMemory) => CreateFault::Memory,
+        _ => CreateFault::Disk,
+    }
+}
+
+/// Creates the register of a season in a database that has no table, no index and no view.
+/// What it costs does not grow.
+pub fn create<S: Alter>(
+    alloc: Global,
+    conn: &mut Connection<S>,
+    season: &Season,
+) -> Result<(), CreateFault>
+    requires { conn.old.in_transaction ≡ false }
+    ensures ended { conn.new.in_transaction ≡ false }
+    ensures unused { OnOk result (conn.old.schema ≡ no_schema) }
+    ensures ok { OnOk result (LeavesOnly (only_season season.now) (state S.Store conn.new)) }
+    ensures in_use { result ≡ Err CreateFault.InUse → (conn.old.schema ≢ no_schema) × (conn.new ≡ conn.old) }
+    ensures err { OnErr result (LeavesOldOrNew season.now (state S.Store conn.old) (state S.Store conn.new)) }
+{
+    if !creation::is_empty(conn.schema()) {
+        return Err(CreateFault::InUse);
+    }
+    let Ok(holidays) = lists::days_text(alloc, season.holidays()) else {
+        return Err(CreateFault::Memory);
+    };
+    match creation::build(conn, season, &holidays) {
+        Ok(()) => Ok(()),
+        Err(error) => Err(fault_of(error)),
+    }
+}
+
+/// Reads the register, and leaves the file as it was.
+fn read<S: Alter>(alloc: Global, conn: &mut Connection<S>) -> Result<Register, OpenFault>
+    requires { conn.old.in_transaction ≡ false }
+    ensures ended { conn.new.in_transaction ≡ false }
+    ensures ok { HasCleanDisk (state S.Store conn.new) → IsTrue (state S.Store conn.old).is_open → IfOk result (λ r. (db : Trees) → (state S.Store conn.old).may_leave db → StandsFor db r) }
+    ensures survives { Survives (state S.Store conn.old) (state S.Store conn.new) (λ _. ⊥) }
+{
+    let at_rest = conn.is_autocommit();
+    prove!(at_rest);
+    let made = is_register_schema(conn.schema());
+    let mut tx = conn.transaction();
+    let register = reading::register_in(alloc, &mut tx);
+    tx.rollback();
+    match register {
+        Ok(register) => {
+            if made {
+                Ok(register)
+            } else {
+                Err(OpenFault::BadRow)
+            }
+        }
+        Err(fault) => Err(fault),
+    }
+}
+
+/// Opens the register that the file stands for. What it costs grows with the register's rows.
+pub fn open<S: Alter>(
+    alloc: Global,
+    mut conn: Connection<S>,
+) -> Result<(Store<S>, Register), (OpenFault, Connection<S>)>
+    requires ended { conn.in_transaction ≡ false }
+    requires started { IsStarted (state S.Store conn) }
+    ensures ok { IfOk result (λ o. LeavesOnly o.1 (state S.Store o.0)) }
+    ensures kept { IfOk result (λ o. Survives (state S.Store conn) (state S.Store o.0) (λ _. ⊥)) }
+    ensures ended { IfErr result (λ e. e.1.in_transaction ≡ false) }
+    ensures left { IfErr result (λ e. Survives (state S.Store conn) (state S.Store e.1) (λ _. ⊥)) }
+{
+    match read(alloc, &mut conn) {
+        Ok(register) => Ok((Store { conn }, register)),
+        Err(fault) => Err((fault, conn)),
+    }
+}
+
+/// A connection, outside a transaction, to the file of a register.
+pub struct Store<S: Alter> {
+    conn: Connection<S>,
+}
+
+impl<S: Alter + Drop> Drop for Store<S> {
+    fn drop(self) {
+        let Store { conn: _ } = self;
+    }
+}
+
+impl<S: Alter> Model for Store<S> {
+    ghost use Rattle.std.specs.Prelude.{◌≡◌, false};
+    ghost use Rattle.sqlite.specs.Held.{Held, held_code};
+
+    ghost Value = { Held S };
+
+    ghost coded = { held_code S.code };
+
+    ghost view = { λ s. s.conn };
+
+    ghost invariant = { λ s. s.conn.in_transaction ≡ false };
+}
+
+impl<S: Alter> Store<S> {
+    /// The connection. It takes no memory.
+    pub fn into_connection(self) -> Connection<S>
+        ensures same { result ≡ self }
+        ensures ended { result.in_transaction ≡ false }
+    {
+        let Store { conn } = self;
+        conn
+    }
+
+    /// Writes the changes in one transaction, whose commit is the last call of the store.
+    /// What it costs grows with the changes.
+    pub fn commit(&mut self, changes: &Changes) -> Result<(), Failed>
+        ensures ok { OnOk result (Commits changes.now (state S.Store self.old) (state S.Store self.new)) }
+        ensures err { OnErr result (CommitsOrNot changes.now (state S.Store self.old) (state S.Store self.new)) }
+    {
+        if changes.put() == 0 {
+            return Ok(());
+        }
+        let Ok(()) = write(&mut self.conn, changes) else {
+            return Err(Failed);
+        };
+        Ok(())
+    }
+}
+
+fn write<S: Alter>(conn: &mut Connection<S>, changes: &Changes) -> Result<(), Error>
+    requires ended { conn.old.in_transaction ≡ false }
+    requires some { 0 < length changes.now.schools }
+    ensures ended { conn.new.in_transaction ≡ false }
+    ensures committed { HasCleanDisk (state S.Store conn.new) → OnOk result (IsTrue (state S.Store conn.new).is_open × ((old new : Facts) → IsStep old new changes.now → LeavesOnly old (state S.Store conn.old) → StandsFor (state S.Store conn.new).committed.trees new)) }
+    ensures survives { (old new : Facts) → IsStep old new changes.now → LeavesOnly old (state S.Store conn.old) → Survives (state S.Store conn.old) (state S.Store conn.new) (λ db. StandsFor db new) }
+{
+    let at_rest = conn.is_autocommit();
+    prove!(at_rest);
+    let _tables = conn.schema();
+    let mut tx = conn.transaction();
+    schools::put(&mut tx, changes.schools.as_slice())?;
+    tx.commit()
+}

@@ -1,0 +1,83 @@
+// Allots the places of a market, and prints a checksum of what is given; with a size as its
+// arguments (entrants, wishes, schools) also the microseconds that it took.
+#![tactic(auto)]
+
+mod market;
+
+use adm_match::{Offers, offers};
+use adm_types::ChildNo;
+use market::{Size, codes, entrants, problem, seats};
+use std::time::Instant;
+use std::{env, io};
+
+/// The given schools, mixed into one number.
+fn checksum(given: &Offers, size: Size) -> u64 {
+    let mut sum: u64 = 0;
+    for number in 0..size.entrants {
+        sum = sum.wrapping_mul(31).wrapping_add(1);
+        let Some(child) = ChildNo::new(number.wrapping_add(1)) else {
+            continue;
+        };
+        let Some(school) = given.of(child) else {
+            continue;
+        };
+        for byte in school.as_str().as_bytes() {
+            sum = sum.wrapping_mul(31).wrapping_add(u64::from(*byte));
+        }
+    }
+    sum
+}
+
+fn number(rt: &HostRuntime, place: usize) -> io::Result<Option<u32>> {
+    match env::args(rt)?.nth(place) {
+        Some(word) => Ok(word.as_str().parse::<u32>().ok()),
+        None => Ok(None),
+    }
+}
+
+fn size(rt: &HostRuntime) -> io::Result<Option<Size>> {
+    let (entrants, wishes, schools) = (number(rt, 1)?, number(rt, 2)?, number(rt, 3)?);
+    match (entrants, wishes, schools) {
+        (Some(entrants), Some(wishes), Some(schools)) => Ok(Some(Size {
+            entrants,
+            wishes,
+            schools,
+        })),
+        _ => Ok(None),
+    }
+}
+
+const SMALL: Size = Size {
+    entrants: 100,
+    wishes: 4,
+    schools: 10,
+};
+
+fn run(rt: &HostRuntime, size: Size, timed: bool) -> io::Result<()> {
+    let alloc = rt.alloc();
+    let codes = codes(alloc, size)?;
+    let entrants = entrants(alloc, &codes, size)?;
+    let seats = seats(alloc, &codes, size)?;
+    let start = Instant::now(rt)?;
+    let Ok(problem) = problem(alloc, entrants, seats) else {
+        return println!(rt; "no problem");
+    };
+    let posed = start.elapsed(rt)?.as_micros();
+    let start = Instant::now(rt)?;
+    let given = offers(alloc, &problem)?;
+    let allotted = start.elapsed(rt)?.as_micros();
+    let sum = checksum(&given, size);
+    let proposals = given.proposals();
+    println!(rt; "checksum {sum}, proposals {proposals}")?;
+    if timed {
+        println!(rt; "posed {posed}, allotted {allotted}")?;
+    }
+    Ok(())
+}
+
+fn main(rt: HostRuntime) -> io::Result<()> {
+    match size(&rt)? {
+        Some(size) => run(&rt, size, true),
+        None => run(&rt, SMALL, false),
+    }
+}
