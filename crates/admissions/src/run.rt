@@ -1,11 +1,15 @@
 // What each line of the command line does, over a reader and two writers.
+ghost use Rattle.std.specs.Prelude.{◌≡◌, false, IfOk};
+ghost use Rattle.sqlite.specs.Files.{file_state};
+ghost use Rattle.adm_store.specs.StandsFor.{IsStarted};
+
 use adm_desk::{Desk, Run, RunFault};
 use adm_store::{CreateFault, OpenFault, create};
 use adm_types::{Day, Phase, Season, SeasonFault};
 use adm_wire::Watched;
 use adm_words::{Action, WordsFault, action, fault_text};
-use sqlite::{Connection, Error, ErrorCode, FileStore};
-use std::fs::{self, File};
+use sqlite::{Connection, Error, ErrorCode, File, FileStore};
+use std::fs;
 use std::io::{Read, Write};
 
 /// Done.
@@ -161,7 +165,10 @@ fn init(
 }
 
 /// Opens a file that is there: an open makes no file.
-fn open_file(rt: &HostRuntime, file: &str) -> Result<Connection<FileStore<File>>, Fault> {
+fn open_file(rt: &HostRuntime, file: &str) -> Result<Connection<FileStore<File>>, Fault>
+    ensures ended { IfOk result (λ c. c.in_transaction ≡ false) }
+    ensures started { IfOk result (λ c. IsStarted (file_state c)) }
+{
     match fs::exists(rt, file) {
         Ok(true) => Ok(Connection::open(rt, file)?),
         _ => Err(Fault::Disk),
