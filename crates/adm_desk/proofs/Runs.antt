@@ -20,4 +20,3 @@ pub Run-more_at : {D : Type 0} (step : D → Command → Answer → D → Type 0
     → IsRun step old (take i commands) answers mid → step mid command a new → IsRun step old (take (i + 1) commands) pushed new
 Run-more_at step old mid new commands i command answers pushed a within is items run last =
     rw (items, take_more commands i command within, ← is) (Run-more step old mid new _ answers command a run last)
-

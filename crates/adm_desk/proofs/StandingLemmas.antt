@@ -13,9 +13,12 @@ use Rattle.adm_desk.specs.Standing.{Standing, Handles, Keeps}
 -- an accepted step that was kept, or not, is handled
 pub handles : {C : Type 0} (disk : C → Disk) (old new : Standing C) (command : Command) (after : Register) (reply : Reply) (answer : Answer)
     → old.failed ≡ false → Step old.register command (Ok reply) after → Keeps disk old after reply answer new → Handles disk old command answer new
-handles disk old new command after reply (Done r) alive step keeps =
-    (alive, subst (λ (x : Reply). Step old.register command (Ok x) new.register) (sym keeps.0) (subst (λ (x : Register). Step old.register command (Ok reply) x) (sym keeps.1) step),
-      keeps.2, subst (λ (x : Register). LeavesOnly x (disk new.conn)) (sym keeps.1) keeps.3)
+handles disk old new command after reply (Done r) alive step keeps = (
+  alive,
+  subst (λ (x : Reply). Step old.register command (Ok x) new.register) (sym keeps.0) (subst (λ (x : Register). Step old.register command (Ok reply) x) (sym keeps.1) step),
+  keeps.2,
+  subst (λ (x : Register). LeavesOnly x (disk new.conn)) (sym keeps.1) keeps.3,
+)
 handles disk old new command after reply (Refused refusal row) alive step keeps = absurd keeps
 handles disk old new command after reply Memory alive step keeps = (alive, keeps)
 handles disk old new command after reply Failed alive step keeps =

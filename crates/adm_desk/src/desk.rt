@@ -5,7 +5,8 @@ ghost use Rattle.sqlite.specs.Held.{state};
 ghost use Rattle.sqlite.specs.State.{Survives};
 ghost use Rattle.adm_register.specs.Extends.{Extends};
 ghost use Rattle.adm_register.specs.WellFormed.{WellFormed};
-ghost use Rattle.adm_store.specs.StandsFor.{IsStarted, LeavesOnly};
+ghost use Rattle.adm_store.specs.Faults.{IsNoRegister};
+ghost use Rattle.adm_store.specs.StandsFor.{IsStarted, LeavesOnly, LeavesNone};
 ghost use Rattle.adm_desk.specs.Steps.{IsRun};
 ghost use Rattle.adm_desk.specs.Standing.{Handles, Keeps, Standing};
 ghost use Rattle.adm_desk.specs.Lines.{lines_of};
@@ -61,13 +62,11 @@ impl<S: Alter> Desk<S> {
     /// Opens the register that the file stands for. Faults 1 to 3 come only where it stands for
     /// none, and whatever comes, a crash leaves the file as it was found.
     /// What it costs grows with the rows of the register.
-    pub fn open(
-        alloc: Global,
-        conn: Connection<S>,
-    ) -> Result<Desk<S>, (OpenFault, Connection<S>)>
+    pub fn open(alloc: Global, conn: Connection<S>) -> Result<Desk<S>, (OpenFault, Connection<S>)>
         requires ended { conn.in_transaction ≡ false }
         requires started { IsStarted (state S.Store conn) }
         ensures opened { IfOk result (λ desk. (desk.failed ≡ false) × LeavesOnly desk.register (state S.Store desk.conn)) }
+        ensures bad { IfErr result (λ e. IsNoRegister e.0 → LeavesNone (state S.Store e.1)) }
         ensures kept { IfOk result (λ desk. Survives (state S.Store conn) (state S.Store desk.conn) (λ _. ⊥)) }
         ensures ended { IfErr result (λ e. e.1.in_transaction ≡ false) }
         ensures left { IfErr result (λ e. Survives (state S.Store conn) (state S.Store e.1) (λ _. ⊥)) }

@@ -4,4 +4,6 @@ pub mod MapLemmas
 pub mod CommitLemmas
 pub mod CreationLemmas
 pub mod ListLemmas
+pub mod TextLemmas
 pub mod ReadingLemmas
+pub mod FaultLemmas

@@ -43,7 +43,7 @@ below k (x ∷ es) e all (inl is) = ap (λ (y : Entry). code_cmp k y.0) is ∙ i
 below k (x ∷ es) e all (inr h) = below k es e (both_hold _ _ all).1 h
 
 -- each entry is found at its key
-found : (es : List Entry) → T (is_sorted code_cmp es) → (e : Entry) → Has es e → find code_cmp e.0 es ≡ Some e.1
+pub found : (es : List Entry) → T (is_sorted code_cmp es) → (e : Entry) → Has es e → find code_cmp e.0 es ≡ Some e.1
 found [] sorted e h = absurd h
 found (x ∷ es) sorted e (inl is) =
     subst (λ (y : Entry). find code_cmp y.0 (x ∷ es) ≡ Some y.1) (sym is) (ap (λ o. cond (is_eq o) (Some x.1) (find code_cmp x.0 es)) (tied_itself nat_list_cmp_total x.0))

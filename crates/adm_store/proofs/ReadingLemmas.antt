@@ -42,6 +42,15 @@ asks_none tree project sql asks low old new rows none has shown =
     small : (n : ℕ) → n < 15 → nat_le (2 ^ 31) n ≡ false
     small n low = grind (arith, nat_tests)
 
+-- a query of a table without rows answers none
+pub asks_empty : (tree : ℕ) (project : List Term) (sql : List ℕ) → Asks register_schema sql tree project [] → tree < 15 → (old new : State) (rows : List Row) → old.now.schema ≡ register_schema → Shown sql [] old new rows → old.now.trees tree ≡ [] → length rows ≡ 0
+asks_empty tree project sql asks low old new rows has shown none =
+    let all = shows_all asks old new rows (small tree low) has shown in
+    length_permutation _ _ all ∙ ap (λ (trees : List Row). length (map (λ (r : Row). eval_all project ([] ∷ r ∷ [])) trees)) none
+  where
+    small : (n : ℕ) → n < 15 → nat_le (2 ^ 31) n ≡ false
+    small n low = grind (arith, nat_tests)
+
 some_is : {X : Type 0} {a b : X} → Some a ≡ Some b → a ≡ b
 some_is e = cc
 
@@ -56,6 +65,19 @@ look_at (suc (suc (suc (suc (suc zero))))) sql is = (9, col 1 1 ∷ [], subst (�
 look_at (suc (suc (suc (suc (suc (suc zero)))))) sql is = (11, col 1 1 ∷ [], subst (λ t. Asks register_schema t 11 (col 1 1 ∷ []) []) (some_is is) looks_into_lot, omega (arith), λ db none all. (all.0, (all.1.0, (all.1.1.0, (all.1.1.1.0, (all.1.1.1.1.0, (all.1.1.1.1.1.0, (none, tt))))))))
 look_at (suc (suc (suc (suc (suc (suc (suc zero))))))) sql is = (14, col 1 0 ∷ [], subst (λ t. Asks register_schema t 14 (col 1 0 ∷ []) []) (some_is is) looks_into_imported, omega (arith), λ db none all. (all.0, (all.1.0, (all.1.1.0, (all.1.1.1.0, (all.1.1.1.1.0, (all.1.1.1.1.1.0, (all.1.1.1.1.1.1.0, (none, tt)))))))))
 look_at (suc (suc (suc (suc (suc (suc (suc (suc more)))))))) sql is = absurd (cc)
+
+-- the table that it looks into has no row, where none of them has
+pub looked_none : (i : ℕ) (sql : List ℕ) (is : slice_get looks i ≡ Some sql) (db : Trees) → HoldNothing db → db (look_at i sql is).0 ≡ []
+unfolding look_at
+looked_none zero sql is db all = all.0
+looked_none (suc zero) sql is db all = all.1.0
+looked_none (suc (suc zero)) sql is db all = all.1.1.0
+looked_none (suc (suc (suc zero))) sql is db all = all.1.1.1.0
+looked_none (suc (suc (suc (suc zero)))) sql is db all = all.1.1.1.1.0
+looked_none (suc (suc (suc (suc (suc zero))))) sql is db all = all.1.1.1.1.1.0
+looked_none (suc (suc (suc (suc (suc (suc zero)))))) sql is db all = all.1.1.1.1.1.1.0
+looked_none (suc (suc (suc (suc (suc (suc (suc zero))))))) sql is db all = all.1.1.1.1.1.1.1.0
+looked_none (suc (suc (suc (suc (suc (suc (suc (suc more)))))))) sql is db all = absurd (cc)
 
 -- the register that the rows are
 pub holds_register : (db : Trees) (r : Register) (first rows : List Row) (season : SeasonFacts) (schools : List School) → IsPermutation (rows_of meta db) first → first ≡ season_row season ∷ [] → IsPermutation (rows_of school db) rows → map school_row schools ≡ rows

@@ -1,3 +1,4 @@
 pub mod Forms
 pub mod StandsFor
+pub mod Faults
 pub mod Changes

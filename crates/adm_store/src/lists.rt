@@ -1,7 +1,7 @@
 // Lists as texts, with `;` between each two items.
-ghost use Rattle.std.specs.Prelude.{◌≡◌, [], ◌∷◌, ◌++◌, true, OnOk, IfOk, string_bytes, if◌then◌else◌};
-ghost use Rattle.adm_types.specs.Fields.{criterion_text};
-ghost use Rattle.adm_store.specs.Forms.{days_text, criteria_text};
+ghost use Rattle.std.specs.Prelude.{◌≡◌, [], ◌∷◌, ◌++◌, true, map, OnOk, IfOk, option_map, string_bytes, if◌then◌else◌};
+ghost use Rattle.adm_types.specs.Fields.{criterion_text, criterion_of};
+ghost use Rattle.adm_store.specs.Forms.{days_text, criteria_text, day_of, pieces, all_some, days_of, criteria_of};
 
 use adm_types::{Criterion, Day, plain};
 use std::alloc::{AllocError, Global};
@@ -56,22 +56,30 @@ pub(crate) fn criteria_text(alloc: Global, criteria: &[Criterion]) -> Result<Str
 }
 
 /// The day of a number.
-fn day_of(piece: &str) -> Option<Day> {
+fn day_of(piece: &str) -> Option<Day>
+    ensures { result ≡ day_of piece.now }
+{
     Day::from_number(i64::from(plain(piece)?))
 }
 
-fn day_pieces(alloc: Global, text: &str) -> Result<Vec<Option<Day>>, AllocError> {
+fn day_pieces(alloc: Global, text: &str) -> Result<Vec<Option<Day>>, AllocError>
+    ensures { IfOk result (λ days. days.items ≡ map day_of (pieces text.now)) }
+{
     text.split(';').map(|piece| day_of(piece)).collect(alloc)
 }
 
-fn criterion_pieces(alloc: Global, text: &str) -> Result<Vec<Option<Criterion>>, AllocError> {
+fn criterion_pieces(alloc: Global, text: &str) -> Result<Vec<Option<Criterion>>, AllocError>
+    ensures { IfOk result (λ criteria. criteria.items ≡ map criterion_of (pieces text.now)) }
+{
     text.split(';')
         .map(|piece| Criterion::read(piece))
         .collect(alloc)
 }
 
 /// Each item, where none is missing.
-fn all_some<T: Copy>(alloc: Global, items: &[Option<T>]) -> Result<Option<Vec<T>>, AllocError> {
+fn all_some<T: Copy>(alloc: Global, items: &[Option<T>]) -> Result<Option<Vec<T>>, AllocError>
+    ensures { IfOk result (λ all. option_map (λ xs. xs.items) all ≡ all_some items.now) }
+{
     let mut all = Vec::new(alloc);
     'items: for item in items {
         match item {
@@ -83,7 +91,9 @@ fn all_some<T: Copy>(alloc: Global, items: &[Option<T>]) -> Result<Option<Vec<T>
 }
 
 /// The days that a text writes.
-pub(crate) fn days_in(alloc: Global, text: &str) -> Result<Option<Vec<Day>>, AllocError> {
+pub(crate) fn days_in(alloc: Global, text: &str) -> Result<Option<Vec<Day>>, AllocError>
+    ensures { IfOk result (λ days. option_map (λ xs. xs.items) days ≡ days_of text.now) }
+{
     if text.is_empty() {
         return Ok(Some(Vec::new(alloc)));
     }
@@ -91,7 +101,9 @@ pub(crate) fn days_in(alloc: Global, text: &str) -> Result<Option<Vec<Day>>, All
 }
 
 /// The criteria that a text writes.
-pub(crate) fn criteria_in(alloc: Global, text: &str) -> Result<Option<Vec<Criterion>>, AllocError> {
+pub(crate) fn criteria_in(alloc: Global, text: &str) -> Result<Option<Vec<Criterion>>, AllocError>
+    ensures { IfOk result (λ criteria. option_map (λ xs. xs.items) criteria ≡ criteria_of text.now) }
+{
     if text.is_empty() {
         return Ok(Some(Vec::new(alloc)));
     }

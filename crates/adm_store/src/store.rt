@@ -6,12 +6,13 @@ ghost use Rattle.adm_schema.specs.Schema.{no_schema};
 ghost use Rattle.sqlite.specs.Tree.{Trees};
 ghost use Rattle.adm_register.specs.State.{only_season, State as Facts};
 ghost use Rattle.adm_store.specs.Changes.{IsStep, Commits, CommitsOrNot};
-ghost use Rattle.adm_store.specs.StandsFor.{IsStarted, StandsFor, LeavesOnly, LeavesOldOrNew};
+ghost use Rattle.adm_store.specs.StandsFor.{IsStarted, StandsFor, LeavesOnly, LeavesOldOrNew, LeavesNone};
+ghost use Rattle.adm_store.specs.Faults.{IsNoRegister};
 
-use adm_schema::is_register_schema;
 use crate::rows::Changes;
 use crate::{CreateFault, Failed, OpenFault, creation, lists, reading, schools};
 use adm_register::Register;
+use adm_schema::is_register_schema;
 use adm_types::Season;
 use sqlite::{Alter, Connection, Error, ErrorCode};
 use std::alloc::Global;
@@ -37,6 +38,7 @@ pub fn create<S: Alter>(
     ensures ended { conn.new.in_transaction ≡ false }
     ensures unused { OnOk result (conn.old.schema ≡ no_schema) }
     ensures ok { OnOk result (LeavesOnly (only_season season.now) (state S.Store conn.new)) }
+    ensures started { OnOk result (IsStarted (state S.Store conn.new)) }
     ensures in_use { result ≡ Err CreateFault.InUse → (conn.old.schema ≢ no_schema) × (conn.new ≡ conn.old) }
     ensures err { OnErr result (LeavesOldOrNew season.now (state S.Store conn.old) (state S.Store conn.new)) }
 {
@@ -57,6 +59,7 @@ fn read<S: Alter>(alloc: Global, conn: &mut Connection<S>) -> Result<Register, O
     requires { conn.old.in_transaction ≡ false }
     ensures ended { conn.new.in_transaction ≡ false }
     ensures ok { HasCleanDisk (state S.Store conn.new) → IsTrue (state S.Store conn.old).is_open → IfOk result (λ r. (db : Trees) → (state S.Store conn.old).may_leave db → StandsFor db r) }
+    ensures bad { HasCleanDisk (state S.Store conn.new) → IsTrue (state S.Store conn.old).is_open → IfErr result (λ e. IsNoRegister e → (db : Trees) → (state S.Store conn.old).may_leave db → (r : Facts) → StandsFor db r → ⊥) }
     ensures survives { Survives (state S.Store conn.old) (state S.Store conn.new) (λ _. ⊥) }
 {
     let at_rest = conn.is_autocommit();
@@ -85,6 +88,7 @@ pub fn open<S: Alter>(
     requires ended { conn.in_transaction ≡ false }
     requires started { IsStarted (state S.Store conn) }
     ensures ok { IfOk result (λ o. LeavesOnly o.1 (state S.Store o.0)) }
+    ensures bad { IfErr result (λ e. IsNoRegister e.0 → LeavesNone (state S.Store e.1)) }
     ensures kept { IfOk result (λ o. Survives (state S.Store conn) (state S.Store o.0) (λ _. ⊥)) }
     ensures ended { IfErr result (λ e. e.1.in_transaction ≡ false) }
     ensures left { IfErr result (λ e. Survives (state S.Store conn) (state S.Store e.1) (λ _. ⊥)) }

@@ -5,9 +5,8 @@ mod run;
 #[cfg(test)]
 mod tests;
 
-use std::env;
-use std::io;
 use std::process::ExitCode;
+use std::{env, io};
 
 fn main(rt: HostRuntime) -> io::Result<ExitCode> {
     let mut given = Vec::new(rt.alloc());

@@ -3,7 +3,8 @@ use crate::run::run_words;
 use std::fs;
 use std::test::Fail;
 
-const ALPHA: &str = "{\"cmd\":\"add_school\",\"school\":\"A\",\"name\":\"Alpha\",\"pan\":1,\"east\":0,\"north\":0,\"criteria\":[]}\n";
+const ALPHA: &str =
+    "{\"cmd\":\"add_school\",\"school\":\"A\",\"name\":\"Alpha\",\"pan\":1,\"east\":0,\"north\":0,\"criteria\":[]}\n";
 
 /// What a run came to: its status, and what it wrote.
 #[derive(Drop)]
@@ -45,9 +46,15 @@ fn refused(rt: &HostRuntime, words: &[&str]) -> Result<String, Fail> {
 #[test]
 fn no_lines(rt: HostRuntime) -> Result<(), Fail> {
     let made = init(&rt, "no_lines.db")?;
-    assert_eq!(rt; (made.status, made.output.as_str(), made.errors.as_str()), (0, "", ""));
+    assert_eq!(rt;
+        (made.status, made.output.as_str(), made.errors.as_str()),
+        (0, "", "")
+    );
     let ran = do_lines(&rt, "no_lines.db", "")?;
-    assert_eq!(rt; (ran.status, ran.output.as_str(), ran.errors.as_str()), (0, "", ""));
+    assert_eq!(rt;
+        (ran.status, ran.output.as_str(), ran.errors.as_str()),
+        (0, "", "")
+    );
     Ok(())
 }
 
@@ -55,9 +62,15 @@ fn no_lines(rt: HostRuntime) -> Result<(), Fail> {
 fn a_school_in_two_runs(rt: HostRuntime) -> Result<(), Fail> {
     init(&rt, "two_runs.db")?;
     let first = do_lines(&rt, "two_runs.db", ALPHA)?;
-    assert_eq!(rt; (first.status, first.output.as_str()), (0, "{\"done\":true}\n"));
+    assert_eq!(rt;
+        (first.status, first.output.as_str()),
+        (0, "{\"done\":true}\n")
+    );
     let second = do_lines(&rt, "two_runs.db", ALPHA)?;
-    assert_eq!(rt; (second.status, second.output.as_str()), (3, "{\"name\":\"SchoolKnown\",\"refused\":3}\n"));
+    assert_eq!(rt;
+        (second.status, second.output.as_str()),
+        (3, "{\"name\":\"SchoolKnown\",\"refused\":3}\n")
+    );
     Ok(())
 }
 
@@ -66,7 +79,10 @@ fn lines_that_are_no_commands(rt: HostRuntime) -> Result<(), Fail> {
     init(&rt, "no_commands.db")?;
     let ran = do_lines(&rt, "no_commands.db", "\n{\"cmd\":\"open\"}\n")?;
     assert_eq!(rt; ran.status, 3);
-    assert_eq!(rt; ran.output.as_str(), "{\"fault\":1,\"name\":\"NotJson\"}\n{\"fault\":2,\"name\":\"UnknownCommand\"}\n");
+    assert_eq!(rt;
+        ran.output.as_str(),
+        "{\"fault\":1,\"name\":\"NotJson\"}\n{\"fault\":2,\"name\":\"UnknownCommand\"}\n"
+    );
     Ok(())
 }
 
@@ -80,7 +96,9 @@ fn a_last_line_without_its_end(rt: HostRuntime) -> Result<(), Fail> {
 
 /// The line that adds the school of a number.
 fn numbered(rt: &HostRuntime, lines: &mut String, number: u32) -> Result<(), Fail> {
-    let line = format!(in rt.alloc(); "{{\"cmd\":\"add_school\",\"school\":\"S{number}\",\"name\":\"School\",\"pan\":1,\"east\":0,\"north\":0,\"criteria\":[]}}\n")?;
+    let line = format!(in rt.alloc();
+        "{{\"cmd\":\"add_school\",\"school\":\"S{number}\",\"name\":\"School\",\"pan\":1,\"east\":0,\"north\":0,\"criteria\":[]}}\n"
+    )?;
     lines.push_str(line.as_str())?;
     Ok(())
 }
@@ -95,15 +113,27 @@ fn two_hundred_schools(rt: HostRuntime) -> Result<(), Fail> {
     let ran = do_lines(&rt, "full.db", lines.as_str())?;
     assert_eq!(rt; ran.status, 3);
     assert_eq!(rt; ran.output.lines().count(), 201);
-    assert_eq!(rt; ran.output.lines().filter(|line| *line == "{\"done\":true}").count(), 200);
-    assert_eq!(rt; ran.output.lines().last(), Some("{\"name\":\"RegisterFull\",\"refused\":7}"));
+    assert_eq!(rt;
+        ran.output
+            .lines()
+            .filter(|line| *line == "{\"done\":true}")
+            .count(),
+        200
+    );
+    assert_eq!(rt;
+        ran.output.lines().last(),
+        Some("{\"name\":\"RegisterFull\",\"refused\":7}")
+    );
     Ok(())
 }
 
 #[test]
 fn a_file_that_is_not_there(rt: HostRuntime) -> Result<(), Fail> {
     let ran = do_lines(&rt, "missing.db", ALPHA)?;
-    assert_eq!(rt; (ran.status, ran.output.as_str(), ran.errors.as_str()), (1, "", "fault: Disk\n"));
+    assert_eq!(rt;
+        (ran.status, ran.output.as_str(), ran.errors.as_str()),
+        (1, "", "fault: Disk\n")
+    );
     assert!(rt; !fs::exists(&rt, "missing.db")?);
     Ok(())
 }
@@ -113,7 +143,10 @@ fn a_register_is_made_once(rt: HostRuntime) -> Result<(), Fail> {
     init(&rt, "once.db")?;
     let before = fs::read(&rt, "once.db")?;
     let again = init(&rt, "once.db")?;
-    assert_eq!(rt; (again.status, again.errors.as_str()), (1, "fault: InUse\n"));
+    assert_eq!(rt;
+        (again.status, again.errors.as_str()),
+        (1, "fault: InUse\n")
+    );
     assert!(rt; fs::read(&rt, "once.db")?.as_slice() == before.as_slice());
     Ok(())
 }
@@ -131,7 +164,15 @@ fn a_file_that_is_no_database(rt: HostRuntime) -> Result<(), Fail> {
 
 #[test]
 fn holidays_that_are_no_days(rt: HostRuntime) -> Result<(), Fail> {
-    let words = ["admissions", "init", "holidays.db", "primary", "2022", "2022-04-15", "2022-04-31"];
+    let words = [
+        "admissions",
+        "init",
+        "holidays.db",
+        "primary",
+        "2022",
+        "2022-04-15",
+        "2022-04-31",
+    ];
     assert_eq!(rt; refused(&rt, &words)?.as_str(), "fault: BadDate\n");
     assert!(rt; !fs::exists(&rt, "holidays.db")?);
     assert_eq!(rt; run(&rt, &words[..6], "")?.status, 0);
@@ -147,14 +188,23 @@ fn too_many_holidays(rt: HostRuntime) -> Result<(), Fail> {
     words[3] = "primary";
     words[4] = "2022";
     let ran = run(&rt, &words, "")?;
-    assert_eq!(rt; (ran.status, ran.errors.as_str()), (1, "fault: TooManyHolidays\n"));
+    assert_eq!(rt;
+        (ran.status, ran.errors.as_str()),
+        (1, "fault: TooManyHolidays\n")
+    );
     Ok(())
 }
 
 #[test]
 fn words_that_ask_for_nothing(rt: HostRuntime) -> Result<(), Fail> {
     assert!(rt; !refused(&rt, &["admissions"])?.is_empty());
-    assert!(rt; !refused(&rt, &["admissions", "init", "words.db", "secondary", "2125"])?.is_empty());
+    assert!(rt;
+        !refused(
+            &rt,
+            &["admissions", "init", "words.db", "secondary", "2125"]
+        )?
+        .is_empty()
+    );
     assert!(rt; !refused(&rt, &["admissions", "init", "words.db", "nursery", "2025"])?.is_empty());
     assert!(rt; !refused(&rt, &["admissions", "import", "words.db", "rows.csv"])?.is_empty());
     assert!(rt; !refused(&rt, &["admissions", "--help"])?.is_empty());

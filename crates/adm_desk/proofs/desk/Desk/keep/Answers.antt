@@ -24,6 +24,6 @@ returns-in-Err-commit g c =
     let extends = subst (λ (s : Standing _). Extends s.register c.args.new) (sym c.self.view_is) c.requires.extends.0 in
     let either = c.in-Err-commit.ensures.err _ _ record { changes_are = c.in-Ok.ensures; extends = extends; formed = c.requires.extends.1 } (c.self.invariant alive) in
     elim c.match-new-2.branch [
-      in-Some-2 w ↦ failed_keeps (state g.S.Store) _ c.args.self.now c.match-new-2.self _ c.args.reply _ c.self.view_is w.self-is either
+      | in-Some-2 w ↦ failed_keeps (state g.S.Store) _ c.args.self.now c.match-new-2.self _ c.args.reply _ c.self.view_is w.self-is either
       | in-None-2 w ↦ failed_keeps (state g.S.Store) _ c.args.self.now c.match-new-2.self _ c.args.reply _ c.self.view_is w.self-is either
     ]

@@ -15,5 +15,5 @@ returns-in_ok-tables-in-None-clause-extends c =
     let passes = sym c.refusal_of.ensures ∙ c.in-None.is in
     let extends = subst (Extends c.self.inside.tables) (sym c.in_ok-tables-in-None.ensures) (add_school-extends c.self.inside.tables c.args.school.now passes) in
     let kept = subst WellFormed (sym c.in_ok-tables-in-None.ensures)
-      (add_school-keeps c.self.inside.tables c.args.school.now c.as_str-code.ensures.tested c.as_str-text.ensures.text c.self.invariant passes) in
+    (add_school-keeps c.self.inside.tables c.args.school.now c.as_str-code.ensures.tested c.as_str-text.ensures.text c.self.invariant passes) in
     (subst (λ s. Extends s c.in_ok-tables-in-None.tables) c.self.view_is extends, kept)

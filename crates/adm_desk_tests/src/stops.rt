@@ -1,5 +1,6 @@
+// A disk that stops at each of its calls in turn, and what the register is when it is opened again.
 use crate::{Stage, run};
-use adm_store::{CreateFault, OpenFault, create, open};
+use adm_store::{OpenFault, open};
 use adm_types::{Command, Criterion, Phase, Point, School, SchoolCode, Season, Seq, Text};
 use sqlite::{Connection, FileStore, Files, Options};
 use sqlite_disk::{Disk, Fuse, Memory};
@@ -16,8 +17,8 @@ fn season(alloc: Global) -> Result<Season, Fail> {
 }
 
 /// Adds a school with two criteria.
-fn add_school(alloc: Global) -> Result<Command, Fail> {
-    let Some(code) = SchoolCode::new("A") else {
+fn add_school(alloc: Global, text: &str) -> Result<Command, Fail> {
+    let Some(code) = SchoolCode::new(text) else {
         return Err(Fail::from("a code"));
     };
     let mut criteria = Vec::new(alloc);
@@ -47,7 +48,8 @@ fn disk(alloc: Global, bytes: &[u8], calls: u64) -> Result<Fused, Fail> {
 /// A run over two empty disks of which one stops, and what they hold then.
 fn stopped(alloc: Global, log_calls: u64, db_calls: u64) -> Result<(Stage, Files<Fused>), Fail> {
     let season = season(alloc)?;
-    let command = add_school(alloc)?;
+    let command = add_school(alloc, "A")?;
+    let next = add_school(alloc, "B")?;
     let files = Files {
         log: disk(alloc, &[], log_calls)?,
         db: disk(alloc, &[], db_calls)?,
@@ -60,7 +62,7 @@ fn stopped(alloc: Global, log_calls: u64, db_calls: u64) -> Result<(Stage, Files
             if !conn.is_autocommit() {
                 return Err(Fail::from("a transaction"));
             }
-            let (stage, conn) = run(alloc, conn, &season, &command);
+            let (stage, conn) = run(alloc, conn, &season, &command, &next);
             Ok((stage, conn.into_store().close()))
         }
         Err((_, left)) => Ok((Stage::Nothing, left.into_files())),
@@ -97,13 +99,14 @@ fn leaves_old_or_new(alloc: Global, log_calls: u64, db_calls: u64) -> Result<boo
     let left = found(alloc, &files)?;
     let is_right = match stage {
         Stage::Nothing => matches!(left, None | Some(0)),
-        Stage::Created => matches!(left, Some(0) | Some(1)),
-        Stage::Committed => matches!(left, Some(1)),
+        Stage::Created => matches!(left, Some(0)),
+        Stage::Failed => matches!(left, Some(0) | Some(1)),
+        Stage::Done => matches!(left, Some(1)),
     };
     if !is_right {
         return Err(Fail::from("neither the old register nor the new"));
     }
-    Ok(stage == Stage::Committed)
+    Ok(stage == Stage::Done)
 }
 
 #[test]
@@ -126,82 +129,4 @@ fn a_stop_of_the_database_leaves_old_or_new(rt: HostRuntime) -> Result<(), Fail>
         }
     }
     Err(Fail::from("always stopped"))
-}
-
-/// What `open` answers of a created register after this text is run on it.
-fn opened_after(alloc: Global, sql: &str) -> Result<Option<OpenFault>, Fail> {
-    let mut conn = Connection::open_in_memory(alloc)?;
-    if !conn.is_autocommit() {
-        return Err(Fail::from("a transaction"));
-    }
-    let season = season(alloc)?;
-    if create(alloc, &mut conn, &season).is_err() {
-        return Err(Fail::from("not created"));
-    }
-    conn.execute_batch(sql)?;
-    if !conn.is_autocommit() {
-        return Err(Fail::from("a transaction"));
-    }
-    match open(alloc, conn) {
-        Ok(_) => Ok(None),
-        Err((fault, _)) => Ok(Some(fault)),
-    }
-}
-
-fn expect(alloc: Global, sql: &str, fault: Option<OpenFault>) -> Result<(), Fail> {
-    if opened_after(alloc, sql)? == fault {
-        Ok(())
-    } else {
-        Err(Fail::from("another answer"))
-    }
-}
-
-#[test]
-fn a_created_register_opens(rt: HostRuntime) -> Result<(), Fail> {
-    expect(rt.alloc(), "", None)
-}
-
-#[test]
-fn a_file_without_meta_is_not_ours(rt: HostRuntime) -> Result<(), Fail> {
-    expect(rt.alloc(), "DROP TABLE meta", Some(OpenFault::NotOurs))?;
-    expect(rt.alloc(), "DELETE FROM meta", Some(OpenFault::NotOurs))
-}
-
-#[test]
-fn another_version_is_refused(rt: HostRuntime) -> Result<(), Fail> {
-    expect(
-        rt.alloc(),
-        "UPDATE meta SET version = 9",
-        Some(OpenFault::Version),
-    )
-}
-
-#[test]
-fn rows_of_no_register_are_refused(rt: HostRuntime) -> Result<(), Fail> {
-    expect(rt.alloc(), "DROP TABLE school", Some(OpenFault::BadRow))?;
-    expect(rt.alloc(), "DROP TABLE lot", Some(OpenFault::BadRow))?;
-    expect(
-        rt.alloc(),
-        "INSERT INTO child VALUES (1, 'C1', 0, 0, 0, 0, '')",
-        Some(OpenFault::BadRow),
-    )?;
-    expect(
-        rt.alloc(),
-        "INSERT INTO school VALUES ('A', 'Alpha', 0, 0, 0, '')",
-        Some(OpenFault::BadRow),
-    )
-}
-
-#[test]
-fn a_used_database_is_in_use(rt: HostRuntime) -> Result<(), Fail> {
-    let alloc = rt.alloc();
-    let mut conn = Connection::open_in_memory(alloc)?;
-    conn.execute_batch("CREATE TABLE other (x INTEGER) STRICT")?;
-    if !conn.is_autocommit() {
-        return Err(Fail::from("a transaction"));
-    }
-    match create(alloc, &mut conn, &season(alloc)?) {
-        Err(CreateFault::InUse) => Ok(()),
-        _ => Err(Fail::from("another answer")),
-    }
 }

@@ -1,0 +1,108 @@
+// Registers in real files, of which some were changed by hand.
+use adm_store::{CreateFault, OpenFault, create, open};
+use adm_types::{Phase, Season};
+use sqlite::Connection;
+use std::test::Fail;
+
+/// Creates the register of a season in a file.
+fn made(rt: &HostRuntime, file: &str) -> Result<Result<(), CreateFault>, Fail> {
+    let Ok(season) = Season::new(rt.alloc(), Phase::Secondary, 2025, &[]) else {
+        return Err(Fail::from("a season"));
+    };
+    let mut conn = Connection::open(rt, file)?;
+    let created = create(rt.alloc(), &mut conn, &season);
+    conn.close()?;
+    Ok(created)
+}
+
+/// Runs a text on a file.
+fn changed(rt: &HostRuntime, file: &str, sql: &str) -> Result<(), Fail> {
+    let mut conn = Connection::open(rt, file)?;
+    conn.execute_batch(sql)?;
+    conn.close()?;
+    Ok(())
+}
+
+/// What `open` answers of a file, but for the register.
+fn opened(rt: &HostRuntime, file: &str) -> Result<Option<OpenFault>, Fail> {
+    let conn = Connection::open(rt, file)?;
+    match open(rt.alloc(), conn) {
+        Ok(_) => Ok(None),
+        Err((fault, _)) => Ok(Some(fault)),
+    }
+}
+
+/// That a created register on which this text is run is opened so, and twice.
+fn expect(rt: &HostRuntime, file: &str, sql: &str, fault: Option<OpenFault>) -> Result<(), Fail> {
+    if made(rt, file)?.is_err() {
+        return Err(Fail::from("not created"));
+    }
+    changed(rt, file, sql)?;
+    if opened(rt, file)? == fault && opened(rt, file)? == fault {
+        Ok(())
+    } else {
+        Err(Fail::from("another answer"))
+    }
+}
+
+#[test]
+fn a_created_register_opens(rt: HostRuntime) -> Result<(), Fail> {
+    expect(&rt, "created.db", "SELECT version FROM meta", None)
+}
+
+#[test]
+fn a_file_without_its_season_is_not_ours(rt: HostRuntime) -> Result<(), Fail> {
+    let not_ours = Some(OpenFault::NotOurs);
+    expect(&rt, "no_meta.db", "DROP TABLE meta", not_ours)?;
+    expect(&rt, "no_season.db", "DELETE FROM meta", not_ours)
+}
+
+#[test]
+fn another_version_is_refused(rt: HostRuntime) -> Result<(), Fail> {
+    let version = Some(OpenFault::Version);
+    expect(&rt, "version.db", "UPDATE meta SET version = 9", version)
+}
+
+#[test]
+fn other_tables_are_refused(rt: HostRuntime) -> Result<(), Fail> {
+    let bad = Some(OpenFault::BadRow);
+    expect(&rt, "no_school.db", "DROP TABLE school", bad)?;
+    expect(&rt, "no_lot.db", "DROP TABLE lot", bad)?;
+    expect(
+        &rt,
+        "one_more.db",
+        "CREATE TABLE more (x INTEGER) STRICT",
+        bad,
+    )?;
+    let other =
+        "DROP TABLE lot; CREATE TABLE lot (draw INTEGER NOT NULL, school TEXT NOT NULL, child INTEGER NOT NULL, lot INTEGER NOT NULL) STRICT";
+    expect(&rt, "other_keys.db", other, bad)
+}
+
+#[test]
+fn rows_of_no_register_are_refused(rt: HostRuntime) -> Result<(), Fail> {
+    let bad = Some(OpenFault::BadRow);
+    let child = "INSERT INTO child VALUES (1, 'C1', 0, 0, 0, 0, '')";
+    expect(&rt, "child.db", child, bad)?;
+    let no_places = "INSERT INTO school VALUES ('A', 'Alpha', 0, 0, 0, '')";
+    expect(&rt, "no_places.db", no_places, bad)?;
+    let criterion = "INSERT INTO school VALUES ('A', 'Alpha', 1, 0, 0, 'within:0500')";
+    expect(&rt, "criterion.db", criterion, bad)?;
+    expect(&rt, "year.db", "UPDATE meta SET year = 1989", bad)?;
+    expect(&rt, "draws.db", "UPDATE meta SET draws = 1", bad)
+}
+
+#[test]
+fn a_school_written_by_hand_is_opened(rt: HostRuntime) -> Result<(), Fail> {
+    let school = "INSERT INTO school VALUES ('A', 'Alpha', 1, 0, 0, 'sibling;within:500;flag:31')";
+    expect(&rt, "by_hand.db", school, None)
+}
+
+#[test]
+fn a_used_database_is_in_use(rt: HostRuntime) -> Result<(), Fail> {
+    changed(&rt, "used.db", "CREATE TABLE other (x INTEGER) STRICT")?;
+    match made(&rt, "used.db")? {
+        Err(CreateFault::InUse) => Ok(()),
+        _ => Err(Fail::from("another answer")),
+    }
+}

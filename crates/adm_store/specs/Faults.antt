@@ -1,0 +1,46 @@
+-- The faults that say that the tables hold no register, and when rows are those of no register.
+use Rattle.std.specs.Prelude.{◌≡◌, ℕ, ◌<◌, ◌^◌, pos, List, [], ◌∷◌, Some, IsTrue}
+use Rattle.std.specs.Str.{IsUtf8, is_utf8}
+use Rattle.adm_types.specs.Code.{is_code}
+use Rattle.adm_types.specs.Limits.{is_school_in_range}
+use Rattle.adm_types.specs.declared.seasons.Phase.{Phase}
+use Rattle.adm_types.specs.declared.rows.School.{School}
+use Rattle.sqlite.specs.declared.types.Value.TheVariants.{Int, Text}
+use Rattle.sqlite.specs.Order.{Row}
+use Rattle.adm_store.specs.declared.fault.OpenFault.{OpenFault}
+use Rattle.adm_store.specs.declared.fault.OpenFault.TheVariants.{NotOurs, Version, BadRow, Disk, Memory}
+use Rattle.adm_store.specs.Forms.{phase_code, criteria_text, criteria_of}
+
+-- the faults that say that the tables hold no register
+abbrev pub IsNoRegister : OpenFault → Type 0
+IsNoRegister NotOurs = Unit {0}
+IsNoRegister Version = Unit {0}
+IsNoRegister BadRow = Unit {0}
+IsNoRegister Disk = ⊥
+IsNoRegister Memory = ⊥
+
+-- a school with a code, a name that is a text, and numbers and criteria in their limits
+pub record IsSchool (school : School) : Type 0 where
+  pub code_form : IsTrue (is_code school.code)
+  pub text : IsTrue (is_utf8 school.name)
+  pub in_range : IsTrue (is_school_in_range school)
+
+-- the text of its criteria is read as those criteria
+abbrev pub IsReadAgain : School → Type 0
+IsReadAgain school = criteria_of (criteria_text school.criteria) ≡ Some school.criteria
+
+-- the row has texts and numbers of 32 bits where a school has them
+pub record HasSchoolColumns (row : Row) (code name criteria : List ℕ) (pan east north : ℕ) : Type 0 where
+  pub row_is : row ≡ Text code ∷ Text name ∷ Int (pos pan) ∷ Int (pos east) ∷ Int (pos north) ∷ Text criteria ∷ []
+  pub code_text : IsUtf8 code
+  pub name_text : IsUtf8 name
+  pub list_text : IsUtf8 criteria
+  pub pan_fits : pan < 2 ^ 32
+  pub east_fits : east < 2 ^ 32
+  pub north_fits : north < 2 ^ 32
+
+-- the row is that of a season of version 1, with a year of 32 bits, and a text for the holidays
+pub record HasSeasonColumns (row : Row) (phase : Phase) (year : ℕ) (holidays : List ℕ) : Type 0 where
+  pub row_is : row ≡ Int (pos 1) ∷ Int (pos 1) ∷ Int (pos (phase_code phase)) ∷ Int (pos year) ∷ Text holidays ∷ Int (pos 0) ∷ []
+  pub holidays_text : IsUtf8 holidays
+  pub year_fits : year < 2 ^ 32
