@@ -21,6 +21,7 @@ test:
 
 bench: build
 	bench/first_path/run bin/admissions
+	bench/match/run.sh
 
 install: build
 	install -D -m 755 bin/admissions $(DESTDIR)$(PREFIX)/bin/admissions
