@@ -47,7 +47,7 @@ fn expect(rt: &HostRuntime, file: &str, sql: &str, fault: Option<OpenFault>) -> 
 
 #[test]
 fn a_created_register_opens(rt: HostRuntime) -> Result<(), Fail> {
-    expect(&rt, "created.db", "SELECT version FROM meta", None)
+    expect(&rt, "created.db", "DELETE FROM child", None)
 }
 
 #[test]
@@ -94,7 +94,7 @@ fn rows_of_no_register_are_refused(rt: HostRuntime) -> Result<(), Fail> {
 
 #[test]
 fn a_school_written_by_hand_is_opened(rt: HostRuntime) -> Result<(), Fail> {
-    let school = "INSERT INTO school VALUES ('A', 'Alpha', 1, 0, 0, 'sibling;within:500;flag:31')";
+    let school = "INSERT INTO school VALUES ('A', 'Alpha', 1, 0, 0, 'sibling;within:500;flag:15')";
     expect(&rt, "by_hand.db", school, None)
 }
 
