@@ -2,7 +2,19 @@
 use adm_store::{CreateFault, OpenFault, create, open};
 use adm_types::{Phase, Season};
 use sqlite::Connection;
+use std::fs;
 use std::test::Fail;
+
+/// Removes the database of an earlier run, where there is one.
+fn remove(rt: &HostRuntime, file: &str) -> Result<(), Fail> {
+    let log = format!(in rt.alloc(); "{file}-wal")?;
+    for path in [file, log.as_str()] {
+        if fs::exists(rt, path)? {
+            fs::remove_file(rt, path)?;
+        }
+    }
+    Ok(())
+}
 
 /// Creates the register of a season in a file.
 fn made(rt: &HostRuntime, file: &str) -> Result<Result<(), CreateFault>, Fail> {
@@ -34,6 +46,7 @@ fn opened(rt: &HostRuntime, file: &str) -> Result<Option<OpenFault>, Fail> {
 
 /// That a created register on which this text is run is opened so, and twice.
 fn expect(rt: &HostRuntime, file: &str, sql: &str, fault: Option<OpenFault>) -> Result<(), Fail> {
+    remove(rt, file)?;
     if made(rt, file)?.is_err() {
         return Err(Fail::from("not created"));
     }
@@ -100,6 +113,7 @@ fn a_school_written_by_hand_is_opened(rt: HostRuntime) -> Result<(), Fail> {
 
 #[test]
 fn a_used_database_is_in_use(rt: HostRuntime) -> Result<(), Fail> {
+    remove(&rt, "used.db")?;
     changed(&rt, "used.db", "CREATE TABLE other (x INTEGER) STRICT")?;
     match made(&rt, "used.db")? {
         Err(CreateFault::InUse) => Ok(()),

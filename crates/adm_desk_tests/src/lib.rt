@@ -16,6 +16,8 @@ pub enum Stage {
     Created,
     Done,
     Failed,
+    /// The desk answered Failed, and then something else.
+    WentOn,
 }
 
 /// How far a command came, and a second one after it.
@@ -24,7 +26,7 @@ fn handled<S: Alter>(desk: &mut Desk<S>, command: &Command, next: &Command) -> S
         Answer::Done(_) => Stage::Done,
         Answer::Failed => match desk.handle(next) {
             Answer::Failed => Stage::Failed,
-            _ => Stage::Nothing,
+            _ => Stage::WentOn,
         },
         _ => Stage::Created,
     }
@@ -53,6 +55,10 @@ pub fn run<S: Alter>(
 }
 
 #[cfg(test)]
+mod disks;
+#[cfg(test)]
 mod files;
+#[cfg(test)]
+mod lines;
 #[cfg(test)]
 mod stops;

@@ -1,20 +1,11 @@
 // A disk that stops at each of its calls in turn, and what the register is when it is opened again.
+use crate::disks::{Fused, disk, season};
 use crate::{Stage, run};
 use adm_store::{OpenFault, open};
-use adm_types::{Command, Criterion, Phase, Point, School, SchoolCode, Season, Seq, Text};
-use sqlite::{Connection, FileStore, Files, Options};
-use sqlite_disk::{Disk, Fuse, Memory};
+use adm_types::{Command, Criterion, Point, School, SchoolCode, Seq, Text};
+use sqlite::{Connection, Files, Options};
 use std::alloc::Global;
 use std::test::Fail;
-
-type Fused = Fuse<Memory>;
-
-fn season(alloc: Global) -> Result<Season, Fail> {
-    match Season::new(alloc, Phase::Secondary, 2025, &[]) {
-        Ok(season) => Ok(season),
-        Err(_) => Err(Fail::from("a season")),
-    }
-}
 
 /// Adds a school with two criteria.
 fn add_school(alloc: Global, text: &str) -> Result<Command, Fail> {
@@ -31,18 +22,6 @@ fn add_school(alloc: Global, text: &str) -> Result<Command, Fail> {
         at: Point { east: 0, north: 0 },
         criteria: Seq::from_vec(criteria),
     }))
-}
-
-/// A disk that holds these bytes and passes so many calls.
-fn disk(alloc: Global, bytes: &[u8], calls: u64) -> Result<Fused, Fail> {
-    let mut memory = Memory::new(alloc);
-    if !bytes.is_empty() {
-        memory.write_at(0, bytes)?;
-        if memory.may_be_used() {
-            memory.sync()?;
-        }
-    }
-    Ok(Fuse::new(memory, calls))
 }
 
 /// A run over two empty disks of which one stops, and what they hold then.
@@ -102,6 +81,7 @@ fn leaves_old_or_new(alloc: Global, log_calls: u64, db_calls: u64) -> Result<boo
         Stage::Created => matches!(left, Some(0)),
         Stage::Failed => matches!(left, Some(0) | Some(1)),
         Stage::Done => matches!(left, Some(1)),
+        Stage::WentOn => false,
     };
     if !is_right {
         return Err(Fail::from("neither the old register nor the new"));

@@ -25,6 +25,23 @@ fn run(rt: &HostRuntime, words: &[&str], input: &str) -> Result<Ran, Fail> {
     })
 }
 
+/// Removes the register of an earlier run, where there is one.
+fn remove(rt: &HostRuntime, file: &str) -> Result<(), Fail> {
+    let log = format!(in rt.alloc(); "{file}-wal")?;
+    for path in [file, log.as_str()] {
+        if fs::exists(rt, path)? {
+            fs::remove_file(rt, path)?;
+        }
+    }
+    Ok(())
+}
+
+/// Makes a new register.
+fn init_new(rt: &HostRuntime, file: &str) -> Result<Ran, Fail> {
+    remove(rt, file)?;
+    init(rt, file)
+}
+
 fn init(rt: &HostRuntime, file: &str) -> Result<Ran, Fail> {
     run(rt, &["admissions", "init", file, "secondary", "2025"], "")
 }
@@ -45,7 +62,7 @@ fn refused(rt: &HostRuntime, words: &[&str]) -> Result<String, Fail> {
 
 #[test]
 fn no_lines(rt: HostRuntime) -> Result<(), Fail> {
-    let made = init(&rt, "no_lines.db")?;
+    let made = init_new(&rt, "no_lines.db")?;
     assert_eq!(rt;
         (made.status, made.output.as_str(), made.errors.as_str()),
         (0, "", "")
@@ -60,7 +77,7 @@ fn no_lines(rt: HostRuntime) -> Result<(), Fail> {
 
 #[test]
 fn a_school_in_two_runs(rt: HostRuntime) -> Result<(), Fail> {
-    init(&rt, "two_runs.db")?;
+    init_new(&rt, "two_runs.db")?;
     let first = do_lines(&rt, "two_runs.db", ALPHA)?;
     assert_eq!(rt;
         (first.status, first.output.as_str()),
@@ -76,7 +93,7 @@ fn a_school_in_two_runs(rt: HostRuntime) -> Result<(), Fail> {
 
 #[test]
 fn lines_that_are_no_commands(rt: HostRuntime) -> Result<(), Fail> {
-    init(&rt, "no_commands.db")?;
+    init_new(&rt, "no_commands.db")?;
     let ran = do_lines(&rt, "no_commands.db", "\n{\"cmd\":\"open\"}\n")?;
     assert_eq!(rt; ran.status, 3);
     assert_eq!(rt;
@@ -88,7 +105,7 @@ fn lines_that_are_no_commands(rt: HostRuntime) -> Result<(), Fail> {
 
 #[test]
 fn a_last_line_without_its_end(rt: HostRuntime) -> Result<(), Fail> {
-    init(&rt, "last_line.db")?;
+    init_new(&rt, "last_line.db")?;
     let ran = do_lines(&rt, "last_line.db", ALPHA.trim_end())?;
     assert_eq!(rt; (ran.status, ran.output.as_str()), (0, "{\"done\":true}\n"));
     Ok(())
@@ -105,7 +122,7 @@ fn numbered(rt: &HostRuntime, lines: &mut String, number: u32) -> Result<(), Fai
 
 #[test]
 fn two_hundred_schools(rt: HostRuntime) -> Result<(), Fail> {
-    init(&rt, "full.db")?;
+    init_new(&rt, "full.db")?;
     let mut lines = String::new(rt.alloc());
     for number in 0..201 {
         numbered(&rt, &mut lines, number)?;
@@ -140,7 +157,7 @@ fn a_file_that_is_not_there(rt: HostRuntime) -> Result<(), Fail> {
 
 #[test]
 fn a_register_is_made_once(rt: HostRuntime) -> Result<(), Fail> {
-    init(&rt, "once.db")?;
+    init_new(&rt, "once.db")?;
     let before = fs::read(&rt, "once.db")?;
     let again = init(&rt, "once.db")?;
     assert_eq!(rt;
@@ -164,6 +181,7 @@ fn a_file_that_is_no_database(rt: HostRuntime) -> Result<(), Fail> {
 
 #[test]
 fn holidays_that_are_no_days(rt: HostRuntime) -> Result<(), Fail> {
+    remove(&rt, "holidays.db")?;
     let words = [
         "admissions",
         "init",
@@ -184,6 +202,7 @@ fn too_many_holidays(rt: HostRuntime) -> Result<(), Fail> {
     let mut words = ["2022-04-15"; 46];
     words[0] = "admissions";
     words[1] = "init";
+    remove(&rt, "many.db")?;
     words[2] = "many.db";
     words[3] = "primary";
     words[4] = "2022";
