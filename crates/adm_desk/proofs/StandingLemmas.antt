@@ -1,11 +1,11 @@
 -- What a kept command answers.
-use Rattle.std.proofs.Common.{◌≡◌, ◌∙◌, ◌≢◌, true, false, refl, sym, subst, Ok}
+use Rattle.std.proofs.Common.{◌≡◌, ◌∙◌, true, false, sym, subst, Ok}
 use Rattle.sqlite.specs.State.{State as Disk}
 use Rattle.adm_types.specs.declared.commands.Command.{Command}
 use Rattle.adm_types.specs.declared.commands.Reply.{Reply}
 use Rattle.adm_register.specs.State.{State as Register}
 use Rattle.adm_register.specs.Outcome.{Step}
-use Rattle.adm_store.specs.StandsFor.{LeavesOnly, LeavesEither}
+use Rattle.adm_store.specs.StandsFor.{LeavesOnly}
 use Rattle.adm_desk.specs.declared.answer.Answer.{Answer}
 use Rattle.adm_desk.specs.declared.answer.Answer.TheVariants.{Done, Refused, Memory, Failed}
 use Rattle.adm_desk.specs.Standing.{Standing, Handles, Keeps}
@@ -26,10 +26,3 @@ handles disk old new command after reply Failed alive step keeps =
   where
     differ : true ≡ false → ⊥
     differ e = cc
-
--- after a commit that failed
-pub failed_keeps : {C : Type 0} (disk : C → Disk) (was old new : Standing C) (after : Register) (reply : Reply) (conn : C) → was ≡ old
-    → new ≡ record { register = was.register; failed = true; conn = conn } → LeavesEither was.register after (disk conn) → Keeps disk old after reply Failed new
-failed_keeps disk was old new after reply conn shown is either =
-    subst (λ (o : Standing _). Keeps disk o after reply Failed new) shown
-    (subst (λ (s : Standing _). (s.failed ≡ true) × (s.register ≡ was.register) × LeavesEither was.register after (disk s.conn)) (sym is) (refl, refl, either))

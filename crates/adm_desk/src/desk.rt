@@ -2,10 +2,12 @@
 ghost use Rattle.std.specs.Prelude.{◌≡◌, ◌≢◌, ◌^◌, ◌<◌, ◌-◌, ℕ, List, length, take, true, false, if◌then◌else◌, IfOk, IfErr, IfSome, OnOk, OnErr, IsErrOf, Some, None, option_copied};
 ghost use Rattle.std.specs.Io.KnownBytes.{Consumes, IsAtEnd};
 ghost use Rattle.sqlite.specs.Held.{state};
-ghost use Rattle.sqlite.specs.State.{Survives};
+ghost use Rattle.sqlite.specs.State.{HasCleanDisk, Survives};
 ghost use Rattle.adm_register.specs.Extends.{Extends};
+ghost use Rattle.adm_register.specs.Tables.{TouchesOnly};
 ghost use Rattle.adm_register.specs.WellFormed.{WellFormed};
 ghost use Rattle.adm_store.specs.Faults.{IsNoRegister};
+ghost use Rattle.adm_store.specs.FirstFault.{IsFirstFault};
 ghost use Rattle.adm_store.specs.StandsFor.{IsStarted, LeavesOnly, LeavesNone};
 ghost use Rattle.adm_desk.specs.Steps.{IsRun};
 ghost use Rattle.adm_desk.specs.Standing.{Handles, Keeps, Standing};
@@ -14,7 +16,7 @@ ghost use Rattle.adm_desk.specs.Written.{Finished, AnsweredUpTo, Stopped};
 
 use crate::handler::{self, Handler};
 use crate::{Answer, Run, RunFault, lines};
-use adm_register::{NotDone, Register};
+use adm_register::{NotDone, Register, Touched};
 use adm_store::{OpenFault, Store, changes};
 use adm_types::{Command, Reply};
 use adm_wire::{Input, Output};
@@ -60,13 +62,14 @@ impl<S: Alter> Model for Desk<S> {
 
 impl<S: Alter> Desk<S> {
     /// Opens the register that the file stands for. Faults 1 to 3 come only where it stands for
-    /// none, and whatever comes, a crash leaves the file as it was found.
+    /// none, and the first of them that fits is told; whatever comes, a crash leaves the file as it was found.
     /// What it costs grows with the rows of the register.
     pub fn open(alloc: Global, conn: Connection<S>) -> Result<Desk<S>, (OpenFault, Connection<S>)>
         requires ended { conn.in_transaction ≡ false }
         requires started { IsStarted (state S.Store conn) }
         ensures opened { IfOk result (λ desk. (desk.failed ≡ false) × LeavesOnly desk.register (state S.Store desk.conn)) }
         ensures bad { IfErr result (λ e. IsNoRegister e.0 → LeavesNone (state S.Store e.1)) }
+        ensures first { IfErr result (λ e. HasCleanDisk (state S.Store e.1) → IsNoRegister e.0 → IsFirstFault (state S.Store conn).now e.0) }
         ensures kept { IfOk result (λ desk. Survives (state S.Store conn) (state S.Store desk.conn) (λ _. ⊥)) }
         ensures ended { IfErr result (λ e. e.1.in_transaction ≡ false) }
         ensures left { IfErr result (λ e. Survives (state S.Store conn) (state S.Store e.1) (λ _. ⊥)) }
@@ -119,19 +122,20 @@ impl<S: Alter> Desk<S> {
             return Answer::Failed;
         }
         match self.register.decide(self.alloc, command) {
-            Ok((new, reply)) => self.keep(new, reply),
+            Ok((new, reply)) => self.keep(Touched::by(command), new, reply),
             Err(NotDone::Refused { refusal, row }) => Answer::Refused { refusal, row },
             Err(NotDone::Memory) => Answer::Memory,
         }
     }
 
-    /// Writes what the accepted command changed, and then takes its register over.
-    fn keep(&mut self, new: Register, reply: Reply) -> Answer
+    /// Writes what the accepted command changed in these tables, and then takes its register over.
+    fn keep(&mut self, touched: Touched, new: Register, reply: Reply) -> Answer
         requires alive { self.old.failed ≡ false }
+        requires touches { TouchesOnly touched self.old.register new }
         requires extends { Extends self.old.register new × WellFormed new }
         ensures { Keeps (state S.Store) self.old new reply result self.new }
     {
-        match changes(self.alloc, &self.register, &new) {
+        match changes(self.alloc, &self.register, &new, touched) {
             Err(_) => Answer::Memory,
             Ok(changes) => match self.store.commit(&changes) {
                 Ok(()) => {
@@ -139,6 +143,7 @@ impl<S: Alter> Desk<S> {
                     Answer::Done(reply)
                 }
                 Err(_) => {
+                    drop(new);
                     self.failed = true;
                     Answer::Failed
                 }

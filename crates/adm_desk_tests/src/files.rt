@@ -44,18 +44,38 @@ fn opened(rt: &HostRuntime, file: &str) -> Result<Option<OpenFault>, Fail> {
     }
 }
 
-/// That a created register on which this text is run is opened so, and twice.
+/// That a created register on which this text is run is opened so, twice, and not changed by it.
 fn expect(rt: &HostRuntime, file: &str, sql: &str, fault: Option<OpenFault>) -> Result<(), Fail> {
     remove(rt, file)?;
     if made(rt, file)?.is_err() {
         return Err(Fail::from("not created"));
     }
     changed(rt, file, sql)?;
-    if opened(rt, file)? == fault && opened(rt, file)? == fault {
-        Ok(())
-    } else {
-        Err(Fail::from("another answer"))
+    let before = fs::read(rt, file)?;
+    if opened(rt, file)? != fault || opened(rt, file)? != fault {
+        return Err(Fail::from("another answer"));
     }
+    if fs::read(rt, file)?.as_slice() != before.as_slice() {
+        return Err(Fail::from("the file was changed"));
+    }
+    Ok(())
+}
+
+/// That a register with school A, children 1 and 2 and an application of child 1, on which this text is run, is opened so.
+fn expect_applied(
+    rt: &HostRuntime,
+    file: &str,
+    sql: &str,
+    fault: Option<OpenFault>,
+) -> Result<(), Fail> {
+    let all = format!(in rt.alloc();
+        "INSERT INTO school VALUES ('A', 'Alpha', 1, 0, 0, '');
+        INSERT INTO child VALUES (1, 'C1', 0, 200, 0, 9, 'A');
+        INSERT INTO child VALUES (2, 'C2', 0, 100, 1, 0, '');
+        INSERT INTO application VALUES (1, 20027, 'A');
+        {sql}"
+    )?;
+    expect(rt, file, all.as_str(), fault)
 }
 
 #[test]
@@ -95,14 +115,71 @@ fn other_tables_are_refused(rt: HostRuntime) -> Result<(), Fail> {
 #[test]
 fn rows_of_no_register_are_refused(rt: HostRuntime) -> Result<(), Fail> {
     let bad = Some(OpenFault::BadRow);
-    let child = "INSERT INTO child VALUES (1, 'C1', 0, 0, 0, 0, '')";
-    expect(&rt, "child.db", child, bad)?;
     let no_places = "INSERT INTO school VALUES ('A', 'Alpha', 0, 0, 0, '')";
     expect(&rt, "no_places.db", no_places, bad)?;
     let criterion = "INSERT INTO school VALUES ('A', 'Alpha', 1, 0, 0, 'within:0500')";
     expect(&rt, "criterion.db", criterion, bad)?;
     expect(&rt, "year.db", "UPDATE meta SET year = 1989", bad)?;
     expect(&rt, "draws.db", "UPDATE meta SET draws = 1", bad)
+}
+
+#[test]
+fn children_of_no_register_are_refused(rt: HostRuntime) -> Result<(), Fail> {
+    let bad = Some(OpenFault::BadRow);
+    let sibling = "UPDATE child SET siblings = 'B'";
+    expect_applied(&rt, "sibling.db", sibling, bad)?;
+    let joined = "UPDATE child SET siblings = 'A;'";
+    expect_applied(&rt, "joined.db", joined, bad)?;
+    let number = "INSERT INTO child VALUES (10000000, 'C', 0, 0, 0, 0, '')";
+    expect_applied(&rt, "number.db", number, bad)?;
+    let truth = "UPDATE child SET looked_after = 2";
+    expect_applied(&rt, "truth.db", truth, bad)?;
+    let flags = "UPDATE child SET flags = 65536";
+    expect_applied(&rt, "flags.db", flags, bad)
+}
+
+#[test]
+fn applications_of_no_register_are_refused(rt: HostRuntime) -> Result<(), Fail> {
+    let bad = Some(OpenFault::BadRow);
+    let twice = "UPDATE application SET preferences = 'A;A'";
+    expect_applied(&rt, "twice.db", twice, bad)?;
+    let none = "UPDATE application SET preferences = ''";
+    expect_applied(&rt, "none.db", none, bad)?;
+    let nobody = "INSERT INTO application VALUES (3, 20027, 'A')";
+    expect_applied(&rt, "nobody.db", nobody, bad)?;
+    let late = "UPDATE application SET day = 20454";
+    expect_applied(&rt, "late.db", late, bad)
+}
+
+#[test]
+fn places_of_no_register_are_refused(rt: HostRuntime) -> Result<(), Fail> {
+    let bad = Some(OpenFault::BadRow);
+    let applied = "INSERT INTO place VALUES (1, 'A', 3, NULL, NULL)";
+    expect_applied(&rt, "applied.db", applied, bad)?;
+    let kind = "INSERT INTO place VALUES (2, 'A', 4, NULL, NULL)";
+    expect_applied(&rt, "kind.db", kind, bad)?;
+    let day = "INSERT INTO place VALUES (2, 'A', 3, 20027, NULL)";
+    expect_applied(&rt, "day.db", day, bad)?;
+    let offered = "INSERT INTO place VALUES (2, 'A', 1, 20150, NULL)";
+    expect_applied(&rt, "offered.db", offered, bad)
+}
+
+#[test]
+fn rows_that_no_command_writes_are_refused(rt: HostRuntime) -> Result<(), Fail> {
+    let bad = Some(OpenFault::BadRow);
+    let left = "INSERT INTO left_list VALUES (1, 'A')";
+    expect_applied(&rt, "left.db", left, bad)?;
+    let other =
+        "DROP TABLE child; CREATE TABLE child (child INTEGER PRIMARY KEY, name TEXT NOT NULL) STRICT";
+    expect_applied(&rt, "columns.db", other, bad)
+}
+
+#[test]
+fn applications_and_plans_written_by_hand_are_opened(rt: HostRuntime) -> Result<(), Fail> {
+    let plan = "INSERT INTO place VALUES (2, 'A', 3, NULL, NULL)";
+    expect_applied(&rt, "plan.db", plan, None)?;
+    let last_day = "UPDATE application SET day = 20453";
+    expect_applied(&rt, "last_day.db", last_day, None)
 }
 
 #[test]

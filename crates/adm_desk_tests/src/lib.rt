@@ -20,11 +20,11 @@ pub enum Stage {
     WentOn,
 }
 
-/// How far a command came, and a second one after it.
-fn handled<S: Alter>(desk: &mut Desk<S>, command: &Command, next: &Command) -> Stage {
+/// How far a command came; where the answer is Failed, it comes a second time.
+pub(crate) fn handled<S: Alter>(desk: &mut Desk<S>, command: &Command) -> Stage {
     match desk.handle(command) {
         Answer::Done(_) => Stage::Done,
-        Answer::Failed => match desk.handle(next) {
+        Answer::Failed => match desk.handle(command) {
             Answer::Failed => Stage::Failed,
             _ => Stage::WentOn,
         },
@@ -32,13 +32,12 @@ fn handled<S: Alter>(desk: &mut Desk<S>, command: &Command, next: &Command) -> S
     }
 }
 
-/// Creates a register, opens it and handles a command; where the answer is Failed, a second one too.
+/// Creates a register, opens it and handles a command; where the answer is Failed, it comes a second time.
 pub fn run<S: Alter>(
     alloc: Global,
     mut conn: Connection<S>,
     season: &Season,
     command: &Command,
-    next: &Command,
 ) -> (Stage, Connection<S>)
     requires { conn.in_transaction ≡ false }
 {
@@ -47,7 +46,7 @@ pub fn run<S: Alter>(
     }
     match Desk::open(alloc, conn) {
         Ok(mut desk) => {
-            let stage = handled(&mut desk, command, next);
+            let stage = handled(&mut desk, command);
             (stage, desk.into_connection())
         }
         Err((_, conn)) => (Stage::Created, conn),
@@ -55,7 +54,11 @@ pub fn run<S: Alter>(
 }
 
 #[cfg(test)]
+mod commands;
+#[cfg(test)]
 mod disks;
+#[cfg(test)]
+mod each_command;
 #[cfg(test)]
 mod files;
 #[cfg(test)]

@@ -2,16 +2,22 @@
 use crate::disks::{disk, season};
 use adm_desk::{Desk, Run};
 use adm_store::create;
+use adm_types::SchoolCode;
 use adm_wire::Watched;
-use sqlite::{Connection, Files, Options};
+use sqlite::{Alter, Connection, Files, Options};
 use std::alloc::Global;
 use std::test::Fail;
 
 const ALPHA: &str =
     "{\"cmd\":\"add_school\",\"school\":\"A\",\"name\":\"Alpha\",\"pan\":1,\"east\":0,\"north\":0,\"criteria\":[]}\n";
 
-/// What a new register's desk answers to the lines, and the counts.
-fn answered(alloc: Global, lines: &str) -> Result<(String, Run), Fail> {
+fn vacancies<S: Alter>(desk: &Desk<S>) -> Result<Option<u32>, Fail> {
+    let register = desk.register().ok_or("a register")?;
+    Ok(register.vacancies(SchoolCode::new("A").ok_or("a code")?))
+}
+
+/// What a new register's desk answers to the lines, the counts, and how many vacancies school A then has.
+fn answered(alloc: Global, lines: &str) -> Result<(String, Run, Option<u32>), Fail> {
     let season = season(alloc)?;
     let files = Files {
         log: disk(alloc, &[], u64::MAX)?,
@@ -32,14 +38,14 @@ fn answered(alloc: Global, lines: &str) -> Result<(String, Run), Fail> {
     let mut reader = Watched::new(lines.as_bytes());
     let mut writer = Watched::new(Vec::new(alloc));
     match desk.run_lines(&mut reader, &mut writer) {
-        Ok(run) => Ok((String::from_utf8(writer.stream)?, run)),
+        Ok(run) => Ok((String::from_utf8(writer.stream)?, run, vacancies(&desk)?)),
         Err(_) => Err(Fail::from("the run stopped")),
     }
 }
 
 #[test]
 fn no_lines(rt: HostRuntime) -> Result<(), Fail> {
-    let (output, run) = answered(rt.alloc(), "")?;
+    let (output, run, _) = answered(rt.alloc(), "")?;
     assert_eq!(rt; output.as_str(), "");
     assert_eq!(rt; (run.done, run.refused, run.failed), (0, 0, false));
     Ok(())
@@ -50,12 +56,36 @@ fn a_school_that_comes_again_and_lines_that_are_no_commands(rt: HostRuntime) -> 
     let mut lines = String::from_str(rt.alloc(), ALPHA)?;
     lines.push_str(ALPHA)?;
     lines.push_str("\n{\"cmd\":\"open\"}")?;
-    let (output, run) = answered(rt.alloc(), lines.as_str())?;
+    let (output, run, _) = answered(rt.alloc(), lines.as_str())?;
     assert_eq!(rt;
         output.as_str(),
         "{\"done\":true}\n{\"name\":\"SchoolKnown\",\"refused\":3}\n{\"fault\":1,\"name\":\"NotJson\"}\n{\"fault\":2,\"name\":\"UnknownCommand\"}\n"
     );
     assert_eq!(rt; (run.done, run.refused, run.failed), (1, 3, false));
+    Ok(())
+}
+
+#[test]
+fn a_child_that_applies_and_has_a_plan(rt: HostRuntime) -> Result<(), Fail> {
+    let mut lines = String::from_str(rt.alloc(), ALPHA)?;
+    lines.push_str(
+        "{\"cmd\":\"add_child\",\"child\":1,\"name\":\"C1\",\"east\":0,\"north\":200,\"looked_after\":false,\"flags\":[],\"siblings\":[\"Z\"]}\n",
+    )?;
+    lines.push_str(
+        "{\"cmd\":\"add_child\",\"child\":1,\"name\":\"C1\",\"east\":0,\"north\":200,\"looked_after\":false,\"flags\":[],\"siblings\":[]}\n",
+    )?;
+    let applies =
+        "{\"cmd\":\"apply\",\"child\":1,\"day\":\"2024-10-31\",\"preferences\":[\"A\"]}\n";
+    lines.push_str(applies)?;
+    lines.push_str(applies)?;
+    lines.push_str("{\"cmd\":\"name_plan\",\"child\":1,\"school\":\"A\"}\n")?;
+    lines.push_str(applies)?;
+    let (output, run, vacancies) = answered(rt.alloc(), lines.as_str())?;
+    assert_eq!(rt;
+        output.as_str(),
+        "{\"done\":true}\n{\"name\":\"UnknownSchool\",\"refused\":1}\n{\"done\":true}\n{\"done\":true}\n{\"name\":\"AlreadyApplied\",\"refused\":10}\n{\"done\":true}\n{\"name\":\"HasPlan\",\"refused\":9}\n"
+    );
+    assert_eq!(rt; (run.done, run.refused, vacancies), (4, 3, Some(0)));
     Ok(())
 }
 
@@ -74,7 +104,7 @@ fn schools(alloc: Global, count: u32) -> Result<String, Fail> {
 #[test]
 fn two_hundred_schools_and_no_more(rt: HostRuntime) -> Result<(), Fail> {
     let lines = schools(rt.alloc(), 201)?;
-    let (output, run) = answered(rt.alloc(), lines.as_str())?;
+    let (output, run, _) = answered(rt.alloc(), lines.as_str())?;
     assert_eq!(rt; (run.done, run.refused, run.failed), (200, 1, false));
     assert_eq!(rt;
         output.lines().last(),

@@ -1,34 +1,16 @@
 // A disk that stops at each of its calls in turn, and what the register is when it is opened again.
+use crate::commands::add_school;
 use crate::disks::{Fused, disk, season};
 use crate::{Stage, run};
 use adm_store::{OpenFault, open};
-use adm_types::{Command, Criterion, Point, School, SchoolCode, Seq, Text};
 use sqlite::{Connection, Files, Options};
 use std::alloc::Global;
 use std::test::Fail;
-
-/// Adds a school with two criteria.
-fn add_school(alloc: Global, text: &str) -> Result<Command, Fail> {
-    let Some(code) = SchoolCode::new(text) else {
-        return Err(Fail::from("a code"));
-    };
-    let mut criteria = Vec::new(alloc);
-    criteria.push(Criterion::Sibling)?;
-    criteria.push(Criterion::Within(500))?;
-    Ok(Command::AddSchool(School {
-        code,
-        name: Text::from_string(String::from_str(alloc, "Alpha")?),
-        pan: 1,
-        at: Point { east: 0, north: 0 },
-        criteria: Seq::from_vec(criteria),
-    }))
-}
 
 /// A run over two empty disks of which one stops, and what they hold then.
 fn stopped(alloc: Global, log_calls: u64, db_calls: u64) -> Result<(Stage, Files<Fused>), Fail> {
     let season = season(alloc)?;
     let command = add_school(alloc, "A")?;
-    let next = add_school(alloc, "B")?;
     let files = Files {
         log: disk(alloc, &[], log_calls)?,
         db: disk(alloc, &[], db_calls)?,
@@ -41,7 +23,7 @@ fn stopped(alloc: Global, log_calls: u64, db_calls: u64) -> Result<(Stage, Files
             if !conn.is_autocommit() {
                 return Err(Fail::from("a transaction"));
             }
-            let (stage, conn) = run(alloc, conn, &season, &command, &next);
+            let (stage, conn) = run(alloc, conn, &season, &command);
             Ok((stage, conn.into_store().close()))
         }
         Err((_, left)) => Ok((Stage::Nothing, left.into_files())),

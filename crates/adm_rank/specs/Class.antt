@@ -1,16 +1,13 @@
 -- The class of a child at a school (School Admissions Code 2021, section 1; the criteria are this profile's).
-use Rattle.std.specs.Prelude.{ℕ, ◌+◌, ◌/◌, ◌%◌, ◌^◌, ◌==◌, Bool, nat_le, if◌then◌else◌}
+use Rattle.std.specs.Prelude.{ℕ, ◌+◌, Bool, nat_le, if◌then◌else◌}
 use Rattle.std.specs.List.{position_or_len}
 use Rattle.adm_types.specs.declared.rows.Criterion.{Criterion}
 use Rattle.adm_types.specs.declared.rows.Criterion.TheVariants.{Sibling, Within, Flag}
 use Rattle.adm_types.specs.declared.rows.School.{School}
 use Rattle.adm_types.specs.declared.rows.Child.{Child}
+use Rattle.adm_types.specs.Flags.{has_flag}
 use Rattle.adm_types.specs.Limits.{is_listed}
 use Rattle.adm_rank.specs.Distance.{distance_of}
-
--- whether the bit of a flag stands among the flags
-abbrev pub has_flag : ℕ → ℕ → Bool
-has_flag flags flag = flags / 2 ^ flag % 2 == 1
 
 -- whether a child meets a criterion of the school: a sibling there, a home at most so many metres away, a verified flag
 abbrev pub meets : School → Child → Criterion → Bool

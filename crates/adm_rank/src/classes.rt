@@ -2,7 +2,8 @@
 ghost use Rattle.std.specs.Prelude.{◌≡◌, ◌≤◌, IsTrue, length};
 ghost use Rattle.std.specs.List.{position_or_len, list_all};
 ghost use Rattle.adm_types.specs.Limits.{is_school_in_range, is_child_in_range, is_criterion, is_on_map};
-ghost use Rattle.adm_rank.specs.Class.{meets, class_of, has_flag};
+ghost use Rattle.adm_types.specs.Flags.{has_flag};
+ghost use Rattle.adm_rank.specs.Class.{meets, class_of};
 
 use crate::distances::distance;
 use adm_types::limits::is_listed;

@@ -1,6 +1,6 @@
 -- A test of every row of a table decides a fact of every row of its map.
 use Rattle.std.proofs.Common.{◌≡◌, ◌∙◌, ap, sym, subst, refl, cond, Bool, true, false, List, [], ◌∷◌, Some, None}
-use Rattle.std.specs.Prelude.{◌&&◌}
+use Rattle.std.specs.Prelude.{◌&&◌, ◌↔◌}
 use Rattle.std.specs.List.{list_all, AllByRecursion}
 use Rattle.std.specs.List.Sorted.{IsStrictlySortedBy}
 use Rattle.std.specs.Map.{keys_of}
@@ -9,11 +9,11 @@ use Rattle.std.specs.declared.cmp.Ordering.{Ordering}
 use Rattle.std.specs.declared.cmp.Ordering.TheVariants.{Less}
 use Rattle.std.specs.Ordering.{is_eq}
 use Rattle.std.specs.Cmp.{IsTotalOrder}
-use Rattle.std.specs.FinMap.{from_entries, IsAntisymmetric}
+use Rattle.std.specs.FinMap.{FinMap, from_entries, IsAntisymmetric}
 use Rattle.adm_register.specs.TableRows.{row_at}
 use Rattle.adm_register.proofs.TableMaps.{get_rows}
 use Rattle.adm_register.specs.WellFormed.{AllRows}
-use Rattle.adm_register.proofs.Maps.{tied, same_key, both_true}
+use Rattle.adm_register.proofs.Maps.{AllRows-weaker, tied, same_key, both_true}
 
 not_Some : {A : Type 0} (x : A) → None ≡ Some x → ⊥
 not_Some x e = cc
@@ -39,22 +39,34 @@ none_at : {K V : Type 0} (R : K → K → Ordering) (key : K) (rows : List (K ×
 none_at R key [] above = refl
 none_at R key (e ∷ es) above = ap (λ r. cond (is_eq r) (Some e.1) (row_at R es key)) above.0 ∙ none_at R key es above.1
 
-module _ {K V : Type 0} {R : K → K → Ordering} (p : K → V → Bool) (total : IsTotalOrder R) (same : IsAntisymmetric R) where
-  apart : (first : K) (rows : List (K × V)) → AllByRecursion (λ other. R first other ≡ Less) (keys_of rows) → (key : K) (row : V) → row_at R rows key ≡ Some row → is_at (R key) first ≡ false
+module _ {K V : Type 0} {R : K → K → Ordering} (same : IsAntisymmetric R) where
+  -- a row that is there after the first one is at another key
+  pub apart : (first : K) (rows : List (K × V)) → AllByRecursion (λ other. R first other ≡ Less) (keys_of rows) → (key : K) (row : V) → row_at R rows key ≡ Some row → is_at (R key) first ≡ false
   apart first rows above key row there =
       elim (is_at (R key) first) as (λ b. is_at (R key) first ≡ b → b ≡ false) [
         | true ↦ λ tie. absurd (not_Some row (sym (none_at R first rows above) ∙ ap (row_at R rows) (sym (same_key same key first tie)) ∙ there))
         | false ↦ λ tie. refl
       ] refl
 
+module _ {K V : Type 0} {R : K → K → Ordering} (p : K → V → Bool) (total : IsTotalOrder R) (same : IsAntisymmetric R) where
   passes : (rows : List (K × V)) → IsStrictlySortedBy R (keys_of rows) → ((key : K) (row : V) → row_at R rows key ≡ Some row → p key row ≡ true) → list_all (λ e. p e.0 e.1) rows ≡ true
   unfolding IsStrictlySortedBy
   passes [] sorted all = refl
   passes (e ∷ es) sorted all =
       let here : p e.0 e.1 ≡ true = all e.0 e.1 (ap (λ b. cond b (Some e.1) (row_at R es e.0)) (tied total e.0)) in
-      let rest : list_all (λ e. p e.0 e.1) es ≡ true = passes es sorted.1 (λ key row there. all key row (ap (λ b. cond b (Some e.1) (row_at R es key)) (apart e.0 es sorted.0 key row there) ∙ there)) in
+      let rest : list_all (λ e. p e.0 e.1) es ≡ true = passes es sorted.1 (λ key row there. all key row (ap (λ b. cond b (Some e.1) (row_at R es key)) (apart same e.0 es sorted.0 key row there) ∙ there)) in
       λ i. here i && rest i
 
   -- and the map of every row
   pub list_all-from_AllRows : (rows : List (K × V)) → IsStrictlySortedBy R (keys_of rows) → AllRows (λ key row. p key row ≡ true) (from_entries {R = R} rows) → list_all (λ e. p e.0 e.1) rows ≡ true
   list_all-from_AllRows rows sorted all = passes rows sorted (λ key row there. all key row (get_rows total rows key ∙ there))
+
+module _ {K V : Type 0} {R : K → K → Ordering} (p : K → V → Bool) (P : K → V → Type 0) (total : IsTotalOrder R) (same : IsAntisymmetric R) where
+  -- where it decides a fact of each row, the test of the rows of a table decides it of every row of its map
+  pub rows_decided : ((key : K) (row : V) → (p key row ≡ true) ↔ P key row) → (rows : List (K × V)) (m : FinMap R V) (b : Bool)
+      → from_entries rows ≡ m → IsStrictlySortedBy R (keys_of rows) → b ≡ list_all (λ e. p e.0 e.1) rows → (b ≡ true) ↔ AllRows P m
+  rows_decided each rows m b shown sorted tested = (
+    λ e. subst (AllRows P) shown (AllRows-weaker (λ key row. p key row ≡ true) P (from_entries rows) (λ key row. (each key row).0) (AllRows-from_list_all p total same rows (sym tested ∙ e))),
+    λ all. tested ∙ list_all-from_AllRows p total same rows sorted
+        (AllRows-weaker P (λ key row. p key row ≡ true) (from_entries rows) (λ key row. (each key row).1) (subst (AllRows P) (sym shown) all)),
+  )

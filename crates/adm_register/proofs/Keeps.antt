@@ -1,13 +1,15 @@
 -- Commands keep a register well formed.
 use Rattle.std.proofs.Common.{◌≡◌, refl, cond, Bool, true, false, ℕ, ◌≤◌, ◌<◌, ◌+◌, List, [], ◌∷◌, None, arith}
 use Rattle.std.specs.declared.cmp.Ordering.{Ordering}
+use Rattle.std.specs.Ordering.{nat_cmp}
 use Rattle.std.specs.Cmp.{IsTotalOrder}
-use Rattle.std.specs.FinMap.{FinMap, insert, len, contains_key, len-empty, len-insert}
-use Rattle.adm_types.specs.Seasons.{SeasonFacts, IsSeason}
+use Rattle.std.specs.FinMap.{FinMap, insert, empty, len, contains_key, len-empty, len-insert}
+use Rattle.adm_types.specs.Seasons.{SeasonFacts, IsSeason, lists_end}
 use Rattle.adm_types.specs.declared.rows.School.{School}
+use Rattle.adm_types.specs.declared.rows.Child.{Child}
 use Rattle.adm_types.specs.declared.commands.Refusal.{Refusal}
 use Rattle.adm_register.specs.State.{code_cmp, only_season}
-use Rattle.adm_register.specs.WellFormed.{WellFormed, SchoolFits}
+use Rattle.adm_register.specs.WellFormed.{WellFormed, SchoolFits, ChildFits, ApplicationFits, PlaceFits}
 use Rattle.adm_register.specs.Tests.{first_failing, AllPass}
 use Rattle.adm_register.proofs.Maps.{AllRows-empty}
 
@@ -16,6 +18,10 @@ only_season-WellFormed season is = record {
   season = is;
   few_schools = omega (arith, len-empty code_cmp School);
   schools = AllRows-empty code_cmp SchoolFits;
+  few_children = omega (arith, len-empty nat_cmp Child);
+  children = AllRows-empty nat_cmp (ChildFits empty);
+  applications = AllRows-empty nat_cmp (ApplicationFits (lists_end season) empty empty);
+  places = AllRows-empty nat_cmp (PlaceFits empty empty empty);
 }
 
 -- where no test is the first that fails, all pass

@@ -1,6 +1,6 @@
 -- Two maps with the same rows, each row at the key that is in it.
 use Rattle.std.proofs.Common.{◌≡◌, ◌∙◌, ap, sym, subst, refl, cond, Bool, true, false, List, [], ◌∷◌, Some, None}
-use Rattle.std.specs.Prelude.{map, T, ◌&&◌}
+use Rattle.std.specs.Prelude.{map, Option, T, ◌&&◌}
 use Rattle.std.specs.declared.cmp.Ordering.{Ordering}
 use Rattle.std.specs.declared.cmp.Ordering.TheVariants.{Less, Equal, Greater}
 use Rattle.std.specs.Ordering.{eq_by_cmp, is_lt}
@@ -10,16 +10,16 @@ use Rattle.std.specs.Map.{lookup, keys_of, values_of}
 use Rattle.std.specs.List.{IsDistinct, All, AllByRecursion, list_all}
 use Rattle.std.specs.List.Sorted.{IsPermutation, IsStrictlySortedBy}
 use Rattle.std.specs.FinMap.Entries.{below_all}
-use Rattle.std.specs.FinMap.{FinMap, len, entries, values, from_entries, entries_sorted, is_sorted, len-entries, get-entries, get-from_entries, same_map, IsAntisymmetric}
-use Rattle.std.proofs.lemmas.List.Sorted.{length_permutation, All-permutation, IsPermutation-map, IsPermutation-sym}
+use Rattle.std.specs.FinMap.{FinMap, get, entries, values, from_entries, entries_sorted, is_sorted, get-entries, get-from_entries, same_map, IsAntisymmetric}
+use Rattle.std.proofs.lemmas.List.Sorted.{All-permutation, IsPermutation-map, IsPermutation-sym}
 use Rattle.std.proofs.lemmas.List.Elements.{All-nil, All-cons, All-head, All-tail}
-use Rattle.std.proofs.lemmas.Map.Entries.{length-values_of}
 use Rattle.std.proofs.lemmas.Map.Keys.{IsDistinct-from_sorted, IsDistinct-IsPermutation}
 use Rattle.std.specs.Cmp.{eq_by_cmp_equiv}
+use Rattle.adm_register.specs.TableRows.{row_at}
 use Rattle.adm_register.specs.WellFormed.{AllRows}
 use Rattle.adm_register.proofs.TableMaps.{get_rows}
-use Rattle.adm_register.proofs.Maps.{same_key, both_true}
-use Rattle.adm_register.proofs.EachRow.{AllRows-from_list_all, list_all-from_AllRows}
+use Rattle.adm_register.proofs.Maps.{tied, same_key, both_true}
+use Rattle.adm_register.proofs.EachRow.{apart, list_all-from_AllRows}
 
 not_Some : {A : Type 0} (x : A) → None ≡ Some x → ⊥
 not_Some x e = cc
@@ -89,25 +89,47 @@ module _ {K V : Type 0} {R : K → K → Ordering} (total : IsTotalOrder R) (sam
       IsDistinct-IsPermutation (eq_by_cmp R) (eq_by_cmp_equiv total).symm (map key (values m)) (map key rows) (IsPermutation-sym _ _ (IsPermutation-map key rows (values m) permuted))
       (subst (IsDistinct (eq_by_cmp R)) (sym (entries_at_own_keys m own)) (IsDistinct-from_sorted R (keys_of (entries m)) (entries_in_order m)))
 
-module _ {K V : Type 0} {R : K → K → Ordering} (total : IsTotalOrder R) where
-  -- as many rows as the other map has
-  pub same_count : (m n : FinMap R V) → IsPermutation (values m) (values n) → len m ≡ len n
-  same_count m n permuted = len-entries m ∙ sym (length-values_of (entries m)) ∙ sym (length_permutation (values m) (values n) permuted) ∙ length-values_of (entries n) ∙ sym (len-entries n)
+module _ {K V : Type 0} {R : K → K → Ordering} (total : IsTotalOrder R) (same : IsAntisymmetric R) (P : V → Type 0) where
+  -- what holds of each row that is there holds of each value
+  each_value : (es : List (K × V)) → IsStrictlySortedBy R (keys_of es) → ((k : K) (v : V) → row_at R es k ≡ Some v → P v) → All P (values_of es)
+  unfolding IsStrictlySortedBy
+  each_value [] sorted all = All-nil P
+  each_value (e ∷ es) sorted all =
+      All-cons P e.1 (values_of es) (all e.0 e.1 (ap (λ b. cond b (Some e.1) (row_at R es e.0)) (tied total e.0)))
+      (each_value es sorted.1 (λ k v there. all k v (ap (λ b. cond b (Some e.1) (row_at R es k)) (apart same e.0 es sorted.0 k v there) ∙ there)))
 
-module _ {K V : Type 0} {R : K → K → Ordering} (total : IsTotalOrder R) (same : IsAntisymmetric R) (p : V → Bool) where
-  values_pass : (es : List (K × V)) → list_all (λ e. p e.1) es ≡ true → All (λ v. p v ≡ true) (values_of es)
-  values_pass [] all = All-nil (λ v. p v ≡ true)
-  values_pass (e ∷ es) all = let both = both_true _ _ all in All-cons (λ v. p v ≡ true) e.1 (values_of es) both.0 (values_pass es both.1)
+  -- and what holds of each value, of each row that is there
+  each_row : (es : List (K × V)) → All P (values_of es) → (k : K) (v : V) → row_at R es k ≡ Some v → P v
+  each_row [] all k v there = absurd (not_Some v there)
+  each_row (e ∷ es) all k v there =
+      elim (is_at (R k) e.0) as (λ b. cond b (Some e.1) (row_at R es k) ≡ Some v → P v) [
+        | true ↦ λ here. subst P (same_Some e.1 v here) (All-head P e.1 (values_of es) all)
+        | false ↦ λ here. each_row es (All-tail P e.1 (values_of es) all) k v here
+      ] there
 
-  entries_pass : (es : List (K × V)) → All (λ v. p v ≡ true) (values_of es) → list_all (λ e. p e.1) es ≡ true
-  entries_pass [] all = refl
-  entries_pass (e ∷ es) all = λ i. All-head (λ v. p v ≡ true) e.1 (values_of es) all i && entries_pass es (All-tail (λ v. p v ≡ true) e.1 (values_of es) all) i
+  row_of_entries : (m : FinMap R V) (k : K) → get m k ≡ row_at R (entries m) k
+  row_of_entries m k = sym (ap (λ n. get n k) (map_of_entries total same m)) ∙ get_rows total (entries m) k
 
-  -- a test that each row of the other map passes
-  pub same_rows_pass : (m n : FinMap R V) → IsPermutation (values m) (values n) → AllRows (λ k v. p v ≡ true) n → AllRows (λ k v. p v ≡ true) m
-  same_rows_pass m n permuted all =
-      let listed : list_all (λ e. p e.1) (entries n) ≡ true =
-      list_all-from_AllRows (λ k v. p v) total same (entries n) (entries_in_order n) (subst (AllRows (λ k v. p v ≡ true)) (sym (map_of_entries total same n)) all) in
-      let others : list_all (λ e. p e.1) (entries m) ≡ true =
-      entries_pass (entries m) (All-permutation (λ v. p v ≡ true) (values n) (values m) (IsPermutation-sym (values m) (values n) permuted) (values_pass (entries n) listed)) in
-      subst (AllRows (λ k v. p v ≡ true)) (map_of_entries total same m) (AllRows-from_list_all (λ k v. p v) total same (entries m) others)
+  pub values_hold : (m : FinMap R V) → AllRows (λ k v. P v) m → All P (values m)
+  values_hold m all = each_value (entries m) (entries_in_order m) (λ k v there. all k v (row_of_entries m k ∙ there))
+
+  pub rows_hold : (m : FinMap R V) → All P (values m) → AllRows (λ k v. P v) m
+  rows_hold m all k v there = each_row (entries m) all k v (sym (row_of_entries m k) ∙ there)
+
+module _ {K V : Type 0} {R : K → K → Ordering} (total : IsTotalOrder R) (same : IsAntisymmetric R) (key : V → K) where
+  there_too : (m n : FinMap R V) → AllRows (λ k v. key v ≡ k) m → AllRows (λ k v. key v ≡ k) n → IsPermutation (values m) (values n) → (k : K) (v : V) → get m k ≡ Some v → get n k ≡ Some v
+  there_too m n own others permuted k v there =
+      let P : V → Type 0 = λ w. get n (key w) ≡ Some w in
+      let second : All P (values n) = values_hold total same P n (λ q w at. subst (λ x. get n x ≡ Some w) (sym (others q w at)) at) in
+      let first : All P (values m) = All-permutation P (values n) (values m) (IsPermutation-sym (values m) (values n) permuted) second in
+      subst (λ x. get n x ≡ Some v) (own k v there) (rows_hold total same P m first k v there)
+
+  -- maps of the same rows, each at its own key, are the same map
+  pub same_maps : (m n : FinMap R V) → AllRows (λ k v. key v ≡ k) m → AllRows (λ k v. key v ≡ k) n → IsPermutation (values m) (values n) → m ≡ n
+  same_maps m n own others permuted = same_map total same m n (λ k.
+      agree (get m k) (get n k) (there_too m n own others permuted k) (there_too n m others own (IsPermutation-sym (values m) (values n) permuted) k))
+    where
+      agree : (o p : Option V) → ((v : V) → o ≡ Some v → p ≡ Some v) → ((v : V) → p ≡ Some v → o ≡ Some v) → o ≡ p
+      agree None None f g = refl
+      agree None (Some v) f g = g v refl
+      agree (Some v) p f g = sym (f v refl)

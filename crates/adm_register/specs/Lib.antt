@@ -1,8 +1,16 @@
 pub mod TableRows
 pub mod State
 pub mod WellFormed
+pub mod Plans
 pub mod Tests
 pub mod AddSchool
+pub mod AddChild
+pub mod Amend
+pub mod NamePlan
+pub mod Apply
 pub mod Extends
+pub mod Tables
 pub mod Outcome
 pub mod Rows
+pub mod Difference
+pub mod Same

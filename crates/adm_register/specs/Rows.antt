@@ -1,15 +1,39 @@
--- The register as lists of rows.
-use Rattle.std.specs.Prelude.{◌≡◌}
+-- The register as lists of rows, and the numbers that are read off them.
+use Rattle.std.specs.Prelude.{◌≡◌, ℕ, ◌-◌, List, Option, count_by, nat_eq}
+use Rattle.std.specs.Option.{option_map}
+use Rattle.std.specs.Cmp.Lexicographic.{pointwise}
 use Rattle.std.specs.List.Sorted.{IsPermutation}
-use Rattle.std.specs.FinMap.{values}
+use Rattle.std.specs.FinMap.{get, values}
+use Rattle.adm_types.specs.declared.rows.Place.{Place}
 use Rattle.adm_register.specs.declared.all_rows.Rows.{Rows}
 use Rattle.adm_register.specs.State.{State}
 
 -- the rows of a state, each table's in the order of its key
 abbrev pub rows_of : State → Rows
-rows_of s = record { season = s.season; schools = values s.schools }
+rows_of s = record {
+  season = s.season;
+  schools = values s.schools;
+  children = values s.children;
+  applications = values s.applications;
+  places = values s.places;
+}
 
 -- these are the rows of the state, in any order
 pub record AreRowsOf (rows : Rows) (s : State) : Type 0 where
   pub season : rows.season ≡ s.season
   pub schools : IsPermutation rows.schools (values s.schools)
+  pub children : IsPermutation rows.children (values s.children)
+  pub applications : IsPermutation rows.applications (values s.applications)
+  pub places : IsPermutation rows.places (values s.places)
+
+-- the child's place
+abbrev pub place_of : State → ℕ → Option Place
+place_of s child = option_map (λ row. row.place) (get s.places child)
+
+-- how many places there are at the school
+abbrev pub places_at : State → List ℕ → ℕ
+places_at s code = count_by (λ row. pointwise nat_eq row.place.school code) (values s.places)
+
+-- the school's admission number less all places there, not below 0
+abbrev pub vacancies : State → List ℕ → Option ℕ
+vacancies s code = option_map (λ school. school.pan - places_at s code) (get s.schools code)

@@ -1,18 +1,27 @@
 -- Which states are registers.
-use Rattle.std.specs.Prelude.{◌≡◌, ℕ, ◌≤◌, Bool, ◌&&◌, nat_eq, List, IsTrue, Some}
+use Rattle.std.specs.Prelude.{◌≡◌, ℕ, ◌≤◌, Bool, not, ◌&&◌, nat_eq, nat_lt, List, length, IsTrue, Some}
+use Rattle.std.specs.List.{list_all}
 use Rattle.std.specs.Cmp.Lexicographic.{pointwise}
+use Rattle.std.specs.Ordering.{nat_cmp}
 use Rattle.std.specs.declared.cmp.Ordering.{Ordering}
-use Rattle.std.specs.FinMap.{FinMap, get, len}
+use Rattle.std.specs.FinMap.{FinMap, get, len, contains_key}
 use Rattle.std.specs.Str.{is_utf8}
 use Rattle.adm_types.specs.Code.{is_code}
-use Rattle.adm_types.specs.Seasons.{IsSeason}
-use Rattle.adm_types.specs.Limits.{is_name, is_school_in_range}
+use Rattle.adm_types.specs.Seasons.{IsSeason, lists_end}
+use Rattle.adm_types.specs.Limits.{is_from, is_name, is_school_in_range, is_child_in_range, is_without_repeat}
 use Rattle.adm_types.specs.declared.rows.School.{School}
-use Rattle.adm_register.specs.State.{State}
+use Rattle.adm_types.specs.declared.rows.Child.{Child}
+use Rattle.adm_types.specs.declared.rows.Application.{Application}
+use Rattle.adm_types.specs.declared.rows.PlaceRow.{PlaceRow}
+use Rattle.adm_register.specs.State.{State, code_cmp, is_plan}
 
 -- P holds of each row and its key
 abbrev pub AllRows : {K V : Type 0} {R : K → K → Ordering} → (K → V → Type 0) → FinMap R V → Type 0
 AllRows {K} {V} P rows = (key : K) (row : V) → get rows key ≡ Some row → P key row
+
+-- each code is that of a school that is there
+abbrev pub are_schools : FinMap code_cmp School → List (List ℕ) → Bool
+are_schools schools codes = list_all (contains_key schools) codes
 
 -- a school stands at its own code, with a name and numbers in their limits
 pub record SchoolFits (code : List ℕ) (school : School) : Type 0 where
@@ -29,8 +38,64 @@ is_school school = is_code school.code && is_utf8 school.name && is_name school.
 abbrev pub fits_school : List ℕ → School → Bool
 fits_school code school = pointwise nat_eq school.code code && is_school school
 
--- the season and the values are in their limits, and there are at most 200 schools
+-- a child stands at its own number, with a name and numbers in their limits, 16 flags, and siblings at schools that are there
+pub record ChildFits (schools : FinMap code_cmp School) (number : ℕ) (child : Child) : Type 0 where
+  pub own_number : child.no ≡ number
+  pub number_form : IsTrue (is_from 1 9999999 child.no)
+  pub text : IsTrue (is_utf8 child.name)
+  pub name : IsTrue (is_name child.name)
+  pub in_range : IsTrue (is_child_in_range child)
+  pub flags : IsTrue (nat_lt child.flags 65536)
+  pub siblings : IsTrue (are_schools schools child.siblings)
+
+-- the test of all but its key
+abbrev pub is_child : FinMap code_cmp School → Child → Bool
+is_child schools child =
+    is_from 1 9999999 child.no && is_utf8 child.name && is_name child.name && is_child_in_range child && nat_lt child.flags 65536 && are_schools schools child.siblings
+
+abbrev pub fits_child : FinMap code_cmp School → ℕ → Child → Bool
+fits_child schools number child = nat_eq child.no number && is_child schools child
+
+-- 1 to 6 schools that are there, without repeat, by the last day of the lists, for a child that is there
+pub record ApplicationFits (last_day : ℕ) (schools : FinMap code_cmp School) (children : FinMap nat_cmp Child) (number : ℕ) (application : Application) : Type 0 where
+  pub own_number : application.child ≡ number
+  pub child : IsTrue (contains_key children application.child)
+  pub day : IsTrue (is_from 7305 last_day application.day)
+  pub list_length : IsTrue (is_from 1 6 (length application.list))
+  pub without_repeat : IsTrue (is_without_repeat application.list)
+  pub known : IsTrue (are_schools schools application.list)
+
+-- the test of all but its key
+abbrev pub is_application : ℕ → FinMap code_cmp School → FinMap nat_cmp Child → Application → Bool
+is_application last_day schools children application =
+    contains_key children application.child && is_from 7305 last_day application.day && is_from 1 6 (length application.list)
+    && is_without_repeat application.list && are_schools schools application.list
+
+abbrev pub fits_application : ℕ → FinMap code_cmp School → FinMap nat_cmp Child → ℕ → Application → Bool
+fits_application last_day schools children number application = nat_eq application.child number && is_application last_day schools children application
+
+-- the child and the school are there; before the first round each place is that of a plan, and a child with a plan has no application
+pub record PlaceFits (schools : FinMap code_cmp School) (children : FinMap nat_cmp Child) (applications : FinMap nat_cmp Application) (number : ℕ) (row : PlaceRow) : Type 0 where
+  pub own_number : row.child ≡ number
+  pub child : IsTrue (contains_key children row.child)
+  pub school : IsTrue (contains_key schools row.place.school)
+  pub plan : IsTrue (is_plan row.place.state)
+  pub no_application : IsTrue (not (contains_key applications row.child))
+
+-- the test of all but its key
+abbrev pub is_place : FinMap code_cmp School → FinMap nat_cmp Child → FinMap nat_cmp Application → PlaceRow → Bool
+is_place schools children applications row =
+    contains_key children row.child && contains_key schools row.place.school && is_plan row.place.state && not (contains_key applications row.child)
+
+abbrev pub fits_place : FinMap code_cmp School → FinMap nat_cmp Child → FinMap nat_cmp Application → ℕ → PlaceRow → Bool
+fits_place schools children applications number row = nat_eq row.child number && is_place schools children applications row
+
+-- the season and the values are in their limits, each child and school that a row names is there, and there are at most 200 schools and 2,000 children
 pub record WellFormed (s : State) : Type 0 where
   pub season : IsSeason s.season
   pub few_schools : len s.schools ≤ 200
   pub schools : AllRows SchoolFits s.schools
+  pub few_children : len s.children ≤ 2000
+  pub children : AllRows (ChildFits s.schools) s.children
+  pub applications : AllRows (ApplicationFits (lists_end s.season) s.schools s.children) s.applications
+  pub places : AllRows (PlaceFits s.schools s.children s.applications) s.places

@@ -1,5 +1,5 @@
 // The rows of a register, as lists.
-use adm_types::{School, Season, Seq};
+use adm_types::{Application, Child, PlaceRow, School, Season, Seq};
 
 /// The rows of a register: its season, and each table's rows.
 #[derive(Drop)]
@@ -7,4 +7,10 @@ pub struct Rows {
     pub season: Season,
     /// The schools, by their codes.
     pub schools: Seq<School>,
+    /// The children, by their numbers.
+    pub children: Seq<Child>,
+    /// The applications, by their children's numbers.
+    pub applications: Seq<Application>,
+    /// The places, by their children's numbers.
+    pub places: Seq<PlaceRow>,
 }

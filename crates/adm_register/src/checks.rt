@@ -1,14 +1,19 @@
 // Whether rows are a register's.
-ghost use Rattle.std.specs.Prelude.{◌≡◌, ◌↔◌, IsTrue};
+ghost use Rattle.std.specs.Prelude.{◌≡◌, ◌≤◌, ◌↔◌, IsTrue};
 ghost use Rattle.std.specs.List.{list_all};
 ghost use Rattle.std.specs.List.Sorted.{IsStrictlySortedBy};
 ghost use Rattle.std.specs.Map.{keys_of};
-ghost use Rattle.adm_register.specs.State.{code_cmp};
-ghost use Rattle.adm_register.specs.WellFormed.{AllRows, SchoolFits, WellFormed, fits_school, is_school};
+ghost use Rattle.std.specs.Ordering.{nat_cmp};
+ghost use Rattle.std.specs.FinMap.{len};
+ghost use Rattle.adm_types.specs.Seasons.{lists_end};
+ghost use Rattle.adm_register.specs.State.{code_cmp, is_plan};
+ghost use Rattle.adm_register.specs.WellFormed.{AllRows, SchoolFits, ChildFits, ApplicationFits, PlaceFits, WellFormed};
+ghost use Rattle.adm_register.specs.WellFormed.{fits_school, is_school, fits_child, is_child, fits_application, is_application, fits_place, is_place};
 
+use crate::shared::Shared;
 use crate::tables::Tables;
-use adm_types::limits::{is_name, is_school_in_range};
-use adm_types::{School, SchoolCode};
+use adm_types::limits::{is_child_in_range, is_name, is_school_in_range, is_without_repeat};
+use adm_types::{Application, Child, ChildNo, PlaceRow, PlaceState, School, SchoolCode};
 use std::collections::BTreeMap;
 
 /// Whether the rows are a register's.
@@ -16,7 +21,18 @@ pub(crate) fn is_well_formed(tables: &Tables) -> bool
     ensures { IsTrue result ↔ WellFormed tables.now }
 {
     let _year = tables.season().year();
-    tables.school_count() <= 200 && schools_fit(tables)
+    are_few(tables)
+        && schools_fit(tables)
+        && children_fit(tables)
+        && applications_fit(tables)
+        && places_fit(tables)
+}
+
+/// Whether there are at most 200 schools and 2,000 children.
+fn are_few(tables: &Tables) -> bool
+    ensures { IsTrue result ↔ ((len tables.now.schools ≤ 200) × (len tables.now.children ≤ 2000)) }
+{
+    tables.school_count() <= 200 && tables.child_count() <= 2000
 }
 
 /// Whether each school is in its limits.
@@ -29,13 +45,13 @@ fn schools_fit(tables: &Tables) -> bool
     }
 }
 
-fn all_schools_fit(schools: &BTreeMap<SchoolCode, School>) -> bool
+fn all_schools_fit(schools: &BTreeMap<SchoolCode, Shared<School>>) -> bool
     ensures all { result ≡ list_all (λ entry. fits_school entry.0 entry.1) schools.now.entries }
     ensures ordered { IsStrictlySortedBy code_cmp (keys_of schools.now.entries) }
 {
     schools
         .iter()
-        .all(|(code, school)| fits_school(code, school))
+        .all(|(code, school)| fits_school(code, school.as_ref()))
 }
 
 fn fits_school(code: &SchoolCode, school: &School) -> bool
@@ -45,10 +61,135 @@ fn fits_school(code: &SchoolCode, school: &School) -> bool
 }
 
 /// Whether a school's name and numbers are in their limits.
-pub(crate) fn is_school(school: &School) -> bool
+fn is_school(school: &School) -> bool
     ensures { result ≡ is_school school.now }
 {
     let _code = school.code.as_str();
     let _text = school.name.as_str();
     is_name(&school.name) && is_school_in_range(school)
+}
+
+/// Whether each child is in its limits, with siblings at schools that are there.
+fn children_fit(tables: &Tables) -> bool
+    ensures { IsTrue result ↔ AllRows (ChildFits tables.now.schools) tables.now.children }
+{
+    match tables.children() {
+        None => true,
+        Some(children) => all_children_fit(tables, children),
+    }
+}
+
+fn all_children_fit(tables: &Tables, children: &BTreeMap<ChildNo, Shared<Child>>) -> bool
+    ensures all { result ≡ list_all (λ entry. fits_child tables.now.schools entry.0 entry.1) children.now.entries }
+    ensures ordered { IsStrictlySortedBy nat_cmp (keys_of children.now.entries) }
+{
+    children.iter().all(|(number, child)| fits_child(tables, number, child.as_ref()))
+}
+
+fn fits_child(tables: &Tables, number: &ChildNo, child: &Child) -> bool
+    ensures { result ≡ fits_child tables.now.schools number.now child.now }
+{
+    child.no == *number && is_child(tables, child)
+}
+
+/// Whether a child's name and numbers are in their limits, and its siblings' schools are there.
+fn is_child(tables: &Tables, child: &Child) -> bool
+    ensures { result ≡ is_child tables.now.schools child.now }
+{
+    let _number = child.no.get();
+    let _text = child.name.as_str();
+    let _flags = child.flags;
+    is_name(&child.name)
+        && is_child_in_range(child)
+        && tables.are_schools(child.siblings.as_slice())
+}
+
+/// Whether each application is in its limits, for a child and schools that are there.
+fn applications_fit(tables: &Tables) -> bool
+    ensures { IsTrue result ↔ AllRows (ApplicationFits (lists_end tables.now.season) tables.now.schools tables.now.children) tables.now.applications }
+{
+    match tables.applications() {
+        None => true,
+        Some(applications) => all_applications_fit(tables, applications),
+    }
+}
+
+fn all_applications_fit(
+    tables: &Tables,
+    applications: &BTreeMap<ChildNo, Shared<Application>>,
+) -> bool
+    ensures all { result ≡ list_all (λ entry. fits_application (lists_end tables.now.season) tables.now.schools tables.now.children entry.0 entry.1) applications.now.entries }
+    ensures ordered { IsStrictlySortedBy nat_cmp (keys_of applications.now.entries) }
+{
+    applications.iter().all(|(number, application)| fits_application(
+        tables,
+        number,
+        application.as_ref(),
+    ))
+}
+
+fn fits_application(tables: &Tables, number: &ChildNo, application: &Application) -> bool
+    ensures { result ≡ fits_application (lists_end tables.now.season) tables.now.schools tables.now.children number.now application.now }
+{
+    application.child == *number && is_application(tables, application)
+}
+
+/// Whether the child is there, the day is one of the lists, and there are 1 to 6 schools that are
+/// there, none twice.
+fn is_application(tables: &Tables, application: &Application) -> bool
+    ensures { result ≡ is_application (lists_end tables.now.season) tables.now.schools tables.now.children application.now }
+{
+    let _day = application.day.number();
+    let list = application.list.as_slice();
+    let count = 1 <= list.len() && list.len() <= 6;
+    tables.has_child(application.child)
+        && application.day <= tables.season().lists_end()
+        && count
+        && is_without_repeat(list)
+        && tables.are_schools(list)
+}
+
+/// Whether each place is that of a plan, for a child and a school that are there.
+fn places_fit(tables: &Tables) -> bool
+    ensures { IsTrue result ↔ AllRows (PlaceFits tables.now.schools tables.now.children tables.now.applications) tables.now.places }
+{
+    match tables.places() {
+        None => true,
+        Some(places) => all_places_fit(tables, places),
+    }
+}
+
+fn all_places_fit(tables: &Tables, places: &BTreeMap<ChildNo, PlaceRow>) -> bool
+    ensures all { result ≡ list_all (λ entry. fits_place tables.now.schools tables.now.children tables.now.applications entry.0 entry.1) places.now.entries }
+    ensures ordered { IsStrictlySortedBy nat_cmp (keys_of places.now.entries) }
+{
+    places
+        .iter()
+        .all(|(number, row)| fits_place(tables, number, row))
+}
+
+fn fits_place(tables: &Tables, number: &ChildNo, row: &PlaceRow) -> bool
+    ensures { result ≡ fits_place tables.now.schools tables.now.children tables.now.applications number.now row.now }
+{
+    row.child == *number && is_place(tables, row)
+}
+
+/// Whether the child and the school are there, the place is that of a plan, and the child has no
+/// application.
+fn is_place(tables: &Tables, row: &PlaceRow) -> bool
+    ensures { result ≡ is_place tables.now.schools tables.now.children tables.now.applications row.now }
+{
+    tables.has_child(row.child)
+        && tables.has_school(row.place.school)
+        && is_plan(&row.place.state)
+        && !tables.has_application(row.child)
+}
+
+fn is_plan(state: &PlaceState) -> bool
+    ensures { result ≡ is_plan state.now }
+{
+    match state {
+        PlaceState::Offered { .. } | PlaceState::Accepted => false,
+        PlaceState::Plan => true,
+    }
 }

@@ -1,19 +1,31 @@
 // The register of a season: its rows, and the commands that change them.
 #![tactic(auto)]
 
+mod add_child;
 mod add_school;
 mod all_rows;
+mod amend;
+mod apply;
 mod checks;
+mod child_values;
+mod difference;
 mod laws;
+mod name_plan;
 mod not_done;
 mod registers;
 mod rows_fault;
+mod rows_in;
+mod same;
+mod shared;
 mod table;
 mod tables;
 mod tests_of;
+mod touched;
 
 pub use all_rows::Rows;
+pub use difference::{Difference, difference_of};
 pub use laws::repeat_safe;
 pub use not_done::NotDone;
 pub use registers::Register;
 pub use rows_fault::RowsFault;
+pub use touched::Touched;

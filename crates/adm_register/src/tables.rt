@@ -1,16 +1,21 @@
 // The rows of a register, of which nothing is asked.
-ghost use Rattle.std.specs.Prelude.{◌≡◌, IfOk, IfSome, IfNone, option_copied, map as each};
-ghost use Rattle.std.specs.List.{IsDistinct};
-ghost use Rattle.std.specs.Ordering.{eq_by_cmp};
+ghost use Rattle.std.specs.Prelude.{◌≡◌, IfOk, option_copied, count_by, nat_eq};
 ghost use Rattle.std.specs.FinMap as map;
-ghost use Rattle.adm_register.specs.Rows.{rows_of, AreRowsOf};
-ghost use Rattle.adm_register.specs.State.{only_season, code_cmp};
+ghost use Rattle.std.specs.Map.{keys_of, values_of};
+ghost use Rattle.std.specs.List.Sorted.{IsStrictlySortedBy};
+ghost use Rattle.std.specs.Ordering.{nat_cmp};
+ghost use Rattle.std.specs.Cmp.Lexicographic.{pointwise};
+ghost use Rattle.adm_register.specs.Plans.{has_plan};
+ghost use Rattle.adm_register.specs.Rows.{place_of, places_at, vacancies};
+ghost use Rattle.adm_register.specs.State.{only_season};
 ghost use Rattle.adm_register.specs.TableRows.{rows_in};
-ghost use Rattle.adm_register.specs.WellFormed.{AllRows};
+ghost use Rattle.adm_register.specs.WellFormed.{are_schools};
 
-use crate::Rows;
+use crate::shared::Shared;
 use crate::table::{Keyed, Table};
-use adm_types::{School, SchoolCode, Season, Seq};
+use adm_types::{
+    Application, Child, ChildNo, Place, PlaceRow, PlaceState, School, SchoolCode, Season,
+};
 use std::alloc::{AllocError, Global};
 use std::collections::BTreeMap;
 use std::marker::Model;
@@ -23,11 +28,38 @@ impl Keyed<SchoolCode> for School {
     }
 }
 
+impl Keyed<ChildNo> for Child {
+    ghost key = { λ child. child.no };
+
+    fn key(&self) -> ChildNo {
+        self.no
+    }
+}
+
+impl Keyed<ChildNo> for Application {
+    ghost key = { λ application. application.child };
+
+    fn key(&self) -> ChildNo {
+        self.child
+    }
+}
+
+impl Keyed<ChildNo> for PlaceRow {
+    ghost key = { λ row. row.child };
+
+    fn key(&self) -> ChildNo {
+        self.child
+    }
+}
+
 /// A season and tables of rows.
 #[derive(Drop)]
 pub(crate) struct Tables {
-    season: Season,
-    schools: Table<SchoolCode, School>,
+    pub(crate) season: Season,
+    pub(crate) schools: Table<SchoolCode, Shared<School>>,
+    pub(crate) children: Table<ChildNo, Shared<Child>>,
+    pub(crate) applications: Table<ChildNo, Shared<Application>>,
+    pub(crate) places: Table<ChildNo, PlaceRow>,
 }
 
 impl Model for Tables {
@@ -38,7 +70,13 @@ impl Model for Tables {
 
     ghost coded = { coded_state };
 
-    ghost view = { λ r. record { season = r.season; schools = from_entries r.schools } };
+    ghost view = { λ r. record {
+      season = r.season;
+      schools = from_entries r.schools;
+      children = from_entries r.children;
+      applications = from_entries r.applications;
+      places = from_entries r.places;
+    } };
 }
 
 impl Tables {
@@ -48,6 +86,9 @@ impl Tables {
         Tables {
             season,
             schools: Table::new(),
+            children: Table::new(),
+            applications: Table::new(),
+            places: Table::new(),
         }
     }
 
@@ -58,6 +99,9 @@ impl Tables {
         Ok(Tables {
             season: self.season.clone()?,
             schools: self.schools.share()?,
+            children: self.children.share()?,
+            applications: self.applications.share()?,
+            places: self.places.share()?,
         })
     }
 
@@ -70,7 +114,35 @@ impl Tables {
     pub(crate) fn school(&self, code: SchoolCode) -> Option<&School>
         ensures { option_copied result ≡ map.get self.now.schools code }
     {
-        self.schools.get(&code)
+        self.schools.row(&code)
+    }
+
+    pub(crate) fn child(&self, number: ChildNo) -> Option<&Child>
+        ensures { option_copied result ≡ map.get self.now.children number }
+    {
+        self.children.row(&number)
+    }
+
+    pub(crate) fn application(&self, number: ChildNo) -> Option<&Application>
+        ensures { option_copied result ≡ map.get self.now.applications number }
+    {
+        self.applications.row(&number)
+    }
+
+    fn place_row(&self, child: ChildNo) -> Option<&PlaceRow>
+        ensures { option_copied result ≡ map.get self.now.places child }
+    {
+        self.places.get(&child)
+    }
+
+    /// The child's place.
+    pub(crate) fn place(&self, child: ChildNo) -> Option<Place>
+        ensures { result ≡ place_of self.now child }
+    {
+        match self.place_row(child) {
+            Some(row) => Some(row.place),
+            None => None,
+        }
     }
 
     pub(crate) fn has_school(&self, code: SchoolCode) -> bool
@@ -79,47 +151,175 @@ impl Tables {
         self.school(code).is_some()
     }
 
+    pub(crate) fn has_child(&self, number: ChildNo) -> bool
+        ensures { result ≡ map.contains_key self.now.children number }
+    {
+        self.child(number).is_some()
+    }
+
+    pub(crate) fn has_application(&self, number: ChildNo) -> bool
+        ensures { result ≡ map.contains_key self.now.applications number }
+    {
+        self.application(number).is_some()
+    }
+
+    /// Whether the child's place is that of a plan.
+    pub(crate) fn has_plan(&self, child: ChildNo) -> bool
+        ensures { result ≡ has_plan self.now.places child }
+    {
+        match self.place_row(child) {
+            None => false,
+            Some(row) => match row.place.state {
+                PlaceState::Offered { .. } | PlaceState::Accepted => false,
+                PlaceState::Plan => true,
+            },
+        }
+    }
+
+    /// Whether each code is that of a school that is there.
+    pub(crate) fn are_schools(&self, codes: &[SchoolCode]) -> bool
+        ensures { result ≡ are_schools self.now.schools codes.now }
+    {
+        codes.iter().all(|code| self.has_school(*code))
+    }
+
     pub(crate) fn school_count(&self) -> usize
         ensures { result ≡ map.len self.now.schools }
     {
         self.schools.len()
     }
 
+    pub(crate) fn child_count(&self) -> usize
+        ensures { result ≡ map.len self.now.children }
+    {
+        self.children.len()
+    }
+
     /// The schools as a map; `None` where there are none.
-    pub(crate) fn schools(&self) -> Option<&BTreeMap<SchoolCode, School>>
+    pub(crate) fn schools(&self) -> Option<&BTreeMap<SchoolCode, Shared<School>>>
         ensures { map.from_entries (rows_in result) ≡ self.now.schools }
     {
         self.schools.map()
+    }
+
+    /// The children as a map; `None` where there are none.
+    pub(crate) fn children(&self) -> Option<&BTreeMap<ChildNo, Shared<Child>>>
+        ensures { map.from_entries (rows_in result) ≡ self.now.children }
+    {
+        self.children.map()
+    }
+
+    /// The applications as a map; `None` where there are none.
+    pub(crate) fn applications(&self) -> Option<&BTreeMap<ChildNo, Shared<Application>>>
+        ensures { map.from_entries (rows_in result) ≡ self.now.applications }
+    {
+        self.applications.map()
+    }
+
+    /// The places as a map; `None` where there are none.
+    pub(crate) fn places(&self) -> Option<&BTreeMap<ChildNo, PlaceRow>>
+        ensures { map.from_entries (rows_in result) ≡ self.now.places }
+    {
+        self.places.map()
     }
 
     /// With this school at its code.
     pub(crate) fn put_school(&self, alloc: Global, school: School) -> Result<Tables, AllocError>
         ensures { IfOk result (λ new. new ≡ record self.now { schools = map.insert self.now.schools school.code school }) }
     {
-        let mut new = self.share()?;
-        new.schools = self.schools.with(alloc, school.code, school)?;
-        Ok(new)
+        let code = school.code;
+        let row = Shared::new(alloc, school)?;
+        let mut tables = self.share()?;
+        tables.schools = self.schools.with(alloc, code, row)?;
+        Ok(tables)
     }
 
-    /// The tables of these rows; `None` where two rows of a table have one key.
-    pub(crate) fn of_rows(alloc: Global, rows: Rows) -> Result<Option<Tables>, AllocError>
-        ensures made { IfOk result (λ made. IfSome made (λ tables. AreRowsOf rows tables × AllRows (λ code school. school.code ≡ code) tables.schools)) }
-        ensures repeated { IfOk result (λ made. IfNone made (IsDistinct (eq_by_cmp code_cmp) (each (λ school. school.code) rows.schools) → ⊥)) }
+    /// With this child at its number.
+    pub(crate) fn put_child(&self, alloc: Global, child: Child) -> Result<Tables, AllocError>
+        ensures { IfOk result (λ new. new ≡ record self.now { children = map.insert self.now.children child.no child }) }
     {
-        let Rows { season, schools } = rows;
-        match Table::of_rows(alloc, schools.into_vec())? {
-            Some(schools) => Ok(Some(Tables { season, schools })),
-            None => Ok(None),
+        let number = child.no;
+        let row = Shared::new(alloc, child)?;
+        let mut tables = self.share()?;
+        tables.children = self.children.with(alloc, number, row)?;
+        Ok(tables)
+    }
+
+    /// With this application at its child's number.
+    pub(crate) fn put_application(
+        &self,
+        alloc: Global,
+        application: Application,
+    ) -> Result<Tables, AllocError>
+        ensures { IfOk result (λ new. new ≡ record self.now { applications = map.insert self.now.applications application.child application }) }
+    {
+        let number = application.child;
+        let row = Shared::new(alloc, application)?;
+        let mut tables = self.share()?;
+        tables.applications = self.applications.with(alloc, number, row)?;
+        Ok(tables)
+    }
+
+    /// Without the child's application.
+    pub(crate) fn cut_application(
+        &self,
+        alloc: Global,
+        child: ChildNo,
+    ) -> Result<Tables, AllocError>
+        ensures { IfOk result (λ new. new ≡ record self.now { applications = map.remove self.now.applications child }) }
+    {
+        let mut tables = self.share()?;
+        tables.applications = self.applications.without(alloc, &child)?;
+        Ok(tables)
+    }
+
+    /// With this place of the child.
+    pub(crate) fn put_place(
+        &self,
+        alloc: Global,
+        child: ChildNo,
+        school: SchoolCode,
+        state: PlaceState,
+    ) -> Result<Tables, AllocError>
+        ensures { IfOk result (λ new. new ≡ record self.now { places = map.insert self.now.places child (record { child = child; place = record { school = school; state = state } }) }) }
+    {
+        let place = Place { school, state };
+        let mut tables = self.share()?;
+        tables.places = self.places.with(alloc, child, PlaceRow { child, place })?;
+        Ok(tables)
+    }
+
+    /// How many places there are at the school.
+    fn places_at(&self, code: SchoolCode) -> usize
+        ensures { result ≡ places_at self.now code }
+    {
+        match self.places() {
+            None => 0,
+            Some(places) => count_at(places, code),
         }
     }
 
-    /// All rows, each table's in the order of its key.
-    pub(crate) fn rows(&self, alloc: Global) -> Result<Rows, AllocError>
-        ensures { IfOk result (λ rows. rows ≡ rows_of self.now) }
+    /// The school's admission number less all places there, not below 0.
+    pub(crate) fn vacancies(&self, code: SchoolCode) -> Option<u32>
+        ensures { result ≡ vacancies self.now code }
     {
-        Ok(Rows {
-            season: self.season.clone()?,
-            schools: Seq::from_vec(self.schools.to_vec(alloc)?),
-        })
+        match self.school(code) {
+            None => None,
+            Some(school) => {
+                let pan = school.pan as usize;
+                Some(pan.saturating_sub(self.places_at(code)) as u32)
+            }
+        }
     }
+}
+
+/// How many of the places are at the school.
+fn count_at(places: &BTreeMap<ChildNo, PlaceRow>, code: SchoolCode) -> usize
+    ensures count { result ≡ count_by (λ row. pointwise nat_eq row.place.school code) (values_of places.now.entries) }
+    ensures ordered { IsStrictlySortedBy nat_cmp (keys_of places.now.entries) }
+{
+    places
+        .values()
+        .filter(|row| row.place.school == code)
+        .count()
 }

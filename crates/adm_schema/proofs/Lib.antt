@@ -6,4 +6,6 @@ pub mod Inside
 pub mod Creates
 pub mod Creation
 pub mod Texts
+pub mod RowTexts
 pub mod OneTest
+pub mod OneRow

@@ -1,5 +1,5 @@
 -- A CHECK that is one test of the first column.
-use Rattle.std.proofs.Common.{◌≡◌, ◌∙◌, ℕ, zero, suc, ◌<◌, ◌≤◌, ◌+◌, ◌-◌, Bool, true, List, [], ◌∷◌, length, refl, ap, sym, subst, arith, pos, slice_index_or}
+use Rattle.std.proofs.Common.{◌≡◌, ◌∙◌, ℕ, suc, ◌<◌, ◌≤◌, ◌-◌, Bool, true, List, [], ◌∷◌, length, refl, ap, sym, subst, arith, pos, slice_index_or}
 use Rattle.std.specs.Prelude.{◌↔◌}
 use Rattle.sqlite.specs.Term.{Term, op2, col, lit}
 use Rattle.sqlite.specs.declared.types.Value.TheVariants.{Null, Int}

@@ -31,17 +31,17 @@ pub asks_schools : Asks register_schema text.select_schools 1 text.school_column
 unfolding understood everything
 asks_schools = record { names = _; command = refl; unlisted = refl; plain = (refl, refl) }
 
-pub looks_into_child : Asks register_schema text.look_into_child 3 (col 1 0 ∷ []) []
+pub asks_children : Asks register_schema text.select_children 3 text.child_columns text.by_child
 unfolding understood everything
-looks_into_child = record { names = _; command = refl; unlisted = refl; plain = (refl, refl) }
+asks_children = record { names = _; command = refl; unlisted = refl; plain = (refl, refl) }
 
-pub looks_into_application : Asks register_schema text.look_into_application 4 (col 1 0 ∷ []) []
+pub asks_applications : Asks register_schema text.select_applications 4 text.application_columns text.by_child
 unfolding understood everything
-looks_into_application = record { names = _; command = refl; unlisted = refl; plain = (refl, refl) }
+asks_applications = record { names = _; command = refl; unlisted = refl; plain = (refl, refl) }
 
-pub looks_into_place : Asks register_schema text.look_into_place 5 (col 1 0 ∷ []) []
+pub asks_places : Asks register_schema text.select_places 5 text.place_columns text.by_child
 unfolding understood everything
-looks_into_place = record { names = _; command = refl; unlisted = refl; plain = (refl, refl) }
+asks_places = record { names = _; command = refl; unlisted = refl; plain = (refl, refl) }
 
 pub looks_into_left_list : Asks register_schema text.look_into_left_list 6 (col 1 1 ∷ []) []
 unfolding understood everything

@@ -1,8 +1,10 @@
 -- What a statement inside a transaction leaves.
-use Rattle.std.specs.Prelude.{◌≡◌, ◌≢◌, List, ◌∷◌, ◌++◌, [], IsTrue, IsPermutation}
+use Rattle.std.specs.Prelude.{◌≡◌, ◌≢◌, ◌⊎◌, ◌<◌, ℕ, ℤ, List, ◌∷◌, ◌++◌, [], fold, IsTrue, IsPermutation}
 use Rattle.std.specs.List.{AllByRecursion}
 use Rattle.sqlite.specs.Order.{Row}
 use Rattle.sqlite.specs.Table.{Table}
+use Rattle.sqlite.specs.Tree.{rowid, without_rowid}
+use Rattle.sqlite.specs.Edit.{id_in, have_rowids, without_all}
 use Rattle.sqlite.specs.Effect.{IsDatabase}
 use Rattle.sqlite.specs.Schema.{Schema}
 use Rattle.sqlite.specs.State.{State, HasCleanDisk}
@@ -12,6 +14,10 @@ use Rattle.adm_schema.specs.Rows.{rows_of}
 -- while it is open, it sees these tables
 abbrev pub Sees : Schema → State → Type 0
 Sees schema s = HasCleanDisk s → IsTrue s.is_open → s.now.schema ≡ schema
+
+-- while it is open, what it sees is a database
+abbrev pub SeesDatabase : State → Type 0
+SeesDatabase s = HasCleanDisk s → IsTrue s.is_open → IsDatabase s.now
 
 -- it sees these tables, and none has a row
 pub record SeesNoRows (schema : Schema) (s : State) : Type 0 where
@@ -35,3 +41,41 @@ pub record AddsRow (table : Table) (row : Row) (old new : State) : Type 0 where
 pub record AddsRows (table : Table) (rows : List Row) (old new : State) : Type 0 where
   pub only : WritesOnly table old new
   pub adds : IsPermutation (rows_of table old.now.trees ++ rows) (rows_of table new.now.trees)
+
+-- after this many writes, or where it was open before, the transaction is open
+abbrev pub GoesOn : ℕ → State → State → Type 0
+GoesOn writes old new = (0 < writes) ⊎ IsTrue old.is_open → IsTrue new.is_open
+
+-- ---- a table whose key is an integer in its first column
+
+-- the number in a row's first column
+abbrev pub key_of : Row → ℤ
+key_of row = id_in (rowid row)
+
+-- the rows, with this one in place of the one of its key
+abbrev pub put_in : Row → List Row → List Row
+put_in row rows = row ∷ without_rowid (key_of row) rows
+
+-- the same for each of these rows, one after another
+abbrev pub put_each : List Row → List Row → List Row
+put_each = fold (λ rows row. put_in row rows)
+
+-- where each row has an integer as its key, this table has the rows that come of the old ones so, in some order, and each has an integer as its key
+pub record Turns (table : Table) (change : List Row → List Row) (old new : State) : Type 0 where
+  pub only : WritesOnly table old new
+  pub rows : IsTrue (have_rowids (rows_of table old.now.trees)) → IsPermutation (change (rows_of table old.now.trees)) (rows_of table new.now.trees)
+  pub keyed : IsTrue (have_rowids (rows_of table old.now.trees)) → IsTrue (have_rowids (rows_of table new.now.trees))
+
+-- this table has this row in place of the one of its key
+abbrev pub PutsRow : Table → Row → State → State → Type 0
+PutsRow table row = Turns table (put_in row)
+
+abbrev pub PutsRows : Table → List Row → State → State → Type 0
+PutsRows table news = Turns table (λ rows. put_each rows news)
+
+-- this table has no row of this key
+abbrev pub CutsRow : Table → ℤ → State → State → Type 0
+CutsRow table key = Turns table (without_rowid key)
+
+abbrev pub CutsRows : Table → List ℤ → State → State → Type 0
+CutsRows table keys = Turns table (λ rows. without_all rows keys)

@@ -4,4 +4,5 @@ pub mod Effects
 pub mod Schema
 pub mod Creations
 pub mod Texts
+pub mod RowTexts
 pub mod Made

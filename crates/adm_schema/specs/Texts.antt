@@ -39,14 +39,27 @@ school_columns = col 1 1 ∷ col 1 2 ∷ col 1 3 ∷ col 1 4 ∷ col 1 5 ∷ col
 abbrev pub by_code : List (Term × Key)
 by_code = (col 1 1, record { collation = Binary; descending = false }) ∷ []
 
-abbrev pub look_into_child : List ℕ
-look_into_child = codes "SELECT child FROM child"
+abbrev pub select_children : List ℕ
+select_children = codes "SELECT child, name, east, north, looked_after, flags, siblings FROM child ORDER BY child"
 
-abbrev pub look_into_application : List ℕ
-look_into_application = codes "SELECT child FROM application"
+abbrev pub child_columns : List Term
+child_columns = col 1 0 ∷ col 1 2 ∷ col 1 3 ∷ col 1 4 ∷ col 1 5 ∷ col 1 6 ∷ col 1 7 ∷ []
 
-abbrev pub look_into_place : List ℕ
-look_into_place = codes "SELECT child FROM place"
+abbrev pub select_applications : List ℕ
+select_applications = codes "SELECT child, day, preferences FROM application ORDER BY child"
+
+abbrev pub application_columns : List Term
+application_columns = col 1 0 ∷ col 1 2 ∷ col 1 3 ∷ []
+
+abbrev pub select_places : List ℕ
+select_places = codes "SELECT child, school, kind, day, reminded FROM place ORDER BY child"
+
+abbrev pub place_columns : List Term
+place_columns = col 1 0 ∷ col 1 2 ∷ col 1 3 ∷ col 1 4 ∷ col 1 5 ∷ []
+
+-- in the order of the children's numbers
+abbrev pub by_child : List (Term × Key)
+by_child = (col 1 0, record { collation = Binary; descending = false }) ∷ []
 
 abbrev pub look_into_left_list : List ℕ
 look_into_left_list = codes "SELECT child FROM left_list"
@@ -65,4 +78,4 @@ look_into_imported = codes "SELECT child FROM imported"
 
 -- the texts that show whether each other table has a row
 abbrev pub looks : List (List ℕ)
-looks = look_into_child ∷ look_into_application ∷ look_into_place ∷ look_into_left_list ∷ look_into_draw ∷ look_into_offer ∷ look_into_lot ∷ look_into_imported ∷ []
+looks = look_into_left_list ∷ look_into_draw ∷ look_into_offer ∷ look_into_lot ∷ look_into_imported ∷ []

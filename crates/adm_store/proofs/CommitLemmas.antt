@@ -1,14 +1,26 @@
 -- What a transaction of the store leaves.
-use Rattle.std.proofs.Common.{◌≡◌, ◌≢◌, ◌≤◌, length, inl, inr, List, [], ◌∷◌, ◌++◌, map, refl, sym, ap, ◌∙◌, subst, IsTrue, true, false, append-nil, Ok, Err, Result, OnOk, IfOk, IfErr, arith}
+use Rattle.std.proofs.Common.{◌≡◌, ◌≤◌, ◌+◌, ℕ, pos, length, inl, inr, List, [], ◌∷◌, ◌++◌, map, not, refl, sym, ap, ◌∙◌, subst, subst₂, IsTrue, true, false, append-nil, Ok, Err, Result, Some, None, Option, OnOk, IfOk, IfErr, arith}
+use Rattle.std.specs.Prelude.{is_some}
+use Rattle.std.specs.Ordering.{nat_cmp}
+use Rattle.std.specs.Cmp.{nat_cmp_total}
 use Rattle.std.proofs.lemmas.List.{map-append}
 use Rattle.std.specs.List.Sorted.{IsPermutation}
 use Rattle.std.proofs.lemmas.List.Sorted.{IsPermutation-refl, IsPermutation-map, IsPermutation-trans, IsPermutation-append_left, IsPermutation-sym}
-use Rattle.std.specs.FinMap.{values}
+use Rattle.std.specs.FinMap.{FinMap, get, values, contains_key, nat_cmp-IsAntisymmetric}
+use Rattle.adm_types.specs.declared.rows.Child.{Child}
+use Rattle.adm_types.specs.declared.rows.Application.{Application}
+use Rattle.adm_types.specs.declared.rows.PlaceRow.{PlaceRow}
+use Rattle.adm_types.specs.contracts.rows.Child.{the_row as child_code}
+use Rattle.adm_types.specs.contracts.rows.Application.{the_row as application_code}
+use Rattle.adm_types.specs.contracts.rows.PlaceRow.{the_row as place_code}
 use Rattle.adm_register.specs.State.{State as Register}
+use Rattle.adm_register.specs.WellFormed.{WellFormed}
+use Rattle.adm_register.specs.Difference.{ended}
 use Rattle.sqlite.specs.Order.{Row}
 use Rattle.sqlite.specs.Schema.{Schema}
 use Rattle.sqlite.specs.Table.{Table}
 use Rattle.sqlite.specs.Tree.{Trees}
+use Rattle.sqlite.specs.Edit.{have_rowids, without_all}
 use Rattle.sqlite.specs.Effect.{Database, IsDatabase}
 use Rattle.sqlite.specs.State.{State, HasCleanDisk, IsLive, Shows, Survives}
 use Rattle.sqlite.proofs.StateLemmas.{survives_then}
@@ -19,15 +31,17 @@ use Rattle.sqlite_trees.specs.Objects.{catalog_tree}
 use Rattle.sqlite_catalog.specs.Listing.{IsSound, Lists}
 use Rattle.sqlite_catalog.proofs.ReadLemmas.{lists_once}
 use Rattle.sqlite_rules.specs.Lists.{Has}
+use Rattle.sqlite_rules.proofs.ListLemmas.{has_filtered, has_kept}
 use Rattle.adm_schema.specs.Rows.{columns_of, rows_of}
-use Rattle.adm_schema.specs.Effects.{Sees, WritesOnly, AddsRows}
+use Rattle.adm_schema.specs.Effects.{Sees, SeesDatabase, put_each}
 use Rattle.adm_schema.specs.Schema.{meta, school, child, application, place, left_list, draw, offer, lot, imported, register_schema}
-use Rattle.adm_store.specs.Forms.{season_row, school_row}
-use Rattle.adm_store.specs.StandsFor.{StandsFor, HoldsRegister, LeavesOnly, LeavesEither}
-use Rattle.adm_store.specs.Changes.{IsStep, new_schools, written}
+use Rattle.adm_schema.proofs.Lists.{has_source, has_mapped}
+use Rattle.adm_store.specs.Forms.{season_row, school_row, child_row, application_row, place_row}
+use Rattle.adm_store.specs.StandsFor.{StandsFor, HoldsRegister, HoldNothing, LeavesOnly, LeavesEither}
+use Rattle.adm_store.specs.Changes.{IsStep, written_school, written_child, written_application}
+use Rattle.adm_store.specs.Writes.{IsOther, WritesChanges}
 use Rattle.adm_store.specs.declared.rows.Changes.{Changes}
-use Rattle.adm_store.specs.declared.rows.SchoolRow.{SchoolRow}
-use Rattle.adm_store.proofs.MapLemmas.{old_and_new}
+use Rattle.adm_store.proofs.MapLemmas.{old_and_new, coded_stable, table_new, less_each, other_key, gone_key, still_none, has_value}
 
 -- outside a transaction, what a connection sees of a file that stands for a register
 pub holds_now : (s : State) (r : Register) → LeavesOnly r s → (IsTrue s.is_open → s.may_leave s.committed.trees) → (IsTrue s.is_open → s.now ≡ s.committed) → IsLive s
@@ -40,53 +54,111 @@ holds_now s r before stays settled live clean is_open =
 
 -- the schools of the new register are those of the old one and the new ones
 school_rows : (old new : Register) (changes : Changes) → IsStep old new changes → (was now : List Row) → IsPermutation (map school_row (values old.schools)) was
-    → IsPermutation (was ++ map written changes.schools) now → IsPermutation (map school_row (values new.schools)) now
+    → IsPermutation (was ++ map written_school changes.schools) now → IsPermutation (map school_row (values new.schools)) now
 school_rows old new changes step was now held adds =
-    let more = IsPermutation-map school_row _ _ (IsPermutation-sym _ _ (old_and_new old new step.formed step.extends)) in
-    let parts = map-append school_row (values old.schools) (new_schools old new) in
+    let news = step.changes_are.difference.schools in
+    let more = IsPermutation-map school_row _ _ (IsPermutation-sym _ _ (old_and_new old new news step.formed step.extends step.changes_are.differs.schools)) in
+    let parts = map-append school_row (values old.schools) news in
     let each = subst (λ xs. IsPermutation (map school_row (values new.schools)) xs) parts more in
     let put = subst (λ xs. IsPermutation (map school_row (values new.schools)) (map school_row (values old.schools) ++ xs)) (sym step.changes_are.schools) each in
-    IsPermutation-trans _ _ _ put (IsPermutation-trans _ _ _ (IsPermutation-append_left (map written changes.schools) _ _ held) adds)
+    IsPermutation-trans _ _ _ put (IsPermutation-trans _ _ _ (IsPermutation-append_left (map written_school changes.schools) _ _ held) adds)
 
-kept : (t : Table) (old new : State) → Has register_schema.tables t → t.tree ≢ school.tree → old.now.schema ≡ register_schema → WritesOnly school old new → new.now.trees t.tree ≡ old.now.trees t.tree
-kept t old new listed differ has only = only.others t (subst (λ (s : Schema). Has s.tables t) (sym has) listed) differ
+-- where every key stays, none is gone
+still_there : {V : Type 0} (old new : FinMap nat_cmp V) → ((q : ℕ) → IsTrue (contains_key old q) → IsTrue (contains_key new q)) → (q : ℕ) → get new q ≡ None → get old q ≡ None
+still_there old new stay q none = go (get old q) refl
+  where
+    go : (o : Option _) → get old q ≡ o → o ≡ None
+    go None is = refl
+    go (Some v) is = absurd (let wrong : true ≡ false = sym (stay q (ap is_some is)) ∙ ap is_some none in cc)
+
+child_rows : (old new : Register) (changes : Changes) → IsStep old new changes → WellFormed old → (was now : List Row) → IsPermutation (map child_row (values old.children)) was
+    → (IsTrue (have_rowids was) → IsPermutation (put_each was (map written_child changes.children)) now) → IsPermutation (map child_row (values new.children)) now
+child_rows old new changes step formed was now held turns =
+    table_new (λ (c : Child). c.no) child_row (λ _. refl) (coded_stable child_code.coded) old.children new.children [] step.changes_are.difference.children (map written_child changes.children) was now
+    (λ k v there. (formed.children k v there).own_number) (λ k v there. (step.formed.children k v there).own_number) step.changes_are.differs.children
+    (still_there old.children new.children step.extends.children) (λ q v there. refl) step.changes_are.children held turns
+
+place_rows : (old new : Register) (changes : Changes) → IsStep old new changes → WellFormed old → (was now : List Row) → IsPermutation (map place_row (values old.places)) was
+    → (IsTrue (have_rowids was) → IsPermutation (put_each was (map place_row changes.places)) now) → IsPermutation (map place_row (values new.places)) now
+place_rows old new changes step formed was now held turns =
+    table_new (λ (p : PlaceRow). p.child) place_row (λ _. refl) (coded_stable place_code.coded) old.places new.places [] step.changes_are.difference.places (map place_row changes.places) was now
+    (λ k v there. (formed.places k v there).own_number) (λ k v there. (step.formed.places k v there).own_number) step.changes_are.differs.places
+    (still_there old.places new.places step.extends.places) (λ q v there. refl) (ap (map place_row) step.changes_are.places) held turns
+
+abbrev child_of : Application → ℕ
+child_of a = a.child
+
+application_rows : (old new : Register) (changes : Changes) → IsStep old new changes → WellFormed old → (was now : List Row) → IsPermutation (map application_row (values old.applications)) was
+    → (IsTrue (have_rowids was) → IsPermutation (put_each (without_all was (map pos changes.ended)) (map written_application changes.applications)) now) → IsPermutation (map application_row (values new.applications)) now
+application_rows old new changes step formed was now held turns =
+    table_new child_of application_row (λ _. refl) (coded_stable application_code.coded) old.applications new.applications changes.ended step.changes_are.difference.applications (map written_application changes.applications) was now
+    own (λ k v there. (step.formed.applications k v there).own_number) step.changes_are.differs.applications
+    (λ q none. gone q none (get old.applications q) refl)
+    (λ q v there. other_key child_of application_row (λ _. refl) changes.ended old.applications q (λ h. stays q v there h)) step.changes_are.applications held turns
+  where
+    own : (k : ℕ) (a : Application) → get old.applications k ≡ Some a → a.child ≡ k
+    own k a there = (formed.applications k a there).own_number
+
+    keys : changes.ended ≡ map child_of (ended old new)
+    keys = step.changes_are.ended ∙ step.changes_are.differs.ended
+
+    gone : (q : ℕ) → get new.applications q ≡ None → (o : Option Application) → get old.applications q ≡ o → get (less_each child_of application_row (λ _. refl) old.applications changes.ended) q ≡ None
+    gone q none None was = still_none child_of application_row (λ _. refl) changes.ended old.applications q was
+    gone q none (Some a) was =
+        let at : a.child ≡ q = own q a was in
+        let lacks : not (contains_key new.applications a.child) ≡ true = ap (λ k. not (contains_key new.applications k)) at ∙ ap (λ o. not (is_some o)) none in
+        let is_ended = has_kept (λ (x : Application). not (contains_key new.applications x.child)) (values old.applications) a (has_value nat_cmp_total nat_cmp-IsAntisymmetric old.applications q a was) lacks in
+        gone_key child_of application_row (λ _. refl) changes.ended old.applications q (subst (λ ks. Has ks q) (sym keys) (subst (Has (map child_of (ended old new))) at (has_mapped child_of (ended old new) a is_ended)))
+
+    stays : (q : ℕ) (v : Application) → get new.applications q ≡ Some v → Has changes.ended q → ⊥
+    stays q v there h =
+        let it = has_source child_of (ended old new) q (subst (λ ks. Has ks q) keys h) in
+        let lacks = (has_filtered (λ (x : Application). not (contains_key new.applications x.child)) (values old.applications) it.0 it.1).1 in
+        let here : not (contains_key new.applications it.0.child) ≡ false = ap (λ k. not (contains_key new.applications k)) (sym it.2) ∙ ap (λ o. not (is_some o)) there in
+        let wrong : true ≡ false = sym lacks ∙ here in
+        cc
+
+-- a table to which no writer writes
+same_other : (was now : Trees) → ((t : Table) → Has register_schema.tables t → IsOther t → now t.tree ≡ was t.tree) → HoldNothing was → HoldNothing now
+same_other was now others h = (
+  others left_list (inr (inr (inr (inr (inr (inl refl)))))) (omega arith, omega arith, omega arith, omega arith) ∙ h.0,
+  (
+    others draw (inr (inr (inr (inr (inr (inr (inl refl))))))) (omega arith, omega arith, omega arith, omega arith) ∙ h.1.0,
+    (
+      others offer (inr (inr (inr (inr (inr (inr (inr (inl refl)))))))) (omega arith, omega arith, omega arith, omega arith) ∙ h.1.1.0,
+      (
+        others lot (inr (inr (inr (inr (inr (inr (inr (inr (inl refl))))))))) (omega arith, omega arith, omega arith, omega arith) ∙ h.1.1.1.0,
+        (others imported (inr (inr (inr (inr (inr (inr (inr (inr (inr (inl refl)))))))))) (omega arith, omega arith, omega arith, omega arith) ∙ h.1.1.1.1.0, tt),
+      ),
+    ),
+  ),
+)
+
+-- trees that come of those of the old register by these changes
+new_trees : (was now : Trees) (old new : Register) (changes : Changes) → IsStep old new changes → HoldsRegister was old → IsSound register_schema now
+    → IsPermutation (rows_of school was ++ map written_school changes.schools) (rows_of school now)
+    → (IsTrue (have_rowids (rows_of child was)) → IsPermutation (put_each (rows_of child was) (map written_child changes.children)) (rows_of child now))
+    → (IsTrue (have_rowids (rows_of application was)) → IsPermutation (put_each (without_all (rows_of application was) (map pos changes.ended)) (map written_application changes.applications)) (rows_of application now))
+    → (IsTrue (have_rowids (rows_of place was)) → IsPermutation (put_each (rows_of place was) (map place_row changes.places)) (rows_of place now))
+    → ((t : Table) → Has register_schema.tables t → IsOther t → now t.tree ≡ was t.tree) → StandsFor now new
+new_trees was now old new changes step held sound schools children applications places others = record {
+  sound = sound;
+  holds = record {
+    season = ap (map (columns_of meta)) (others meta (inl refl) (omega arith, omega arith, omega arith, omega arith)) ∙ held.season ∙ ap (λ s. season_row s ∷ []) (sym step.extends.season);
+    schools = school_rows old new changes step (rows_of school was) (rows_of school now) held.schools schools;
+    children = child_rows old new changes step held.formed (rows_of child was) (rows_of child now) held.children children;
+    applications = application_rows old new changes step held.formed (rows_of application was) (rows_of application now) held.applications applications;
+    places = place_rows old new changes step held.formed (rows_of place was) (rows_of place now) held.places places;
+    others = same_other was now others held.others;
+    formed = step.formed;
+  };
+}
 
 pub stands : (start end : State) (old new : Register) (changes : Changes) → IsStep old new changes → (start.now.schema ≡ register_schema) × HoldsRegister start.now.trees old
-    → AddsRows school (map written changes.schools) start end → StandsFor end.now.trees new
-stands start end old new changes step held added =
-    let only = added.only in
-    let has = held.0 in
-    let h = held.1.others in
-    record {
-      sound = subst (λ s. IsSound s end.now.trees) (only.schema ∙ has) only.sound;
-      holds = record {
-        season = ap (map (columns_of meta)) (kept meta start end (inl refl) (omega arith) has only) ∙ held.1.season ∙ ap (λ s. season_row s ∷ []) (sym step.extends.season);
-        schools = school_rows old new changes step (rows_of school start.now.trees) (rows_of school end.now.trees) held.1.schools added.adds;
-        others = (
-          kept child start end (inr (inr (inl refl))) (omega arith) has only ∙ h.0,
-          (
-            kept application start end (inr (inr (inr (inl refl)))) (omega arith) has only ∙ h.1.0,
-            (
-              kept place start end (inr (inr (inr (inr (inl refl))))) (omega arith) has only ∙ h.1.1.0,
-              (
-                kept left_list start end (inr (inr (inr (inr (inr (inl refl)))))) (omega arith) has only ∙ h.1.1.1.0,
-                (
-                  kept draw start end (inr (inr (inr (inr (inr (inr (inl refl))))))) (omega arith) has only ∙ h.1.1.1.1.0,
-                  (
-                    kept offer start end (inr (inr (inr (inr (inr (inr (inr (inl refl)))))))) (omega arith) has only ∙ h.1.1.1.1.1.0,
-                    (
-                      kept lot start end (inr (inr (inr (inr (inr (inr (inr (inr (inl refl))))))))) (omega arith) has only ∙ h.1.1.1.1.1.1.0,
-                      (kept imported start end (inr (inr (inr (inr (inr (inr (inr (inr (inr (inl refl)))))))))) (omega arith) has only ∙ h.1.1.1.1.1.1.1.0, tt),
-                    ),
-                  ),
-                ),
-              ),
-            ),
-          ),
-        );
-        formed = step.formed;
-      };
-    }
+    → WritesChanges changes start end → StandsFor end.now.trees new
+stands start end old new changes step held wrote =
+    new_trees start.now.trees end.now.trees old new changes step held.1 (subst (λ s. IsSound s end.now.trees) (wrote.schema ∙ held.0) wrote.sound) wrote.schools wrote.children wrote.applications wrote.places
+    (λ t listed other. wrote.others t (subst (λ (s : Schema). Has s.tables t) (sym held.0) listed) other)
 
 -- a commit leaves what it wrote, or what was there
 pub survives_commit : (start last end : State) (P : Trees → Type 0) → Survives start last (λ _. ⊥) → (HasCleanDisk last → P last.now.trees) → Survives last end (λ db. db ≡ last.now.trees) → Survives start end P
@@ -102,38 +174,39 @@ pub on_err : {X E : Type 0} (r : Result X E) (P Q : E → Type 0) → ((e : E) �
 on_err (Ok x) P Q f h = tt
 on_err (Err e) P Q f h = f e h
 
+pub no_rows : {X : Type 0} (xs : List X) → length xs ≡ 0 → xs ≡ []
+no_rows [] e = refl
+no_rows (x ∷ xs) e = absurd (omega arith)
+
 -- what the transaction wrote stands for the new register
 pub wrote : {S : Type 0} (g : store.Ghosts S) (start begun : Held S) (last : State) (old new : Register) (changes : Changes) → begun ≡ record start { in_transaction = true }
     → (IsTrue (state g start).is_open → (state g start).may_leave (state g start).committed.trees) → (IsTrue (state g start).is_open → (state g start).now ≡ (state g start).committed) → IsLive (state g start)
     → IsStep old new changes → LeavesOnly old (state g start) → doubt (state g begun).is_clean ≤ doubt last.is_clean
-    → (HasCleanDisk last → Sees register_schema (state g begun) → IsLive (state g begun) → AddsRows school (map written changes.schools) (state g begun) last)
+    → (HasCleanDisk last → Sees register_schema (state g begun) → SeesDatabase (state g begun) → WritesChanges changes (state g begun) last)
     → HasCleanDisk last → StandsFor last.now.trees new
-wrote g start begun last old new changes is stays settled live step before clean adds late =
+wrote g start begun last old new changes is stays settled live step before clean writes late =
     let holds : HasCleanDisk (state g begun) → IsTrue (state g begun).is_open → ((state g begun).now.schema ≡ register_schema) × HoldsRegister (state g begun).now.trees old =
     subst (λ h. HasCleanDisk (state g h) → IsTrue (state g h).is_open → ((state g h).now.schema ≡ register_schema) × HoldsRegister (state g h).now.trees old) (sym is) (holds_now (state g start) old before stays settled live) in
     let early : HasCleanDisk (state g begun) = omega (arith, clean, late) in
     let lively : IsLive (state g begun) = subst (λ h. IsLive (state g h)) (sym is) live in
-    let added = adds late (λ c o. (holds c o).0) lively in
-    stands (state g begun) last old new changes step (holds early added.only.was_open) added
+    let written = writes late (λ c o. (holds c o).0) (λ c o. (lively o).0) in
+    stands (state g begun) last old new changes step (holds early written.was_open) written
 
--- a file that stands for the old register stands for the new one, where no row was added
-pub no_change : (old new : Register) (changes : Changes) → IsStep old new changes → changes.schools ≡ [] → (db : Trees) → StandsFor db old → StandsFor db new
-no_change old new changes step none db file =
-    let rows = rows_of school db in
-    let same = subst (λ xs. IsPermutation xs rows) (sym (append-nil rows) ∙ ap (λ (xs : List SchoolRow). rows ++ map written xs) (sym none)) (IsPermutation-refl rows) in
-    record {
-      sound = file.sound;
-      holds = record {
-        season = file.holds.season ∙ ap (λ s. season_row s ∷ []) (sym step.extends.season);
-        schools = school_rows old new changes step rows rows file.holds.schools same;
-        others = file.holds.others;
-        formed = step.formed;
-      };
-    }
-
-pub no_rows : {X : Type 0} (xs : List X) → length xs ≡ 0 → xs ≡ []
-no_rows [] e = refl
-no_rows (x ∷ xs) e = absurd (omega arith)
+-- a file that stands for the old register stands for the new one, where nothing changed
+pub no_change : (old new : Register) (changes : Changes) → IsStep old new changes → length changes.schools + length changes.children + length changes.applications + length changes.places ≡ 0 → length changes.ended ≡ 0
+    → (db : Trees) → StandsFor db old → StandsFor db new
+no_change old new changes step none uncut db file =
+    let schools = no_rows changes.schools (omega (arith, none)) in
+    let children = no_rows changes.children (omega (arith, none)) in
+    let applications = no_rows changes.applications (omega (arith, none)) in
+    let places = no_rows changes.places (omega (arith, none)) in
+    let gone = no_rows changes.ended uncut in
+    new_trees db db old new changes step file.holds file.sound
+    (subst (λ xs. IsPermutation xs (rows_of school db)) (sym (append-nil (rows_of school db)) ∙ ap (λ xs. rows_of school db ++ map written_school xs) (sym schools)) (IsPermutation-refl _))
+    (λ keyed. subst (λ xs. IsPermutation (put_each (rows_of child db) (map written_child xs)) (rows_of child db)) (sym children) (IsPermutation-refl _))
+    (λ keyed. subst₂ (λ ks xs. IsPermutation (put_each (without_all (rows_of application db) (map pos ks)) (map written_application xs)) (rows_of application db)) (sym gone) (sym applications) (IsPermutation-refl _))
+    (λ keyed. subst (λ xs. IsPermutation (put_each (rows_of place db) (map place_row xs)) (rows_of place db)) (sym places) (IsPermutation-refl _))
+    (λ t listed other. refl)
 
 -- what is known of a commit that may not have happened
 pub either : (start end : State) (old new : Register) → Survives start end (λ db. StandsFor db new) → LeavesOnly old start → LeavesEither old new end

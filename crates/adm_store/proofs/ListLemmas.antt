@@ -5,7 +5,7 @@ use Rattle.std.proofs.lemmas.List.Elements.{filter-append}
 use Rattle.std.specs.Option.{option_map}
 use Rattle.std.specs.Prelude.{if◌then◌else◌}
 use Rattle.adm_schema.proofs.Lists.{map_more}
-use Rattle.adm_store.specs.Forms.{joined, all_some}
+use Rattle.adm_types.specs.Joined.{joined, all_some}
 
 abbrev pub is_nil : {X : Type 0} → List X → Bool
 is_nil [] = true

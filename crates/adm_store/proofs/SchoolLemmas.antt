@@ -14,12 +14,12 @@ use Rattle.adm_schema.proofs.Casts.{cast_null, cast_int}
 use Rattle.adm_schema.proofs.Statements.{inserted, adds}
 use Rattle.adm_schema.proofs.Texts.{inserts_school}
 use Rattle.adm_store.specs.declared.rows.SchoolRow.{SchoolRow}
-use Rattle.adm_store.specs.Changes.{written}
+use Rattle.adm_store.specs.Changes.{written_school}
 
-stored_school : (it : SchoolRow) (rows : List Row) → with_rowid Chosen rows (cast_row school (Null ∷ written it)) ≡ Int (next_rowid rows) ∷ written it
+stored_school : (it : SchoolRow) (rows : List Row) → with_rowid Chosen rows (cast_row school (Null ∷ written_school it)) ≡ Int (next_rowid rows) ∷ written_school it
 stored_school it rows = rw (cast_null, cast_int (pos it.pan), cast_int (pos it.east), cast_int (pos it.north))
 
-pub adds_school : (old new : State) (count : ℕ) (it : SchoolRow) → Sees register_schema old → HasCleanDisk old → ExecutesInside 0 insert_school (written it) old new (Ok count) → AddsRow school (written it) old new
+pub adds_school : (old new : State) (count : ℕ) (it : SchoolRow) → Sees register_schema old → HasCleanDisk old → ExecutesInside 0 insert_school (written_school it) old new (Ok count) → AddsRow school (written_school it) old new
 adds_school old new count it sees clean h =
-    adds register_schema school 1 refl refl refl (λ _ _. refl) old new (Null ∷ written it) (written it) (λ rows. ap (columns_of school) (stored_school it rows))
-    (inserted register_schema school 1 refl refl refl (λ _ _. refl) school_terms 7 insert_school (written it) (Null ∷ written it) old new count inserts_school.0 inserts_school.1 refl (sees clean h.1.was_open) h)
+    adds register_schema school 1 refl refl refl (λ _ _. refl) old new (Null ∷ written_school it) (written_school it) (λ rows. ap (columns_of school) (stored_school it rows))
+    (inserted register_schema school 1 refl refl refl (λ _ _. refl) school_terms 7 insert_school (written_school it) (Null ∷ written_school it) old new count inserts_school.0 inserts_school.1 refl (sees clean h.1.was_open) h)

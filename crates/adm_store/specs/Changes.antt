@@ -1,29 +1,39 @@
--- The rows by which one register differs from another.
-use Rattle.std.specs.Prelude.{◌≡◌, pos, not, List, [], ◌∷◌, map, filter}
-use Rattle.std.specs.FinMap.{values, contains_key}
-use Rattle.adm_types.specs.declared.rows.School.{School}
+-- The rows by which one register differs from another, as they are written.
+use Rattle.std.specs.Prelude.{◌≡◌, pos, [], ◌∷◌, map}
 use Rattle.adm_register.specs.State.{State as Register}
 use Rattle.adm_register.specs.WellFormed.{WellFormed}
 use Rattle.adm_register.specs.Extends.{Extends}
+use Rattle.adm_register.specs.Difference.{IsDifference}
+use Rattle.adm_register.specs.declared.difference.Difference.{Difference}
 use Rattle.sqlite.specs.declared.types.Value.TheVariants.{Int, Text}
 use Rattle.sqlite.specs.Order.{Row}
 use Rattle.sqlite.specs.State.{State}
 use Rattle.adm_store.specs.declared.rows.SchoolRow.{SchoolRow}
+use Rattle.adm_store.specs.declared.rows.ChildRow.{ChildRow}
+use Rattle.adm_store.specs.declared.rows.ApplicationRow.{ApplicationRow}
 use Rattle.adm_store.specs.declared.rows.Changes.{Changes}
-use Rattle.adm_store.specs.Forms.{school_row}
+use Rattle.adm_store.specs.Forms.{school_row, child_row, application_row, truth_code}
 use Rattle.adm_store.specs.StandsFor.{LeavesOnly, LeavesEither}
 
--- the row as it is written
-abbrev pub written : SchoolRow → Row
-written r = Text r.code ∷ Text r.name ∷ Int (pos r.pan) ∷ Int (pos r.east) ∷ Int (pos r.north) ∷ Text r.criteria ∷ []
+-- the rows as they are written
+abbrev pub written_school : SchoolRow → Row
+written_school r = Text r.code ∷ Text r.name ∷ Int (pos r.pan) ∷ Int (pos r.east) ∷ Int (pos r.north) ∷ Text r.criteria ∷ []
 
--- the schools of the new register that the old one lacks, in the order of their codes
-abbrev pub new_schools : Register → Register → List School
-new_schools old new = filter (λ (s : School). not (contains_key old.schools s.code)) (values new.schools)
+abbrev pub written_child : ChildRow → Row
+written_child r = Int (pos r.child) ∷ Text r.name ∷ Int (pos r.east) ∷ Int (pos r.north) ∷ Int (pos (truth_code r.looked_after)) ∷ Int (pos r.flags) ∷ Text r.siblings ∷ []
 
--- the changes are just the rows of the new register that the old one lacks
+abbrev pub written_application : ApplicationRow → Row
+written_application r = Int (pos r.child) ∷ Int (pos r.day) ∷ Text r.preferences ∷ []
+
+-- the changes are just the rows of the new register that the old one has not, and the keys of the old one that the new one has not
 pub record IsChanges (old new : Register) (changes : Changes) : Type 0 where
-  pub schools : map written changes.schools ≡ map school_row (new_schools old new)
+  pub difference : Difference
+  pub differs : IsDifference old new difference
+  pub schools : map written_school changes.schools ≡ map school_row difference.schools
+  pub children : map written_child changes.children ≡ map child_row difference.children
+  pub applications : map written_application changes.applications ≡ map application_row difference.applications
+  pub places : changes.places ≡ difference.places
+  pub ended : changes.ended ≡ difference.ended
 
 -- the step from the old register to the new one is the change, and the new one is a register
 pub record IsStep (old new : Register) (changes : Changes) : Type 0 where

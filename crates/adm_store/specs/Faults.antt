@@ -1,15 +1,21 @@
 -- The faults that say that the tables hold no register, and when rows are those of no register.
-use Rattle.std.specs.Prelude.{◌≡◌, ℕ, ◌<◌, ◌^◌, pos, List, [], ◌∷◌, Some, IsTrue}
+use Rattle.std.specs.Prelude.{◌≡◌, ℕ, ◌<◌, ◌^◌, pos, nat_lt, List, [], ◌∷◌, Some, IsTrue}
+use Rattle.std.specs.List.{list_all}
 use Rattle.std.specs.Str.{IsUtf8, is_utf8}
 use Rattle.adm_types.specs.Code.{is_code}
-use Rattle.adm_types.specs.Limits.{is_school_in_range}
+use Rattle.adm_types.specs.Joined.{codes_of}
+use Rattle.adm_types.specs.Limits.{is_from, is_school_in_range, is_child_in_range}
 use Rattle.adm_types.specs.declared.seasons.Phase.{Phase}
 use Rattle.adm_types.specs.declared.rows.School.{School}
+use Rattle.adm_types.specs.declared.rows.Child.{Child}
+use Rattle.adm_types.specs.declared.rows.Application.{Application}
+use Rattle.adm_types.specs.declared.rows.PlaceRow.{PlaceRow}
+use Rattle.adm_register.specs.State.{is_plan}
 use Rattle.sqlite.specs.declared.types.Value.TheVariants.{Int, Text}
 use Rattle.sqlite.specs.Order.{Row}
 use Rattle.adm_store.specs.declared.fault.OpenFault.{OpenFault}
 use Rattle.adm_store.specs.declared.fault.OpenFault.TheVariants.{NotOurs, Version, BadRow, Disk, Memory}
-use Rattle.adm_store.specs.Forms.{phase_code, criteria_text, criteria_of}
+use Rattle.adm_store.specs.Forms.{phase_code, criteria_text, criteria_of, codes_text}
 
 -- the faults that say that the tables hold no register
 abbrev pub IsNoRegister : OpenFault → Type 0
@@ -44,3 +50,27 @@ pub record HasSeasonColumns (row : Row) (phase : Phase) (year : ℕ) (holidays :
   pub row_is : row ≡ Int (pos 1) ∷ Int (pos 1) ∷ Int (pos (phase_code phase)) ∷ Int (pos year) ∷ Text holidays ∷ Int (pos 0) ∷ []
   pub holidays_text : IsUtf8 holidays
   pub year_fits : year < 2 ^ 32
+
+-- the text of the codes is read as those codes
+abbrev pub AreReadAgain : List (List ℕ) → Type 0
+AreReadAgain codes = codes_of (codes_text codes) ≡ Some codes
+
+-- a child with a number, a name that is a text, numbers in their limits, 16 flags, and codes for its siblings' schools
+pub record IsChild (child : Child) : Type 0 where
+  pub number_form : IsTrue (is_from 1 9999999 child.no)
+  pub text : IsTrue (is_utf8 child.name)
+  pub in_range : IsTrue (is_child_in_range child)
+  pub flags : IsTrue (nat_lt child.flags 65536)
+  pub codes : IsTrue (list_all is_code child.siblings)
+
+-- an application with a child's number, a day that is not after the last one, and codes
+pub record IsApplication (last : ℕ) (application : Application) : Type 0 where
+  pub number_form : IsTrue (is_from 1 9999999 application.child)
+  pub day : IsTrue (is_from 7305 last application.day)
+  pub codes : IsTrue (list_all is_code application.list)
+
+-- the place of a plan, with a child's number and a code
+pub record IsPlanRow (row : PlaceRow) : Type 0 where
+  pub number_form : IsTrue (is_from 1 9999999 row.child)
+  pub code_form : IsTrue (is_code row.place.school)
+  pub plan : IsTrue (is_plan row.place.state)

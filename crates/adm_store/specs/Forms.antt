@@ -1,24 +1,26 @@
 -- How a register's rows are written in its tables.
-use Rattle.std.specs.Prelude.{ℕ, pos, List, [], ◌∷◌, ◌==◌, map, Option, Some, None, option_map, option_and_then, if◌then◌else◌}
-use Rattle.std.specs.List.{join_with_byte, slice_split}
+use Rattle.std.specs.Prelude.{ℕ, pos, Bool, true, false, List, [], ◌∷◌, map, Option, Some, None, option_and_then, if◌then◌else◌}
 use Rattle.std.specs.Fmt.{decimal}
 use Rattle.adm_types.specs.Seasons.{SeasonFacts}
 use Rattle.adm_types.specs.Fields.{plain_of, criterion_of, criterion_text}
 use Rattle.adm_types.specs.Limits.{is_from}
+use Rattle.adm_types.specs.Joined.{joined, items_of}
 use Rattle.adm_types.specs.declared.seasons.Phase.{Phase}
 use Rattle.adm_types.specs.declared.seasons.Phase.TheVariants.{Primary, Secondary}
 use Rattle.adm_types.specs.declared.rows.Criterion.{Criterion}
 use Rattle.adm_types.specs.declared.rows.School.{School}
-use Rattle.sqlite.specs.declared.types.Value.TheVariants.{Int, Text}
+use Rattle.adm_types.specs.declared.rows.Child.{Child}
+use Rattle.adm_types.specs.declared.rows.Application.{Application}
+use Rattle.adm_types.specs.declared.rows.PlaceRow.{PlaceRow}
+use Rattle.adm_types.specs.declared.rows.PlaceState.{PlaceState}
+use Rattle.adm_types.specs.declared.rows.PlaceState.TheVariants.{Offered, Accepted, Plan}
+use Rattle.sqlite.specs.declared.types.Value.{Value}
+use Rattle.sqlite.specs.declared.types.Value.TheVariants.{Null, Int, Text}
 use Rattle.sqlite.specs.Order.{Row}
 
 abbrev pub phase_code : Phase → ℕ
 phase_code Primary = 1
 phase_code Secondary = 2
-
--- the texts, with `;` between each two
-abbrev pub joined : List (List ℕ) → List ℕ
-joined = join_with_byte 59
 
 -- day numbers counted from 1970-01-01
 abbrev pub days_text : List ℕ → List ℕ
@@ -34,23 +36,40 @@ season_row s = Int (pos 1) ∷ Int (pos 1) ∷ Int (pos (phase_code s.phase)) �
 abbrev pub school_row : School → Row
 school_row s = Text s.code ∷ Text s.name ∷ Int (pos s.pan) ∷ Int (pos s.at.east) ∷ Int (pos s.at.north) ∷ Text (criteria_text s.criteria) ∷ []
 
--- ---- what such a text is read as
+abbrev pub truth_code : Bool → ℕ
+truth_code true = 1
+truth_code false = 0
 
--- each item, where none is missing
-abbrev pub all_some : {X : Type 0} → List (Option X) → Option (List X)
-all_some [] = Some []
-all_some (item ∷ items) = option_and_then (λ x. option_map (λ xs. x ∷ xs) (all_some items)) item
+-- codes of schools
+abbrev pub codes_text : List (List ℕ) → List ℕ
+codes_text = joined
+
+abbrev pub child_row : Child → Row
+child_row c =
+    Int (pos c.no) ∷ Text c.name ∷ Int (pos c.home.east) ∷ Int (pos c.home.north) ∷ Int (pos (truth_code c.looked_after)) ∷ Int (pos c.flags) ∷ Text (codes_text c.siblings) ∷ []
+
+abbrev pub application_row : Application → Row
+application_row a = Int (pos a.child) ∷ Int (pos a.day) ∷ Text (codes_text a.list) ∷ []
+
+-- a day, or NULL where there is none
+abbrev pub day_value : Option ℕ → Value
+day_value None = Null
+day_value (Some day) = Int (pos day)
+
+-- the kind of a place, its day and the day of its reminder
+abbrev pub state_columns : PlaceState → List Value
+state_columns (Offered day reminded) = Int (pos 1) ∷ Int (pos day) ∷ day_value reminded ∷ []
+state_columns Accepted = Int (pos 2) ∷ Null ∷ Null ∷ []
+state_columns Plan = Int (pos 3) ∷ Null ∷ Null ∷ []
+
+abbrev pub place_row : PlaceRow → Row
+place_row p = Int (pos p.child) ∷ Text p.place.school ∷ state_columns p.place.state
+
+-- ---- what such a text is read as
 
 -- the number of a day from 1990-01-01 to 2110-12-31
 abbrev pub day_of : List ℕ → Option ℕ
 day_of text = option_and_then (λ n. if is_from 7305 51498 n then Some n else None) (plain_of text)
-
-abbrev pub pieces : List ℕ → List (List ℕ)
-pieces = slice_split (λ b. b == 59)
-
-abbrev pub items_of : {X : Type 0} → (List ℕ → Option X) → List ℕ → Option (List X)
-items_of item_of [] = Some []
-items_of item_of (b ∷ text) = all_some (map item_of (pieces (b ∷ text)))
 
 abbrev pub days_of : List ℕ → Option (List ℕ)
 days_of = items_of day_of

@@ -12,7 +12,7 @@ use Rattle.sqlite.specs.State.{State, HasCleanDisk}
 use Rattle.sqlite_catalog.specs.Listing.{IsSound}
 use Rattle.adm_schema.specs.Rows.{rows_of}
 use Rattle.adm_schema.specs.Schema.{meta, school, child, application, place, left_list, draw, offer, lot, imported, register_schema}
-use Rattle.adm_store.specs.Forms.{season_row, school_row}
+use Rattle.adm_store.specs.Forms.{season_row, school_row, child_row, application_row, place_row}
 
 -- as after a start: on a clean disk the connection is open
 abbrev pub IsStarted : State → Type 0
@@ -20,7 +20,7 @@ IsStarted s = HasCleanDisk s → IsTrue s.is_open
 
 -- the tables to which no command writes yet
 abbrev pub other_tables : List Table
-other_tables = child ∷ application ∷ place ∷ left_list ∷ draw ∷ offer ∷ lot ∷ imported ∷ []
+other_tables = left_list ∷ draw ∷ offer ∷ lot ∷ imported ∷ []
 
 -- none of them has a row
 abbrev pub HoldNothing : Trees → Type 0
@@ -30,6 +30,9 @@ HoldNothing db = AllByRecursion (λ t. db t.tree ≡ []) other_tables
 pub record HoldsRegister (db : Trees) (r : Register) : Type 0 where
   pub season : rows_of meta db ≡ season_row r.season ∷ []
   pub schools : IsPermutation (map school_row (values r.schools)) (rows_of school db)
+  pub children : IsPermutation (map child_row (values r.children)) (rows_of child db)
+  pub applications : IsPermutation (map application_row (values r.applications)) (rows_of application db)
+  pub places : IsPermutation (map place_row (values r.places)) (rows_of place db)
   pub others : HoldNothing db
   pub formed : WellFormed r
 

@@ -1,18 +1,17 @@
-// The rows by which a new register differs from the one before.
-ghost use Rattle.std.specs.Prelude.{◌≡◌, map, filter, not, IfOk};
-ghost use Rattle.adm_store.specs.Changes.{written, IsChanges};
-ghost use Rattle.adm_store.specs.Forms.{school_row};
-ghost use Rattle.std.specs.FinMap.{contains_key};
-ghost use Rattle.adm_types.specs.declared.rows.School.{School as SchoolValue};
+// The rows by which a new register differs from the one before, as they are written.
+ghost use Rattle.std.specs.Prelude.{◌≡◌, map, IfOk};
+ghost use Rattle.adm_register.specs.Tables.{TouchesOnly};
+ghost use Rattle.adm_store.specs.Changes.{written_school, written_child, written_application, IsChanges};
+ghost use Rattle.adm_store.specs.Forms.{school_row, child_row, application_row};
 
 use crate::lists;
-use crate::rows::{Changes, SchoolRow};
-use adm_register::Register;
-use adm_types::{School, SchoolCode, Seq, Text};
+use crate::rows::{ApplicationRow, Changes, ChildRow, SchoolRow};
+use adm_register::{Register, Touched, difference_of};
+use adm_types::{Application, Child, School, Seq, Text};
 use std::alloc::{AllocError, Global};
 
-fn row_of(alloc: Global, school: &School) -> Result<SchoolRow, AllocError>
-    ensures { IfOk result (λ row. written row ≡ school_row school.now) }
+fn school_row(alloc: Global, school: &School) -> Result<SchoolRow, AllocError>
+    ensures { IfOk result (λ row. written_school row ≡ school_row school.now) }
 {
     let criteria = lists::criteria_text(alloc, school.criteria.as_slice())?;
     Ok(SchoolRow {
@@ -25,33 +24,85 @@ fn row_of(alloc: Global, school: &School) -> Result<SchoolRow, AllocError>
     })
 }
 
-fn has_school(register: &Register, code: SchoolCode) -> bool
-    ensures { result ≡ contains_key register.now.schools code }
+fn child_row(alloc: Global, child: &Child) -> Result<ChildRow, AllocError>
+    ensures { IfOk result (λ row. written_child row ≡ child_row child.now) }
 {
-    register.school(code).is_some()
+    let siblings = lists::codes_text(alloc, child.siblings.as_slice())?;
+    Ok(ChildRow {
+        child: child.no,
+        name: child.name.clone()?,
+        east: child.home.east,
+        north: child.home.north,
+        looked_after: child.looked_after,
+        flags: child.flags,
+        siblings: Text::from_string(siblings),
+    })
 }
 
-/// The rows of those schools whose codes the old register lacks.
-fn lacking(alloc: Global, old: &Register, schools: &[School]) -> Result<Vec<SchoolRow>, AllocError>
-    ensures { IfOk result (λ rows. map written rows.items ≡ map school_row (filter (λ (s : SchoolValue). not (contains_key old.now.schools s.code)) schools.now)) }
+fn application_row(alloc: Global, application: &Application) -> Result<ApplicationRow, AllocError>
+    ensures { IfOk result (λ row. written_application row ≡ application_row application.now) }
+{
+    let preferences = lists::codes_text(alloc, application.list.as_slice())?;
+    Ok(ApplicationRow {
+        child: application.child,
+        day: application.day,
+        preferences: Text::from_string(preferences),
+    })
+}
+
+fn school_rows(alloc: Global, schools: &[School]) -> Result<Vec<SchoolRow>, AllocError>
+    ensures { IfOk result (λ rows. map written_school rows.items ≡ map school_row schools.now) }
 {
     let mut rows = Vec::new(alloc);
-    'schools: for school in schools {
-        if has_school(old, school.code) {
-            continue;
-        }
-        rows.push(row_of(alloc, school)?)?;
+    'items: for school in schools {
+        rows.push(school_row(alloc, school)?)?;
     }
     Ok(rows)
 }
 
-/// The rows of the new register that the old one lacks. What it costs grows with the rows of the new register.
-pub fn changes(alloc: Global, old: &Register, new: &Register) -> Result<Changes, AllocError>
+fn child_rows(alloc: Global, children: &[Child]) -> Result<Vec<ChildRow>, AllocError>
+    ensures { IfOk result (λ rows. map written_child rows.items ≡ map child_row children.now) }
+{
+    let mut rows = Vec::new(alloc);
+    'items: for child in children {
+        rows.push(child_row(alloc, child)?)?;
+    }
+    Ok(rows)
+}
+
+fn application_rows(
+    alloc: Global,
+    applications: &[Application],
+) -> Result<Vec<ApplicationRow>, AllocError>
+    ensures { IfOk result (λ rows. map written_application rows.items ≡ map application_row applications.now) }
+{
+    let mut rows = Vec::new(alloc);
+    'items: for application in applications {
+        rows.push(application_row(alloc, application)?)?;
+    }
+    Ok(rows)
+}
+
+/// The rows of the new register that the old one has not, and the applications that ended, where
+/// no other tables than these were touched. What it costs grows with the rows of those tables.
+pub fn changes(
+    alloc: Global,
+    old: &Register,
+    new: &Register,
+    touched: Touched,
+) -> Result<Changes, AllocError>
+    requires { TouchesOnly touched old.now new.now }
     ensures { IfOk result (IsChanges old.now new.now) }
 {
-    let rows = new.rows(alloc)?;
-    let schools = lacking(alloc, old, rows.schools.as_slice())?;
+    let difference = difference_of(alloc, old, new, touched)?;
+    let schools = school_rows(alloc, difference.schools.as_slice())?;
+    let children = child_rows(alloc, difference.children.as_slice())?;
+    let applications = application_rows(alloc, difference.applications.as_slice())?;
     Ok(Changes {
         schools: Seq::from_vec(schools),
+        children: Seq::from_vec(children),
+        applications: Seq::from_vec(applications),
+        places: difference.places,
+        ended: difference.ended,
     })
 }

@@ -1,10 +1,13 @@
 //! A register in a SQLite database: what its file stands for, and how it is created, opened and changed.
 #![tactic(auto)]
 
+mod applications;
+mod children;
 mod creation;
 mod difference;
 mod fault;
 mod lists;
+mod places;
 mod reading;
 mod rows;
 mod schools;
@@ -13,5 +16,5 @@ mod store;
 
 pub use difference::changes;
 pub use fault::{CreateFault, Failed, OpenFault};
-pub use rows::{Changes, SchoolRow};
+pub use rows::{ApplicationRow, Changes, ChildRow, SchoolRow};
 pub use store::{Store, create, open};

@@ -1,9 +1,10 @@
 // Lists as texts, with `;` between each two items.
 ghost use Rattle.std.specs.Prelude.{◌≡◌, [], ◌∷◌, ◌++◌, true, map, OnOk, IfOk, option_map, string_bytes, if◌then◌else◌};
 ghost use Rattle.adm_types.specs.Fields.{criterion_text, criterion_of};
-ghost use Rattle.adm_store.specs.Forms.{days_text, criteria_text, day_of, pieces, all_some, days_of, criteria_of};
+ghost use Rattle.adm_types.specs.Joined.{pieces, all_some};
+ghost use Rattle.adm_store.specs.Forms.{days_text, criteria_text, codes_text, day_of, days_of, criteria_of};
 
-use adm_types::{Criterion, Day, plain};
+use adm_types::{Criterion, Day, SchoolCode, plain};
 use std::alloc::{AllocError, Global};
 
 /// Adds a piece, after a `;` where it is not the first.
@@ -41,6 +42,19 @@ fn append_criterion(
     ensures { OnOk result (string_bytes text.new ≡ (if is_first then criterion_text criterion.now else string_bytes text.old ++ 59 ∷ criterion_text criterion.now)) }
 {
     append(text, is_first, &criterion.to_string(alloc)?)
+}
+
+/// Codes of schools.
+pub(crate) fn codes_text(alloc: Global, codes: &[SchoolCode]) -> Result<String, AllocError>
+    ensures { IfOk result (λ text. string_bytes text ≡ codes_text codes.now) }
+{
+    let mut text = String::new(alloc);
+    let mut is_first = true;
+    'items: for code in codes {
+        append(&mut text, is_first, code.as_str())?;
+        is_first = false;
+    }
+    Ok(text)
 }
 
 pub(crate) fn criteria_text(alloc: Global, criteria: &[Criterion]) -> Result<String, AllocError>

@@ -1,7 +1,14 @@
 // The rows that a commit writes, table by table.
-ghost use Rattle.std.specs.Prelude.{◌≡◌, length};
+ghost use Rattle.std.specs.Prelude.{◌≡◌, ◌+◌, length};
 
-use adm_types::{SchoolCode, Seq, Text};
+use adm_types::{ChildNo, Day, PlaceRow, SchoolCode, Seq, Text};
+
+/// The number of a day, as it is written.
+pub(crate) fn number_of(day: Day) -> u32
+    ensures { result ≡ day }
+{
+    day.number() as u32
+}
 
 /// A row of the table `school`, as it is written.
 #[derive(Drop)]
@@ -18,24 +25,59 @@ pub struct SchoolRow {
     pub criteria: Text,
 }
 
-/// The rows of a new register that the old one lacks, table by table.
+/// A row of the table `child`, as it is written.
+#[derive(Drop)]
+pub struct ChildRow {
+    pub child: ChildNo,
+    pub name: Text,
+    /// Metres.
+    pub east: u32,
+    /// Metres.
+    pub north: u32,
+    pub looked_after: bool,
+    /// Bit `f` is flag `f`.
+    pub flags: u16,
+    /// The codes of schools, joined by `;`.
+    pub siblings: Text,
+}
+
+/// A row of the table `application`, as it is written.
+#[derive(Drop)]
+pub struct ApplicationRow {
+    pub child: ChildNo,
+    pub day: Day,
+    /// The codes of schools, joined by `;`.
+    pub preferences: Text,
+}
+
+/// The rows of a new register that the old one has not, table by table, and the keys of the old
+/// one that the new one has not.
 #[derive(Drop)]
 pub struct Changes {
     pub schools: Seq<SchoolRow>,
+    pub children: Seq<ChildRow>,
+    pub applications: Seq<ApplicationRow>,
+    pub places: Seq<PlaceRow>,
+    /// The children whose applications ended.
+    pub ended: Seq<ChildNo>,
 }
 
 impl Changes {
     /// How many rows are written. It takes no memory.
     pub fn put(&self) -> u64
-        ensures { result ≡ length self.now.schools }
+        ensures { result ≡ length self.now.schools + length self.now.children + length self.now.applications + length self.now.places }
     {
-        self.schools.len() as u64
+        let schools = self.schools.as_slice();
+        let children = self.children.as_slice();
+        let applications = self.applications.as_slice();
+        let places = self.places.as_slice();
+        (schools.len() + children.len() + applications.len() + places.len()) as u64
     }
 
-    /// How many keys are deleted. No command that is there takes out a row. It takes no memory.
+    /// How many keys are deleted. It takes no memory.
     pub fn cut(&self) -> u64
-        ensures { result ≡ 0 }
+        ensures { result ≡ length self.now.ended }
     {
-        0
+        self.ended.len() as u64
     }
 }

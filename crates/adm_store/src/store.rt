@@ -1,20 +1,26 @@
 // The store of a register: to create it, to open it and to write what a command changed.
-ghost use Rattle.std.specs.Prelude.{◌≡◌, ◌≢◌, ◌<◌, length, false, Err, OnOk, OnErr, IfOk, IfErr, IsTrue};
+ghost use Rattle.std.specs.Prelude.{◌≡◌, ◌≢◌, ◌<◌, false, Err, OnOk, OnErr, IfOk, IfErr, IsTrue};
 ghost use Rattle.sqlite.specs.Held.{state};
 ghost use Rattle.sqlite.specs.State.{HasCleanDisk, Survives};
-ghost use Rattle.adm_schema.specs.Schema.{no_schema};
+ghost use Rattle.adm_schema.specs.Schema.{no_schema, register_schema};
+ghost use Rattle.adm_schema.specs.Effects.{Sees, SeesDatabase};
 ghost use Rattle.sqlite.specs.Tree.{Trees};
 ghost use Rattle.adm_register.specs.State.{only_season, State as Facts};
 ghost use Rattle.adm_store.specs.Changes.{IsStep, Commits, CommitsOrNot};
 ghost use Rattle.adm_store.specs.StandsFor.{IsStarted, StandsFor, LeavesOnly, LeavesOldOrNew, LeavesNone};
 ghost use Rattle.adm_store.specs.Faults.{IsNoRegister};
+ghost use Rattle.adm_store.specs.FirstFault.{IsFirstFault};
+ghost use Rattle.adm_store.specs.Writes.{writes_of, WritesChanges};
 
 use crate::rows::Changes;
-use crate::{CreateFault, Failed, OpenFault, creation, lists, reading, schools};
+use crate::{
+    CreateFault, Failed, OpenFault, applications, children, creation, lists, places, reading,
+    schools,
+};
 use adm_register::Register;
 use adm_schema::is_register_schema;
 use adm_types::Season;
-use sqlite::{Alter, Connection, Error, ErrorCode};
+use sqlite::{Alter, Connection, Error, ErrorCode, Transaction};
 use std::alloc::Global;
 use std::marker::Model;
 
@@ -60,6 +66,7 @@ fn read<S: Alter>(alloc: Global, conn: &mut Connection<S>) -> Result<Register, O
     ensures ended { conn.new.in_transaction ≡ false }
     ensures ok { HasCleanDisk (state S.Store conn.new) → IsTrue (state S.Store conn.old).is_open → IfOk result (λ r. (db : Trees) → (state S.Store conn.old).may_leave db → StandsFor db r) }
     ensures bad { HasCleanDisk (state S.Store conn.new) → IsTrue (state S.Store conn.old).is_open → IfErr result (λ e. IsNoRegister e → (db : Trees) → (state S.Store conn.old).may_leave db → (r : Facts) → StandsFor db r → ⊥) }
+    ensures first { HasCleanDisk (state S.Store conn.new) → IfErr result (λ e. IsNoRegister e → IsFirstFault (state S.Store conn.old).now e) }
     ensures survives { Survives (state S.Store conn.old) (state S.Store conn.new) (λ _. ⊥) }
 {
     let at_rest = conn.is_autocommit();
@@ -89,6 +96,7 @@ pub fn open<S: Alter>(
     requires started { IsStarted (state S.Store conn) }
     ensures ok { IfOk result (λ o. LeavesOnly o.1 (state S.Store o.0)) }
     ensures bad { IfErr result (λ e. IsNoRegister e.0 → LeavesNone (state S.Store e.1)) }
+    ensures first { IfErr result (λ e. HasCleanDisk (state S.Store e.1) → IsNoRegister e.0 → IsFirstFault (state S.Store conn).now e.0) }
     ensures kept { IfOk result (λ o. Survives (state S.Store conn) (state S.Store o.0) (λ _. ⊥)) }
     ensures ended { IfErr result (λ e. e.1.in_transaction ≡ false) }
     ensures left { IfErr result (λ e. Survives (state S.Store conn) (state S.Store e.1) (λ _. ⊥)) }
@@ -139,7 +147,7 @@ impl<S: Alter> Store<S> {
         ensures ok { OnOk result (Commits changes.now (state S.Store self.old) (state S.Store self.new)) }
         ensures err { OnErr result (CommitsOrNot changes.now (state S.Store self.old) (state S.Store self.new)) }
     {
-        if changes.put() == 0 {
+        if changes.put() == 0 && changes.cut() == 0 {
             return Ok(());
         }
         let Ok(()) = write(&mut self.conn, changes) else {
@@ -149,9 +157,23 @@ impl<S: Alter> Store<S> {
     }
 }
 
+/// Writes the rows of each table, and takes out the applications that ended.
+fn write_rows<S: Alter>(tx: &mut Transaction<'_, S>, changes: &Changes) -> Result<(), Error>
+    ensures same_reference { tx.new.conn.ghost_name ≡ tx.old.conn.ghost_name }
+    ensures writes { HasCleanDisk (state S.Store tx.new.conn.now) → Sees register_schema (state S.Store tx.old.conn.now) → SeesDatabase (state S.Store tx.old.conn.now) → 0 < writes_of changes.now → OnOk result (WritesChanges changes.now (state S.Store tx.old.conn.now) (state S.Store tx.new.conn.now)) }
+    ensures survives { Survives (state S.Store tx.old.conn.now) (state S.Store tx.new.conn.now) (λ _. ⊥) }
+{
+    schools::put(tx, changes.schools.as_slice())?;
+    children::put(tx, changes.children.as_slice())?;
+    applications::cut(tx, changes.ended.as_slice())?;
+    applications::put(tx, changes.applications.as_slice())?;
+    places::put(tx, changes.places.as_slice())?;
+    Ok(())
+}
+
 fn write<S: Alter>(conn: &mut Connection<S>, changes: &Changes) -> Result<(), Error>
     requires ended { conn.old.in_transaction ≡ false }
-    requires some { 0 < length changes.now.schools }
+    requires some { 0 < writes_of changes.now }
     ensures ended { conn.new.in_transaction ≡ false }
     ensures committed { HasCleanDisk (state S.Store conn.new) → OnOk result (IsTrue (state S.Store conn.new).is_open × ((old new : Facts) → IsStep old new changes.now → LeavesOnly old (state S.Store conn.old) → StandsFor (state S.Store conn.new).committed.trees new)) }
     ensures survives { (old new : Facts) → IsStep old new changes.now → LeavesOnly old (state S.Store conn.old) → Survives (state S.Store conn.old) (state S.Store conn.new) (λ db. StandsFor db new) }
@@ -160,6 +182,6 @@ fn write<S: Alter>(conn: &mut Connection<S>, changes: &Changes) -> Result<(), Er
     prove!(at_rest);
     let _tables = conn.schema();
     let mut tx = conn.transaction();
-    schools::put(&mut tx, changes.schools.as_slice())?;
+    write_rows(&mut tx, changes)?;
     tx.commit()
 }

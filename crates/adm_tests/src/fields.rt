@@ -1,5 +1,5 @@
-// The texts of codes, numbers, days and criteria.
-use adm_types::{ChildNo, Criterion, Day, SchoolCode, plain};
+// The texts of codes, numbers, days and criteria, and flags as bits.
+use adm_types::{ChildNo, Criterion, Day, Flag, SchoolCode, codes, flag_bits, plain};
 use std::test::Fail;
 
 #[test]
@@ -96,5 +96,46 @@ fn criteria_print_as_they_are_read(rt: HostRuntime) -> Result<(), Fail> {
     let flag = Criterion::Flag(0);
     let text = format!(in rt.alloc(); "{sibling};{within};{flag}")?;
     assert_eq!(rt; text.as_str(), "sibling;within:2200000;flag:0");
+    Ok(())
+}
+
+#[test]
+fn codes_in_their_order(rt: HostRuntime) -> Result<(), Fail> {
+    let read = codes(rt.alloc(), "B;A1Z90BCD;B")?.ok_or("codes")?;
+    match read.as_slice() {
+        [first, second, third] => {
+            assert!(rt; first.as_str() == "B" && third.as_str() == "B");
+            assert!(rt; second.as_str() == "A1Z90BCD");
+        }
+        _ => Err("three codes")?,
+    }
+    let one = codes(rt.alloc(), "A")?.ok_or("a code")?;
+    assert!(rt; one.len() == 1);
+    Ok(())
+}
+
+#[test]
+fn the_empty_text_writes_no_codes(rt: HostRuntime) -> Result<(), Fail> {
+    let none = codes(rt.alloc(), "")?.ok_or("an empty list")?;
+    assert!(rt; none.as_slice().is_empty());
+    Ok(())
+}
+
+#[test]
+fn no_lists_of_codes(rt: HostRuntime) -> Result<(), Fail> {
+    for text in [";", "A;", ";A", "A;;B", "A; B", "A,B", "A;b", "ABCDEFGHI"] {
+        assert!(rt; codes(rt.alloc(), text)?.is_none());
+    }
+    Ok(())
+}
+
+#[test]
+fn flags_as_bits(rt: HostRuntime) -> Result<(), Fail> {
+    let three = Flag::new(3).ok_or("a flag")?;
+    let last = Flag::new(15).ok_or("a flag")?;
+    assert_eq!(rt; flag_bits(&[]), 0);
+    assert_eq!(rt; flag_bits(&[three]), 8);
+    assert_eq!(rt; flag_bits(&[last, three, last]), 32776);
+    assert!(rt; Flag::new(16).is_none() && last.get() == 15);
     Ok(())
 }

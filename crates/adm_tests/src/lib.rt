@@ -2,7 +2,13 @@
 #![tactic(auto)]
 
 #[cfg(test)]
+mod children;
+#[cfg(test)]
 mod fields;
+#[cfg(test)]
+mod row_lists;
+#[cfg(test)]
+mod rows;
 #[cfg(test)]
 mod schools;
 #[cfg(test)]

@@ -1,42 +1,13 @@
 // Schools that a register takes, and those that it refuses.
-use adm_register::{NotDone, Register, Rows, RowsFault};
-use adm_types::{
-    Command, Criterion, Phase, Point, Refusal, Reply, School, SchoolCode, Season, Seq, Text,
-};
+use crate::rows::{done, empty, refused, rows_of_schools, school};
+use adm_register::{Register, RowsFault};
+use adm_types::{Command, Criterion, Refusal, School};
 use std::alloc::Global;
 use std::test::Fail;
 
-fn empty(alloc: Global) -> Result<Register, Fail> {
-    Ok(Register::new(Season::new(alloc, Phase::Secondary, 2025, &[])?))
-}
-
-fn school(
-    alloc: Global,
-    code: &str,
-    name: &str,
-    pan: u32,
-    at: (u32, u32),
-    criteria: &[Criterion],
-) -> Result<School, Fail> {
-    Ok(School {
-        code: SchoolCode::new(code).ok_or("a code")?,
-        name: Text::from_string(String::from_str(alloc, name)?),
-        pan,
-        at: Point {
-            east: at.0,
-            north: at.1,
-        },
-        criteria: Seq::from_vec(criteria.to_vec(alloc)?),
-    })
-}
-
 /// What a register without schools answers to this school: `None` where it takes it.
 fn refusal(alloc: Global, school: School) -> Result<Option<Refusal>, Fail> {
-    match empty(alloc)?.decide(alloc, &Command::AddSchool(school)) {
-        Ok(_) => Ok(None),
-        Err(NotDone::Refused { refusal, row: 0 }) => Ok(Some(refusal)),
-        Err(_) => Err(Fail::from("no refusal of a command")),
-    }
+    refused(alloc, &empty(alloc)?, &Command::AddSchool(school))
 }
 
 fn of_name(alloc: Global, name: &str) -> Result<Option<Refusal>, Fail> {
@@ -143,22 +114,14 @@ fn with_schools(alloc: Global, count: u32) -> Result<Register, Fail> {
     for number in 0..count {
         let code = format!(in alloc; "S{number}")?;
         let command = Command::AddSchool(school(alloc, code.as_str(), "School", 1, (0, 0), &[])?);
-        match register.decide(alloc, &command) {
-            Ok((new, Reply::Done)) => register = new,
-            _ => return Err(Fail::from("it was not done")),
-        }
+        register = done(alloc, &register, &command)?;
     }
     Ok(register)
 }
 
 fn refused_by(alloc: Global, register: &Register, code: &str) -> Result<Option<Refusal>, Fail> {
-    match register.decide(
-        alloc,
-        &Command::AddSchool(school(alloc, code, "School", 1, (0, 0), &[])?),
-    ) {
-        Err(NotDone::Refused { refusal, row: 0 }) => Ok(Some(refusal)),
-        _ => Ok(None),
-    }
+    let school = school(alloc, code, "School", 1, (0, 0), &[])?;
+    refused(alloc, register, &Command::AddSchool(school))
 }
 
 #[test]
@@ -192,14 +155,10 @@ fn a_register_is_made_again_of_its_rows(rt: HostRuntime) -> Result<(), Fail> {
 
 #[test]
 fn two_rows_of_one_code_are_no_register(rt: HostRuntime) -> Result<(), Fail> {
-    let season = Season::new(rt.alloc(), Phase::Primary, 2022, &[])?;
     let mut schools = Vec::new(rt.alloc());
     schools.push(school(rt.alloc(), "A", "Alpha", 1, (0, 0), &[])?)?;
     schools.push(school(rt.alloc(), "A", "Beta", 2, (0, 0), &[])?)?;
-    let rows = Rows {
-        season,
-        schools: Seq::from_vec(schools),
-    };
+    let rows = rows_of_schools(rt.alloc(), schools)?;
     assert_eq!(rt;
         Register::from_rows(rt.alloc(), rows).err(),
         Some(RowsFault::BadRow)

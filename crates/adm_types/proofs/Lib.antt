@@ -1,7 +1,9 @@
-pub mod Codes
+pub mod CodeTexts
 pub mod Calendar
 pub mod WorkingDays
 pub mod Rising
 pub mod DayTexts
 pub mod PlainNumbers
 pub mod Prefixes
+pub mod JoinedLemmas
+pub mod FlagBits

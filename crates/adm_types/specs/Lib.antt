@@ -4,3 +4,5 @@ pub mod Limits
 pub mod Seasons
 pub mod DayText
 pub mod Fields
+pub mod Joined
+pub mod Flags

@@ -1,11 +1,26 @@
 // What a register is asked to do, what it answers, and why it refuses.
-use crate::{ChildNo, School};
+use crate::{Child, ChildNo, Day, School, SchoolCode, Seq};
 
 /// A command to the register.
 #[derive(Drop)]
 pub enum Command {
     /// Adds a school.
     AddSchool(School),
+    /// Adds a child.
+    AddChild(Child),
+    /// Replaces a child's data.
+    Amend(Child),
+    /// Names a school in a child's plan: the child has its place there, and its application ends.
+    NamePlan {
+        child: ChildNo,
+        school: SchoolCode,
+    },
+    /// Applies for a child on a day, with the schools in the order of its preference.
+    Apply {
+        child: ChildNo,
+        day: Day,
+        list: Seq<SchoolCode>,
+    },
 }
 
 /// What an accepted command answers.

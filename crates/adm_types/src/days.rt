@@ -3,7 +3,7 @@ ghost use Rattle.jiff_core.specs.Calendar.{weekday_number};
 ghost use Rattle.std.specs.Prelude.{◌≡◌, ◌+◌, ◌<◌, nat_lt, ◌≤◌, ◌↔◌, pos, ◌≤ℤ◌, IsSome, IfSome};
 ghost use Rattle.jiff.specs.Words.{epoch_day, date_text};
 ghost use Rattle.std.specs.Prelude.{ℕ, IfNone};
-ghost use Rattle.adm_types.specs.DayText.{IsDayText};
+ghost use Rattle.adm_types.specs.DayText.{IsDayText, day_on, day_named};
 
 use arrayvec::ArrayString;
 use jiff::civil::Date;
@@ -35,6 +35,7 @@ impl Day {
     pub fn parse(text: &str) -> Option<Day>
         ensures found { IfSome result (IsDayText text.now) }
         ensures none { IfNone result ((day : ℕ) → IsDayText text.now day → ⊥) }
+        ensures reads { result ≡ day_named text.now }
     {
         match temporal::parse_date(text.as_bytes()) {
             Ok(date) => Day::written(text, date),
@@ -46,6 +47,7 @@ impl Day {
     fn written(text: &str, date: civil::Date) -> Option<Day>
         ensures found { IfSome result (IsDayText text.now) }
         ensures none { IfNone result ((day : ℕ) → text.now ≡ date_text date → pos day ≡ epoch_day date → 7305 ≤ day → day ≤ 51498 → ⊥) }
+        ensures reads { result ≡ day_on text.now date.year date.month date.day }
     {
         if temporal::DateTimePrinter::new().date_text(date).as_str() != text {
             return None;

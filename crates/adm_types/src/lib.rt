@@ -2,10 +2,12 @@
 #![tactic(auto)]
 
 mod child_no;
+mod code_lists;
 mod commands;
 mod days;
 mod exact;
 mod fields;
+mod flags;
 pub mod limits;
 mod rows;
 mod school_code;
@@ -14,11 +16,13 @@ mod seq;
 mod text;
 
 pub use child_no::ChildNo;
+pub use code_lists::codes;
 pub use commands::{Command, Refusal, Reply};
 pub use days::Day;
 pub use exact::Exact;
 pub use fields::plain;
-pub use rows::{Application, Child, Criterion, Place, PlaceState, Point, School};
+pub use flags::{Flag, flag_bits};
+pub use rows::{Application, Child, Criterion, Place, PlaceRow, PlaceState, Point, School};
 pub use school_code::SchoolCode;
 pub use seasons::{Phase, Season, SeasonFault};
 pub use seq::Seq;

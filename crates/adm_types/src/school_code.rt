@@ -3,7 +3,7 @@ ghost use Rattle.std.specs.Prelude.{◌≡◌, ◌↔◌, IsTrue, IsSome, IfSome
 ghost use Rattle.std.specs.Ordering.{nat_cmp};
 ghost use Rattle.std.specs.Cmp.{on_equiv, on_total, on_po, on_per, partial_equiv_from_equiv};
 ghost use Rattle.std.specs.Cmp.Lexicographic.{pointwise, slice_cmp, nat_list_eq_equiv, nat_list_cmp_total, texts_po, texts_ties};
-ghost use Rattle.adm_types.specs.Code.{IsCode, is_code};
+ghost use Rattle.adm_types.specs.Code.{IsCode, is_code, code_of};
 
 use std::cmp::Ordering;
 use std::marker::Model;
@@ -36,7 +36,17 @@ impl Model for SchoolCode {
 }
 
 impl SchoolCode {
+    /// The code that a text is, where it is one.
     pub fn new(text: &str) -> Option<SchoolCode>
+        ensures valid { IsSome result ↔ IsCode text.now }
+        ensures value { IfSome result (λ code. code ≡ text.now) }
+        ensures reads { result ≡ code_of text.now }
+    {
+        SchoolCode::padded(text)
+    }
+
+    /// The code that a text is, with zero bytes after it.
+    fn padded(text: &str) -> Option<SchoolCode>
         ensures valid { IsSome result ↔ IsCode text.now }
         ensures value { IfSome result (λ code. code ≡ text.now) }
     {

@@ -1,4 +1,3 @@
-pub mod CodeLemmas
 pub mod Each
 pub mod KeyLemmas
 pub mod Known

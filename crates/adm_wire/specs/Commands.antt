@@ -10,7 +10,7 @@ use Rattle.adm_wire.specs.declared.fault.WireFault.{WireFault}
 use Rattle.adm_wire.specs.declared.fault.WireFault.TheVariants.{NotJson, UnknownCommand, WrongKind}
 use Rattle.adm_wire.specs.declared.name.Name.{Name}
 use Rattle.adm_wire.specs.declared.name.Name.TheVariants as n
-use Rattle.adm_wire.specs.Forms.{school_form}
+use Rattle.adm_wire.specs.Forms.{school_form, child_form, pair_form, application_form}
 use Rattle.adm_wire.specs.Kinds.{a_text}
 use Rattle.adm_wire.specs.Names.{name_of}
 use Rattle.adm_wire.specs.Reading.{◌>>=◌, some_or, field_at}
@@ -20,6 +20,18 @@ unfoldable pub form_of : Name → Data → Result Command WireFault
 form_of n.AddSchool d = do
   s ← school_form d
   Ok (c.AddSchool s)
+form_of n.AddChild d = do
+  x ← child_form d
+  Ok (c.AddChild x)
+form_of n.Amend d = do
+  x ← child_form d
+  Ok (c.Amend x)
+form_of n.NamePlan d = do
+  p ← pair_form d
+  Ok (c.NamePlan p.0 p.1)
+form_of n.Apply d = do
+  a ← application_form d
+  Ok (c.Apply a.0 a.1 a.2)
 
 -- what JSON data says
 unfoldable pub command_in : Data → Result Command WireFault

@@ -1,9 +1,11 @@
 -- The written forms of the commands: for each its fields, in the order in which they are tested.
-use Rattle.std.specs.Prelude.{[], ◌∷◌, codes, Result}
+use Rattle.std.specs.Prelude.{ℕ, List, [], ◌∷◌, codes, Result}
 use Rattle.serde_json.specs.Data.{Data}
+use Rattle.adm_types.specs.Flags.{bits_of}
+use Rattle.adm_types.specs.declared.rows.Child.{Child}
 use Rattle.adm_types.specs.declared.rows.School.{School}
 use Rattle.adm_wire.specs.declared.fault.WireFault.{WireFault}
-use Rattle.adm_wire.specs.Kinds.{a_text, a_number, a_code, a_criterion, a_list, only}
+use Rattle.adm_wire.specs.Kinds.{a_text, a_number, a_truth, a_child, a_flag, a_code, a_day, a_criterion, a_list, only}
 use Rattle.adm_wire.specs.Reading.{◌>>=◌, field_at}
 
 unfoldable pub school_form : Data → Result School WireFault
@@ -16,3 +18,31 @@ school_form d = do
   cs ← field_at (a_list a_criterion) (codes "criteria") d
   only (codes "cmd" ∷ codes "school" ∷ codes "name" ∷ codes "pan" ∷ codes "east" ∷ codes "north" ∷ codes "criteria" ∷ []) d
       (record { code = c; name = nm; pan = p; at = record { east = e; north = nn }; criteria = cs })
+
+-- a child, to add or to amend
+unfoldable pub child_form : Data → Result Child WireFault
+child_form d = do
+  c ← field_at a_child (codes "child") d
+  nm ← field_at a_text (codes "name") d
+  e ← field_at a_number (codes "east") d
+  nn ← field_at a_number (codes "north") d
+  l ← field_at a_truth (codes "looked_after") d
+  fs ← field_at (a_list a_flag) (codes "flags") d
+  ss ← field_at (a_list a_code) (codes "siblings") d
+  only (codes "cmd" ∷ codes "child" ∷ codes "name" ∷ codes "east" ∷ codes "north" ∷ codes "looked_after" ∷ codes "flags" ∷ codes "siblings" ∷ []) d
+      (record { no = c; name = nm; home = record { east = e; north = nn }; looked_after = l; flags = bits_of fs; siblings = ss })
+
+-- a child and a school
+unfoldable pub pair_form : Data → Result (ℕ × List ℕ) WireFault
+pair_form d = do
+  c ← field_at a_child (codes "child") d
+  s ← field_at a_code (codes "school") d
+  only (codes "cmd" ∷ codes "child" ∷ codes "school" ∷ []) d (c, s)
+
+-- a child, a day and the schools of its preference
+unfoldable pub application_form : Data → Result (ℕ × ℕ × List (List ℕ)) WireFault
+application_form d = do
+  c ← field_at a_child (codes "child") d
+  t ← field_at a_day (codes "day") d
+  ps ← field_at (a_list a_code) (codes "preferences") d
+  only (codes "cmd" ∷ codes "child" ∷ codes "day" ∷ codes "preferences" ∷ []) d (c, t, ps)

@@ -3,9 +3,12 @@ use Rattle.std.specs.Prelude.{ℕ, ◌^◌, List, [], ◌∷◌, Bool, nat_lt, O
 use Rattle.std.specs.Str.{bytes_eq}
 use Rattle.std.specs.List.{list_any, list_all}
 use Rattle.serde_json.specs.Data.{Data, Items, no_items, item, Members, no_members, member}
-use Rattle.serde_json.specs.Find.{as_number, as_u64, as_str, as_array, as_object}
-use Rattle.adm_types.specs.Code.{is_code}
+use Rattle.serde_json.specs.Find.{as_number, as_u64, as_bool, as_str, as_array, as_object}
+use Rattle.adm_types.specs.Code.{code_of}
+use Rattle.adm_types.specs.DayText.{day_named}
 use Rattle.adm_types.specs.Fields.{criterion_of}
+use Rattle.adm_types.specs.Flags.{flag_of}
+use Rattle.adm_types.specs.Numbers.{child_of}
 use Rattle.adm_types.specs.declared.rows.Criterion.{Criterion}
 use Rattle.adm_wire.specs.declared.fault.WireFault.{WireFault}
 use Rattle.adm_wire.specs.declared.fault.WireFault.TheVariants.{ExtraField}
@@ -16,17 +19,29 @@ use Rattle.adm_wire.specs.declared.fault.WireFault.TheVariants.{ExtraField}
 abbrev pub a_number : Data → Option ℕ
 a_number d = option_and_then (λ n. if nat_lt n (2 ^ 32) then Some n else None) (option_and_then as_u64 (as_number d))
 
+-- `true` or `false`
+abbrev pub a_truth : Data → Option Bool
+a_truth = as_bool
+
+-- the number of a child, from 1 to 9,999,999
+abbrev pub a_child : Data → Option ℕ
+a_child d = option_and_then child_of (a_number d)
+
+-- a verified flag, from 0 to 15
+abbrev pub a_flag : Data → Option ℕ
+a_flag d = option_and_then flag_of (a_number d)
+
 -- any text
 abbrev pub a_text : Data → Option (List ℕ)
 a_text = as_str
 
--- the code that a text is
-unfoldable pub code_of : List ℕ → Option (List ℕ)
-code_of text = if is_code text then Some text else None
-
 -- the code of a school
 abbrev pub a_code : Data → Option (List ℕ)
 a_code d = option_and_then code_of (a_text d)
+
+-- a day, as YYYY-MM-DD
+abbrev pub a_day : Data → Option ℕ
+a_day d = option_and_then day_named (a_text d)
 
 -- an oversubscription criterion
 abbrev pub a_criterion : Data → Option Criterion

@@ -2,8 +2,13 @@
 use Rattle.std.specs.Prelude.{ℕ, List, codes, Option, Some, None, if◌then◌else◌}
 use Rattle.std.specs.Str.{bytes_eq}
 use Rattle.adm_wire.specs.declared.name.Name.{Name}
-use Rattle.adm_wire.specs.declared.name.Name.TheVariants.{AddSchool}
+use Rattle.adm_wire.specs.declared.name.Name.TheVariants.{AddSchool, AddChild, Amend, NamePlan, Apply}
 
 -- the command that a text names
 unfoldable pub name_of : List ℕ → Option Name
-name_of s = if bytes_eq s (codes "add_school") then Some AddSchool else None
+name_of s =
+    if bytes_eq s (codes "add_school") then Some AddSchool else (
+    if bytes_eq s (codes "add_child") then Some AddChild else (
+    if bytes_eq s (codes "amend") then Some Amend else (
+    if bytes_eq s (codes "name_plan") then Some NamePlan else (
+    if bytes_eq s (codes "apply") then Some Apply else None))))

@@ -7,7 +7,7 @@ ghost use Rattle.adm_wire.specs.Reading.{Gives, some_or, field_at};
 ghost use Rattle.adm_wire.specs.declared.fault.WireFault.TheVariants.{WrongKind};
 
 use crate::WireFault;
-use adm_types::{Criterion, SchoolCode, Seq, Text};
+use adm_types::{ChildNo, Criterion, Day, Flag, SchoolCode, Seq, Text};
 use serde_json::Value;
 use std::alloc::Global;
 
@@ -29,12 +29,47 @@ impl Kind for u32 {
     }
 }
 
+impl Kind for bool {
+    ghost kind = { kinds.a_truth };
+
+    fn read(_alloc: Global, value: &Value) -> Result<bool, WireFault> {
+        value.as_bool().ok_or(WireFault::WrongKind)
+    }
+}
+
+impl Kind for ChildNo {
+    ghost kind = { kinds.a_child };
+
+    fn read(alloc: Global, value: &Value) -> Result<ChildNo, WireFault> {
+        let number = u32::read(alloc, value)?;
+        ChildNo::new(number).ok_or(WireFault::WrongKind)
+    }
+}
+
+impl Kind for Flag {
+    ghost kind = { kinds.a_flag };
+
+    fn read(alloc: Global, value: &Value) -> Result<Flag, WireFault> {
+        let number = u32::read(alloc, value)?;
+        Flag::new(number).ok_or(WireFault::WrongKind)
+    }
+}
+
 impl Kind for SchoolCode {
     ghost kind = { kinds.a_code };
 
     fn read(_alloc: Global, value: &Value) -> Result<SchoolCode, WireFault> {
         let text = value.as_str().ok_or(WireFault::WrongKind)?;
-        code(text).ok_or(WireFault::WrongKind)
+        SchoolCode::new(text).ok_or(WireFault::WrongKind)
+    }
+}
+
+impl Kind for Day {
+    ghost kind = { kinds.a_day };
+
+    fn read(_alloc: Global, value: &Value) -> Result<Day, WireFault> {
+        let text = value.as_str().ok_or(WireFault::WrongKind)?;
+        Day::parse(text).ok_or(WireFault::WrongKind)
     }
 }
 
@@ -73,13 +108,6 @@ fn read_each<T: Kind>(alloc: Global, items: &[Value]) -> Result<Seq<T>, WireFaul
         list.push(T::read(alloc, item)?)?;
     }
     Ok(Seq::from_vec(list))
-}
-
-// The code that a text is.
-fn code(text: &str) -> Option<SchoolCode>
-    ensures { result ≡ kinds.code_of text.now }
-{
-    SchoolCode::new(text)
 }
 
 /// The value of a field of an object.

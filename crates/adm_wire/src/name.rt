@@ -6,6 +6,10 @@ ghost use Rattle.adm_wire.specs.Names.{name_of};
 #[derive(Clone, Copy, Debug, PartialEq, Eq)]
 pub(crate) enum Name {
     AddSchool,
+    AddChild,
+    Amend,
+    NamePlan,
+    Apply,
 }
 
 /// The command that a text names.
@@ -15,6 +19,14 @@ pub(crate) fn read_name(text: &str) -> Option<Name>
 {
     if text == "add_school" {
         Some(Name::AddSchool)
+    } else if text == "add_child" {
+        Some(Name::AddChild)
+    } else if text == "amend" {
+        Some(Name::Amend)
+    } else if text == "name_plan" {
+        Some(Name::NamePlan)
+    } else if text == "apply" {
+        Some(Name::Apply)
     } else {
         None
     }

@@ -1,7 +1,7 @@
 // The reader of a command: bytes to JSON, JSON to a command.
 ghost use Rattle.serde_json.specs.View.{view};
 ghost use Rattle.adm_wire.specs.Commands.{form_of, command_in, command_of, json_of};
-ghost use Rattle.adm_wire.specs.Forms.{school_form};
+ghost use Rattle.adm_wire.specs.Forms.{school_form, child_form, pair_form, application_form};
 ghost use Rattle.adm_wire.specs.Reading.{Gives, GivesSeen, some_or};
 ghost use Rattle.adm_wire.specs.declared.fault.WireFault.TheVariants.{NotJson};
 
@@ -9,7 +9,9 @@ use crate::WireFault;
 use crate::field::field;
 use crate::keys::only;
 use crate::name::{Name, read_name};
-use adm_types::{Command, Point, School, Text};
+use adm_types::{
+    Child, ChildNo, Command, Day, Flag, Point, School, SchoolCode, Seq, Text, flag_bits,
+};
 use serde_json::Value;
 use std::alloc::Global;
 
@@ -36,12 +38,77 @@ fn school(alloc: Global, object: &Value) -> Result<School, WireFault>
     })
 }
 
+#[tactic(auto, unfolding(crate::specs::Forms::child_form))]
+fn child(alloc: Global, object: &Value) -> Result<Child, WireFault>
+    ensures { Gives result (child_form (view object.now)) }
+{
+    let no = field(alloc, object, "child")?;
+    let name = field(alloc, object, "name")?;
+    let east = field(alloc, object, "east")?;
+    let north = field(alloc, object, "north")?;
+    let looked_after = field(alloc, object, "looked_after")?;
+    let flags: Seq<Flag> = field(alloc, object, "flags")?;
+    let siblings = field(alloc, object, "siblings")?;
+    let known = [
+        "cmd",
+        "child",
+        "name",
+        "east",
+        "north",
+        "looked_after",
+        "flags",
+        "siblings",
+    ];
+    only(object, &known)?;
+    Ok(Child {
+        no,
+        name,
+        home: Point { east, north },
+        looked_after,
+        flags: flag_bits(flags.as_slice()),
+        siblings,
+    })
+}
+
+/// A child and a school.
+#[tactic(auto, unfolding(crate::specs::Forms::pair_form))]
+fn pair(alloc: Global, object: &Value) -> Result<(ChildNo, SchoolCode), WireFault>
+    ensures { Gives result (pair_form (view object.now)) }
+{
+    let child = field(alloc, object, "child")?;
+    let school = field(alloc, object, "school")?;
+    only(object, &["cmd", "child", "school"])?;
+    Ok((child, school))
+}
+
+/// A child, a day and the schools of its preference.
+#[tactic(auto, unfolding(crate::specs::Forms::application_form))]
+fn application(alloc: Global, object: &Value) -> Result<(ChildNo, Day, Seq<SchoolCode>), WireFault>
+    ensures { Gives result (application_form (view object.now)) }
+{
+    let child = field(alloc, object, "child")?;
+    let day = field(alloc, object, "day")?;
+    let preferences = field(alloc, object, "preferences")?;
+    only(object, &["cmd", "child", "day", "preferences"])?;
+    Ok((child, day, preferences))
+}
+
 #[tactic(auto, unfolding(crate::specs::Commands::form_of))]
 fn command(alloc: Global, name: Name, object: &Value) -> Result<Command, WireFault>
     ensures { Gives result (form_of name (view object.now)) }
 {
     match name {
         Name::AddSchool => Ok(Command::AddSchool(school(alloc, object)?)),
+        Name::AddChild => Ok(Command::AddChild(child(alloc, object)?)),
+        Name::Amend => Ok(Command::Amend(child(alloc, object)?)),
+        Name::NamePlan => {
+            let (child, school) = pair(alloc, object)?;
+            Ok(Command::NamePlan { child, school })
+        }
+        Name::Apply => {
+            let (child, day, list) = application(alloc, object)?;
+            Ok(Command::Apply { child, day, list })
+        }
     }
 }
 

@@ -91,6 +91,47 @@ fn a_school_in_two_runs(rt: HostRuntime) -> Result<(), Fail> {
     Ok(())
 }
 
+/// The schools A and B, each with one place.
+const PLAIN_SCHOOLS: &str =
+    "{\"cmd\":\"add_school\",\"school\":\"A\",\"name\":\"Alpha\",\"pan\":1,\"east\":0,\"north\":0,\"criteria\":[]}\n{\"cmd\":\"add_school\",\"school\":\"B\",\"name\":\"Beta\",\"pan\":1,\"east\":1000,\"north\":0,\"criteria\":[]}\n";
+
+/// A child with its siblings' schools, applications of which some are refused, and a plan.
+const CHILD_LINES: [&str; 9] = [
+    "{\"cmd\":\"add_child\",\"child\":1,\"name\":\"C1\",\"east\":0,\"north\":200,\"looked_after\":false,\"flags\":[],\"siblings\":[\"Z\"]}\n",
+    "{\"cmd\":\"add_child\",\"child\":1,\"name\":\"C1\",\"east\":0,\"north\":200,\"looked_after\":false,\"flags\":[],\"siblings\":[]}\n",
+    "{\"cmd\":\"add_child\",\"child\":1,\"name\":\"C1\",\"east\":0,\"north\":200,\"looked_after\":false,\"flags\":[],\"siblings\":[]}\n",
+    "{\"cmd\":\"apply\",\"child\":1,\"day\":\"2026-01-01\",\"preferences\":[\"A\",\"A\"]}\n",
+    "{\"cmd\":\"apply\",\"child\":1,\"day\":\"2024-10-31\",\"preferences\":[\"A\",\"A\"]}\n",
+    "{\"cmd\":\"apply\",\"child\":1,\"day\":\"2024-10-31\",\"preferences\":[\"A\",\"B\"]}\n",
+    "{\"cmd\":\"apply\",\"child\":1,\"day\":\"2024-10-31\",\"preferences\":[\"A\",\"B\"]}\n",
+    "{\"cmd\":\"name_plan\",\"child\":1,\"school\":\"A\"}\n",
+    "{\"cmd\":\"name_plan\",\"child\":1,\"school\":\"A\"}\n",
+];
+
+const CHILD_ANSWERS: [&str; 9] = [
+    "{\"name\":\"UnknownSchool\",\"refused\":1}\n",
+    "{\"done\":true}\n",
+    "{\"name\":\"ChildKnown\",\"refused\":4}\n",
+    "{\"name\":\"ListClosed\",\"refused\":19}\n",
+    "{\"name\":\"BadPreferences\",\"refused\":8}\n",
+    "{\"done\":true}\n",
+    "{\"name\":\"AlreadyApplied\",\"refused\":10}\n",
+    "{\"done\":true}\n",
+    "{\"name\":\"HasPlan\",\"refused\":9}\n",
+];
+
+#[test]
+fn a_child_that_applies_and_has_a_plan(rt: HostRuntime) -> Result<(), Fail> {
+    init_new(&rt, "child.db")?;
+    let schools = do_lines(&rt, "child.db", PLAIN_SCHOOLS)?;
+    assert_eq!(rt; schools.status, 0);
+    for (line, answer) in CHILD_LINES.iter().zip(CHILD_ANSWERS.iter()) {
+        let ran = do_lines(&rt, "child.db", line)?;
+        assert_eq!(rt; ran.output.as_str(), *answer);
+    }
+    Ok(())
+}
+
 #[test]
 fn lines_that_are_no_commands(rt: HostRuntime) -> Result<(), Fail> {
     init_new(&rt, "no_commands.db")?;

@@ -7,7 +7,7 @@ use std::test::Fail;
 fn school(rt: HostRuntime, line: &[u8]) -> Result<School, Fail> {
     match read_command(rt.alloc(), line) {
         Ok(Command::AddSchool(school)) => Ok(school),
-        Err(_) => Err("a school")?,
+        Ok(_) | Err(_) => Err("a school")?,
     }
 }
 

@@ -1,6 +1,32 @@
-use Rattle.std.proofs.Common.{arith, subst}
+use Rattle.std.proofs.Common.{◌≡◌, ◌∙◌, sym, Bool, true, false, subst}
 use Rattle.adm_types.specs.Seasons.{IsSeason}
 use Rattle.adm_register.proofs.checks.is_well_formed.Goals as goal
+use Rattle.adm_register.proofs.checks.is_well_formed.Goals.{then-are_few, else-are_few, then-schools_fit, else-schools_fit, then-children_fit, else-children_fit}
 
-pub returns-then-school_count-le200 : goal.returns-then-school_count-le200
-returns-then-school_count-le200 c = (λ fit. record { season = subst IsSeason c.season.ensures c.year-year.ensures.season; few_schools = omega arith; schools = c.schools_fit.ensures.0 fit }, λ well. c.schools_fit.ensures.1 well.schools)
+not_both : {A : Type 0} (b : Bool) → b ≡ true → b ≡ false → A
+not_both b one other = cc
+
+pub returns-then-applications_fit : goal.returns-then-applications_fit
+returns-then-applications_fit c = (
+  λ fit. elim c.if-children_fit.branch [
+    | else-children_fit w ↦ not_both _ c.if-applications_fit.true (w.value-is ∙ w.if-children_fit.false)
+    | then-children_fit w ↦ elim c.if-schools_fit.branch [
+      | else-schools_fit v ↦ not_both _ w.if-children_fit.true (v.value-is ∙ v.if-schools_fit.false)
+      | then-schools_fit v ↦ elim c.if-are_few.branch [
+        | else-are_few u ↦ not_both _ v.if-schools_fit.true (u.value-is ∙ u.if-are_few.false)
+        | then-are_few u ↦
+            let few = c.are_few.ensures.0 u.if-are_few.true in
+            record {
+              season = subst IsSeason c.season.ensures c.year-year.ensures.season;
+              few_schools = few.0;
+              schools = u.schools_fit.ensures.0 (sym u.value-is ∙ v.if-schools_fit.true);
+              few_children = few.1;
+              children = v.children_fit.ensures.0 (sym v.value-is ∙ w.if-children_fit.true);
+              applications = w.applications_fit.ensures.0 (sym w.value-is ∙ c.if-applications_fit.true);
+              places = c.places_fit.ensures.0 fit;
+            }
+      ]
+    ]
+  ],
+  λ well. c.places_fit.ensures.1 well.places,
+)

@@ -1,4 +1,4 @@
-use Rattle.std.proofs.Common.{◌≡◌, ◌∙◌, sym, arith, true≢false}
+use Rattle.std.proofs.Common.{◌≡◌, ◌∙◌, sym, true≢false}
 use Rattle.sqlite_schema.specs.Code.{terms_in}
 use Rattle.adm_schema.proofs.OneTest.{too_few, more_roots, of_terms}
 use Rattle.adm_schema.proofs.made.is_one_test.Goals as goal

@@ -1,4 +1,4 @@
-use Rattle.std.proofs.Common.{◌≡◌, ◌∙◌, sym, subst, suc, pos, true, slice_index_or}
+use Rattle.std.proofs.Common.{◌≡◌, ◌∙◌, sym, subst, suc, pos, true}
 use Rattle.std.specs.Prelude.{◌↔◌}
 use Rattle.sqlite.specs.Term.{op2, col, lit}
 use Rattle.sqlite.specs.declared.types.Value.TheVariants.{Null, Int}

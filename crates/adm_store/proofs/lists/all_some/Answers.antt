@@ -1,6 +1,6 @@
 use Rattle.std.proofs.Common.{sym, ap, ◌∙◌}
 use Rattle.std.proofs.lemmas.List.{take_all}
-use Rattle.adm_store.specs.Forms.{all_some}
+use Rattle.adm_types.specs.Joined.{all_some}
 use Rattle.adm_store.proofs.ListLemmas.{all_some_of, all_some_none}
 use Rattle.adm_store.proofs.lists.all_some.Goals as goal
 

@@ -1,60 +1,86 @@
-use Rattle.std.proofs.Common.{Err, arith, ap, subst, ◌∙◌}
+use Rattle.std.proofs.Common.{◌∙◌, ap, arith, sym, subst}
 use Rattle.sqlite.specs.Held.{state}
 use Rattle.sqlite.specs.Effect.{Database}
 use Rattle.sqlite.specs.State.{HasCleanDisk}
-use Rattle.std.specs.List.Sorted.{IsPermutation}
-use Rattle.std.specs.FinMap.{values}
-use Rattle.adm_schema.specs.Rows.{rows_of}
-use Rattle.adm_schema.specs.Schema.{school}
+use Rattle.adm_schema.proofs.Texts.{asks_meta}
+use Rattle.adm_store.specs.declared.fault.OpenFault.TheVariants.{BadRow}
 use Rattle.adm_store.specs.StandsFor.{HoldNothing}
-use Rattle.adm_store.proofs.ReadingLemmas.{holds_register, same_schema}
-use Rattle.adm_store.proofs.FaultLemmas.{season_held, schools_held, rows_held, schools_fit}
+use Rattle.adm_store.specs.TableRows.{AreRead}
+use Rattle.adm_store.specs.FirstFault.{first_fault}
+use Rattle.adm_store.proofs.FirstFaultLemmas.{first_by_rows, first_refused}
+use Rattle.adm_store.proofs.ReadingLemmas.{same_schema}
+use Rattle.adm_store.proofs.RegisterRows.{holds_register, rows_held, season_held, season_back}
 use Rattle.adm_store.proofs.reading.register_in.Goals as goal
 
-pub returns-in-Ok-from_rows-clause-ok : goal.returns-in-Ok-from_rows-clause-ok
-returns-in-Ok-from_rows-clause-ok g c clean has =
+pub returns-in-Ok-register_of-clause-ok : goal.returns-in-Ok-register_of-clause-ok
+returns-in-Ok-register_of-clause-ok g c clean has =
     let old = state g.S.Store c.args.tx.now.conn.now in
-    let mid = state g.S.Store c.season_rows.new.tx.conn.now in
-    let late = state g.S.Store c.school_rows.new.tx.conn.now in
-    let c2 : HasCleanDisk late = omega (arith, c.expect_no_others.ensures.survives.clean) in
-    let c1 : HasCleanDisk mid = omega (arith, c.school_rows.ensures.survives.clean, c2) in
-    let s1 = c.in-Ok.ensures.same c1 has in
-    let h1 = same_schema old mid s1 has in
-    let s2 = c.in-Ok-school_rows.ensures.same c2 h1 in
-    let h2 = same_schema mid late s2 h1 in
-    let first = c.in-Ok.ensures.ok c1 has in
-    let rows = subst (λ (d : Database). IsPermutation (rows_of school d.trees) c.in-Ok-school_rows.rows.items) s1.0.now_is (c.in-Ok-school_rows.ensures.ok c2 h1) in
-    let none = subst (λ (d : Database). HoldNothing d.trees) (s2.0.now_is ∙ s1.0.now_is) (c.in-Ok-expect_no_others.ensures.ok clean h2) in
-    let made = c.in-Ok-from_rows.ensures.register in
-    holds_register old.now.trees c.in-Ok-from_rows.register c.in-Ok.first.items c.in-Ok-school_rows.rows.items _ _ first (rw c.as_slice.ensures.value at c.in-Ok-season_of.ensures.ok) rows (rw c.as_slice-2.ensures.value at c.in-Ok-schools_in.ensures.ok) none made.0.season
-    (rw c.from_vec-schools.ensures at made.0.schools) made.1
+    let mid = state g.S.Store c.rows_of.new.tx.conn.now in
+    let t = c.in-Ok-tables_in.tables in
+    let early : HasCleanDisk mid = omega (arith, c.tables_in.ensures.survives.clean) in
+    let same = c.in-Ok.ensures.same early has _ _ _ asks_meta in
+    let here = same_schema old mid same has in
+    let first = c.in-Ok.ensures.ok early has _ _ _ asks_meta (omega arith) in
+    let read = subst (λ (d : Database). AreRead d.trees t.schools.items t.children.items t.applications.items t.places.items) same (c.in-Ok-tables_in.ensures.ok clean here) in
+    let made = c.in-Ok-register_of.ensures.ok in
+    holds_register old.now.trees c.in-Ok-register_of.register c.in-Ok.first.items _ _ _ _ c.in-Ok-season_of.season first (rw c.as_slice.ensures.value at c.in-Ok-season_of.ensures.ok) read made.0 made.1 made.2
+
+pub returns-in-Err-clause-bad : goal.returns-in-Err-clause-bad
+returns-in-Err-clause-bad g c clean structural has r held = c.in-Err.ensures.bad clean structural has _ _ _ asks_meta
 
 pub returns-in-Err-season_of-clause-bad : goal.returns-in-Err-season_of-clause-bad
 returns-in-Err-season_of-clause-bad g c clean structural has r held =
     let old = state g.S.Store c.args.tx.now.conn.now in
-    (rw c.as_slice.ensures.value at c.in-Err-season_of.ensures.bad) structural r.season held.formed.season (season_held old.now.trees r c.in-Ok.first.items (c.in-Ok.ensures.ok clean has) held)
+    (rw c.as_slice.ensures.value at c.in-Err-season_of.ensures.bad) structural r.season held.formed.season (season_held old.now.trees r c.in-Ok.first.items (c.in-Ok.ensures.ok clean has _ _ _ asks_meta (omega arith)) held)
 
-pub returns-in-Err-schools_in-clause-bad : goal.returns-in-Err-schools_in-clause-bad
-returns-in-Err-schools_in-clause-bad g c clean structural has r held =
+pub returns-in-Err-tables_in-clause-bad : goal.returns-in-Err-tables_in-clause-bad
+returns-in-Err-tables_in-clause-bad g c clean structural has r held =
     let old = state g.S.Store c.args.tx.now.conn.now in
-    let mid = state g.S.Store c.season_rows.new.tx.conn.now in
-    let c1 : HasCleanDisk mid = omega (arith, c.school_rows.ensures.survives.clean) in
-    let s1 = c.in-Ok.ensures.same c1 has in
-    let h1 = same_schema old mid s1 has in
-    let rows = subst (λ (d : Database). IsPermutation (rows_of school d.trees) c.in-Ok-school_rows.rows.items) s1.0.now_is (c.in-Ok-school_rows.ensures.ok clean h1) in
-    (rw c.as_slice-2.ensures.value at c.in-Err-schools_in.ensures.bad) structural (values r.schools) (schools_fit r held.formed) (schools_held old.now.trees r c.in-Ok-school_rows.rows.items rows held)
+    let mid = state g.S.Store c.rows_of.new.tx.conn.now in
+    let early : HasCleanDisk mid = omega (arith, c.tables_in.ensures.survives.clean) in
+    let same = c.in-Ok.ensures.same early has _ _ _ asks_meta in
+    let here = same_schema old mid same has in
+    c.in-Err-tables_in.ensures.bad clean structural here (subst (λ (d : Database). HoldNothing d.trees) (sym same) held.others)
 
-pub returns-in-Err-BadRow-clause-bad : goal.returns-in-Err-BadRow-clause-bad
-returns-in-Err-BadRow-clause-bad g c clean structural has r held =
+pub returns-clause-bad : goal.returns-clause-bad
+returns-clause-bad g c clean structural has r held =
     let old = state g.S.Store c.args.tx.now.conn.now in
-    let mid = state g.S.Store c.season_rows.new.tx.conn.now in
-    let late = state g.S.Store c.school_rows.new.tx.conn.now in
-    let c2 : HasCleanDisk late = omega (arith, c.expect_no_others.ensures.survives.clean) in
-    let c1 : HasCleanDisk mid = omega (arith, c.school_rows.ensures.survives.clean, c2) in
-    let s1 = c.in-Ok.ensures.same c1 has in
-    let h1 = same_schema old mid s1 has in
-    let first = c.in-Ok.ensures.ok c1 has in
-    let rows = subst (λ (d : Database). IsPermutation (rows_of school d.trees) c.in-Ok-school_rows.rows.items) s1.0.now_is (c.in-Ok-school_rows.ensures.ok c2 h1) in
-    let those = rows_held old.now.trees r c.in-Ok.first.items c.in-Ok-school_rows.rows.items c.in-Ok-season_of.season c.in-Ok-schools_in.read.items first rows (rw c.as_slice.ensures.value at c.in-Ok-season_of.ensures.ok) c.in-Ok-season_of.ensures.season
-    (rw c.as_slice-2.ensures.value at c.in-Ok-schools_in.ensures.ok) c.in-Ok-schools_in.ensures.again held in
-    c.from_rows.ensures.bad_row (c.in-Err-BadRow.is ∙ ap Err c.in-Err-BadRow.field-0-is) r held.formed (record { season = those.0; schools = rw c.from_vec-schools.ensures those.1 })
+    let mid = state g.S.Store c.rows_of.new.tx.conn.now in
+    let t = c.in-Ok-tables_in.tables in
+    let early : HasCleanDisk mid = omega (arith, c.tables_in.ensures.survives.clean) in
+    let same = c.in-Ok.ensures.same early has _ _ _ asks_meta in
+    let here = same_schema old mid same has in
+    let first = c.in-Ok.ensures.ok early has _ _ _ asks_meta (omega arith) in
+    let read = subst (λ (d : Database). AreRead d.trees t.schools.items t.children.items t.applications.items t.places.items) same (c.in-Ok-tables_in.ensures.ok clean here) in
+    let season = season_back old.now.trees r c.in-Ok.first.items c.in-Ok-season_of.season first (rw c.as_slice.ensures.value at c.in-Ok-season_of.ensures.ok) c.in-Ok-season_of.ensures.season held in
+    c.in-Err-register_of.ensures.bad structural r held.formed season (rows_held old.now.trees r _ _ _ _ held read)
+
+pub returns-in-Err-clause-first : goal.returns-in-Err-clause-first
+returns-in-Err-clause-first g c clean structural =
+    let refused = c.in-Err.ensures.refused clean structural in
+    first_refused _ c.in-Err.fault refused.1 (λ has. c.in-Err.ensures.bad clean structural has _ _ _ asks_meta) refused.0
+
+pub returns-in-Err-season_of-clause-first : goal.returns-in-Err-season_of-clause-first
+returns-in-Err-season_of-clause-first g c clean structural =
+    first_by_rows _ c.in-Ok.first.items c.in-Err-season_of.fault (c.in-Ok.ensures.answered clean) (λ has. c.in-Ok.ensures.ok clean has _ _ _ asks_meta (omega arith)) ((rw c.as_slice.ensures.value at c.in-Err-season_of.ensures.first) structural)
+
+pub returns-in-Err-tables_in-clause-first : goal.returns-in-Err-tables_in-clause-first
+returns-in-Err-tables_in-clause-first g c clean structural =
+    let mid = state g.S.Store c.rows_of.new.tx.conn.now in
+    let early : HasCleanDisk mid = omega (arith, c.tables_in.ensures.survives.clean) in
+    let row = rw c.as_slice.ensures.value at c.in-Ok-season_of.ensures.ok in
+    first_by_rows _ c.in-Ok.first.items c.in-Err-tables_in.fault (c.in-Ok.ensures.answered early) (λ has. c.in-Ok.ensures.ok early has _ _ _ asks_meta (omega arith)) (c.in-Err-tables_in.ensures.first clean structural ∙ sym (ap first_fault row))
+
+pub returns-clause-first : goal.returns-clause-first
+returns-clause-first g c clean structural =
+    let mid = state g.S.Store c.rows_of.new.tx.conn.now in
+    let early : HasCleanDisk mid = omega (arith, c.tables_in.ensures.survives.clean) in
+    let row = rw c.as_slice.ensures.value at c.in-Ok-season_of.ensures.ok in
+    first_by_rows _ c.in-Ok.first.items c.in-Err-register_of.fault (c.in-Ok.ensures.answered early) (λ has. c.in-Ok.ensures.ok early has _ _ _ asks_meta (omega arith)) (c.in-Err-register_of.ensures.first structural ∙ sym (ap first_fault row))
+
+pub returns-in-Ok-register_of-clause-version : goal.returns-in-Ok-register_of-clause-version
+returns-in-Ok-register_of-clause-version g c clean =
+    let mid = state g.S.Store c.rows_of.new.tx.conn.now in
+    let early : HasCleanDisk mid = omega (arith, c.tables_in.ensures.survives.clean) in
+    let row = rw c.as_slice.ensures.value at c.in-Ok-season_of.ensures.ok in
+    first_by_rows _ c.in-Ok.first.items BadRow (c.in-Ok.ensures.answered early) (λ has. c.in-Ok.ensures.ok early has _ _ _ asks_meta (omega arith)) (sym (ap first_fault row))

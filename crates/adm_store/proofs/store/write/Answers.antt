@@ -13,7 +13,7 @@ pub returns-clause-committed : goal.returns-clause-committed
 returns-clause-committed g c clean =
     let start = state g.S.Store c.args.conn.now in
     let begun = state g.S.Store c.transaction-tx.result.conn.now in
-    let last = state g.S.Store c.put.new.tx.conn.now in
+    let last = state g.S.Store c.write_rows.new.tx.conn.now in
     let end = c.commit.new.self.0 in
     let same : end ≡ c.conn-2-1.given.0 = search rules in
     let late : HasCleanDisk (state g.S.Store end) = search rules in
@@ -23,19 +23,19 @@ returns-clause-committed g c clean =
       done.1.is_open,
       λ old new step before.
           subst (λ (d : Database). StandsFor d.trees new) (sym done.1.committed_is)
-          (wrote g.S.Store c.args.conn.now c.transaction-tx.result.conn.now last old new c.args.changes.now c.transaction-tx.ensures.begun (g.met.S.Store.stays c.args.conn.now.store) (c.if-prove.ensures.settled refl) c.schema-tables.ensures.live step before c.put.ensures.survives.clean
-          (λ clean sees live. (rw c.as_slice.ensures at c.in_ok-put.ensures.adds) clean sees live c.requires.some) early),
+          (wrote g.S.Store c.args.conn.now c.transaction-tx.result.conn.now last old new c.args.changes.now c.transaction-tx.ensures.begun (g.met.S.Store.stays c.args.conn.now.store) (c.if-prove.ensures.settled refl) c.schema-tables.ensures.live step before c.write_rows.ensures.survives.clean
+          (λ clean sees live. c.in_ok-write_rows.ensures.writes clean sees live c.requires.some) early),
     ))
     (c.commit.ensures.ok late))
 
 pub returns-clause-survives : goal.returns-clause-survives
 returns-clause-survives g c old new step before =
     let start = state g.S.Store c.args.conn.now in
-    let last = state g.S.Store c.put.new.tx.conn.now in
+    let last = state g.S.Store c.write_rows.new.tx.conn.now in
     let file = λ (early : HasCleanDisk last).
-    wrote g.S.Store c.args.conn.now c.transaction-tx.result.conn.now last old new c.args.changes.now c.transaction-tx.ensures.begun (g.met.S.Store.stays c.args.conn.now.store) (c.if-prove.ensures.settled refl) c.schema-tables.ensures.live step before c.put.ensures.survives.clean
-    (λ clean sees live. (rw c.as_slice.ensures at c.in_ok-put.ensures.adds) clean sees live c.requires.some) early in
+    wrote g.S.Store c.args.conn.now c.transaction-tx.result.conn.now last old new c.args.changes.now c.transaction-tx.ensures.begun (g.met.S.Store.stays c.args.conn.now.store) (c.if-prove.ensures.settled refl) c.schema-tables.ensures.live step before c.write_rows.ensures.survives.clean
+    (λ clean sees live. c.in_ok-write_rows.ensures.writes clean sees live c.requires.some) early in
     let whole = survives_commit start last (state g.S.Store c.commit.new.self.0) (λ db. StandsFor db new)
-    (survives_begin g.S.Store c.args.conn.now last _ (subst (λ h. Survives (state g.S.Store h) last (λ _. ⊥)) c.transaction-tx.ensures.begun c.put.ensures.survives)) file c.commit.ensures.survives in
+    (survives_begin g.S.Store c.args.conn.now last _ (subst (λ h. Survives (state g.S.Store h) last (λ _. ⊥)) c.transaction-tx.ensures.begun c.write_rows.ensures.survives)) file c.commit.ensures.survives in
     let same : c.commit.new.self.0 ≡ c.conn-2-1.given.0 = search rules in
     subst (λ h. Survives start (state g.S.Store h) (λ db. StandsFor db new)) same whole

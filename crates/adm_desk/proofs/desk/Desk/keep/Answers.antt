@@ -1,11 +1,10 @@
-use Rattle.std.proofs.Common.{◌≡◌, false, refl, sym, subst}
+use Rattle.std.proofs.Common.{◌≡◌, false, ap, refl, sym, subst}
 use Rattle.sqlite.specs.Held.{state}
 use Rattle.adm_register.specs.Extends.{Extends}
 use Rattle.adm_store.specs.Changes.{IsStep}
+use Rattle.adm_store.specs.StandsFor.{LeavesEither}
 use Rattle.adm_desk.specs.Standing.{Standing}
-use Rattle.adm_desk.proofs.StandingLemmas.{failed_keeps}
 use Rattle.adm_desk.proofs.desk.Desk.keep.Goals as goal
-use Rattle.adm_desk.proofs.desk.Desk.keep.Goals.{in-Some-2, in-None-2}
 
 pub invariant_of-self : goal.invariant_of-self
 invariant_of-self g c alive =
@@ -18,12 +17,9 @@ returns-in-Ok-commit g c =
     let extends = subst (λ (s : Standing _). Extends s.register c.args.new) (sym c.self.view_is) c.requires.extends.0 in
     (refl, refl, alive, c.in-Ok-commit.ensures.ok _ _ record { changes_are = c.in-Ok.ensures; extends = extends; formed = c.requires.extends.1 } (c.self.invariant alive))
 
-pub returns-in-Err-commit : goal.returns-in-Err-commit
-returns-in-Err-commit g c =
+pub returns : goal.returns
+returns g c =
     let alive = subst (λ (s : Standing _). s.failed ≡ false) (sym c.self.view_is) c.requires.alive in
     let extends = subst (λ (s : Standing _). Extends s.register c.args.new) (sym c.self.view_is) c.requires.extends.0 in
     let either = c.in-Err-commit.ensures.err _ _ record { changes_are = c.in-Ok.ensures; extends = extends; formed = c.requires.extends.1 } (c.self.invariant alive) in
-    elim c.match-new-2.branch [
-      | in-Some-2 w ↦ failed_keeps (state g.S.Store) _ c.args.self.now c.match-new-2.self _ c.args.reply _ c.self.view_is w.self-is either
-      | in-None-2 w ↦ failed_keeps (state g.S.Store) _ c.args.self.now c.match-new-2.self _ c.args.reply _ c.self.view_is w.self-is either
-    ]
+    (refl, ap (λ (s : Standing _). s.register) c.self.view_is, subst (λ (s : Standing _). LeavesEither s.register c.args.new (state g.S.Store c.commit.new.self)) c.self.view_is either)

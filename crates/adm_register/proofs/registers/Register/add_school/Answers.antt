@@ -1,7 +1,10 @@
 use Rattle.std.proofs.Common.{◌∙◌, sym, subst}
 use Rattle.adm_register.specs.Extends.{Extends}
+use Rattle.adm_register.specs.Tables.{TouchesOnly, touched_by}
 use Rattle.adm_register.specs.WellFormed.{WellFormed}
-use Rattle.adm_register.proofs.ExtendsAddSchool.{add_school-extends}
+use Rattle.adm_types.specs.declared.commands.Command.TheVariants.{AddSchool}
+use Rattle.adm_register.proofs.Extends.{add_school-extends}
+use Rattle.adm_register.proofs.Touches.{add_school-touches}
 use Rattle.adm_register.proofs.KeepsAddSchool.{add_school-keeps}
 use Rattle.adm_register.proofs.registers.Register.add_school.Goals as goal
 
@@ -14,6 +17,11 @@ pub returns-in_ok-tables-in-None-clause-extends : goal.returns-in_ok-tables-in-N
 returns-in_ok-tables-in-None-clause-extends c =
     let passes = sym c.refusal_of.ensures ∙ c.in-None.is in
     let extends = subst (Extends c.self.inside.tables) (sym c.in_ok-tables-in-None.ensures) (add_school-extends c.self.inside.tables c.args.school.now passes) in
-    let kept = subst WellFormed (sym c.in_ok-tables-in-None.ensures)
-    (add_school-keeps c.self.inside.tables c.args.school.now c.as_str-code.ensures.tested c.as_str-text.ensures.text c.self.invariant passes) in
+    let kept = subst WellFormed (sym c.in_ok-tables-in-None.ensures) (add_school-keeps c.self.inside.tables c.args.school.now c.as_str-code.ensures.tested c.as_str-text.ensures.text c.self.invariant passes) in
     (subst (λ s. Extends s c.in_ok-tables-in-None.tables) c.self.view_is extends, kept)
+
+pub returns-in_ok-tables-in-None-clause-touches : goal.returns-in_ok-tables-in-None-clause-touches
+returns-in_ok-tables-in-None-clause-touches c =
+    let touched = touched_by (AddSchool c.args.school.now) in
+    let touches = subst (TouchesOnly touched c.self.inside.tables) (sym c.in_ok-tables-in-None.ensures) (add_school-touches c.self.inside.tables c.args.school.now) in
+    subst (λ s. TouchesOnly touched s c.in_ok-tables-in-None.tables) c.self.view_is touches

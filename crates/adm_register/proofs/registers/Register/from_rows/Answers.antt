@@ -1,5 +1,5 @@
-use Rattle.std.proofs.Common.{◌≡◌, Bool, true, false}
-use Rattle.adm_register.proofs.RowsAgain.{distinct_codes, well_formed_again}
+use Rattle.std.proofs.Common.{◌≡◌, Bool, subst, true, false}
+use Rattle.adm_register.specs.WellFormed.{WellFormed}
 use Rattle.adm_register.proofs.registers.Register.from_rows.Goals as goal
 
 not_both : (b : Bool) → b ≡ true → b ≡ false → ⊥
@@ -8,9 +8,9 @@ not_both b one other = cc
 pub returns-else-is_well_formed-clause-bad_row : goal.returns-else-is_well_formed-clause-bad_row
 returns-else-is_well_formed-clause-bad_row c fault state well same =
     let made = rw c.in-Some.is at c.in_ok-tables.ensures.made in
-    not_both c.is_well_formed.result (c.is_well_formed.ensures.1 (well_formed_again c.args.rows state c.in-Some.tables well same made.0 made.1)) c.if-is_well_formed.false
+    not_both c.is_well_formed.result (c.is_well_formed.ensures.1 (subst WellFormed (made.1 state well same) well)) c.if-is_well_formed.false
 
 pub returns-in-None-clause-bad_row : goal.returns-in-None-clause-bad_row
 returns-in-None-clause-bad_row c fault state well same =
     let repeated = rw c.in-None.is at c.in_ok-tables.ensures.repeated in
-    repeated (distinct_codes c.args.rows state well same)
+    repeated state well same

@@ -1,16 +1,60 @@
-use Rattle.std.proofs.Common.{refl, sym, subst}
-use Rattle.std.specs.List.Sorted.{IsPermutation}
-use Rattle.std.specs.Map.{values_of}
+use Rattle.std.proofs.Common.{◌≡◌, refl, sym, subst, map}
+use Rattle.std.specs.Ordering.{nat_cmp}
+use Rattle.std.specs.Cmp.{nat_cmp_total}
 use Rattle.std.specs.Cmp.Lexicographic.{nat_list_cmp_total}
+use Rattle.std.specs.FinMap.{nat_cmp-IsAntisymmetric}
+use Rattle.std.specs.List.Sorted.{IsPermutation, IsStrictlySortedBy}
+use Rattle.std.specs.Map.{values_of, keys_of}
+use Rattle.std.specs.List.{IsDistinct}
+use Rattle.std.specs.Ordering.{eq_by_cmp}
+use Rattle.adm_types.specs.declared.rows.Application.{Application}
+use Rattle.adm_types.specs.declared.rows.Child.{Child}
+use Rattle.adm_types.specs.declared.rows.PlaceRow.{PlaceRow}
+use Rattle.adm_types.specs.declared.rows.School.{School}
 use Rattle.adm_register.proofs.Maps.{code_cmp-IsAntisymmetric}
-use Rattle.adm_register.proofs.TableMaps.{values_rows}
-use Rattle.adm_register.proofs.SameRows.{rows_at_own_keys}
+use Rattle.adm_register.proofs.SameRows.{distinct_keys}
+use Rattle.adm_register.proofs.RowsAgain.{rows_of_table, same_as_table}
 use Rattle.adm_register.proofs.tables.Tables.of_rows.Goals as goal
 
-pub returns-in-Some-clause-made : goal.returns-in-Some-clause-made
-returns-in-Some-clause-made c =
-    let made = rw c.in-Some.is at c.in_ok-schools.ensures.made in
-    let permuted = subst (λ rows. IsPermutation rows (values_of c.in-Some.schools)) c.into_vec.ensures made.0 in (
-      record { season = refl; schools = subst (IsPermutation c.args.rows.schools) (sym (values_rows nat_list_cmp_total c.in-Some.schools made.2)) permuted },
-      rows_at_own_keys nat_list_cmp_total code_cmp-IsAntisymmetric (λ school. school.code) c.in-Some.schools made.1,
+pub returns-in_default-clause-repeated : goal.returns-in_default-clause-repeated
+returns-in_default-clause-repeated c state well same =
+    let repeated = rw c.in_default.is at c.in_ok-schools.ensures.repeated in
+    repeated (distinct_keys nat_list_cmp_total code_cmp-IsAntisymmetric (λ (s : School). s.code) state.schools c.args.rows.schools (λ key row there. (well.schools key row there).own_code) same.schools)
+
+pub returns-in_default-2-clause-repeated : goal.returns-in_default-2-clause-repeated
+returns-in_default-2-clause-repeated c state well same =
+    let repeated = rw c.in_default-2.is at c.in_ok-children.ensures.repeated in
+    repeated (distinct_keys nat_cmp_total nat_cmp-IsAntisymmetric (λ (s : Child). s.no) state.children c.args.rows.children (λ key row there. (well.children key row there).own_number) same.children)
+
+pub returns-in_default-3-clause-repeated : goal.returns-in_default-3-clause-repeated
+returns-in_default-3-clause-repeated c state well same =
+    let repeated = rw c.in_default-3.is at c.in_ok-applications.ensures.repeated in
+    repeated (distinct_keys nat_cmp_total nat_cmp-IsAntisymmetric (λ (s : Application). s.child) state.applications c.args.rows.applications (λ key row there. (well.applications key row there).own_number) same.applications)
+
+pub returns-in_default-4-clause-repeated : goal.returns-in_default-4-clause-repeated
+returns-in_default-4-clause-repeated c state well same =
+    let repeated = rw c.in_default-4.is at c.in_ok-places.ensures.repeated in
+    repeated (subst (λ rows. IsDistinct (eq_by_cmp nat_cmp) (map (λ (s : PlaceRow). s.child) rows)) (sym c.into_vec.ensures) (distinct_keys nat_cmp_total nat_cmp-IsAntisymmetric (λ (s : PlaceRow). s.child) state.places c.args.rows.places (λ key row there. (well.places key row there).own_number) same.places))
+
+pub returns-clause-made : goal.returns-clause-made
+returns-clause-made c =
+    let schools = rw c.in-Some.is at c.in_ok-schools.ensures.made in
+    let children = rw c.in-Some-2.is at c.in_ok-children.ensures.made in
+    let applications = rw c.in-Some-3.is at c.in_ok-applications.ensures.made in
+    let listed = rw c.in-Some-4.is at c.in_ok-places.ensures.made in
+    let table = c.in-Some-4.places in
+    let places = subst (λ rows. IsPermutation rows (values_of table) × (map (λ (s : PlaceRow). s.child) (values_of table) ≡ keys_of table) × IsStrictlySortedBy nat_cmp (keys_of table)) c.into_vec.ensures listed in (
+      record {
+        season = refl;
+        schools = rows_of_table nat_list_cmp_total code_cmp-IsAntisymmetric (λ (s : School). s.code) c.args.rows.schools c.in-Some.schools schools;
+        children = rows_of_table nat_cmp_total nat_cmp-IsAntisymmetric (λ (s : Child). s.no) c.args.rows.children c.in-Some-2.children children;
+        applications = rows_of_table nat_cmp_total nat_cmp-IsAntisymmetric (λ (s : Application). s.child) c.args.rows.applications c.in-Some-3.applications applications;
+        places = rows_of_table nat_cmp_total nat_cmp-IsAntisymmetric (λ (s : PlaceRow). s.child) c.args.rows.places c.in-Some-4.places places;
+      },
+      λ state well same.
+          let same_schools = same_as_table nat_list_cmp_total code_cmp-IsAntisymmetric (λ (s : School). s.code) c.args.rows.schools c.in-Some.schools schools state.schools (λ key row there. (well.schools key row there).own_code) same.schools in
+          let same_children = same_as_table nat_cmp_total nat_cmp-IsAntisymmetric (λ (s : Child). s.no) c.args.rows.children c.in-Some-2.children children state.children (λ key row there. (well.children key row there).own_number) same.children in
+          let same_applications = same_as_table nat_cmp_total nat_cmp-IsAntisymmetric (λ (s : Application). s.child) c.args.rows.applications c.in-Some-3.applications applications state.applications (λ key row there. (well.applications key row there).own_number) same.applications in
+          let same_places = same_as_table nat_cmp_total nat_cmp-IsAntisymmetric (λ (s : PlaceRow). s.child) c.args.rows.places c.in-Some-4.places places state.places (λ key row there. (well.places key row there).own_number) same.places in
+          λ i. record { season = sym same.season i; schools = same_schools i; children = same_children i; applications = same_applications i; places = same_places i },
     )

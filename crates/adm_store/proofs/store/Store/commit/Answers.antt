@@ -1,7 +1,7 @@
 use Rattle.std.proofs.Common.{sym, subst, ◌∙◌}
 use Rattle.sqlite.specs.Held.{state}
 use Rattle.adm_store.specs.StandsFor.{StandsFor, LeavesOnly}
-use Rattle.adm_store.proofs.CommitLemmas.{no_change, no_rows, either}
+use Rattle.adm_store.proofs.CommitLemmas.{no_change, either}
 use Rattle.adm_store.proofs.store.Store.commit.Goals as goal
 
 pub returns-clause-ok : goal.returns-clause-ok
@@ -15,5 +15,5 @@ returns-in_default-clause-err g c old new step before =
     let early = subst (λ h. LeavesOnly old (state g.S.Store h)) (sym c.self.view_is) before in
     either (state g.S.Store c.self.inside.conn) (state g.S.Store c.write.new.conn) old new (c.write.ensures.survives old new step early) early
 
-pub returns-then-put-eq0-clause-ok : goal.returns-then-put-eq0-clause-ok
-returns-then-put-eq0-clause-ok g c old new step before clean db may = no_change old new c.args.changes.now step (no_rows _ (sym c.put.ensures ∙ c.if-put-eq0.true)) db (before clean db may)
+pub returns-then-cut-eq0-clause-ok : goal.returns-then-cut-eq0-clause-ok
+returns-then-cut-eq0-clause-ok g c old new step before clean db may = no_change old new c.args.changes.now step (sym c.put.ensures ∙ c.if-put-eq0.true) (sym c.cut.ensures ∙ c.if-cut-eq0.true) db (before clean db may)

@@ -1,0 +1,33 @@
+-- The test of a place decides that it fits.
+use Rattle.std.proofs.Common.{◌≡◌, true, ℕ}
+use Rattle.std.specs.Prelude.{nat_eq, ◌&&◌, ◌↔◌}
+use Rattle.std.specs.Ordering.{nat_cmp}
+use Rattle.std.specs.Cmp.{unsigned_Decides}
+use Rattle.std.specs.FinMap.{FinMap}
+use Rattle.adm_types.specs.declared.rows.Application.{Application}
+use Rattle.adm_types.specs.declared.rows.Child.{Child}
+use Rattle.adm_types.specs.declared.rows.PlaceRow.{PlaceRow}
+use Rattle.adm_types.specs.declared.rows.School.{School}
+use Rattle.adm_register.specs.State.{code_cmp}
+use Rattle.adm_register.specs.WellFormed.{PlaceFits, fits_place, is_place}
+use Rattle.adm_register.proofs.Maps.{both_true}
+
+pub place_decided : (schools : FinMap code_cmp School) (children : FinMap nat_cmp Child) (applications : FinMap nat_cmp Application) (number : ℕ) (row : PlaceRow)
+    → (fits_place schools children applications number row ≡ true) ↔ PlaceFits schools children applications number row
+place_decided schools children applications number row = (
+  λ test.
+      let own = both_true (nat_eq row.child number) (is_place schools children applications row) test in
+      let no_application = both_true _ _ own.1 in
+      let plan = both_true _ _ no_application.0 in
+      let school = both_true _ _ plan.0 in
+      record {
+        own_number = (unsigned_Decides row.child number).0 own.0;
+        child = school.0;
+        school = school.1;
+        plan = plan.1;
+        no_application = no_application.1;
+      },
+  λ fits i.
+      (unsigned_Decides row.child number).1 fits.own_number i
+      && (fits.child i && fits.school i && fits.plan i && fits.no_application i),
+)

@@ -1,0 +1,23 @@
+-- To add a child.
+use Rattle.std.specs.Prelude.{Bool, not, nat_lt, List, [], ◌∷◌}
+use Rattle.std.specs.FinMap.{insert, len, contains_key}
+use Rattle.adm_types.specs.declared.rows.Child.{Child}
+use Rattle.adm_types.specs.declared.commands.Refusal.{Refusal}
+use Rattle.adm_types.specs.declared.commands.Refusal.TheVariants.{ChildKnown, BadText, OutOfRange, UnknownSchool, RegisterFull}
+use Rattle.adm_types.specs.Limits.{is_name, is_child_in_range}
+use Rattle.adm_register.specs.State.{State}
+use Rattle.adm_register.specs.WellFormed.{are_schools}
+
+-- its number is new, its name and its numbers are in their limits, its siblings' schools are there, and there are fewer than 2,000 children
+unfoldable pub tests : State → Child → List (Bool × Refusal)
+tests old child =
+    (not (contains_key old.children child.no), ChildKnown)
+    ∷ (is_name child.name, BadText)
+    ∷ (is_child_in_range child, OutOfRange)
+    ∷ (are_schools old.schools child.siblings, UnknownSchool)
+    ∷ (nat_lt (len old.children) 2000, RegisterFull)
+    ∷ []
+
+-- the child is added
+unfoldable pub after : State → Child → State
+after old child = record old { children = insert old.children child.no child }

@@ -1,0 +1,28 @@
+-- The rows by which one register differs from another.
+use Rattle.std.specs.Prelude.{◌≡◌, ◌↔◌, Bool, true, not, List, Some, map, filter}
+use Rattle.std.specs.declared.cmp.Ordering.{Ordering}
+use Rattle.std.specs.FinMap.{FinMap, get, values, contains_key}
+use Rattle.adm_types.specs.declared.rows.School.{School}
+use Rattle.adm_types.specs.declared.rows.Child.{Child}
+use Rattle.adm_types.specs.declared.rows.Application.{Application}
+use Rattle.adm_types.specs.declared.rows.PlaceRow.{PlaceRow}
+use Rattle.adm_register.specs.State.{State}
+use Rattle.adm_register.specs.declared.difference.Difference.{Difference}
+
+-- the list is just the rows of the new map that the old one has not, in the order of their keys
+pub record AreNew {K V : Type 0} {R : K → K → Ordering} (key : V → K) (old new : FinMap R V) (rows : List V) : Type 0 where
+  pub is_new : V → Bool
+  pub decides : (row : V) → get new (key row) ≡ Some row → (is_new row ≡ true) ↔ (get old (key row) ≡ Some row → ⊥)
+  pub rows_are : rows ≡ filter is_new (values new)
+
+-- the applications of the old register whose children have none in the new one
+abbrev pub ended : State → State → List Application
+ended old new = filter (λ (a : Application). not (contains_key new.applications a.child)) (values old.applications)
+
+-- the difference is just the rows of the new register that the old one has not, and the applications that ended
+pub record IsDifference (old new : State) (difference : Difference) : Type 0 where
+  pub schools : AreNew (λ (s : School). s.code) old.schools new.schools difference.schools
+  pub children : AreNew (λ (c : Child). c.no) old.children new.children difference.children
+  pub applications : AreNew (λ (a : Application). a.child) old.applications new.applications difference.applications
+  pub places : AreNew (λ (p : PlaceRow). p.child) old.places new.places difference.places
+  pub ended : difference.ended ≡ map (λ (a : Application). a.child) (ended old new)

@@ -1,0 +1,21 @@
+-- To name a school in a child's plan.
+use Rattle.std.specs.Prelude.{ℕ, Bool, not, List, [], ◌∷◌}
+use Rattle.std.specs.FinMap.{insert, remove, contains_key}
+use Rattle.adm_types.specs.declared.commands.Refusal.{Refusal}
+use Rattle.adm_types.specs.declared.commands.Refusal.TheVariants.{UnknownChild, UnknownSchool, HasPlan}
+use Rattle.adm_types.specs.declared.rows.PlaceState.TheVariants.{Plan}
+use Rattle.adm_register.specs.State.{State}
+use Rattle.adm_register.specs.Plans.{has_plan}
+
+-- the child and the school are there, and the child has no plan
+unfoldable pub tests : State → ℕ → List ℕ → List (Bool × Refusal)
+tests old child school =
+    (contains_key old.children child, UnknownChild)
+    ∷ (contains_key old.schools school, UnknownSchool)
+    ∷ (not (has_plan old.places child), HasPlan)
+    ∷ []
+
+-- its place is that of the plan, and its application ends
+unfoldable pub after : State → ℕ → List ℕ → State
+after old child school =
+    record old { applications = remove old.applications child; places = insert old.places child (record { child = child; place = record { school = school; state = Plan } }) }

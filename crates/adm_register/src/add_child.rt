@@ -1,0 +1,35 @@
+// To add a child.
+ghost use Rattle.std.specs.Prelude.{◌≡◌, IfOk};
+ghost use Rattle.adm_register.specs.Tests.{first_failing};
+ghost use Rattle.adm_register.specs.AddChild.{tests, after};
+
+use crate::tables::Tables;
+use crate::tests_of::first_failing;
+use adm_types::limits::{is_child_in_range, is_name};
+use adm_types::{Child, Refusal};
+use std::alloc::{AllocError, Global};
+
+/// Why the child is refused.
+#[tactic(auto, unfolding(crate::specs::AddChild::tests))]
+pub(crate) fn refusal_of(old: &Tables, child: &Child) -> Option<Refusal>
+    ensures { result ≡ first_failing (tests old.now child.now) }
+{
+    first_failing(&[
+        (!old.has_child(child.no), Refusal::ChildKnown),
+        (is_name(&child.name), Refusal::BadText),
+        (is_child_in_range(child), Refusal::OutOfRange),
+        (
+            old.are_schools(child.siblings.as_slice()),
+            Refusal::UnknownSchool,
+        ),
+        (old.child_count() < 2000, Refusal::RegisterFull),
+    ])
+}
+
+/// The rows with the child.
+#[tactic(auto, unfolding(crate::specs::AddChild::after))]
+pub(crate) fn after(old: &Tables, alloc: Global, child: &Child) -> Result<Tables, AllocError>
+    ensures { IfOk result (λ new. new ≡ after old.now child.now) }
+{
+    old.put_child(alloc, child.clone()?)
+}

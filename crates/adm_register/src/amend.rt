@@ -1,0 +1,34 @@
+// To replace a child's data.
+ghost use Rattle.std.specs.Prelude.{◌≡◌, IfOk};
+ghost use Rattle.adm_register.specs.Tests.{first_failing};
+ghost use Rattle.adm_register.specs.Amend.{tests, after};
+
+use crate::tables::Tables;
+use crate::tests_of::first_failing;
+use adm_types::limits::{is_child_in_range, is_name};
+use adm_types::{Child, Refusal};
+use std::alloc::{AllocError, Global};
+
+/// Why the data are refused.
+#[tactic(auto, unfolding(crate::specs::Amend::tests))]
+pub(crate) fn refusal_of(old: &Tables, child: &Child) -> Option<Refusal>
+    ensures { result ≡ first_failing (tests old.now child.now) }
+{
+    first_failing(&[
+        (old.has_child(child.no), Refusal::UnknownChild),
+        (is_name(&child.name), Refusal::BadText),
+        (is_child_in_range(child), Refusal::OutOfRange),
+        (
+            old.are_schools(child.siblings.as_slice()),
+            Refusal::UnknownSchool,
+        ),
+    ])
+}
+
+/// The rows with the child's new data.
+#[tactic(auto, unfolding(crate::specs::Amend::after))]
+pub(crate) fn after(old: &Tables, alloc: Global, child: &Child) -> Result<Tables, AllocError>
+    ensures { IfOk result (λ new. new ≡ after old.now child.now) }
+{
+    old.put_child(alloc, child.clone()?)
+}

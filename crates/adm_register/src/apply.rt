@@ -1,0 +1,55 @@
+// To apply.
+ghost use Rattle.std.specs.Prelude.{◌≡◌, ◌&&◌, length, IfOk};
+ghost use Rattle.adm_types.specs.Limits.{is_from, is_without_repeat};
+ghost use Rattle.adm_register.specs.Tests.{first_failing};
+ghost use Rattle.adm_register.specs.Apply.{tests, after};
+
+use crate::tables::Tables;
+use crate::tests_of::first_failing;
+use adm_types::limits::is_without_repeat;
+use adm_types::{Application, ChildNo, Day, Refusal, SchoolCode, Seq};
+use std::alloc::{AllocError, Global};
+
+/// Why the application is refused.
+#[tactic(auto, unfolding(crate::specs::Apply::tests))]
+pub(crate) fn refusal_of(
+    old: &Tables,
+    child: ChildNo,
+    day: Day,
+    list: &Seq<SchoolCode>,
+) -> Option<Refusal>
+    ensures { result ≡ first_failing (tests old.now child day list.now) }
+{
+    let list = list.as_slice();
+    first_failing(&[
+        (old.has_child(child), Refusal::UnknownChild),
+        (!old.has_plan(child), Refusal::HasPlan),
+        (!old.has_application(child), Refusal::AlreadyApplied),
+        (day <= old.season().lists_end(), Refusal::ListClosed),
+        (is_preference_list(list), Refusal::BadPreferences),
+        (old.are_schools(list), Refusal::UnknownSchool),
+    ])
+}
+
+/// Whether there are 1 to 6 schools without repeat.
+fn is_preference_list(list: &[SchoolCode]) -> bool
+    ensures { result ≡ (is_from 1 6 (length list.now) && is_without_repeat list.now) }
+{
+    let count = 1 <= list.len() && list.len() <= 6;
+    count && is_without_repeat(list)
+}
+
+/// The rows with the application.
+#[tactic(auto, unfolding(crate::specs::Apply::after))]
+pub(crate) fn after(
+    old: &Tables,
+    alloc: Global,
+    child: ChildNo,
+    day: Day,
+    list: &Seq<SchoolCode>,
+) -> Result<Tables, AllocError>
+    ensures { IfOk result (λ new. new ≡ after old.now child day list.now) }
+{
+    let list = list.clone()?;
+    old.put_application(alloc, Application { child, day, list })
+}

@@ -1,0 +1,79 @@
+// Whether two rows are the same.
+ghost use Rattle.std.specs.Prelude.{◌≡◌, ◌↔◌, Bool, true};
+ghost use Rattle.adm_register.specs.Same.{is_same_school, is_same_child, is_same_application, is_same_place, same_school, same_child, same_application, same_place};
+
+use crate::shared::Shared;
+use adm_types::{Application, Child, PlaceRow, School};
+
+/// A row that can be compared with another.
+pub(crate) trait Same {
+    ghost same: { Self → Self → Bool };
+
+    /// Whether the two rows are the same.
+    fn is_same(&self, other: &Self) -> bool
+        ensures { result ≡ same self.now other.now };
+
+    /// It tells whether they are equal.
+    ghost is_equality: { (x y : Self) → same x y ≡ true ↔ x ≡ y };
+}
+
+impl Same for School {
+    ghost same = { is_same_school };
+
+    ghost is_equality = { same_school };
+
+    fn is_same(&self, other: &School) -> bool {
+        self.code == other.code
+            && self.name.as_str() == other.name.as_str()
+            && self.pan == other.pan
+            && self.at == other.at
+            && self.criteria.as_slice() == other.criteria.as_slice()
+    }
+}
+
+impl Same for Child {
+    ghost same = { is_same_child };
+
+    ghost is_equality = { same_child };
+
+    fn is_same(&self, other: &Child) -> bool {
+        self.no == other.no
+            && self.name.as_str() == other.name.as_str()
+            && self.home == other.home
+            && self.looked_after == other.looked_after
+            && self.flags == other.flags
+            && self.siblings.as_slice() == other.siblings.as_slice()
+    }
+}
+
+impl Same for Application {
+    ghost same = { is_same_application };
+
+    ghost is_equality = { same_application };
+
+    fn is_same(&self, other: &Application) -> bool {
+        self.child == other.child
+            && self.day == other.day
+            && self.list.as_slice() == other.list.as_slice()
+    }
+}
+
+impl Same for PlaceRow {
+    ghost same = { is_same_place };
+
+    ghost is_equality = { same_place };
+
+    fn is_same(&self, other: &PlaceRow) -> bool {
+        self == other
+    }
+}
+
+impl<T: Same> Same for Shared<T> {
+    ghost same = { T.same };
+
+    ghost is_equality = { T.is_equality };
+
+    fn is_same(&self, other: &Shared<T>) -> bool {
+        self.as_ref().is_same(other.as_ref())
+    }
+}

@@ -1,0 +1,29 @@
+-- What each text that writes or takes out one row means under the register's schema.
+use Rattle.std.proofs.Common.{◌≡◌, refl}
+use Rattle.std.specs.Prelude.{[], ◌∷◌}
+use Rattle.sqlite.specs.Term.{col}
+use Rattle.sqlite.specs.Command.TheVariants.{InsertOr, Delete}
+use Rattle.sqlite_schema.specs.declared.command.Conflict.TheVariants.{Replace}
+use Rattle.sqlite.specs.Source.TheVariants.{Values}
+use Rattle.sqlite.specs.Listing.{understood}
+use Rattle.sqlite.proofs.Callers.{IsPlain, command_of}
+use Rattle.sqlite_tied.specs.Compute.{everything}
+use Rattle.adm_schema.specs.Queries.{query_of, program_of}
+use Rattle.adm_schema.specs.Schema.{register_schema}
+use Rattle.adm_schema.specs.RowTexts as text
+
+pub puts_child : (command_of (understood register_schema text.put_child) ≡ InsertOr 2 Replace (Values text.child_terms 8) []) × IsPlain (understood register_schema text.put_child)
+unfolding understood everything
+puts_child = (refl, (refl, refl))
+
+pub puts_application : (command_of (understood register_schema text.put_application) ≡ InsertOr 3 Replace (Values text.application_terms 4) []) × IsPlain (understood register_schema text.put_application)
+unfolding understood everything
+puts_application = (refl, (refl, refl))
+
+pub puts_place : (command_of (understood register_schema text.put_place) ≡ InsertOr 4 Replace (Values text.place_terms 6) []) × IsPlain (understood register_schema text.put_place)
+unfolding understood everything
+puts_place = (refl, (refl, refl))
+
+pub cuts_application : (command_of (understood register_schema text.cut_application) ≡ Delete 3 (program_of (query_of 4 text.has_key (col 1 0 ∷ []) []))) × IsPlain (understood register_schema text.cut_application)
+unfolding understood everything
+cuts_application = (refl, (refl, refl))

@@ -1,0 +1,33 @@
+-- The fixed texts that write and take out one row of a table by its key.
+use Rattle.std.specs.Prelude.{ℕ, List, [], ◌∷◌, codes}
+use Rattle.sqlite.specs.declared.types.Value.TheVariants.{Null}
+use Rattle.sqlite.specs.Collation.TheVariants.{Binary}
+use Rattle.sqlite.specs.Term.{Term, op2, col, lit}
+use Rattle.sqlite_sql.specs.declared.ops.BinaryOp.TheVariants.{Compare}
+use Rattle.sqlite_sql.specs.declared.ops.CompareOp.TheVariants.{Eq}
+
+abbrev pub put_child : List ℕ
+put_child = codes "INSERT OR REPLACE INTO child (child, name, east, north, looked_after, flags, siblings) VALUES (?1, ?2, ?3, ?4, ?5, ?6, ?7)"
+
+-- the key goes to the rowid's place, and its own column is NULL
+abbrev pub child_terms : List Term
+child_terms = col 0 0 ∷ lit Null ∷ col 0 1 ∷ col 0 2 ∷ col 0 3 ∷ col 0 4 ∷ col 0 5 ∷ col 0 6 ∷ []
+
+abbrev pub put_application : List ℕ
+put_application = codes "INSERT OR REPLACE INTO application (child, day, preferences) VALUES (?1, ?2, ?3)"
+
+abbrev pub application_terms : List Term
+application_terms = col 0 0 ∷ lit Null ∷ col 0 1 ∷ col 0 2 ∷ []
+
+abbrev pub put_place : List ℕ
+put_place = codes "INSERT OR REPLACE INTO place (child, school, kind, day, reminded) VALUES (?1, ?2, ?3, ?4, ?5)"
+
+abbrev pub place_terms : List Term
+place_terms = col 0 0 ∷ lit Null ∷ col 0 1 ∷ col 0 2 ∷ col 0 3 ∷ col 0 4 ∷ []
+
+abbrev pub cut_application : List ℕ
+cut_application = codes "DELETE FROM application WHERE child = ?1"
+
+-- the rowid is the parameter
+abbrev pub has_key : List Term
+has_key = op2 (Compare Eq Binary) (col 1 0) (col 0 0) ∷ []

@@ -1,0 +1,127 @@
+-- Which rows are those of no child, no application and no place.
+use Rattle.std.proofs.Common.{◌≡◌, ℕ, zero, suc, ◌<◌, ◌^◌, Bool, Option, true, false, List, [], ◌∷◌, map, length, Some, None, pos, nat_le, refl, ap, arith}
+use Rattle.std.specs.Prelude.{◌&&◌, nat_lt, nat_eq}
+use Rattle.std.specs.List.{AllByRecursion}
+use Rattle.std.specs.List.Sorted.{IsPermutation}
+use Rattle.std.specs.Option.{unwrap_or}
+use Rattle.std.proofs.lemmas.Bool.{and_parts}
+use Rattle.std.proofs.lemmas.Bool.Decides.{nat_tests}
+use Rattle.sqlite.specs.declared.types.Value.{Value}
+use Rattle.sqlite.specs.declared.types.Value.TheVariants.{Null, Int, Text}
+use Rattle.sqlite.specs.Order.{Row, column}
+use Rattle.adm_types.specs.Joined.{codes_of}
+use Rattle.adm_types.specs.Limits.{is_on_map, is_without_repeat}
+use Rattle.adm_types.specs.declared.rows.Child.{Child}
+use Rattle.adm_types.specs.declared.rows.Application.{Application}
+use Rattle.adm_types.specs.declared.rows.PlaceRow.{PlaceRow}
+use Rattle.adm_types.specs.declared.rows.PlaceState.{PlaceState}
+use Rattle.adm_types.specs.declared.rows.PlaceState.TheVariants.{Offered, Accepted, Plan}
+use Rattle.adm_register.specs.State.{is_plan}
+use Rattle.adm_store.specs.Forms.{truth_code, day_value, state_columns, child_row, application_row, place_row}
+use Rattle.adm_store.specs.Faults.{IsChild, IsApplication, AreReadAgain}
+use Rattle.adm_store.proofs.RowLemmas.{number_in, text_in, same_values, recursion_map}
+use Rattle.adm_store.proofs.CodeLemmas.{codes_again}
+
+-- ---- children
+
+metres_fit : (n : ℕ) → nat_le n 1500000 ≡ true → n < 2 ^ 32
+metres_fit n h = grind (arith, nat_tests)
+
+-- a home has coordinates of 32 bits
+pub home_fits : (child : Child) → IsChild child → (child.home.east < 2 ^ 32) × (child.home.north < 2 ^ 32)
+home_fits child fits =
+    let few = and_parts (is_on_map child.home && nat_le (length child.siblings) 6) (is_without_repeat child.siblings) fits.in_range in
+    let home = and_parts (is_on_map child.home) (nat_le (length child.siblings) 6) few.0 in
+    let each = and_parts (nat_le child.home.east 1500000) (nat_le child.home.north 1500000) home.0 in
+    (metres_fit child.home.east each.0, metres_fit child.home.north each.1)
+
+pub flags_fit : (flags : ℕ) → nat_lt flags 65536 ≡ true → flags < 65536
+flags_fit flags h = grind (arith, nat_tests)
+
+truth_back : (truth : Bool) → nat_eq (truth_code truth) 1 ≡ truth
+truth_back true = refl
+truth_back false = refl
+
+-- a child from its row
+abbrev child_from : Row → Child
+child_from row = record {
+  no = number_in (column row 0);
+  name = text_in (column row 1);
+  home = record { east = number_in (column row 2); north = number_in (column row 3) };
+  looked_after = nat_eq (number_in (column row 4)) 1;
+  flags = number_in (column row 5);
+  siblings = unwrap_or (codes_of (text_in (column row 6))) [];
+}
+
+child_back : (c : Child) → AreReadAgain c.siblings → child_from (child_row c) ≡ c
+child_back c again = λ k. record { no = c.no; name = c.name; home = c.home; looked_after = truth_back c.looked_after k; flags = c.flags; siblings = unwrap_or (again k) [] }
+
+-- children that are read back, and whose rows are those of others in another order, are those others
+pub same_children : (xs ys : List Child) → AllByRecursion (λ x. AreReadAgain x.siblings) xs → AllByRecursion IsChild ys → IsPermutation (map child_row ys) (map child_row xs) → IsPermutation xs ys
+same_children xs ys again fit moved =
+    same_values child_row child_from xs ys (recursion_map (λ x. AreReadAgain x.siblings) _ child_back xs again) (recursion_map IsChild _ (λ c fits. child_back c (codes_again c.siblings fits.codes)) ys fit) moved
+
+-- ---- applications
+
+abbrev application_from : Row → Application
+application_from row = record {
+  child = number_in (column row 0);
+  day = number_in (column row 1);
+  list = unwrap_or (codes_of (text_in (column row 2))) [];
+}
+
+application_back : (a : Application) → AreReadAgain a.list → application_from (application_row a) ≡ a
+application_back a again = λ k. record { child = a.child; day = a.day; list = unwrap_or (again k) [] }
+
+pub same_applications : (last : ℕ) (xs ys : List Application) → AllByRecursion (λ x. AreReadAgain x.list) xs → AllByRecursion (IsApplication last) ys → IsPermutation (map application_row ys) (map application_row xs) → IsPermutation xs ys
+same_applications last xs ys again fit moved =
+    same_values application_row application_from xs ys (recursion_map (λ x. AreReadAgain x.list) _ application_back xs again) (recursion_map (IsApplication last) _ (λ a fits. application_back a (codes_again a.list fits.codes)) ys fit) moved
+
+-- ---- places
+
+day_in : Value → Option ℕ
+day_in (Int (pos day)) = Some day
+day_in other = None
+
+day_back : (day : Option ℕ) → day_in (day_value day) ≡ day
+unfolding day_in
+day_back None = refl
+day_back (Some day) = refl
+
+pub null_day : (day : Option ℕ) → day_value day ≡ Null → day ≡ None
+null_day None is = refl
+null_day (Some day) is = absurd (cc)
+
+state_from : ℕ → Value → Value → PlaceState
+state_from (suc zero) day reminded = Offered (number_in day) (day_in reminded)
+state_from (suc (suc zero)) day reminded = Accepted
+state_from other day reminded = Plan
+
+state_back : (state : PlaceState) → state_from (number_in (column (state_columns state) 0)) (column (state_columns state) 1) (column (state_columns state) 2) ≡ state
+unfolding state_from
+state_back (Offered day reminded) = ap (Offered day) (day_back reminded)
+state_back Accepted = refl
+state_back Plan = refl
+
+-- a place from its row
+abbrev place_from : Row → PlaceRow
+place_from row = record { child = number_in (column row 0); place = record { school = text_in (column row 1); state = state_from (number_in (column row 2)) (column row 3) (column row 4) } }
+
+place_back : (p : PlaceRow) → place_from (place_row p) ≡ p
+place_back p = λ k. record { child = p.child; place = record { school = p.place.school; state = state_back p.place.state k } }
+
+all_back : (xs : List PlaceRow) → AllByRecursion (λ x. place_from (place_row x) ≡ x) xs
+all_back [] = tt
+all_back (x ∷ xs) = (place_back x, all_back xs)
+
+pub same_places : (xs ys : List PlaceRow) → IsPermutation (map place_row ys) (map place_row xs) → IsPermutation xs ys
+same_places xs ys moved = same_values place_row place_from xs ys (all_back xs) (all_back ys) moved
+
+-- the columns of the place of a plan
+pub plan_columns : (p : PlaceRow) → is_plan p.place.state ≡ true → place_row p ≡ Int (pos p.child) ∷ Text p.place.school ∷ Int (pos 3) ∷ Null ∷ Null ∷ []
+plan_columns p plan = ap (λ state. Int (pos p.child) ∷ Text p.place.school ∷ state_columns state) (is_the_plan p.place.state plan)
+  where
+    is_the_plan : (state : PlaceState) → is_plan state ≡ true → state ≡ Plan
+    is_the_plan Plan h = refl
+    is_the_plan Accepted h = absurd (cc)
+    is_the_plan (Offered day reminded) h = absurd (cc)

@@ -1,0 +1,24 @@
+use Rattle.sqlite.specs.Held.{state}
+use Rattle.adm_schema.proofs.Queries.{shows_all, shows_unchanged, never_refused}
+use Rattle.adm_store.proofs.FirstFaultLemmas.{answered, not_asked}
+use Rattle.adm_store.proofs.ReadingLemmas.{few_trees}
+use Rattle.adm_store.proofs.reading.queries.rows_of.Goals as goal
+
+pub returns-in-Ok-clause-ok : goal.returns-in-Ok-clause-ok
+returns-in-Ok-clause-ok g c clean has tree project order asks low = shows_all asks (state g.S.Store c.args.tx.now.conn.now) (state g.S.Store c.query_all.new.self.conn.now) c.in-Ok.rows.items (few_trees tree low) has (c.in-Ok.ensures.ok clean)
+
+pub returns-in-Ok-clause-same : goal.returns-in-Ok-clause-same
+returns-in-Ok-clause-same g c clean has tree project order asks = (shows_unchanged asks (state g.S.Store c.args.tx.now.conn.now) (state g.S.Store c.query_all.new.self.conn.now) c.in-Ok.rows.items has (c.in-Ok.ensures.ok clean)).0.now_is
+
+pub returns-in-Err-clause-bad : goal.returns-in-Err-clause-bad
+returns-in-Err-clause-bad g c clean structural has tree project order asks =
+    let text = (c.fault_of.ensures structural).1 in
+    never_refused asks (state g.S.Store c.args.tx.now.conn.now) (state g.S.Store c.query_all.new.self.conn.now) c.in-Err.error text.0 has text.1 (c.in-Err.ensures.err clean)
+
+pub returns-in-Ok-clause-answered : goal.returns-in-Ok-clause-answered
+returns-in-Ok-clause-answered g c clean = answered c.args.text.now (state g.S.Store c.args.tx.now.conn.now) (state g.S.Store c.query_all.new.self.conn.now) c.in-Ok.rows.items (c.in-Ok.ensures.ok clean)
+
+pub returns-in-Err-clause-refused : goal.returns-in-Err-clause-refused
+returns-in-Err-clause-refused g c clean structural =
+    let text = c.fault_of.ensures structural in
+    (text.2, not_asked c.args.text.now (state g.S.Store c.args.tx.now.conn.now) (state g.S.Store c.query_all.new.self.conn.now) c.in-Err.error text.1.0 text.1.1 (c.in-Err.ensures.err clean))

@@ -1,0 +1,45 @@
+-- Which of the faults of an open comes first.
+use Rattle.std.specs.Prelude.{◌≡◌, ℕ, zero, suc, pos, Bool, true, false, List, [], ◌∷◌, Ok, Err, None, if◌then◌else◌}
+use Rattle.sqlite.specs.declared.types.Value.{Value}
+use Rattle.sqlite.specs.declared.types.Value.TheVariants.{Int}
+use Rattle.sqlite.specs.Order.{Row, column}
+use Rattle.sqlite.specs.Effect.{Database, Reads}
+use Rattle.sqlite.specs.Listing.{understood, reads_listing, IsSourceOf}
+use Rattle.sqlite_resolve.specs.declared.compiled.Compiled.{Compiled}
+use Rattle.sqlite_resolve.specs.declared.error.CompileError.{CompileError}
+use Rattle.adm_schema.specs.Rows.{rows_of}
+use Rattle.adm_schema.specs.Schema.{meta, register_schema}
+use Rattle.adm_schema.specs.Texts.{select_meta}
+use Rattle.adm_store.specs.declared.fault.OpenFault.{OpenFault}
+use Rattle.adm_store.specs.declared.fault.OpenFault.TheVariants.{NotOurs, Version, BadRow}
+
+abbrev pub is_one : Value → Bool
+is_one (Int (pos (suc zero))) = true
+is_one other = false
+
+-- what is wrong first with a file that stands for no register, by the rows of its table `meta`: there is none; its row names another version than 1; anything else
+abbrev pub first_fault : List Row → OpenFault
+first_fault [] = NotOurs
+first_fault (row ∷ []) = if is_one (column row 1) then BadRow else Version
+first_fault (row ∷ next ∷ rows) = BadRow
+
+-- the text, which `sqlite` understands so, answers these rows
+abbrev pub Answers : Database → List ℕ → Compiled → List Row → Type 0
+Answers db sql c rows = (source : Database) × (params : Row) × IsSourceOf (reads_listing db.schema sql) db source × Reads c.command source params rows
+
+-- `sqlite` understands the text, and these are the rows that it answers, where it is a query
+abbrev pub IsAnswered : Database → List ℕ → List Row → Type 0
+IsAnswered db sql rows = (c : Compiled) × (understood db.schema sql ≡ Ok c) × (c.returning ≡ None → Answers db sql c rows)
+
+-- the text is no query that `sqlite` understands, as where a table or a column is missing
+abbrev pub IsNotAsked : Database → List ℕ → Type 0
+IsNotAsked db sql = (c : Compiled) → understood db.schema sql ≡ Ok c → c.returning ≡ None → ⊥
+
+-- the fault is the first that fits, in the order NotOurs, Version, BadRow
+pub record IsFirstFault (db : Database) (fault : OpenFault) : Type 0 where
+  -- there is no table `meta` with its columns, by their names
+  pub no_table : (why : CompileError) → understood db.schema select_meta ≡ Err why → fault ≡ NotOurs
+  -- else its rows tell
+  pub by_rows : (c : Compiled) → understood db.schema select_meta ≡ Ok c → c.returning ≡ None → (rows : List Row) × Answers db select_meta c rows × (fault ≡ first_fault rows)
+  -- in a file with the tables of a register these are the rows of its table `meta`
+  pub own_rows : db.schema ≡ register_schema → fault ≡ first_fault (rows_of meta db.trees)

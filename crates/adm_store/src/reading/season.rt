@@ -1,0 +1,180 @@
+// The row of `meta` as the season.
+ghost use Rattle.std.specs.Prelude.{◌≡◌, ◌↔◌, ◌⊎◌, ◌≤◌, false, pos, OnOk, None, [], ◌∷◌, length, IfOk, IfErr, IfSome, IsTrue, Some, string_bytes};
+ghost use Rattle.sqlite.specs.declared.types.Value.TheVariants.{Int, Text as TextValue};
+ghost use Rattle.std.specs.Prelude.{ℕ, List};
+ghost use Rattle.adm_types.specs.Seasons.{SeasonFacts, IsSeason, IsRising};
+ghost use Rattle.adm_store.specs.Forms.{phase_code, days_text, days_of, season_row};
+ghost use Rattle.sqlite.specs.Order.{column};
+ghost use Rattle.adm_store.specs.FirstFault.{is_one, first_fault};
+ghost use Rattle.adm_store.specs.Faults.{IsNoRegister, HasSeasonColumns};
+
+use crate::reading::columns::value_at;
+use crate::{OpenFault, lists};
+use adm_types::{Day, Phase, Season, SeasonFault};
+use sqlite::Row;
+use std::alloc::Global;
+
+fn phase_of(number: u32) -> Option<Phase>
+    ensures found { IfSome result (λ phase. number ≡ phase_code phase) }
+    ensures none { result ≡ None → (phase : Phase) → number ≡ phase_code phase → ⊥ }
+{
+    match number {
+        1 => Some(Phase::Primary),
+        2 => Some(Phase::Secondary),
+        _ => None,
+    }
+}
+
+/// The columns of the row of `meta`, less its key and its version.
+#[derive(Drop)]
+struct SeasonColumns {
+    phase: Phase,
+    year: u32,
+    holidays: String,
+}
+
+/// That the row names version 1.
+fn expect_version(row: &Row) -> Result<(), OpenFault>
+    ensures ok { OnOk result (IsTrue (is_one (column row.now 1))) }
+    ensures bad { IfErr result (λ e. (e ≡ OpenFault.Memory) ⊎ ((e ≡ OpenFault.Version) × (is_one (column row.now 1) ≡ false))) }
+{
+    if row.column_count() < 2 {
+        return Err(OpenFault::Version);
+    }
+    let version: u32 = match value_at(row, 1) {
+        Ok(version) => version,
+        Err(OpenFault::Memory) => return Err(OpenFault::Memory),
+        Err(_) => return Err(OpenFault::Version),
+    };
+    if version != 1 {
+        return Err(OpenFault::Version);
+    }
+    Ok(())
+}
+
+fn season_columns(row: &Row) -> Result<SeasonColumns, OpenFault>
+    requires { IsTrue (is_one (column row.now 1)) }
+    ensures ok { IfOk result (λ c. row.now ≡ Int (pos 1) ∷ Int (pos 1) ∷ Int (pos (phase_code c.phase)) ∷ Int (pos c.year) ∷ TextValue (string_bytes c.holidays) ∷ Int (pos 0) ∷ []) }
+    ensures bad { IfErr result (λ e. IsNoRegister e → (phase : Phase) (year : ℕ) (holidays : List ℕ) → HasSeasonColumns row.now phase year holidays → ⊥) }
+    ensures first { IfErr result (λ e. IsNoRegister e → e ≡ OpenFault.BadRow) }
+{
+    if row.column_count() != 6 {
+        return Err(OpenFault::BadRow);
+    }
+    let one: u32 = value_at(row, 0)?;
+    let Some(phase) = phase_of(value_at(row, 2)?) else {
+        return Err(OpenFault::BadRow);
+    };
+    let year = value_at(row, 3)?;
+    let holidays = value_at(row, 4)?;
+    let draws: u32 = value_at(row, 5)?;
+    if one != 1 || draws != 0 {
+        return Err(OpenFault::BadRow);
+    }
+    Ok(SeasonColumns {
+        phase,
+        year,
+        holidays,
+    })
+}
+
+/// Whether a text is that of these days.
+fn is_text_of_days(alloc: Global, text: &str, days: &[Day]) -> Result<bool, OpenFault>
+    ensures ok { IfOk result (λ same. IsTrue same ↔ (text.now ≡ days_text days.now)) }
+    ensures bad { IfErr result (λ e. e ≡ OpenFault.Memory) }
+{
+    match lists::days_text(alloc, days) {
+        Ok(again) => Ok(again.as_str() == text),
+        Err(_) => Err(OpenFault::Memory),
+    }
+}
+
+/// The season of these days, where the entry year is in range and they are not too many.
+fn season_on(alloc: Global, phase: Phase, year: u32, days: &[Day]) -> Result<Season, OpenFault>
+    ensures ok { IfOk result (λ season. (season.phase ≡ phase) × (season.year ≡ year) × IsRising days.now season.holidays) }
+    ensures bad { IfErr result (λ e. IsNoRegister e → 2000 ≤ year → year ≤ 2100 → length days.now ≤ 40 → ⊥) }
+    ensures first { IfErr result (λ e. IsNoRegister e → e ≡ OpenFault.BadRow) }
+{
+    match Season::new(alloc, phase, year, days) {
+        Ok(season) => Ok(season),
+        Err(SeasonFault::Memory) => Err(OpenFault::Memory),
+        Err(SeasonFault::YearRange) => Err(OpenFault::BadRow),
+        Err(SeasonFault::TooManyHolidays) => Err(OpenFault::BadRow),
+    }
+}
+
+/// The days that a text writes.
+fn read_days(alloc: Global, text: &str) -> Result<Vec<Day>, OpenFault>
+    ensures ok { IfOk result (λ days. days_of text.now ≡ Some days.items) }
+    ensures bad { IfErr result (λ e. IsNoRegister e → days_of text.now ≡ None) }
+    ensures first { IfErr result (λ e. IsNoRegister e → e ≡ OpenFault.BadRow) }
+{
+    let Ok(read) = lists::days_in(alloc, text) else {
+        return Err(OpenFault::Memory);
+    };
+    let Some(days) = read else {
+        return Err(OpenFault::BadRow);
+    };
+    Ok(days)
+}
+
+/// The season of these columns, where the text of its holidays is the text of them in rising order and once each.
+fn season_with(alloc: Global, columns: &SeasonColumns) -> Result<Season, OpenFault>
+    ensures ok { IfOk result (λ season. (season.phase ≡ columns.now.phase) × (season.year ≡ columns.now.year) × (string_bytes columns.now.holidays ≡ days_text season.holidays)) }
+    ensures season { IfOk result IsSeason }
+    ensures bad { IfErr result (λ e. IsNoRegister e → (season : SeasonFacts) → IsSeason season → columns.now.year ≡ season.year → string_bytes columns.now.holidays ≡ days_text season.holidays → ⊥) }
+    ensures first { IfErr result (λ e. IsNoRegister e → e ≡ OpenFault.BadRow) }
+{
+    let days = match read_days(alloc, &columns.holidays) {
+        Ok(days) => days,
+        Err(fault) => return Err(fault),
+    };
+    let season = match season_on(alloc, columns.phase, columns.year, days.as_slice()) {
+        Ok(season) => season,
+        Err(fault) => return Err(fault),
+    };
+    let same = match is_text_of_days(alloc, &columns.holidays, season.holidays()) {
+        Ok(same) => same,
+        Err(fault) => return Err(fault),
+    };
+    if same {
+        Ok(season)
+    } else {
+        Err(OpenFault::BadRow)
+    }
+}
+
+/// The season from its row.
+fn season_in(alloc: Global, row: &Row) -> Result<Season, OpenFault>
+    ensures ok { IfOk result (λ season. row.now ≡ season_row season) }
+    ensures season { IfOk result IsSeason }
+    ensures bad { IfErr result (λ e. IsNoRegister e → (season : SeasonFacts) → IsSeason season → row.now ≡ season_row season → ⊥) }
+    ensures first { IfErr result (λ e. IsNoRegister e → e ≡ first_fault (row.now ∷ [])) }
+{
+    match expect_version(row) {
+        Ok(()) => {}
+        Err(fault) => return Err(fault),
+    }
+    let columns = match season_columns(row) {
+        Ok(columns) => columns,
+        Err(fault) => return Err(fault),
+    };
+    match season_with(alloc, &columns) {
+        Ok(season) => Ok(season),
+        Err(fault) => Err(fault),
+    }
+}
+
+/// The season of the one row that there may be.
+pub(super) fn season_of(alloc: Global, rows: &[Row]) -> Result<Season, OpenFault>
+    ensures ok { IfOk result (λ season. rows.now ≡ season_row season ∷ []) }
+    ensures season { IfOk result IsSeason }
+    ensures bad { IfErr result (λ e. IsNoRegister e → (season : SeasonFacts) → IsSeason season → rows.now ≡ season_row season ∷ [] → ⊥) }
+    ensures first { IfErr result (λ e. IsNoRegister e → e ≡ first_fault rows.now) }
+{
+    match rows {
+        [] => Err(OpenFault::NotOurs),
+        [row] => season_in(alloc, row),
+        _ => Err(OpenFault::BadRow),
+    }
+}
