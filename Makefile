@@ -6,7 +6,7 @@
 #   make bench    what commands cost, beside a baseline in the same run
 #   make install  PREFIX=/usr/local by default
 PREFIX ?= /usr/local
-EXAMPLES := first_path
+EXAMPLES := first_path applications
 
 .PHONY: build demo test bench install
 
@@ -21,6 +21,7 @@ test:
 
 bench: build
 	bench/first_path/run bin/admissions
+	bench/applications/run bin/admissions
 	bench/match/run.sh
 
 install: build
