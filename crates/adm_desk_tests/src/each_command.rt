@@ -17,14 +17,10 @@ fn again(
     log_calls: u64,
     db_calls: u64,
 ) -> Result<Files<Fused>, Fail> {
-    let files = Files {
+    Ok(Files {
         log: disk(alloc, files.log.inner().bytes(), log_calls)?,
         db: disk(alloc, files.db.inner().bytes(), db_calls)?,
-    };
-    if !files.may_be_used() {
-        return Err(Fail::from("a new disk"));
-    }
-    Ok(files)
+    })
 }
 
 /// Disks with a register after the commands that it was made for.
@@ -60,6 +56,9 @@ fn prepared(alloc: Global) -> Result<Files<Fused>, Fail> {
 /// The register that an open finds.
 fn found(alloc: Global, files: &Files<Fused>) -> Result<Register, Fail> {
     let files = again(alloc, files, u64::MAX, u64::MAX)?;
+    if !files.may_be_used() {
+        return Err(Fail::from("a new disk"));
+    }
     let Ok(conn) = Connection::open_files(alloc, files, Options::new(8)) else {
         return Err(Fail::from("no database"));
     };
@@ -78,6 +77,9 @@ fn stopped(
     files: Files<Fused>,
     command: &Command,
 ) -> Result<(Stage, Files<Fused>), Fail> {
+    if !files.may_be_used() {
+        return Err(Fail::from("a new disk"));
+    }
     match Connection::open_files(alloc, files, Options::new(9)) {
         Ok(conn) => {
             if !conn.is_autocommit() {
@@ -136,24 +138,35 @@ fn leaves_old_or_new(
     Ok(stage == Stage::Done)
 }
 
-/// Stops the command at each call of the log, and then of the database.
+/// Stops the command at each call of the log.
+fn stops_of_the_log(alloc: Global, start: &Files<Fused>, command: &Command) -> Result<(), Fail> {
+    for calls in 0..200 {
+        if leaves_old_or_new(alloc, start, command, calls, u64::MAX)? {
+            return Ok(());
+        }
+    }
+    Err(Fail::from("always stopped"))
+}
+
+/// Stops the command at each call of the database.
+fn stops_of_the_database(
+    alloc: Global,
+    start: &Files<Fused>,
+    command: &Command,
+) -> Result<(), Fail> {
+    for calls in 0..200 {
+        if leaves_old_or_new(alloc, start, command, u64::MAX, calls)? {
+            return Ok(());
+        }
+    }
+    Err(Fail::from("always stopped"))
+}
+
+/// Stops the command at each call of either disk.
 fn stops(alloc: Global, command: &Command) -> Result<(), Fail> {
     let start = prepared(alloc)?;
-    let mut calls = 0;
-    while !leaves_old_or_new(alloc, &start, command, calls, u64::MAX)? {
-        calls += 1;
-        if calls == 200 {
-            return Err(Fail::from("always stopped"));
-        }
-    }
-    calls = 0;
-    while !leaves_old_or_new(alloc, &start, command, u64::MAX, calls)? {
-        calls += 1;
-        if calls == 200 {
-            return Err(Fail::from("always stopped"));
-        }
-    }
-    Ok(())
+    stops_of_the_log(alloc, &start, command)?;
+    stops_of_the_database(alloc, &start, command)
 }
 
 #[test]

@@ -65,27 +65,43 @@ fn a_school_that_comes_again_and_lines_that_are_no_commands(rt: HostRuntime) -> 
     Ok(())
 }
 
+/// Schools, a child with its siblings' schools, applications of which some are refused, and a plan.
+const CHILD_LINES: [&str; 11] = [
+    ALPHA,
+    "{\"cmd\":\"add_school\",\"school\":\"B\",\"name\":\"Beta\",\"pan\":1,\"east\":1000,\"north\":0,\"criteria\":[]}\n",
+    "{\"cmd\":\"add_child\",\"child\":1,\"name\":\"C1\",\"east\":0,\"north\":200,\"looked_after\":false,\"flags\":[],\"siblings\":[\"Z\"]}\n",
+    "{\"cmd\":\"add_child\",\"child\":1,\"name\":\"C1\",\"east\":0,\"north\":200,\"looked_after\":false,\"flags\":[],\"siblings\":[]}\n",
+    "{\"cmd\":\"add_child\",\"child\":1,\"name\":\"C1\",\"east\":0,\"north\":200,\"looked_after\":false,\"flags\":[],\"siblings\":[]}\n",
+    "{\"cmd\":\"apply\",\"child\":1,\"day\":\"2026-01-01\",\"preferences\":[\"A\",\"A\"]}\n",
+    "{\"cmd\":\"apply\",\"child\":1,\"day\":\"2024-10-31\",\"preferences\":[\"A\",\"A\"]}\n",
+    "{\"cmd\":\"apply\",\"child\":1,\"day\":\"2024-10-31\",\"preferences\":[\"A\",\"B\"]}\n",
+    "{\"cmd\":\"apply\",\"child\":1,\"day\":\"2024-10-31\",\"preferences\":[\"A\",\"B\"]}\n",
+    "{\"cmd\":\"name_plan\",\"child\":1,\"school\":\"A\"}\n",
+    "{\"cmd\":\"name_plan\",\"child\":1,\"school\":\"A\"}\n",
+];
+
+const CHILD_ANSWERS: &str = "{\"done\":true}
+{\"done\":true}
+{\"name\":\"UnknownSchool\",\"refused\":1}
+{\"done\":true}
+{\"name\":\"ChildKnown\",\"refused\":4}
+{\"name\":\"ListClosed\",\"refused\":19}
+{\"name\":\"BadPreferences\",\"refused\":8}
+{\"done\":true}
+{\"name\":\"AlreadyApplied\",\"refused\":10}
+{\"done\":true}
+{\"name\":\"HasPlan\",\"refused\":9}
+";
+
 #[test]
 fn a_child_that_applies_and_has_a_plan(rt: HostRuntime) -> Result<(), Fail> {
-    let mut lines = String::from_str(rt.alloc(), ALPHA)?;
-    lines.push_str(
-        "{\"cmd\":\"add_child\",\"child\":1,\"name\":\"C1\",\"east\":0,\"north\":200,\"looked_after\":false,\"flags\":[],\"siblings\":[\"Z\"]}\n",
-    )?;
-    lines.push_str(
-        "{\"cmd\":\"add_child\",\"child\":1,\"name\":\"C1\",\"east\":0,\"north\":200,\"looked_after\":false,\"flags\":[],\"siblings\":[]}\n",
-    )?;
-    let applies =
-        "{\"cmd\":\"apply\",\"child\":1,\"day\":\"2024-10-31\",\"preferences\":[\"A\"]}\n";
-    lines.push_str(applies)?;
-    lines.push_str(applies)?;
-    lines.push_str("{\"cmd\":\"name_plan\",\"child\":1,\"school\":\"A\"}\n")?;
-    lines.push_str(applies)?;
+    let mut lines = String::new(rt.alloc());
+    for line in &CHILD_LINES {
+        lines.push_str(line)?;
+    }
     let (output, run, vacancies) = answered(rt.alloc(), lines.as_str())?;
-    assert_eq!(rt;
-        output.as_str(),
-        "{\"done\":true}\n{\"name\":\"UnknownSchool\",\"refused\":1}\n{\"done\":true}\n{\"done\":true}\n{\"name\":\"AlreadyApplied\",\"refused\":10}\n{\"done\":true}\n{\"name\":\"HasPlan\",\"refused\":9}\n"
-    );
-    assert_eq!(rt; (run.done, run.refused, vacancies), (4, 3, Some(0)));
+    assert_eq!(rt; output.as_str(), CHILD_ANSWERS);
+    assert_eq!(rt; (run.done, run.refused, vacancies), (5, 6, Some(0)));
     Ok(())
 }
 
