@@ -44,13 +44,13 @@ truth_back false = refl
 
 -- a child from its row
 abbrev child_from : Row → Child
-child_from row = record {
-  no = number_in (column row 0);
-  name = text_in (column row 1);
-  home = record { east = number_in (column row 2); north = number_in (column row 3) };
-  looked_after = nat_eq (number_in (column row 4)) 1;
-  flags = number_in (column row 5);
-  siblings = unwrap_or (codes_of (text_in (column row 6))) [];
+child_from cells = record {
+  no = number_in (column cells 0);
+  name = text_in (column cells 1);
+  home = record { east = number_in (column cells 2); north = number_in (column cells 3) };
+  looked_after = nat_eq (number_in (column cells 4)) 1;
+  flags = number_in (column cells 5);
+  siblings = unwrap_or (codes_of (text_in (column cells 6))) [];
 }
 
 child_back : (c : Child) → AreReadAgain c.siblings → child_from (child_row c) ≡ c
@@ -64,10 +64,10 @@ same_children xs ys again fit moved =
 -- ---- applications
 
 abbrev application_from : Row → Application
-application_from row = record {
-  child = number_in (column row 0);
-  day = number_in (column row 1);
-  list = unwrap_or (codes_of (text_in (column row 2))) [];
+application_from cells = record {
+  child = number_in (column cells 0);
+  day = number_in (column cells 1);
+  list = unwrap_or (codes_of (text_in (column cells 2))) [];
 }
 
 application_back : (a : Application) → AreReadAgain a.list → application_from (application_row a) ≡ a
@@ -105,7 +105,7 @@ state_back Plan = refl
 
 -- a place from its row
 abbrev place_from : Row → PlaceRow
-place_from row = record { child = number_in (column row 0); place = record { school = text_in (column row 1); state = state_from (number_in (column row 2)) (column row 3) (column row 4) } }
+place_from cells = record { child = number_in (column cells 0); place = record { school = text_in (column cells 1); state = state_from (number_in (column cells 2)) (column cells 3) (column cells 4) } }
 
 place_back : (p : PlaceRow) → place_from (place_row p) ≡ p
 place_back p = λ k. record { child = p.child; place = record { school = p.place.school; state = state_back p.place.state k } }
