@@ -68,12 +68,12 @@ criteria_text_again text read shown criteria fit is there same =
 
 -- a school from its row
 abbrev school_from : Row → School
-school_from row = record {
-  code = text_in (column row 0);
-  name = text_in (column row 1);
-  pan = number_in (column row 2);
-  at = record { east = number_in (column row 3); north = number_in (column row 4) };
-  criteria = unwrap_or (criteria_of (text_in (column row 5))) [];
+school_from cells = record {
+  code = text_in (column cells 0);
+  name = text_in (column cells 1);
+  pan = number_in (column cells 2);
+  at = record { east = number_in (column cells 3); north = number_in (column cells 4) };
+  criteria = unwrap_or (criteria_of (text_in (column cells 5))) [];
 }
 
 from_row : (s : School) → IsReadAgain s → school_from (school_row s) ≡ s

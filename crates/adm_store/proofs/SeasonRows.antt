@@ -21,7 +21,7 @@ same_phase Secondary Primary e = absurd (omega (arith, e))
 
 -- equal rows have equal values
 season_parts : (a b : SeasonFacts) → season_row a ≡ season_row b → (a.phase ≡ b.phase) × (a.year ≡ b.year) × (days_text a.holidays ≡ days_text b.holidays)
-season_parts a b e = (same_phase a.phase b.phase (ap (λ row. number_in (column row 2)) e), ap (λ row. number_in (column row 3)) e, ap (λ row. text_in (column row 4)) e)
+season_parts a b e = (same_phase a.phase b.phase (ap (λ cells. number_in (column cells 2)) e), ap (λ cells. number_in (column cells 3)) e, ap (λ cells. text_in (column cells 4)) e)
 
 -- a season of which the row is read
 pub columns_agree : (row : Row) (phase : Phase) (year : ℕ) (holidays : List ℕ) (season : SeasonFacts)

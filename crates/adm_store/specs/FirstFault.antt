@@ -20,7 +20,7 @@ is_one other = false
 -- what is wrong first with a file that stands for no register, by the rows of its table `meta`: there is none; its row names another version than 1; anything else
 abbrev pub first_fault : List Row → OpenFault
 first_fault [] = NotOurs
-first_fault (row ∷ []) = if is_one (column row 1) then BadRow else Version
+first_fault (cells ∷ []) = if is_one (column cells 1) then BadRow else Version
 first_fault (row ∷ next ∷ rows) = BadRow
 
 -- the text, which `sqlite` understands so, answers these rows
