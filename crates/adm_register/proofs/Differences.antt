@@ -38,7 +38,7 @@ nothing [] = refl
 nothing (x ∷ xs) = nothing xs
 
 module _ {V : Type 0} (same : V → V → Bool) (decides : (x y : V) → (same x y ≡ true) ↔ (x ≡ y)) where
-  other_row : (there : Option V) (row : V) → (is_other same there row ≡ true) ↔ (there ≡ Some row → ⊥)
+  pub other_row : (there : Option V) (row : V) → (is_other same there row ≡ true) ↔ (there ≡ Some row → ⊥)
   other_row None row = (λ other e. not_Some row e, λ differs. refl)
   other_row (Some there) row = (
     λ other e. not_both (same there row) other ((decides there row).1 (same_Some there row e)),
@@ -80,5 +80,5 @@ pub none_ended : (old new : State) → WellFormed old → new.applications ≡ o
 none_ended old new well stays =
     let p : Application → Bool = λ a. not (contains_key new.applications a.child) in
     let kept = values_hold nat_cmp_total nat_cmp-IsAntisymmetric (λ a. p a ≡ false) old.applications (λ k a there.
-    ap (λ o. not (is_some o)) (ap (λ m. get m a.child) stays ∙ ap (get old.applications) (well.applications k a there).own_number ∙ there)) in
+    ap (λ o. not (is_some o)) (ap (λ m. get m a.child) stays ∙ ap (get old.applications) (well.base.applications_fit k a there).own_number ∙ there)) in
     ap (map (λ a. a.child)) (sym (filter_none p (values old.applications) kept))

@@ -35,7 +35,7 @@ module _ {K V : Type 0} {R : K → K → Ordering} (p : K → V → Bool) where
   pub AllRows-from_list_all : IsTotalOrder R → IsAntisymmetric R → (rows : List (K × V)) → list_all (λ e. p e.0 e.1) rows ≡ true → AllRows (λ key row. p key row ≡ true) (from_entries {R = R} rows)
   AllRows-from_list_all total same rows all key row there = found same rows all key row (sym (get_rows total rows key) ∙ there)
 
-none_at : {K V : Type 0} (R : K → K → Ordering) (key : K) (rows : List (K × V)) → AllByRecursion (λ other. R key other ≡ Less) (keys_of rows) → row_at R rows key ≡ None
+pub none_at : {K V : Type 0} (R : K → K → Ordering) (key : K) (rows : List (K × V)) → AllByRecursion (λ other. R key other ≡ Less) (keys_of rows) → row_at R rows key ≡ None
 none_at R key [] above = refl
 none_at R key (e ∷ es) above = ap (λ r. cond (is_eq r) (Some e.1) (row_at R es key)) above.0 ∙ none_at R key es above.1
 

@@ -15,12 +15,14 @@ use Rattle.adm_register.proofs.Maps.{AllRows-empty}
 
 pub only_season-WellFormed : (season : SeasonFacts) → IsSeason season → WellFormed (only_season season)
 only_season-WellFormed season is = record {
-  season = is;
-  few_schools = omega (arith, len-empty code_cmp School);
-  schools = AllRows-empty code_cmp SchoolFits;
-  few_children = omega (arith, len-empty nat_cmp Child);
-  children = AllRows-empty nat_cmp (ChildFits empty);
-  applications = AllRows-empty nat_cmp (ApplicationFits (lists_end season) empty empty);
+  base = record {
+    season_is = is;
+    few_schools = omega (arith, len-empty code_cmp School);
+    schools_fit = AllRows-empty code_cmp SchoolFits;
+    few_children = omega (arith, len-empty nat_cmp Child);
+    children_fit = AllRows-empty nat_cmp (ChildFits empty);
+    applications_fit = AllRows-empty nat_cmp (ApplicationFits (lists_end season) empty empty);
+  };
   places = AllRows-empty nat_cmp (PlaceFits empty empty empty);
 }
 

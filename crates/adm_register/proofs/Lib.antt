@@ -1,13 +1,11 @@
 pub mod TableMaps
 pub mod TableCopies
 pub mod Maps
-pub mod Keeps
-pub mod KeepsAddSchool
-pub mod KeepsAddChild
-pub mod KeepsNamePlan
-pub mod KeepsApply
-pub mod Extends
+pub mod Puts
+pub mod Fits
+pub mod Accepted
 pub mod Touches
+pub mod Keeps
 pub mod RowLemmas
 pub mod Repeats
 pub mod EachRow
@@ -19,3 +17,4 @@ pub mod ApplicationChecks
 pub mod PlaceChecks
 pub mod RowsAgain
 pub mod Differences
+pub mod Exactly

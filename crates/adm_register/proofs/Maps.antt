@@ -1,16 +1,14 @@
 -- What holds of each row of a map, before and after a change of one row.
-use Rattle.std.proofs.Common.{◌≡◌, ◌∙◌, ap, sym, subst, refl, cond, Bool, true, false, ℕ, List, [], ◌∷◌, Some, None}
+use Rattle.std.proofs.Common.{◌≡◌, ◌∙◌, ap, sym, refl, cond, Bool, true, false, List, [], ◌∷◌, Some, None}
 use Rattle.std.specs.Prelude.{Option, is_some, not, ◌&&◌}
 use Rattle.std.specs.declared.cmp.Ordering.{Ordering}
 use Rattle.std.specs.declared.cmp.Ordering.TheVariants.{Less, Equal, Greater}
 use Rattle.std.specs.Ordering.{eq_by_cmp, is_eq}
 use Rattle.std.specs.List.{list_all}
 use Rattle.std.specs.Cmp.{IsTotalOrder, eq_by_cmp_equiv}
-use Rattle.std.specs.Cmp.Lexicographic.{nat_list_cmp_total}
 use Rattle.std.specs.FinMap.{FinMap, get, insert, remove, empty, contains_key, get-empty, get-insert, get-remove, IsAntisymmetric, nat_cmp-IsAntisymmetric, slice_cmp-IsAntisymmetric}
-use Rattle.adm_types.specs.declared.rows.School.{School}
 use Rattle.adm_register.specs.State.{code_cmp}
-use Rattle.adm_register.specs.WellFormed.{AllRows, are_schools}
+use Rattle.adm_register.specs.WellFormed.{AllRows}
 
 pub code_cmp-IsAntisymmetric : IsAntisymmetric code_cmp
 code_cmp-IsAntisymmetric = slice_cmp-IsAntisymmetric nat_cmp-IsAntisymmetric
@@ -51,57 +49,20 @@ pub both_true : (a b : Bool) → (a && b) ≡ true → (a ≡ true) × (b ≡ tr
 both_true true b e = (refl, e)
 both_true false b e = cc
 
-module _ {K V : Type 0} {R : K → K → Ordering} (total : IsTotalOrder R) (same : IsAntisymmetric R) where
-  -- the rows of the other keys fit, and so does the new one
-  pub AllRows-insert_others : (P : K → V → Type 0) (rows : FinMap R V) (key : K) (row : V) → ((q : K) (r : V) → get rows q ≡ Some r → eq_by_cmp R q key ≡ false → P q r) → P key row → AllRows P (insert rows key row)
-  AllRows-insert_others P rows key row others fits q r there =
-      elim (eq_by_cmp R q key) as (λ b. eq_by_cmp R q key ≡ b → cond b (Some row) (get rows q) ≡ Some r → P q r) [
-        | true ↦ λ tie here. subst (λ k. P k r) (sym (same q key (is_equal _ tie))) (subst (P key) (same_Some row r here) fits)
-        | false ↦ λ tie here. others q r here tie
-      ] refl (sym (get-insert total rows key row q) ∙ there)
-
-  pub AllRows-insert : (P : K → V → Type 0) (rows : FinMap R V) (key : K) (row : V) → AllRows P rows → P key row → AllRows P (insert rows key row)
-  AllRows-insert P rows key row all fits q r there =
-      elim (eq_by_cmp R q key) as (λ b. eq_by_cmp R q key ≡ b → cond b (Some row) (get rows q) ≡ Some r → P q r) [
-        | true ↦ λ tie here. subst (λ k. P k r) (sym (same q key (is_equal _ tie))) (subst (P key) (same_Some row r here) fits)
-        | false ↦ λ tie here. all q r here
-      ] refl (sym (get-insert total rows key row q) ∙ there)
-
-  pub AllRows-remove : (P : K → V → Type 0) (rows : FinMap R V) (key : K) → AllRows P rows → AllRows P (remove rows key)
-  AllRows-remove P rows key all q r there =
-      elim (eq_by_cmp R q key) as (λ b. cond b None (get rows q) ≡ Some r → P q r) [
-        | true ↦ λ here. absurd (not_Some r here)
-        | false ↦ λ here. all q r here
-      ] (sym (get-remove total rows key q) ∙ there)
-
 module _ {K V : Type 0} {R : K → K → Ordering} (total : IsTotalOrder R) where
   pub contains_key-insert : (rows : FinMap R V) (key : K) (row : V) (q : K) → contains_key rows q ≡ true → contains_key (insert rows key row) q ≡ true
   contains_key-insert rows key row q there =
       ap is_some (get-insert total rows key row q)
       ∙ elim (eq_by_cmp R q key) as (λ b. is_some (cond b (Some row) (get rows q)) ≡ true) [ true ↦ refl | false ↦ there ]
 
-  -- a key that is not there is not there with one row less
-  pub not_contains_key-remove : (rows : FinMap R V) (key q : K) → not (contains_key rows q) ≡ true → not (contains_key (remove rows key) q) ≡ true
-  not_contains_key-remove rows key q absent =
-      ap (λ o. not (is_some o)) (get-remove total rows key q)
-      ∙ elim (eq_by_cmp R q key) as (λ b. not (is_some (cond b None (get rows q))) ≡ true) [ true ↦ refl | false ↦ absent ]
-
   -- the key of the row that was taken out is not there
   pub not_contains_key-removed : (rows : FinMap R V) (key : K) → not (contains_key (remove rows key) key) ≡ true
   not_contains_key-removed rows key = ap (λ o. not (is_some o)) (get-remove total rows key key ∙ ap (λ b. cond b None (get rows key)) (tied total key))
 
-  -- another key that is not there is not there with one more row
-  pub not_contains_key-insert : (rows : FinMap R V) (key : K) (row : V) (q : K) → eq_by_cmp R q key ≡ false → not (contains_key rows q) ≡ true → not (contains_key (insert rows key row) q) ≡ true
-  not_contains_key-insert rows key row q other absent = ap (λ o. not (is_some o)) (get-insert total rows key row q ∙ ap (λ b. cond b (Some row) (get rows q)) other) ∙ absent
-
-list_all-weaker : {A : Type 0} (p q : A → Bool) → ((x : A) → p x ≡ true → q x ≡ true) → (xs : List A) → list_all p xs ≡ true → list_all q xs ≡ true
+pub list_all-weaker : {A : Type 0} (p q : A → Bool) → ((x : A) → p x ≡ true → q x ≡ true) → (xs : List A) → list_all p xs ≡ true → list_all q xs ≡ true
 list_all-weaker p q weaker [] all = refl
 list_all-weaker p q weaker (x ∷ xs) all =
     elim (p x) as (λ b. p x ≡ b → (b && list_all p xs) ≡ true → (q x && list_all q xs) ≡ true) [
       | true ↦ λ here rest. rw (weaker x here) (list_all-weaker p q weaker xs rest)
       | false ↦ λ here rest. cc
     ] refl all
-
--- schools that were there are there with one more
-pub are_schools-insert : (schools : FinMap code_cmp School) (key : List ℕ) (school : School) (codes : List (List ℕ)) → are_schools schools codes ≡ true → are_schools (insert schools key school) codes ≡ true
-are_schools-insert schools key school codes all = list_all-weaker _ _ (λ code. contains_key-insert nat_list_cmp_total schools key school code) codes all

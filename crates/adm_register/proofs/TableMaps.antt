@@ -1,11 +1,11 @@
 -- The rows of a table as a finite map.
-use Rattle.std.proofs.Common.{◌≡◌, ◌∙◌, ap, sym, refl, List, [], ◌∷◌, Some, None, length, arith}
+use Rattle.std.proofs.Common.{◌≡◌, ◌∙◌, ap, sym, refl, List, [], ◌∷◌, Some, length, arith}
 use Rattle.std.specs.Prelude.{cond, map}
 use Rattle.std.specs.declared.cmp.Ordering.{Ordering}
-use Rattle.std.specs.Cmp.{IsTotalOrder, eq_by_cmp_equiv}
+use Rattle.std.specs.Cmp.{IsTotalOrder}
 use Rattle.std.specs.Map.{keys_of, values_of}
 use Rattle.std.specs.List.Sorted.{IsStrictlySortedBy}
-use Rattle.std.specs.FinMap.{put, entries, values, len, len-entries, len-empty, entries-insert, find, get, insert, remove, from_entries, get-from_entries, get-insert, get-remove, same_map, IsAntisymmetric}
+use Rattle.std.specs.FinMap.{put, entries, values, len, len-entries, len-empty, entries-insert, find, get, from_entries, get-from_entries}
 use Rattle.std.specs.BTreeMap.{is_at}
 use Rattle.adm_register.specs.TableRows.{row_at}
 
@@ -17,22 +17,6 @@ module _ {K V : Type 0} {R : K → K → Ordering} where
   -- what the map of the rows has at a key
   pub get_rows : IsTotalOrder R → (rows : List (K × V)) (key : K) → get (from_entries {R = R} rows) key ≡ row_at R rows key
   get_rows total rows key = get-from_entries total rows key ∙ find_row R rows key
-
-  -- rows that differ at one key, where they have a row, make the map with that row inserted
-  pub insert_rows : IsTotalOrder R → IsAntisymmetric R → (old new : List (K × V)) (key : K) (row : V)
-      → ((q : K) → row_at R new q ≡ cond (is_at (R key) q) (Some row) (row_at R old q))
-      → from_entries {R = R} new ≡ insert (from_entries old) key row
-  insert_rows total same old new key row differ = same_map total same _ _ (λ q.
-      get_rows total new q ∙ differ q ∙ ap (λ b. cond b (Some row) (row_at R old q)) ((eq_by_cmp_equiv total).symm key q)
-      ∙ sym (get-insert total (from_entries old) key row q ∙ ap (cond (is_at (R q) key) (Some row)) (get_rows total old q)))
-
-  -- rows that differ at one key, where they have none, make the map with that key removed
-  pub remove_rows : IsTotalOrder R → IsAntisymmetric R → (old new : List (K × V)) (key : K)
-      → ((q : K) → row_at R new q ≡ cond (is_at (R key) q) None (row_at R old q))
-      → from_entries {R = R} new ≡ remove (from_entries old) key
-  remove_rows total same old new key differ = same_map total same _ _ (λ q.
-      get_rows total new q ∙ differ q ∙ ap (λ b. cond b None (row_at R old q)) ((eq_by_cmp_equiv total).symm key q)
-      ∙ sym (get-remove total (from_entries old) key q ∙ ap (cond (is_at (R q) key) None) (get_rows total old q)))
 
 no_length : {A : Type 0} (xs : List A) → length xs ≡ 0 → xs ≡ []
 no_length [] e = refl

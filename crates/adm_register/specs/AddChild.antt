@@ -1,11 +1,13 @@
 -- To add a child.
 use Rattle.std.specs.Prelude.{Bool, not, nat_lt, List, [], ◌∷◌}
-use Rattle.std.specs.FinMap.{insert, len, contains_key}
+use Rattle.std.specs.FinMap.{len, contains_key}
 use Rattle.adm_types.specs.declared.rows.Child.{Child}
 use Rattle.adm_types.specs.declared.commands.Refusal.{Refusal}
 use Rattle.adm_types.specs.declared.commands.Refusal.TheVariants.{ChildKnown, BadText, OutOfRange, UnknownSchool, RegisterFull}
 use Rattle.adm_types.specs.Limits.{is_name, is_child_in_range}
+use Rattle.adm_register.specs.declared.difference.Difference.{Difference}
 use Rattle.adm_register.specs.State.{State}
+use Rattle.adm_register.specs.Change.{no_change}
 use Rattle.adm_register.specs.WellFormed.{are_schools}
 
 -- its number is new, its name and its numbers are in their limits, its siblings' schools are there, and there are fewer than 2,000 children
@@ -18,6 +20,6 @@ tests old child =
     ∷ (nat_lt (len old.children) 2000, RegisterFull)
     ∷ []
 
--- the child is added
-unfoldable pub after : State → Child → State
-after old child = record old { children = insert old.children child.no child }
+-- the child is put
+unfoldable pub change_of : Child → Difference
+change_of child = record no_change { children = child ∷ [] }

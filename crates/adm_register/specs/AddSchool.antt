@@ -1,11 +1,13 @@
 -- To add a school.
 use Rattle.std.specs.Prelude.{Bool, not, nat_lt, List, [], ◌∷◌}
-use Rattle.std.specs.FinMap.{insert, len, contains_key}
+use Rattle.std.specs.FinMap.{len, contains_key}
 use Rattle.adm_types.specs.declared.rows.School.{School}
 use Rattle.adm_types.specs.declared.commands.Refusal.{Refusal}
 use Rattle.adm_types.specs.declared.commands.Refusal.TheVariants.{SchoolKnown, BadText, OutOfRange, RegisterFull}
 use Rattle.adm_types.specs.Limits.{is_name, is_school_in_range}
+use Rattle.adm_register.specs.declared.difference.Difference.{Difference}
 use Rattle.adm_register.specs.State.{State}
+use Rattle.adm_register.specs.Change.{no_change}
 
 -- its code is new, its name and its numbers are in their limits, and there are fewer than 200 schools
 unfoldable pub tests : State → School → List (Bool × Refusal)
@@ -16,6 +18,6 @@ tests old school =
     ∷ (nat_lt (len old.schools) 200, RegisterFull)
     ∷ []
 
--- the school is added
-unfoldable pub after : State → School → State
-after old school = record old { schools = insert old.schools school.code school }
+-- the school is put
+unfoldable pub change_of : School → Difference
+change_of school = record no_change { schools = school ∷ [] }

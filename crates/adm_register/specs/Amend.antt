@@ -1,11 +1,13 @@
 -- To replace a child's data.
 use Rattle.std.specs.Prelude.{Bool, List, [], ◌∷◌}
-use Rattle.std.specs.FinMap.{insert, contains_key}
+use Rattle.std.specs.FinMap.{contains_key}
 use Rattle.adm_types.specs.declared.rows.Child.{Child}
 use Rattle.adm_types.specs.declared.commands.Refusal.{Refusal}
 use Rattle.adm_types.specs.declared.commands.Refusal.TheVariants.{UnknownChild, BadText, OutOfRange, UnknownSchool}
 use Rattle.adm_types.specs.Limits.{is_name, is_child_in_range}
+use Rattle.adm_register.specs.declared.difference.Difference.{Difference}
 use Rattle.adm_register.specs.State.{State}
+use Rattle.adm_register.specs.Change.{no_change}
 use Rattle.adm_register.specs.WellFormed.{are_schools}
 
 -- the child is there, its name and its numbers are in their limits, and its siblings' schools are there
@@ -17,6 +19,6 @@ tests old child =
     ∷ (are_schools old.schools child.siblings, UnknownSchool)
     ∷ []
 
--- the child's data are replaced
-unfoldable pub after : State → Child → State
-after old child = record old { children = insert old.children child.no child }
+-- the child's data are put in place of those that were there
+unfoldable pub change_of : Child → Difference
+change_of child = record no_change { children = child ∷ [] }

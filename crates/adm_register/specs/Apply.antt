@@ -1,11 +1,13 @@
 -- To apply.
 use Rattle.std.specs.Prelude.{ℕ, Bool, not, ◌&&◌, nat_le, List, [], ◌∷◌, length}
-use Rattle.std.specs.FinMap.{insert, contains_key}
+use Rattle.std.specs.FinMap.{contains_key}
 use Rattle.adm_types.specs.declared.commands.Refusal.{Refusal}
 use Rattle.adm_types.specs.declared.commands.Refusal.TheVariants.{UnknownChild, HasPlan, AlreadyApplied, ListClosed, BadPreferences, UnknownSchool}
 use Rattle.adm_types.specs.Limits.{is_from, is_without_repeat}
 use Rattle.adm_types.specs.Seasons.{lists_end}
+use Rattle.adm_register.specs.declared.difference.Difference.{Difference}
 use Rattle.adm_register.specs.State.{State}
+use Rattle.adm_register.specs.Change.{no_change}
 use Rattle.adm_register.specs.Plans.{has_plan}
 use Rattle.adm_register.specs.WellFormed.{are_schools}
 
@@ -20,6 +22,6 @@ tests old child day list =
     ∷ (are_schools old.schools list, UnknownSchool)
     ∷ []
 
--- the application is added
-unfoldable pub after : State → ℕ → ℕ → List (List ℕ) → State
-after old child day list = record old { applications = insert old.applications child (record { child = child; day = day; list = list }) }
+-- the application is put
+unfoldable pub change_of : ℕ → ℕ → List (List ℕ) → Difference
+change_of child day list = record no_change { applications = record { child = child; day = day; list = list } ∷ [] }

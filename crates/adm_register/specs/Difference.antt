@@ -8,6 +8,7 @@ use Rattle.adm_types.specs.declared.rows.Application.{Application}
 use Rattle.adm_types.specs.declared.rows.PlaceRow.{PlaceRow}
 use Rattle.adm_register.specs.State.{State}
 use Rattle.adm_register.specs.declared.difference.Difference.{Difference}
+use Rattle.adm_register.specs.Same.{is_other, is_same_school, is_same_child, is_same_application, is_same_place}
 
 -- the list is just the rows of the new map that the old one has not, in the order of their keys
 pub record AreNew {K V : Type 0} {R : K → K → Ordering} (key : V → K) (old new : FinMap R V) (rows : List V) : Type 0 where
@@ -26,3 +27,13 @@ pub record IsDifference (old new : State) (difference : Difference) : Type 0 whe
   pub applications : AreNew (λ (a : Application). a.child) old.applications new.applications difference.applications
   pub places : AreNew (λ (p : PlaceRow). p.child) old.places new.places difference.places
   pub ended : difference.ended ≡ map (λ (a : Application). a.child) (ended old new)
+
+-- what of a change differs from what the old register has
+abbrev pub differing : State → Difference → Difference
+differing old change = record {
+  schools = filter (λ (s : School). is_other is_same_school (get old.schools s.code) s) change.schools;
+  children = filter (λ (c : Child). is_other is_same_child (get old.children c.no) c) change.children;
+  applications = filter (λ (a : Application). is_other is_same_application (get old.applications a.child) a) change.applications;
+  places = filter (λ (p : PlaceRow). is_other is_same_place (get old.places p.child) p) change.places;
+  ended = filter (contains_key old.applications) change.ended;
+}

@@ -2,6 +2,8 @@ pub mod TableRows
 pub mod State
 pub mod WellFormed
 pub mod Plans
+pub mod KeptByTypes
+pub mod Change
 pub mod Tests
 pub mod AddSchool
 pub mod AddChild

@@ -1,10 +1,12 @@
 -- To name a school in a child's plan.
 use Rattle.std.specs.Prelude.{ℕ, Bool, not, List, [], ◌∷◌}
-use Rattle.std.specs.FinMap.{insert, remove, contains_key}
+use Rattle.std.specs.FinMap.{contains_key}
 use Rattle.adm_types.specs.declared.commands.Refusal.{Refusal}
 use Rattle.adm_types.specs.declared.commands.Refusal.TheVariants.{UnknownChild, UnknownSchool, HasPlan}
 use Rattle.adm_types.specs.declared.rows.PlaceState.TheVariants.{Plan}
+use Rattle.adm_register.specs.declared.difference.Difference.{Difference}
 use Rattle.adm_register.specs.State.{State}
+use Rattle.adm_register.specs.Change.{no_change}
 use Rattle.adm_register.specs.Plans.{has_plan}
 
 -- the child and the school are there, and the child has no plan
@@ -16,6 +18,6 @@ tests old child school =
     ∷ []
 
 -- its place is that of the plan, and its application ends
-unfoldable pub after : State → ℕ → List ℕ → State
-after old child school =
-    record old { applications = remove old.applications child; places = insert old.places child (record { child = child; place = record { school = school; state = Plan } }) }
+unfoldable pub change_of : ℕ → List ℕ → Difference
+change_of child school =
+    record no_change { places = record { child = child; place = record { school = school; state = Plan } } ∷ []; ended = child ∷ [] }

@@ -5,7 +5,9 @@ use Rattle.adm_types.specs.declared.commands.Command.TheVariants.{AddSchool, Add
 use Rattle.adm_types.specs.declared.commands.Refusal.{Refusal}
 use Rattle.adm_types.specs.declared.commands.Reply.{Reply}
 use Rattle.adm_types.specs.declared.commands.Reply.TheVariants.{Done}
+use Rattle.adm_register.specs.declared.difference.Difference.{Difference}
 use Rattle.adm_register.specs.State.{State}
+use Rattle.adm_register.specs.Change.{after}
 use Rattle.adm_register.specs.Tests.{first_failing}
 use Rattle.adm_register.specs.WellFormed.{WellFormed}
 use Rattle.adm_register.specs.AddSchool as add_school
@@ -14,6 +16,7 @@ use Rattle.adm_register.specs.Amend as amend
 use Rattle.adm_register.specs.NamePlan as name_plan
 use Rattle.adm_register.specs.Apply as apply
 use Rattle.adm_register.specs.declared.not_done.NotDone.{NotDone}
+use Rattle.adm_register.specs.declared.registers.Proposal.{Proposal}
 use Rattle.adm_register.specs.declared.not_done.NotDone.TheVariants.{Refused, Memory}
 
 -- the tests of a command, in their order
@@ -24,13 +27,21 @@ tests_of old (Amend child) = amend.tests old child
 tests_of old (NamePlan child school) = name_plan.tests old child school
 tests_of old (Apply child day list) = apply.tests old child day list
 
+-- what an accepted command changes
+abbrev pub change_of : State → Command → Difference
+change_of old (AddSchool school) = add_school.change_of school
+change_of old (AddChild child) = add_child.change_of child
+change_of old (Amend child) = amend.change_of child
+change_of old (NamePlan child school) = name_plan.change_of child school
+change_of old (Apply child day list) = apply.change_of child day list
+
+-- what it answers
+abbrev pub reply_of : State → Command → Reply
+reply_of old command = Done
+
 -- what an accepted command answers, and leaves
 abbrev pub Effect : State → Command → Reply → State → Type 0
-Effect old (AddSchool school) reply new = (reply ≡ Done) × (new ≡ add_school.after old school)
-Effect old (AddChild child) reply new = (reply ≡ Done) × (new ≡ add_child.after old child)
-Effect old (Amend child) reply new = (reply ≡ Done) × (new ≡ amend.after old child)
-Effect old (NamePlan child school) reply new = (reply ≡ Done) × (new ≡ name_plan.after old child school)
-Effect old (Apply child day list) reply new = (reply ≡ Done) × (new ≡ apply.after old child day list)
+Effect old command reply new = (reply ≡ reply_of old command) × (new ≡ after old (change_of old command))
 
 -- from old, the command is answered so, and leaves new: where no test fails by its effect, and else by the refusal of the first that fails
 abbrev pub Step : State → Command → Result Reply Refusal → State → Type 0
@@ -42,6 +53,11 @@ abbrev pub Decides : State → Command → Result (State × Reply) NotDone → T
 Decides old command (Ok done) = Step old command (Ok done.1) done.0
 Decides old command (Err (Refused refusal row)) = Step old command (Err refusal) old × (row ≡ 0)
 Decides old command (Err Memory) = ⊤
+
+-- the same of a proposal, whose change is left out
+abbrev pub decision : Result Proposal NotDone → Result (State × Reply) NotDone
+decision (Ok proposal) = Ok (proposal.register, proposal.reply)
+decision (Err why) = Err why
 
 -- a command that follows itself at once leaves a register as it was
 abbrev pub RepeatSafe : Type 0

@@ -7,7 +7,7 @@ use Rattle.std.specs.declared.cmp.Ordering.{Ordering}
 use Rattle.std.specs.FinMap.{FinMap, get, len, contains_key}
 use Rattle.std.specs.Str.{is_utf8}
 use Rattle.adm_types.specs.Code.{is_code}
-use Rattle.adm_types.specs.Seasons.{IsSeason, lists_end}
+use Rattle.adm_types.specs.Seasons.{SeasonFacts, IsSeason, lists_end}
 use Rattle.adm_types.specs.Limits.{is_from, is_name, is_school_in_range, is_child_in_range, is_without_repeat}
 use Rattle.adm_types.specs.declared.rows.School.{School}
 use Rattle.adm_types.specs.declared.rows.Child.{Child}
@@ -91,11 +91,19 @@ abbrev pub fits_place : FinMap code_cmp School → FinMap nat_cmp Child → FinM
 fits_place schools children applications number row = nat_eq row.child number && is_place schools children applications row
 
 -- the season and the values are in their limits, each child and school that a row names is there, and there are at most 200 schools and 2,000 children
+pub record BaseFits (season : SeasonFacts) (schools : FinMap code_cmp School) (children : FinMap nat_cmp Child) (applications : FinMap nat_cmp Application) : Type 0 where
+  pub season_is : IsSeason season
+  pub few_schools : len schools ≤ 200
+  pub schools_fit : AllRows SchoolFits schools
+  pub few_children : len children ≤ 2000
+  pub children_fit : AllRows (ChildFits schools) children
+  pub applications_fit : AllRows (ApplicationFits (lists_end season) schools children) applications
+
+-- each place fits the rows that it names
+abbrev pub PlacesFit : FinMap code_cmp School → FinMap nat_cmp Child → FinMap nat_cmp Application → FinMap nat_cmp PlaceRow → Type 0
+PlacesFit schools children applications places = AllRows (PlaceFits schools children applications) places
+
+-- each group of rows fits, and what they read of the others
 pub record WellFormed (s : State) : Type 0 where
-  pub season : IsSeason s.season
-  pub few_schools : len s.schools ≤ 200
-  pub schools : AllRows SchoolFits s.schools
-  pub few_children : len s.children ≤ 2000
-  pub children : AllRows (ChildFits s.schools) s.children
-  pub applications : AllRows (ApplicationFits (lists_end s.season) s.schools s.children) s.applications
-  pub places : AllRows (PlaceFits s.schools s.children s.applications) s.places
+  pub base : BaseFits s.season s.schools s.children s.applications
+  pub places : PlacesFit s.schools s.children s.applications s.places

@@ -1,8 +1,11 @@
 // To add a school.
 ghost use Rattle.std.specs.Prelude.{◌≡◌, IfOk};
 ghost use Rattle.adm_register.specs.Tests.{first_failing};
-ghost use Rattle.adm_register.specs.AddSchool.{tests, after};
+ghost use Rattle.adm_register.specs.AddSchool.{tests, change_of};
 
+use crate::Difference;
+use crate::difference::one;
+use crate::shared::Shared;
 use crate::tables::Tables;
 use crate::tests_of::first_failing;
 use adm_types::limits::{is_name, is_school_in_range};
@@ -22,10 +25,13 @@ pub(crate) fn refusal_of(old: &Tables, school: &School) -> Option<Refusal>
     ])
 }
 
-/// The rows with the school.
-#[tactic(auto, unfolding(crate::specs::AddSchool::after))]
-pub(crate) fn after(old: &Tables, alloc: Global, school: &School) -> Result<Tables, AllocError>
-    ensures { IfOk result (λ new. new ≡ after old.now school.now) }
+/// The school is put.
+#[tactic(auto, unfolding(crate::specs::AddSchool::change_of))]
+pub(crate) fn change_of(alloc: Global, school: &School) -> Result<Difference, AllocError>
+    ensures { IfOk result (λ change. change ≡ change_of school.now) }
 {
-    old.put_school(alloc, school.clone()?)
+    let row = Shared::new(alloc, school.clone()?)?;
+    let mut change = Difference::none(alloc);
+    change.schools = one(alloc, row)?;
+    Ok(change)
 }

@@ -1,8 +1,11 @@
 // To replace a child's data.
 ghost use Rattle.std.specs.Prelude.{◌≡◌, IfOk};
 ghost use Rattle.adm_register.specs.Tests.{first_failing};
-ghost use Rattle.adm_register.specs.Amend.{tests, after};
+ghost use Rattle.adm_register.specs.Amend.{tests, change_of};
 
+use crate::Difference;
+use crate::difference::one;
+use crate::shared::Shared;
 use crate::tables::Tables;
 use crate::tests_of::first_failing;
 use adm_types::limits::{is_child_in_range, is_name};
@@ -25,10 +28,13 @@ pub(crate) fn refusal_of(old: &Tables, child: &Child) -> Option<Refusal>
     ])
 }
 
-/// The rows with the child's new data.
-#[tactic(auto, unfolding(crate::specs::Amend::after))]
-pub(crate) fn after(old: &Tables, alloc: Global, child: &Child) -> Result<Tables, AllocError>
-    ensures { IfOk result (λ new. new ≡ after old.now child.now) }
+/// The child's data are put in place of those that were there.
+#[tactic(auto, unfolding(crate::specs::Amend::change_of))]
+pub(crate) fn change_of(alloc: Global, child: &Child) -> Result<Difference, AllocError>
+    ensures { IfOk result (λ change. change ≡ change_of child.now) }
 {
-    old.put_child(alloc, child.clone()?)
+    let row = Shared::new(alloc, child.clone()?)?;
+    let mut change = Difference::none(alloc);
+    change.children = one(alloc, row)?;
+    Ok(change)
 }

@@ -2,8 +2,11 @@
 ghost use Rattle.std.specs.Prelude.{◌≡◌, ◌&&◌, length, IfOk};
 ghost use Rattle.adm_types.specs.Limits.{is_from, is_without_repeat};
 ghost use Rattle.adm_register.specs.Tests.{first_failing};
-ghost use Rattle.adm_register.specs.Apply.{tests, after};
+ghost use Rattle.adm_register.specs.Apply.{tests, change_of};
 
+use crate::Difference;
+use crate::difference::one;
+use crate::shared::Shared;
 use crate::tables::Tables;
 use crate::tests_of::first_failing;
 use adm_types::limits::is_without_repeat;
@@ -39,17 +42,19 @@ fn is_preference_list(list: &[SchoolCode]) -> bool
     count && is_without_repeat(list)
 }
 
-/// The rows with the application.
-#[tactic(auto, unfolding(crate::specs::Apply::after))]
-pub(crate) fn after(
-    old: &Tables,
+/// The application is put.
+#[tactic(auto, unfolding(crate::specs::Apply::change_of))]
+pub(crate) fn change_of(
     alloc: Global,
     child: ChildNo,
     day: Day,
     list: &Seq<SchoolCode>,
-) -> Result<Tables, AllocError>
-    ensures { IfOk result (λ new. new ≡ after old.now child day list.now) }
+) -> Result<Difference, AllocError>
+    ensures { IfOk result (λ change. change ≡ change_of child day list.now) }
 {
     let list = list.clone()?;
-    old.put_application(alloc, Application { child, day, list })
+    let row = Shared::new(alloc, Application { child, day, list })?;
+    let mut change = Difference::none(alloc);
+    change.applications = one(alloc, row)?;
+    Ok(change)
 }

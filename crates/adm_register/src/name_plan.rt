@@ -1,8 +1,10 @@
 // To name a school in a child's plan.
 ghost use Rattle.std.specs.Prelude.{◌≡◌, IfOk};
 ghost use Rattle.adm_register.specs.Tests.{first_failing};
-ghost use Rattle.adm_register.specs.NamePlan.{tests, after};
+ghost use Rattle.adm_register.specs.NamePlan.{tests, change_of};
 
+use crate::Difference;
+use crate::difference::{one, one_place};
 use crate::tables::Tables;
 use crate::tests_of::first_failing;
 use adm_types::{ChildNo, PlaceState, Refusal, SchoolCode};
@@ -20,16 +22,17 @@ pub(crate) fn refusal_of(old: &Tables, child: ChildNo, school: SchoolCode) -> Op
     ])
 }
 
-/// The rows with the place of the plan, and without the child's application.
-#[tactic(auto, unfolding(crate::specs::NamePlan::after))]
-pub(crate) fn after(
-    old: &Tables,
+/// The place of the plan is put, and the child's application is cut.
+#[tactic(auto, unfolding(crate::specs::NamePlan::change_of))]
+pub(crate) fn change_of(
     alloc: Global,
     child: ChildNo,
     school: SchoolCode,
-) -> Result<Tables, AllocError>
-    ensures { IfOk result (λ new. new ≡ after old.now child school) }
+) -> Result<Difference, AllocError>
+    ensures { IfOk result (λ change. change ≡ change_of child school) }
 {
-    old.cut_application(alloc, child)?
-        .put_place(alloc, child, school, PlaceState::Plan)
+    let mut change = Difference::none(alloc);
+    change.places = one_place(alloc, child, school, PlaceState::Plan)?;
+    change.ended = one(alloc, child)?;
+    Ok(change)
 }

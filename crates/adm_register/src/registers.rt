@@ -5,16 +5,15 @@ ghost use Rattle.adm_register.specs.State.{State, only_season};
 ghost use Rattle.adm_register.specs.WellFormed.{WellFormed};
 ghost use Rattle.adm_register.specs.Extends.{Extends};
 ghost use Rattle.adm_register.specs.Tables.{TouchesOnly, touched_by};
-ghost use Rattle.adm_register.specs.Outcome.{Decides};
+ghost use Rattle.adm_register.specs.Outcome.{Decides, decision};
+ghost use Rattle.adm_register.specs.Difference.{IsDifference};
 ghost use Rattle.adm_register.specs.Rows.{rows_of, AreRowsOf, place_of, vacancies};
 
 use crate::checks::is_well_formed;
-use crate::child_values::kept_by_types;
+use crate::commands::{change_of, kept_by_types, refusal_of};
 use crate::tables::Tables;
-use crate::{NotDone, Rows, RowsFault, add_child, add_school, amend, apply, name_plan};
-use adm_types::{
-    Application, Child, ChildNo, Command, Day, Place, Reply, School, SchoolCode, Season, Seq,
-};
+use crate::{Difference, NotDone, Rows, RowsFault};
+use adm_types::{Application, Child, ChildNo, Command, Place, Reply, School, SchoolCode, Season};
 use std::alloc::{AllocError, Global};
 use std::marker::Model;
 
@@ -125,105 +124,56 @@ impl Register {
         self.tables.rows(alloc)
     }
 
+    /// The register after the command, what it changed and its reply, or why it was not done. This
+    /// register stays. What it costs grows with the tables that the command changes, of which the
+    /// pointers to their rows are copied; the others are shared.
+    pub fn propose(&self, alloc: Global, command: &Command) -> Result<Proposal, NotDone>
+        ensures step { Decides self.now command.now (decision result) }
+        ensures extends { IfOk result (λ proposal. Extends self.now proposal.register × WellFormed proposal.register) }
+        ensures touches { IfOk result (λ proposal. TouchesOnly (touched_by command.now) self.now proposal.register) }
+        ensures change { IfOk result (λ proposal. IsDifference self.now proposal.register proposal.change) }
+    {
+        kept_by_types(command);
+        match refusal_of(&self.tables, command) {
+            Some(refusal) => Err(NotDone::by(refusal)),
+            None => {
+                let change = change_of(&self.tables, alloc, command)?;
+                let tables = self.tables.after(alloc, &change)?;
+                let change = self.tables.differing(alloc, change)?;
+                Ok(Proposal {
+                    register: Register { tables },
+                    change,
+                    reply: Reply::Done,
+                })
+            }
+        }
+    }
+
     /// The register after the command and its reply, or why it was not done. This register stays.
-    /// What it costs grows with the table that the command changes; the others are shared.
+    /// What it costs grows with the tables that the command changes; the others are shared.
     pub fn decide(&self, alloc: Global, command: &Command) -> Result<(Register, Reply), NotDone>
         ensures step { Decides self.now command.now result }
         ensures extends { IfOk result (λ done. Extends self.now done.0 × WellFormed done.0) }
         ensures touches { IfOk result (λ done. TouchesOnly (touched_by command.now) self.now done.0) }
     {
-        match command {
-            Command::AddSchool(school) => self.add_school(alloc, school),
-            Command::AddChild(child) => self.add_child(alloc, child),
-            Command::Amend(child) => self.amend(alloc, child),
-            Command::NamePlan { child, school } => self.name_plan(alloc, *child, *school),
-            Command::Apply { child, day, list } => self.apply(alloc, *child, *day, list),
+        match self.propose(alloc, command) {
+            Ok(
+                Proposal {
+                    register,
+                    change: _,
+                    reply,
+                },
+            ) => Ok((register, reply)),
+            Err(why) => Err(why),
         }
     }
+}
 
-    fn add_school(&self, alloc: Global, school: &School) -> Result<(Register, Reply), NotDone>
-        ensures step { Decides self.now (Command.AddSchool school.now) result }
-        ensures extends { IfOk result (λ done. Extends self.now done.0 × WellFormed done.0) }
-        ensures touches { IfOk result (λ done. TouchesOnly (touched_by (Command.AddSchool school.now)) self.now done.0) }
-    {
-        let _code = school.code.as_str();
-        let _text = school.name.as_str();
-        match add_school::refusal_of(&self.tables, school) {
-            Some(refusal) => Err(NotDone::by(refusal)),
-            None => {
-                let tables = add_school::after(&self.tables, alloc, school)?;
-                Ok((Register { tables }, Reply::Done))
-            }
-        }
-    }
-
-    fn add_child(&self, alloc: Global, child: &Child) -> Result<(Register, Reply), NotDone>
-        ensures step { Decides self.now (Command.AddChild child.now) result }
-        ensures extends { IfOk result (λ done. Extends self.now done.0 × WellFormed done.0) }
-        ensures touches { IfOk result (λ done. TouchesOnly (touched_by (Command.AddChild child.now)) self.now done.0) }
-    {
-        kept_by_types(child);
-        match add_child::refusal_of(&self.tables, child) {
-            Some(refusal) => Err(NotDone::by(refusal)),
-            None => {
-                let tables = add_child::after(&self.tables, alloc, child)?;
-                Ok((Register { tables }, Reply::Done))
-            }
-        }
-    }
-
-    fn amend(&self, alloc: Global, child: &Child) -> Result<(Register, Reply), NotDone>
-        ensures step { Decides self.now (Command.Amend child.now) result }
-        ensures extends { IfOk result (λ done. Extends self.now done.0 × WellFormed done.0) }
-        ensures touches { IfOk result (λ done. TouchesOnly (touched_by (Command.Amend child.now)) self.now done.0) }
-    {
-        kept_by_types(child);
-        match amend::refusal_of(&self.tables, child) {
-            Some(refusal) => Err(NotDone::by(refusal)),
-            None => {
-                let tables = amend::after(&self.tables, alloc, child)?;
-                Ok((Register { tables }, Reply::Done))
-            }
-        }
-    }
-
-    fn name_plan(
-        &self,
-        alloc: Global,
-        child: ChildNo,
-        school: SchoolCode,
-    ) -> Result<(Register, Reply), NotDone>
-        ensures step { Decides self.now (Command.NamePlan child school) result }
-        ensures extends { IfOk result (λ done. Extends self.now done.0 × WellFormed done.0) }
-        ensures touches { IfOk result (λ done. TouchesOnly (touched_by (Command.NamePlan child school)) self.now done.0) }
-    {
-        match name_plan::refusal_of(&self.tables, child, school) {
-            Some(refusal) => Err(NotDone::by(refusal)),
-            None => {
-                let tables = name_plan::after(&self.tables, alloc, child, school)?;
-                Ok((Register { tables }, Reply::Done))
-            }
-        }
-    }
-
-    fn apply(
-        &self,
-        alloc: Global,
-        child: ChildNo,
-        day: Day,
-        list: &Seq<SchoolCode>,
-    ) -> Result<(Register, Reply), NotDone>
-        ensures step { Decides self.now (Command.Apply child day list.now) result }
-        ensures extends { IfOk result (λ done. Extends self.now done.0 × WellFormed done.0) }
-        ensures touches { IfOk result (λ done. TouchesOnly (touched_by (Command.Apply child day list.now)) self.now done.0) }
-    {
-        let _number = day.number();
-        match apply::refusal_of(&self.tables, child, day, list) {
-            Some(refusal) => Err(NotDone::by(refusal)),
-            None => {
-                let tables = apply::after(&self.tables, alloc, child, day, list)?;
-                Ok((Register { tables }, Reply::Done))
-            }
-        }
-    }
+/// What an accepted command comes to.
+#[derive(Drop)]
+pub struct Proposal {
+    pub register: Register,
+    /// The rows by which it differs from the register before.
+    pub change: Difference,
+    pub reply: Reply,
 }

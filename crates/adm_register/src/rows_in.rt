@@ -99,7 +99,7 @@ fn share_all<V: Drop>(alloc: Global, rows: Vec<V>) -> Result<Vec<Shared<V>>, All
 }
 
 /// A copy of each row.
-pub(crate) fn copy_all<V: Exact>(alloc: Global, rows: &[Shared<V>]) -> Result<Vec<V>, AllocError>
+fn copy_all<V: Exact>(alloc: Global, rows: &[Shared<V>]) -> Result<Vec<V>, AllocError>
     ensures { IfOk result (λ copies. copies.items ≡ rows.now) }
 {
     let mut copies = Vec::new(alloc);

@@ -1,4 +1,4 @@
-// Rows that several tables share.
+// Rows that several tables and changes share.
 ghost use Rattle.std.specs.Prelude.{◌≡◌, IfOk, option_copied};
 ghost use Rattle.adm_register.specs.TableRows.{row_at};
 
@@ -10,7 +10,7 @@ use std::rc::Rc;
 
 /// A row behind a counted pointer. A copy of it is one more pointer to the same row.
 #[derive(Drop)]
-pub(crate) struct Shared<T> {
+pub struct Shared<T> {
     row: Rc<T>,
 }
 
@@ -34,7 +34,7 @@ impl<T: Drop> Shared<T> {
 
 impl<T> Shared<T> {
     /// The row. It takes no memory.
-    pub(crate) fn as_ref(&self) -> &T
+    pub fn as_ref(&self) -> &T
         ensures { result.now ≡ self.now }
     {
         &*self.row

@@ -1,15 +1,14 @@
 // Tables of rows by their keys. A changed table is a new one, and the old one stays as it was.
-ghost use Rattle.std.specs.Prelude.{◌≡◌, [], length, map, not, is_some, IfOk, IfSome, IfNone, Some, None, if◌then◌else◌, option_copied};
-ghost use Rattle.std.specs.Map.{remove_entry, keys_of, values_of};
+ghost use Rattle.std.specs.Prelude.{◌≡◌, [], length, map, not, is_some, IfOk, IfSome, IfNone, OnOk, option_copied};
+ghost use Rattle.std.specs.Map.{keys_of, values_of};
 ghost use Rattle.std.specs.List.{IsDistinct, filter};
 ghost use Rattle.std.specs.List.Sorted.{IsStrictlySortedBy, IsPermutation};
 ghost use Rattle.std.specs.Ordering.{eq_by_cmp};
-ghost use Rattle.std.specs.BTreeMap.{insert_entry, is_at};
-ghost use Rattle.adm_register.specs.TableRows.{row_at, rows_in};
+ghost use Rattle.adm_register.specs.TableRows.{row_at, rows_in, put_at, cut_at};
 ghost use Rattle.adm_register.specs.Same.{is_other};
 
 use crate::same::Same;
-use adm_types::Exact;
+use adm_types::{Exact, Seq};
 use std::alloc::{AllocError, Global};
 use std::collections::BTreeMap;
 use std::marker::Model;
@@ -117,30 +116,47 @@ impl<K: Ord + Exact, V: Exact> Table<K, V> {
             None => Ok(BTreeMap::new(alloc)),
         }
     }
+}
 
-    /// The table with this row at the key, in place of the one that was there.
-    pub(crate) fn with(&self, alloc: Global, key: K, row: V) -> Result<Self, AllocError>
-        ensures rows { IfOk result (λ table. table ≡ insert_entry K.cmp self.now key row) }
-        ensures found { IfOk result (λ table. (q : K) → row_at K.cmp table q ≡ (if is_at (K.cmp key) q then Some row else row_at K.cmp self.now q)) }
+impl<K: Ord + Exact, V: Keyed<K> + Exact> Table<K, V> {
+    /// The table without the rows of the keys in `cut`, and then with the rows in `put`, each at
+    /// its own key. The pointers to the rows are copied once; where both are empty, the two tables
+    /// share them.
+    pub(crate) fn with_all(&self, alloc: Global, cut: &[K], put: &[V]) -> Result<Self, AllocError>
+        ensures { IfOk result (λ table. (q : K) → row_at K.cmp table q ≡ put_at K.cmp V.key put.now q (cut_at K.cmp cut.now q (row_at K.cmp self.now q))) }
     {
+        if cut.is_empty() && put.is_empty() {
+            return self.share();
+        }
         let mut rows = self.own(alloc)?;
-        rows.insert(key, row)?;
+        cut_all(&mut rows, cut);
+        put_all(&mut rows, put)?;
         Ok(Table {
             rows: Some(Rc::new(alloc, rows)?),
         })
     }
+}
 
-    /// The table without the row of the key.
-    pub(crate) fn without(&self, alloc: Global, key: &K) -> Result<Self, AllocError>
-        ensures rows { IfOk result (λ table. table ≡ remove_entry (is_at (K.cmp key.now)) self.now) }
-        ensures found { IfOk result (λ table. (q : K) → row_at K.cmp table q ≡ (if is_at (K.cmp key.now) q then None else row_at K.cmp self.now q)) }
-    {
-        let mut rows = self.own(alloc)?;
+/// Takes the rows of these keys out of the map.
+fn cut_all<K: Ord + Drop, V: Drop>(rows: &mut BTreeMap<K, V>, cut: &[K])
+    ensures { (q : K) → row_at K.cmp rows.new.entries q ≡ cut_at K.cmp cut.now q (row_at K.cmp rows.old.entries q) }
+{
+    for key in cut {
         rows.remove(key);
-        Ok(Table {
-            rows: Some(Rc::new(alloc, rows)?),
-        })
     }
+}
+
+/// Puts these rows into the map, each at its own key.
+fn put_all<K: Ord + Drop, V: Keyed<K> + Exact>(
+    rows: &mut BTreeMap<K, V>,
+    put: &[V],
+) -> Result<(), AllocError>
+    ensures { OnOk result ((q : K) → row_at K.cmp rows.new.entries q ≡ put_at K.cmp V.key put.now q (row_at K.cmp rows.old.entries q)) }
+{
+    for row in put {
+        rows.insert(row.key(), row.clone()?)?;
+    }
+    Ok(())
 }
 
 impl<K: Ord + Drop, V: Keyed<K> + Drop> Table<K, V> {
@@ -174,6 +190,19 @@ impl<K: Ord + Drop, V: Keyed<K> + Same + Exact> Table<K, V> {
         }
     }
 
+    /// Those of these rows that the table has not.
+    pub(crate) fn lacked(&self, alloc: Global, rows: Seq<V>) -> Result<Seq<V>, AllocError>
+        ensures { IfOk result (λ lacked. lacked ≡ filter (λ row. is_other V.same (row_at K.cmp self.now (V.key row)) row) rows) }
+    {
+        let mut lacked = Vec::new(alloc);
+        for row in rows.into_vec() {
+            if self.lacks(&row) {
+                lacked.push(row)?;
+            }
+        }
+        Ok(Seq::from_vec(lacked))
+    }
+
     /// The rows of this table that the old one has not, in the order of their keys.
     pub(crate) fn lacking(&self, alloc: Global, old: &Self) -> Result<Vec<V>, AllocError>
         ensures rows { IfOk result (λ rows. rows.items ≡ filter (λ row. is_other V.same (row_at K.cmp old.now (V.key row)) row) (values_of self.now)) }
@@ -183,6 +212,21 @@ impl<K: Ord + Drop, V: Keyed<K> + Same + Exact> Table<K, V> {
             Some(rows) => lacking_of(alloc, rows, old),
             None => Ok(Vec::new(alloc)),
         }
+    }
+}
+
+impl<K: Ord + Drop, V> Table<K, V> {
+    /// Those of these keys at which the table has a row.
+    pub(crate) fn known(&self, alloc: Global, keys: Seq<K>) -> Result<Seq<K>, AllocError>
+        ensures { IfOk result (λ known. known ≡ filter (λ key. is_some (row_at K.cmp self.now key)) keys) }
+    {
+        let mut known = Vec::new(alloc);
+        for key in keys.into_vec() {
+            if self.get(&key).is_some() {
+                known.push(key)?;
+            }
+        }
+        Ok(Seq::from_vec(known))
     }
 }
 

@@ -16,7 +16,7 @@ use crate::table::{Keyed, Table};
 use adm_types::{
     Application, Child, ChildNo, Place, PlaceRow, PlaceState, School, SchoolCode, Season,
 };
-use std::alloc::{AllocError, Global};
+use std::alloc::AllocError;
 use std::collections::BTreeMap;
 use std::marker::Model;
 
@@ -221,72 +221,6 @@ impl Tables {
         ensures { map.from_entries (rows_in result) ≡ self.now.places }
     {
         self.places.map()
-    }
-
-    /// With this school at its code.
-    pub(crate) fn put_school(&self, alloc: Global, school: School) -> Result<Tables, AllocError>
-        ensures { IfOk result (λ new. new ≡ record self.now { schools = map.insert self.now.schools school.code school }) }
-    {
-        let code = school.code;
-        let row = Shared::new(alloc, school)?;
-        let mut tables = self.share()?;
-        tables.schools = self.schools.with(alloc, code, row)?;
-        Ok(tables)
-    }
-
-    /// With this child at its number.
-    pub(crate) fn put_child(&self, alloc: Global, child: Child) -> Result<Tables, AllocError>
-        ensures { IfOk result (λ new. new ≡ record self.now { children = map.insert self.now.children child.no child }) }
-    {
-        let number = child.no;
-        let row = Shared::new(alloc, child)?;
-        let mut tables = self.share()?;
-        tables.children = self.children.with(alloc, number, row)?;
-        Ok(tables)
-    }
-
-    /// With this application at its child's number.
-    pub(crate) fn put_application(
-        &self,
-        alloc: Global,
-        application: Application,
-    ) -> Result<Tables, AllocError>
-        ensures { IfOk result (λ new. new ≡ record self.now { applications = map.insert self.now.applications application.child application }) }
-    {
-        let number = application.child;
-        let row = Shared::new(alloc, application)?;
-        let mut tables = self.share()?;
-        tables.applications = self.applications.with(alloc, number, row)?;
-        Ok(tables)
-    }
-
-    /// Without the child's application.
-    pub(crate) fn cut_application(
-        &self,
-        alloc: Global,
-        child: ChildNo,
-    ) -> Result<Tables, AllocError>
-        ensures { IfOk result (λ new. new ≡ record self.now { applications = map.remove self.now.applications child }) }
-    {
-        let mut tables = self.share()?;
-        tables.applications = self.applications.without(alloc, &child)?;
-        Ok(tables)
-    }
-
-    /// With this place of the child.
-    pub(crate) fn put_place(
-        &self,
-        alloc: Global,
-        child: ChildNo,
-        school: SchoolCode,
-        state: PlaceState,
-    ) -> Result<Tables, AllocError>
-        ensures { IfOk result (λ new. new ≡ record self.now { places = map.insert self.now.places child (record { child = child; place = record { school = school; state = state } }) }) }
-    {
-        let place = Place { school, state };
-        let mut tables = self.share()?;
-        tables.places = self.places.with(alloc, child, PlaceRow { child, place })?;
-        Ok(tables)
     }
 
     /// How many places there are at the school.

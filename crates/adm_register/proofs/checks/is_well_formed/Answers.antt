@@ -17,12 +17,14 @@ returns-then-applications_fit c = (
         | then-are_few u ↦
             let few = c.are_few.ensures.0 u.if-are_few.true in
             record {
-              season = subst IsSeason c.season.ensures c.year-year.ensures.season;
-              few_schools = few.0;
-              schools = u.schools_fit.ensures.0 (sym u.value-is ∙ v.if-schools_fit.true);
-              few_children = few.1;
-              children = v.children_fit.ensures.0 (sym v.value-is ∙ w.if-children_fit.true);
-              applications = w.applications_fit.ensures.0 (sym w.value-is ∙ c.if-applications_fit.true);
+              base = record {
+                season_is = subst IsSeason c.season.ensures c.year-year.ensures.season;
+                few_schools = few.0;
+                schools_fit = u.schools_fit.ensures.0 (sym u.value-is ∙ v.if-schools_fit.true);
+                few_children = few.1;
+                children_fit = v.children_fit.ensures.0 (sym v.value-is ∙ w.if-children_fit.true);
+                applications_fit = w.applications_fit.ensures.0 (sym w.value-is ∙ c.if-applications_fit.true);
+              };
               places = c.places_fit.ensures.0 fit;
             }
       ]

@@ -19,17 +19,17 @@ use Rattle.adm_register.proofs.tables.Tables.of_rows.Goals as goal
 pub returns-in_default-clause-repeated : goal.returns-in_default-clause-repeated
 returns-in_default-clause-repeated c state well same =
     let repeated = rw c.in_default.is at c.in_ok-schools.ensures.repeated in
-    repeated (distinct_keys nat_list_cmp_total code_cmp-IsAntisymmetric (λ (s : School). s.code) state.schools c.args.rows.schools (λ key row there. (well.schools key row there).own_code) same.schools)
+    repeated (distinct_keys nat_list_cmp_total code_cmp-IsAntisymmetric (λ (s : School). s.code) state.schools c.args.rows.schools (λ key row there. (well.base.schools_fit key row there).own_code) same.schools)
 
 pub returns-in_default-2-clause-repeated : goal.returns-in_default-2-clause-repeated
 returns-in_default-2-clause-repeated c state well same =
     let repeated = rw c.in_default-2.is at c.in_ok-children.ensures.repeated in
-    repeated (distinct_keys nat_cmp_total nat_cmp-IsAntisymmetric (λ (s : Child). s.no) state.children c.args.rows.children (λ key row there. (well.children key row there).own_number) same.children)
+    repeated (distinct_keys nat_cmp_total nat_cmp-IsAntisymmetric (λ (s : Child). s.no) state.children c.args.rows.children (λ key row there. (well.base.children_fit key row there).own_number) same.children)
 
 pub returns-in_default-3-clause-repeated : goal.returns-in_default-3-clause-repeated
 returns-in_default-3-clause-repeated c state well same =
     let repeated = rw c.in_default-3.is at c.in_ok-applications.ensures.repeated in
-    repeated (distinct_keys nat_cmp_total nat_cmp-IsAntisymmetric (λ (s : Application). s.child) state.applications c.args.rows.applications (λ key row there. (well.applications key row there).own_number) same.applications)
+    repeated (distinct_keys nat_cmp_total nat_cmp-IsAntisymmetric (λ (s : Application). s.child) state.applications c.args.rows.applications (λ key row there. (well.base.applications_fit key row there).own_number) same.applications)
 
 pub returns-in_default-4-clause-repeated : goal.returns-in_default-4-clause-repeated
 returns-in_default-4-clause-repeated c state well same =
@@ -52,9 +52,9 @@ returns-clause-made c =
         places = rows_of_table nat_cmp_total nat_cmp-IsAntisymmetric (λ (s : PlaceRow). s.child) c.args.rows.places c.in-Some-4.places places;
       },
       λ state well same.
-          let same_schools = same_as_table nat_list_cmp_total code_cmp-IsAntisymmetric (λ (s : School). s.code) c.args.rows.schools c.in-Some.schools schools state.schools (λ key row there. (well.schools key row there).own_code) same.schools in
-          let same_children = same_as_table nat_cmp_total nat_cmp-IsAntisymmetric (λ (s : Child). s.no) c.args.rows.children c.in-Some-2.children children state.children (λ key row there. (well.children key row there).own_number) same.children in
-          let same_applications = same_as_table nat_cmp_total nat_cmp-IsAntisymmetric (λ (s : Application). s.child) c.args.rows.applications c.in-Some-3.applications applications state.applications (λ key row there. (well.applications key row there).own_number) same.applications in
+          let same_schools = same_as_table nat_list_cmp_total code_cmp-IsAntisymmetric (λ (s : School). s.code) c.args.rows.schools c.in-Some.schools schools state.schools (λ key row there. (well.base.schools_fit key row there).own_code) same.schools in
+          let same_children = same_as_table nat_cmp_total nat_cmp-IsAntisymmetric (λ (s : Child). s.no) c.args.rows.children c.in-Some-2.children children state.children (λ key row there. (well.base.children_fit key row there).own_number) same.children in
+          let same_applications = same_as_table nat_cmp_total nat_cmp-IsAntisymmetric (λ (s : Application). s.child) c.args.rows.applications c.in-Some-3.applications applications state.applications (λ key row there. (well.base.applications_fit key row there).own_number) same.applications in
           let same_places = same_as_table nat_cmp_total nat_cmp-IsAntisymmetric (λ (s : PlaceRow). s.child) c.args.rows.places c.in-Some-4.places places state.places (λ key row there. (well.places key row there).own_number) same.places in
           λ i. record { season = sym same.season i; schools = same_schools i; children = same_children i; applications = same_applications i; places = same_places i },
     )

@@ -1,0 +1,136 @@
+-- What each command puts, where its tests pass, fits.
+use Rattle.std.proofs.Common.{◌≡◌, ◌∙◌, ◌+◌, ap, sym, refl, cond, false, ℕ, List, Some, None}
+use Rattle.std.specs.Prelude.{IsTrue, nat_le, is_some, ◌&&◌}
+use Rattle.std.specs.Ordering.{nat_cmp}
+use Rattle.std.specs.Cmp.{nat_cmp_total}
+use Rattle.std.specs.Cmp.Lexicographic.{nat_list_cmp_total}
+use Rattle.std.specs.FinMap.{get, len, len-insert, contains_key}
+use borrow.Author.Tests.{ltb-true}
+use Rattle.adm_types.specs.declared.rows.School.{School}
+use Rattle.adm_types.specs.declared.rows.Child.{Child}
+use Rattle.adm_types.specs.declared.rows.Application.{Application}
+use Rattle.adm_types.specs.declared.rows.PlaceRow.{PlaceRow}
+use Rattle.adm_types.specs.declared.rows.PlaceState.TheVariants.{Plan}
+use Rattle.adm_types.specs.declared.commands.Command.{Command}
+use Rattle.adm_types.specs.declared.commands.Command.TheVariants.{AddSchool, AddChild, Amend, NamePlan, Apply}
+use Rattle.adm_register.specs.declared.difference.Difference.{Difference}
+use Rattle.adm_register.specs.State.{State, code_cmp}
+use Rattle.adm_register.specs.Plans.{has_plan, is_plan_row}
+use Rattle.adm_register.specs.KeptByTypes.{KeptBySchool, KeptByChild, KeptByTypes}
+use Rattle.adm_register.specs.WellFormed.{WellFormed}
+use Rattle.adm_register.specs.Tests.{first_failing}
+use Rattle.adm_register.specs.Outcome.{tests_of, change_of}
+use Rattle.adm_register.specs.AddSchool as add_school
+use Rattle.adm_register.specs.AddChild as add_child
+use Rattle.adm_register.specs.Amend as amend
+use Rattle.adm_register.specs.NamePlan as name_plan
+use Rattle.adm_register.specs.Apply as apply
+use Rattle.adm_register.proofs.Keeps.{all_pass, len-insert_room}
+use Rattle.adm_register.proofs.Maps.{both_true, not_true, not_contains_key-removed}
+use Rattle.adm_register.proofs.Exactly.{IsTidy, tidy_none, tidy_put, tidy_cut}
+use Rattle.adm_register.proofs.Fits.{BasePut, PlacesPut}
+
+-- what a command puts fits
+pub record Fit (old : State) (change : Difference) : Type 0 where
+  pub base : BasePut old change
+  pub places : PlacesPut old change
+  pub tidy : IsTidy change
+
+add_school-fit : (old : State) (school : School) → KeptBySchool school → first_failing (add_school.tests old school) ≡ None → Fit old (add_school.change_of school)
+unfolding add_school.tests add_school.change_of
+add_school-fit old school kept passes =
+    let pass = all_pass (add_school.tests old school) passes in
+    record {
+      base = record {
+        schools = (record { own_code = refl; code_form = kept.code_form; text = kept.text; name = pass.1.0; in_range = pass.1.1.0 }, tt);
+        new_schools = (pass.0, tt);
+        few_schools = len-insert_room nat_list_cmp_total old.schools school.code school 200 (ltb-true _ _ pass.1.1.1.0);
+        children = tt;
+        few_children = tt;
+        applications = tt;
+      };
+      places = record { places = tt; unplaced = tt };
+      tidy = record { schools = tidy_put code_cmp (λ (s : School). s.code) school; children = tidy_none nat_cmp (λ (c : Child). c.no); applications = tidy_none nat_cmp (λ (a : Application). a.child); places = tidy_none nat_cmp (λ (p : PlaceRow). p.child) };
+    }
+
+add_child-fit : (old : State) (child : Child) → KeptByChild child → first_failing (add_child.tests old child) ≡ None → Fit old (add_child.change_of child)
+unfolding add_child.tests add_child.change_of
+add_child-fit old child kept passes =
+    let pass = all_pass (add_child.tests old child) passes in
+    record {
+      base = record {
+        schools = tt;
+        new_schools = tt;
+        few_schools = tt;
+        children = (record { own_number = refl; number_form = kept.number_form; text = kept.text; name = pass.1.0; in_range = pass.1.1.0; flags = kept.flags; siblings = pass.1.1.1.0 }, tt);
+        few_children = len-insert_room nat_cmp_total old.children child.no child 2000 (ltb-true _ _ pass.1.1.1.1.0);
+        applications = tt;
+      };
+      places = record { places = tt; unplaced = tt };
+      tidy = record { schools = tidy_none code_cmp (λ (s : School). s.code); children = tidy_put nat_cmp (λ (c : Child). c.no) child; applications = tidy_none nat_cmp (λ (a : Application). a.child); places = tidy_none nat_cmp (λ (p : PlaceRow). p.child) };
+    }
+
+amend-fit : (old : State) (child : Child) → KeptByChild child → WellFormed old → first_failing (amend.tests old child) ≡ None → Fit old (amend.change_of child)
+unfolding amend.tests amend.change_of
+amend-fit old child kept well passes =
+    let pass = all_pass (amend.tests old child) passes in
+    let same_len = len-insert nat_cmp_total old.children child.no child ∙ ap (λ b. cond b (len old.children) (len old.children + 1)) pass.0 in
+    record {
+      base = record {
+        schools = tt;
+        new_schools = tt;
+        few_schools = tt;
+        children = (record { own_number = refl; number_form = kept.number_form; text = kept.text; name = pass.1.0; in_range = pass.1.1.0; flags = kept.flags; siblings = pass.1.1.1.0 }, tt);
+        few_children = rw same_len well.base.few_children;
+        applications = tt;
+      };
+      places = record { places = tt; unplaced = tt };
+      tidy = record { schools = tidy_none code_cmp (λ (s : School). s.code); children = tidy_put nat_cmp (λ (c : Child). c.no) child; applications = tidy_none nat_cmp (λ (a : Application). a.child); places = tidy_none nat_cmp (λ (p : PlaceRow). p.child) };
+    }
+
+name_plan-fit : (old : State) (child : ℕ) (school : List ℕ) → first_failing (name_plan.tests old child school) ≡ None → Fit old (name_plan.change_of child school)
+unfolding name_plan.tests name_plan.change_of
+name_plan-fit old child school passes =
+    let pass = all_pass (name_plan.tests old child school) passes in
+    record {
+      base = record { schools = tt; new_schools = tt; few_schools = tt; children = tt; few_children = tt; applications = tt };
+      places = record {
+        places = (record { own_number = refl; child = pass.0; school = pass.1.0; plan = refl; no_application = not_contains_key-removed nat_cmp_total old.applications child }, tt);
+        unplaced = tt;
+      };
+      tidy = record { schools = tidy_none code_cmp (λ (s : School). s.code); children = tidy_none nat_cmp (λ (c : Child). c.no); applications = tidy_cut nat_cmp (λ (a : Application). a.child) child; places = tidy_put nat_cmp (λ (p : PlaceRow). p.child) (record { child = child; place = record { school = school; state = Plan } }) };
+    }
+
+-- each place is a plan, so a child without a plan has no place
+no_place : (old : State) (child : ℕ) → WellFormed old → has_plan old.places child ≡ false → contains_key old.places child ≡ false
+no_place old child well unplanned =
+    elim (get old.places child) as (λ o. get old.places child ≡ o → is_some o ≡ false) [
+      | Some row ↦ λ there. let planned = (well.places child row there).plan in let none = ap is_plan_row (sym there) ∙ unplanned in cc (planned, none)
+      | None ↦ λ there. refl
+    ] refl
+
+apply-fit : (old : State) (child day : ℕ) (list : List (List ℕ)) → IsTrue (nat_le 7305 day) → WellFormed old → first_failing (apply.tests old child day list) ≡ None → Fit old (apply.change_of child day list)
+unfolding apply.tests apply.change_of
+apply-fit old child day list since well passes =
+    let pass = all_pass (apply.tests old child day list) passes in
+    let by = pass.1.1.1.0 in
+    let preferences = both_true _ _ pass.1.1.1.1.0 in
+    record {
+      base = record {
+        schools = tt;
+        new_schools = tt;
+        few_schools = tt;
+        children = tt;
+        few_children = tt;
+        applications = (record { own_number = refl; child = pass.0; day = λ i. since i && by i; list_length = preferences.0; without_repeat = preferences.1; known = pass.1.1.1.1.1.0 }, tt);
+      };
+      places = record { places = tt; unplaced = (no_place old child well (not_true _ pass.1.0), tt) };
+      tidy = record { schools = tidy_none code_cmp (λ (s : School). s.code); children = tidy_none nat_cmp (λ (c : Child). c.no); applications = tidy_put nat_cmp (λ (a : Application). a.child) (record { child = child; day = day; list = list }); places = tidy_none nat_cmp (λ (p : PlaceRow). p.child) };
+    }
+
+pub command-fit : (old : State) (command : Command) → KeptByTypes command → WellFormed old → first_failing (tests_of old command) ≡ None → Fit old (change_of old command)
+command-fit old (AddSchool school) kept well passes = add_school-fit old school kept passes
+command-fit old (AddChild child) kept well passes = add_child-fit old child kept passes
+command-fit old (Amend child) kept well passes = amend-fit old child kept well passes
+command-fit old (NamePlan child school) kept well passes = name_plan-fit old child school passes
+command-fit old (Apply child day list) kept well passes = apply-fit old child day list kept well passes

@@ -1,0 +1,144 @@
+-- What a change of rows that fit leaves is a register.
+use Rattle.std.proofs.Common.{◌≡◌, ap, sym, subst, refl, Bool, true, false, ℕ, ◌≤◌, List, [], ◌∷◌, Some, None}
+use Rattle.std.specs.Prelude.{⊤, not, is_some}
+use Rattle.std.specs.Ordering.{nat_cmp}
+use Rattle.std.specs.declared.cmp.Ordering.{Ordering}
+use Rattle.std.specs.List.{AllByRecursion}
+use Rattle.std.specs.Cmp.{nat_cmp_total}
+use Rattle.std.specs.Cmp.Lexicographic.{nat_list_cmp_total}
+use Rattle.std.specs.FinMap.{FinMap, get, len, contains_key, nat_cmp-IsAntisymmetric}
+use Rattle.adm_types.specs.Seasons.{lists_end}
+use Rattle.adm_types.specs.declared.rows.School.{School}
+use Rattle.adm_types.specs.declared.rows.Child.{Child}
+use Rattle.adm_types.specs.declared.rows.Application.{Application}
+use Rattle.adm_types.specs.declared.rows.PlaceRow.{PlaceRow}
+use Rattle.adm_register.specs.declared.difference.Difference.{Difference}
+use Rattle.adm_register.specs.State.{State, code_cmp}
+use Rattle.adm_register.specs.Change.{put_all, cut_all, after}
+use Rattle.adm_register.specs.Extends.{Extends}
+use Rattle.adm_register.specs.WellFormed.{WellFormed, BaseFits, PlacesFit, SchoolFits, ChildFits, ApplicationFits, PlaceFits}
+use Rattle.adm_register.proofs.Maps.{code_cmp-IsAntisymmetric}
+use Rattle.adm_register.proofs.Puts.{Grows, put_all-grows, there_before, all_stay, AllRows-put_all, are_schools-grows}
+
+-- there are at most so many rows where one was put
+abbrev pub FewAfter : {K V : Type 0} {R : K → K → Ordering} → ℕ → FinMap R V → List V → Type 0
+FewAfter limit rows [] = ⊤
+FewAfter limit rows (row ∷ put) = len rows ≤ limit
+
+-- what is put into the schools, the children and the applications fits the rows after the change; the schools are new
+pub record BasePut (old : State) (change : Difference) : Type 0 where
+  pub schools : AllByRecursion (λ (s : School). SchoolFits s.code s) change.schools
+  pub new_schools : AllByRecursion (λ (s : School). not (contains_key old.schools s.code) ≡ true) change.schools
+  pub few_schools : FewAfter 200 (after old change).schools change.schools
+  pub children : AllByRecursion (λ (c : Child). ChildFits (after old change).schools c.no c) change.children
+  pub few_children : FewAfter 2000 (after old change).children change.children
+  pub applications : AllByRecursion (λ (a : Application). ApplicationFits (lists_end old.season) (after old change).schools (after old change).children a.child a) change.applications
+
+-- what is put into the places fits the rows after the change, and a child whose application is put has no place
+pub record PlacesPut (old : State) (change : Difference) : Type 0 where
+  pub places : AllByRecursion (λ (p : PlaceRow). PlaceFits (after old change).schools (after old change).children (after old change).applications p.child p) change.places
+  pub unplaced : AllByRecursion (λ (a : Application). contains_key (after old change).places a.child ≡ false) change.applications
+
+-- rows fit still where the rows that they name are there still
+ChildFits-grows : (schools new_schools : FinMap code_cmp School) → Grows schools new_schools → (number : ℕ) (child : Child) → ChildFits schools number child → ChildFits new_schools number child
+ChildFits-grows schools new_schools grows number child fits = record {
+  own_number = fits.own_number;
+  number_form = fits.number_form;
+  text = fits.text;
+  name = fits.name;
+  in_range = fits.in_range;
+  flags = fits.flags;
+  siblings = are_schools-grows schools new_schools grows child.siblings fits.siblings;
+}
+
+module _ (schools new_schools : FinMap code_cmp School) (children new_children : FinMap nat_cmp Child) (more_schools : Grows schools new_schools) (more_children : Grows children new_children) where
+  ApplicationFits-grows : (last number : ℕ) (a : Application) → ApplicationFits last schools children number a → ApplicationFits last new_schools new_children number a
+  ApplicationFits-grows last number a fits = record {
+    own_number = fits.own_number;
+    child = more_children a.child fits.child;
+    day = fits.day;
+    list_length = fits.list_length;
+    without_repeat = fits.without_repeat;
+    known = are_schools-grows schools new_schools more_schools a.list fits.known;
+  }
+
+  PlaceFits-grows : (applications new_applications : FinMap nat_cmp Application) (number : ℕ) (row : PlaceRow) → not (contains_key new_applications row.child) ≡ true → PlaceFits schools children applications number row → PlaceFits new_schools new_children new_applications number row
+  PlaceFits-grows applications new_applications number row none fits = record {
+    own_number = fits.own_number;
+    child = more_children row.child fits.child;
+    school = more_schools row.place.school fits.school;
+    plan = fits.plan;
+    no_application = none;
+  }
+
+module _ (old : State) (change : Difference) where
+  abbrev new : State
+  new = after old change
+
+  more_schools : Grows old.schools new.schools
+  more_schools = put_all-grows nat_list_cmp_total (λ (s : School). s.code) old.schools change.schools
+
+  more_children : Grows old.children new.children
+  more_children = put_all-grows nat_cmp_total (λ (c : Child). c.no) old.children change.children
+
+  few : {K V : Type 0} {R : K → K → Ordering} (key : V → K) (limit : ℕ) (rows : FinMap R V) (put : List V) → len rows ≤ limit → FewAfter limit (put_all key rows put) put → len (put_all key rows put) ≤ limit
+  few key limit rows [] was now = was
+  few key limit rows (row ∷ put) was now = now
+
+  -- the base group fits after the change
+  base_fits : BaseFits old.season old.schools old.children old.applications → BasePut old change → BaseFits new.season new.schools new.children new.applications
+  base_fits base put = record {
+    season_is = base.season_is;
+    few_schools = few (λ (s : School). s.code) 200 old.schools change.schools base.few_schools put.few_schools;
+    schools_fit = AllRows-put_all nat_list_cmp_total code_cmp-IsAntisymmetric (λ (s : School). s.code) SchoolFits old.schools change.schools (λ code row there still. base.schools_fit code row there) put.schools;
+    few_children = few (λ (c : Child). c.no) 2000 old.children change.children base.few_children put.few_children;
+    children_fit = AllRows-put_all nat_cmp_total nat_cmp-IsAntisymmetric (λ (c : Child). c.no) (ChildFits new.schools) old.children change.children
+        (λ number row there still. ChildFits-grows old.schools new.schools more_schools number row (base.children_fit number row there)) put.children;
+    applications_fit = AllRows-put_all nat_cmp_total nat_cmp-IsAntisymmetric (λ (a : Application). a.child) (ApplicationFits (lists_end old.season) new.schools new.children) (cut_all old.applications change.ended) change.applications
+        (λ number row there still. ApplicationFits-grows old.schools new.schools old.children new.children more_schools more_children (lists_end old.season) number row
+        (base.applications_fit number row (there_before nat_cmp_total old.applications change.ended number row there))) put.applications;
+  }
+
+  -- a child that keeps its place has no application that was not there
+  unplaced_new : PlacesPut old change → (number : ℕ) (a : Application) → get new.applications number ≡ Some a → contains_key old.applications number ≡ false → contains_key new.places number ≡ false
+  unplaced_new put = AllRows-put_all nat_cmp_total nat_cmp-IsAntisymmetric (λ (a : Application). a.child) (λ number a. contains_key old.applications number ≡ false → contains_key new.places number ≡ false) (cut_all old.applications change.ended) change.applications
+      (λ number a there still none. let was = ap is_some (there_before nat_cmp_total old.applications change.ended number a there) in cc) (each change.applications put.unplaced)
+    where
+      each : (them : List Application) → AllByRecursion (λ (a : Application). contains_key new.places a.child ≡ false) them
+          → AllByRecursion (λ (a : Application). contains_key old.applications a.child ≡ false → contains_key new.places a.child ≡ false) them
+      each [] all = tt
+      each (a ∷ them) all = (λ none. all.0, each them all.1)
+
+  no_application : PlacesPut old change → (number : ℕ) (row : PlaceRow) → contains_key old.applications number ≡ false → get new.places number ≡ Some row → not (contains_key new.applications number) ≡ true
+  no_application put number row none there =
+      elim (get new.applications number) as (λ o. get new.applications number ≡ o → not (is_some o) ≡ true) [
+        | Some a ↦ λ is. let gone = unplaced_new put number a is none in let here = ap is_some there in cc
+        | None ↦ λ is. refl
+      ] refl
+
+  -- the places fit after the change
+  places_fit : PlacesFit old.schools old.children old.applications old.places → PlacesPut old change → PlacesFit new.schools new.children new.applications new.places
+  places_fit places put = AllRows-put_all nat_cmp_total nat_cmp-IsAntisymmetric (λ (p : PlaceRow). p.child) (PlaceFits new.schools new.children new.applications) old.places change.places
+      (λ number row there still.
+      let fits = places number row there in
+      let own = fits.own_number in
+      let was : contains_key old.applications number ≡ false = subst (λ n. contains_key old.applications n ≡ false) own (absent _ fits.no_application) in
+      let none = subst (λ n. not (contains_key new.applications n) ≡ true) (sym own) (no_application put number row was still) in
+      PlaceFits-grows old.schools new.schools old.children new.children more_schools more_children old.applications new.applications number row none fits) put.places
+    where
+      absent : (b : Bool) → not b ≡ true → b ≡ false
+      absent true e = cc
+      absent false e = refl
+
+  -- so the state after the change is a register
+  pub after-keeps : WellFormed old → BasePut old change → PlacesPut old change → WellFormed new
+  after-keeps well base places = record { base = base_fits well.base base; places = places_fit well.places places }
+
+  -- and what every command leaves is as it was
+  pub after-extends : BasePut old change → Extends old new
+  after-extends base = record {
+    season = refl;
+    schools = all_stay nat_list_cmp_total code_cmp-IsAntisymmetric (λ (s : School). s.code) old.schools change.schools base.new_schools;
+    children = more_children;
+    places = put_all-grows nat_cmp_total (λ (p : PlaceRow). p.child) old.places change.places;
+  }

@@ -1,0 +1,47 @@
+use Rattle.std.proofs.Common.{◌∙◌, ap, sym, subst}
+use Rattle.adm_register.specs.Change.{after}
+use Rattle.adm_register.specs.Difference.{IsDifference, differing}
+use Rattle.adm_register.specs.Extends.{Extends}
+use Rattle.adm_register.specs.Outcome.{change_of}
+use Rattle.adm_register.specs.Tables.{TouchesOnly, touched_by}
+use Rattle.adm_register.specs.WellFormed.{WellFormed}
+use Rattle.adm_register.proofs.Accepted.{command-fit}
+use Rattle.adm_register.proofs.Exactly.{differing_is}
+use Rattle.adm_register.proofs.Fits.{after-keeps, after-extends}
+use Rattle.adm_register.proofs.Touches.{after-touches}
+use Rattle.adm_register.proofs.registers.Register.propose.Goals as goal
+
+pub invariant_of-result : goal.invariant_of-result
+invariant_of-result c =
+    let old = c.self.inside.tables in
+    let change = change_of old c.args.command.now in
+    let fit = command-fit old c.args.command.now c.kept_by_types.ensures c.self.invariant (sym c.refusal_of.ensures ∙ c.in-None.is) in
+    let is = c.in_ok-tables-in-None.ensures ∙ ap (after old) c.in_ok-change-in-None.ensures in
+    subst WellFormed (sym is) (after-keeps old change c.self.invariant fit.base fit.places)
+
+pub returns-in_ok-change-in-None-2-clause-extends : goal.returns-in_ok-change-in-None-2-clause-extends
+returns-in_ok-change-in-None-2-clause-extends c =
+    let old = c.self.inside.tables in
+    let change = change_of old c.args.command.now in
+    let fit = command-fit old c.args.command.now c.kept_by_types.ensures c.self.invariant (sym c.refusal_of.ensures ∙ c.in-None.is) in
+    let is = c.in_ok-tables-in-None.ensures ∙ ap (after old) c.in_ok-change-in-None.ensures in (
+      subst (λ s. Extends s c.in_ok-tables-in-None.tables) c.self.view_is (subst (Extends old) (sym is) (after-extends old change fit.base)),
+      subst WellFormed (sym is) (after-keeps old change c.self.invariant fit.base fit.places),
+    )
+
+pub returns-in_ok-change-in-None-2-clause-touches : goal.returns-in_ok-change-in-None-2-clause-touches
+returns-in_ok-change-in-None-2-clause-touches c =
+    let old = c.self.inside.tables in
+    let touched = touched_by c.args.command.now in
+    let is = c.in_ok-tables-in-None.ensures ∙ ap (after old) c.in_ok-change-in-None.ensures in
+    subst (λ s. TouchesOnly touched s c.in_ok-tables-in-None.tables) c.self.view_is (subst (TouchesOnly touched old) (sym is) (after-touches old c.args.command.now))
+
+pub returns-in_ok-change-in-None-2-clause-change : goal.returns-in_ok-change-in-None-2-clause-change
+returns-in_ok-change-in-None-2-clause-change c =
+    let old = c.self.inside.tables in
+    let whole = change_of old c.args.command.now in
+    let fit = command-fit old c.args.command.now c.kept_by_types.ensures c.self.invariant (sym c.refusal_of.ensures ∙ c.in-None.is) in
+    let is = c.in_ok-tables-in-None.ensures ∙ ap (after old) c.in_ok-change-in-None.ensures in
+    let differs = c.in_ok-change-in-None-2.ensures ∙ ap (differing old) c.in_ok-change-in-None.ensures in
+    subst (λ s. IsDifference s c.in_ok-tables-in-None.tables c.in_ok-change-in-None-2.change) c.self.view_is
+    (subst (λ n. IsDifference old n c.in_ok-change-in-None-2.change) (sym is) (subst (IsDifference old (after old whole)) (sym differs) (differing_is old whole c.self.invariant fit.tidy)))

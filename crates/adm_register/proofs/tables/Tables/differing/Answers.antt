@@ -1,0 +1,25 @@
+use Rattle.std.proofs.Common.{◌∙◌, ap, sym}
+use Rattle.std.specs.Prelude.{is_some}
+use Rattle.std.specs.Cmp.{nat_cmp_total}
+use Rattle.std.specs.Cmp.Lexicographic.{nat_list_cmp_total}
+use Rattle.std.specs.FinMap.{get}
+use Rattle.std.specs.List.{filter}
+use Rattle.adm_types.specs.declared.rows.Application.{Application}
+use Rattle.adm_types.specs.declared.rows.Child.{Child}
+use Rattle.adm_types.specs.declared.rows.PlaceRow.{PlaceRow}
+use Rattle.adm_types.specs.declared.rows.School.{School}
+use Rattle.adm_register.specs.Same.{is_other, is_same_school, is_same_child, is_same_application, is_same_place}
+use Rattle.adm_register.proofs.TableMaps.{get_rows}
+use Rattle.adm_register.proofs.tables.Tables.differing.Goals as goal
+
+pub returns : goal.returns
+returns c =
+    let inside = c.self.inside in
+    let old = c.self.view_is in
+    let change = c.args.change in
+    let schools = c.in_ok-lacked.ensures ∙ (λ i. filter (λ (s : School). is_other is_same_school ((sym (get_rows nat_list_cmp_total inside.schools s.code) ∙ ap (λ o. get o.schools s.code) old) i) s) change.schools) in
+    let children = c.in_ok-lacked-2.ensures ∙ (λ i. filter (λ (s : Child). is_other is_same_child ((sym (get_rows nat_cmp_total inside.children s.no) ∙ ap (λ o. get o.children s.no) old) i) s) change.children) in
+    let applications = c.in_ok-lacked-3.ensures ∙ (λ i. filter (λ (s : Application). is_other is_same_application ((sym (get_rows nat_cmp_total inside.applications s.child) ∙ ap (λ o. get o.applications s.child) old) i) s) change.applications) in
+    let places = c.in_ok-lacked-4.ensures ∙ (λ i. filter (λ (s : PlaceRow). is_other is_same_place ((sym (get_rows nat_cmp_total inside.places s.child) ∙ ap (λ o. get o.places s.child) old) i) s) change.places) in
+    let ended = c.in_ok-known.ensures ∙ (λ i. filter (λ child. is_some ((sym (get_rows nat_cmp_total inside.applications child) ∙ ap (λ o. get o.applications child) old) i)) change.ended) in
+    λ i. record { schools = schools i; children = children i; applications = applications i; places = places i; ended = ended i }

@@ -1,0 +1,58 @@
+// Each command's tests, and what it changes.
+ghost use Rattle.std.specs.Prelude.{◌≡◌, IfOk};
+ghost use Rattle.adm_register.specs.Tests.{first_failing};
+ghost use Rattle.adm_register.specs.Outcome.{tests_of, change_of};
+ghost use Rattle.adm_register.specs.KeptByTypes.{KeptByTypes};
+
+use crate::child_values::kept_by_child;
+use crate::tables::Tables;
+use crate::{Difference, add_child, add_school, amend, apply, name_plan};
+use adm_types::{Command, Refusal};
+use std::alloc::{AllocError, Global};
+
+/// Why the command is refused: by the first of its tests that fails.
+pub(crate) fn refusal_of(old: &Tables, command: &Command) -> Option<Refusal>
+    ensures { result ≡ first_failing (tests_of old.now command.now) }
+{
+    match command {
+        Command::AddSchool(school) => add_school::refusal_of(old, school),
+        Command::AddChild(child) => add_child::refusal_of(old, child),
+        Command::Amend(child) => amend::refusal_of(old, child),
+        Command::NamePlan { child, school } => name_plan::refusal_of(old, *child, *school),
+        Command::Apply { child, day, list } => apply::refusal_of(old, *child, *day, list),
+    }
+}
+
+/// What the command changes where it is accepted.
+pub(crate) fn change_of(
+    _old: &Tables,
+    alloc: Global,
+    command: &Command,
+) -> Result<Difference, AllocError>
+    ensures { IfOk result (λ change. change ≡ change_of _old.now command.now) }
+{
+    match command {
+        Command::AddSchool(school) => add_school::change_of(alloc, school),
+        Command::AddChild(child) => add_child::change_of(alloc, child),
+        Command::Amend(child) => amend::change_of(alloc, child),
+        Command::NamePlan { child, school } => name_plan::change_of(alloc, *child, *school),
+        Command::Apply { child, day, list } => apply::change_of(alloc, *child, *day, list),
+    }
+}
+
+/// Tells what the types of the command's values keep. It does nothing.
+pub(crate) fn kept_by_types(command: &Command)
+    ensures { KeptByTypes command.now }
+{
+    match command {
+        Command::AddSchool(school) => {
+            let _code = school.code.as_str();
+            let _text = school.name.as_str();
+        }
+        Command::AddChild(child) | Command::Amend(child) => kept_by_child(child),
+        Command::NamePlan { .. } => {}
+        Command::Apply { day, .. } => {
+            let _number = day.number();
+        }
+    }
+}
