@@ -75,7 +75,7 @@ child_rows : (old new : Register) (changes : Changes) → IsStep old new changes
     → (IsTrue (have_rowids was) → IsPermutation (put_each was (map written_child changes.children)) now) → IsPermutation (map child_row (values new.children)) now
 child_rows old new changes step formed was now held turns =
     table_new (λ (c : Child). c.no) child_row (λ _. refl) (coded_stable child_code.coded) old.children new.children [] step.changes_are.difference.children (map written_child changes.children) was now
-    (λ k v there. (formed.children k v there).own_number) (λ k v there. (step.formed.children k v there).own_number) step.changes_are.differs.children
+    (λ k v there. (formed.base.children_fit k v there).own_number) (λ k v there. (step.formed.base.children_fit k v there).own_number) step.changes_are.differs.children
     (still_there old.children new.children step.extends.children) (λ q v there. refl) step.changes_are.children held turns
 
 place_rows : (old new : Register) (changes : Changes) → IsStep old new changes → WellFormed old → (was now : List Row) → IsPermutation (map place_row (values old.places)) was
@@ -92,12 +92,12 @@ application_rows : (old new : Register) (changes : Changes) → IsStep old new c
     → (IsTrue (have_rowids was) → IsPermutation (put_each (without_all was (map pos changes.ended)) (map written_application changes.applications)) now) → IsPermutation (map application_row (values new.applications)) now
 application_rows old new changes step formed was now held turns =
     table_new child_of application_row (λ _. refl) (coded_stable application_code.coded) old.applications new.applications changes.ended step.changes_are.difference.applications (map written_application changes.applications) was now
-    own (λ k v there. (step.formed.applications k v there).own_number) step.changes_are.differs.applications
+    own (λ k v there. (step.formed.base.applications_fit k v there).own_number) step.changes_are.differs.applications
     (λ q none. gone q none (get old.applications q) refl)
     (λ q v there. other_key child_of application_row (λ _. refl) changes.ended old.applications q (λ h. stays q v there h)) step.changes_are.applications held turns
   where
     own : (k : ℕ) (a : Application) → get old.applications k ≡ Some a → a.child ≡ k
-    own k a there = (formed.applications k a there).own_number
+    own k a there = (formed.base.applications_fit k a there).own_number
 
     keys : changes.ended ≡ map child_of (ended old new)
     keys = step.changes_are.ended ∙ step.changes_are.differs.ended

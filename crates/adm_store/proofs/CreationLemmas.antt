@@ -39,12 +39,14 @@ none_wrong R P key row there = absurd (not_there (sym (get-empty R key) ∙ ther
 -- the season and no other row is a register
 pub formed_new : (season : SeasonFacts) → IsSeason season → WellFormed (only_season season)
 formed_new season fits = record {
-  season = fits;
-  few_schools = omega (arith, len-empty code_cmp School);
-  schools = none_wrong code_cmp _;
-  few_children = omega (arith, len-empty nat_cmp Child);
-  children = none_wrong nat_cmp _;
-  applications = none_wrong nat_cmp _;
+  base = record {
+    season_is = fits;
+    few_schools = omega (arith, len-empty code_cmp School);
+    schools_fit = none_wrong code_cmp _;
+    few_children = omega (arith, len-empty nat_cmp Child);
+    children_fit = none_wrong nat_cmp _;
+    applications_fit = none_wrong nat_cmp _;
+  };
   places = none_wrong nat_cmp _;
 }
 

@@ -405,7 +405,7 @@ same_where p q (x ∷ xs) same = λ i. cond (same x (inl refl) i) (x ∷ same_wh
 pub old_and_new : (old new : Register) (news : List School) → WellFormed new → Extends old new → AreNew code_of old.schools new.schools news → IsPermutation (values old.schools ++ news) (values new.schools)
 old_and_new old new news formed extends differ =
     let p = λ (s : School). contains_key old.schools s.code in
-    let own : (k : List ℕ) (s : School) → get new.schools k ≡ Some s → s.code ≡ k = λ k s there. (formed.schools k s there).own_code in
+    let own : (k : List ℕ) (s : School) → get new.schools k ≡ Some s → s.code ≡ k = λ k s there. (formed.base.schools_fit k s there).own_code in
     let both = IsPermutation-sym _ _ (IsPermutation-filter_both p (λ s. not (p s)) (λ s. refl) (values new.schools)) in
     let was = filter_values (contains_key old.schools) (entries new.schools) (own_entry nat_list_cmp_total code_same code_of new.schools own) ∙ ap (map (λ (e : Entry). e.1)) (old_entries old new extends) in
     let added : news ≡ filter (λ s. not (p s)) (values new.schools) =

@@ -37,7 +37,7 @@ same_code = slice_cmp-IsAntisymmetric nat_cmp-IsAntisymmetric
 
 -- the schools of a register are in their limits
 pub schools_fit : (r : Register) → WellFormed r → AllByRecursion IsSchool (values r.schools)
-schools_fit r formed = each_value nat_list_cmp_total same_code IsSchool r.schools (λ code s is. let fits = formed.schools code s is in record { code_form = fits.code_form; text = fits.text; in_range = fits.in_range })
+schools_fit r formed = each_value nat_list_cmp_total same_code IsSchool r.schools (λ code s is. let fits = formed.base.schools_fit code s is in record { code_form = fits.code_form; text = fits.text; in_range = fits.in_range })
 
 -- the code of a school that is there is a code
 code_there : (schools : FinMap code_cmp School) → AllRows SchoolFits schools → (code : List ℕ) → contains_key schools code ≡ true → is_code code ≡ true
@@ -55,29 +55,29 @@ codes_there schools fit (code ∷ codes) there =
 number_there : (r : Register) → WellFormed r → (number : ℕ) → contains_key r.children number ≡ true → is_from 1 9999999 number ≡ true
 number_there r formed number there =
     let row = row_there r.children number there in
-    let fits = formed.children number row.0 row.1 in
+    let fits = formed.base.children_fit number row.0 row.1 in
     subst (λ n. is_from 1 9999999 n ≡ true) fits.own_number fits.number_form
 
 pub children_fit : (r : Register) → WellFormed r → AllByRecursion IsChild (values r.children)
-children_fit r formed = each_value nat_cmp_total nat_cmp-IsAntisymmetric IsChild r.children (λ number child is. let fits = formed.children number child is in record {
+children_fit r formed = each_value nat_cmp_total nat_cmp-IsAntisymmetric IsChild r.children (λ number child is. let fits = formed.base.children_fit number child is in record {
   number_form = fits.number_form;
   text = fits.text;
   in_range = fits.in_range;
   flags = fits.flags;
-  codes = codes_there r.schools formed.schools child.siblings fits.siblings;
+  codes = codes_there r.schools formed.base.schools_fit child.siblings fits.siblings;
 })
 
 pub applications_fit : (r : Register) (last : ℕ) → WellFormed r → last ≡ lists_end r.season → AllByRecursion (IsApplication last) (values r.applications)
-applications_fit r last formed same = each_value nat_cmp_total nat_cmp-IsAntisymmetric (IsApplication last) r.applications (λ number application is. let fits = formed.applications number application is in record {
+applications_fit r last formed same = each_value nat_cmp_total nat_cmp-IsAntisymmetric (IsApplication last) r.applications (λ number application is. let fits = formed.base.applications_fit number application is in record {
   number_form = number_there r formed application.child fits.child;
   day = subst (λ d. is_from 7305 d application.day ≡ true) (sym same) fits.day;
-  codes = codes_there r.schools formed.schools application.list fits.known;
+  codes = codes_there r.schools formed.base.schools_fit application.list fits.known;
 })
 
 pub places_fit : (r : Register) → WellFormed r → AllByRecursion IsPlanRow (values r.places)
 places_fit r formed = each_value nat_cmp_total nat_cmp-IsAntisymmetric IsPlanRow r.places (λ number row is. let fits = formed.places number row is in record {
   number_form = number_there r formed row.child fits.child;
-  code_form = code_there r.schools formed.schools row.place.school fits.school;
+  code_form = code_there r.schools formed.base.schools_fit row.place.school fits.school;
   plan = fits.plan;
 })
 
@@ -137,4 +137,4 @@ first_row a b e = cc
 
 -- the season that was read is that of the register
 pub season_back : (db : Trees) (r : Register) (first : List Row) (season : SeasonFacts) → IsPermutation (rows_of meta db) first → first ≡ season_row season ∷ [] → IsSeason season → HoldsRegister db r → r.season ≡ season
-season_back db r first season one is formed held = same_season r.season season held.formed.season formed (first_row _ _ (sym (season_held db r first one held) ∙ is))
+season_back db r first season one is formed held = same_season r.season season held.formed.base.season_is formed (first_row _ _ (sym (season_held db r first one held) ∙ is))

@@ -1,12 +1,14 @@
 // The rows by which a new register differs from the one before, as they are written.
 ghost use Rattle.std.specs.Prelude.{◌≡◌, map, IfOk};
+ghost use Rattle.adm_register.specs.State.{State as Facts};
 ghost use Rattle.adm_register.specs.Tables.{TouchesOnly};
+ghost use Rattle.adm_register.specs.Difference.{IsDifference};
 ghost use Rattle.adm_store.specs.Changes.{written_school, written_child, written_application, IsChanges};
 ghost use Rattle.adm_store.specs.Forms.{school_row, child_row, application_row};
 
 use crate::lists;
 use crate::rows::{ApplicationRow, Changes, ChildRow, SchoolRow};
-use adm_register::{Register, Touched, difference_of};
+use adm_register::{Difference, Register, Shared, Touched, difference_of};
 use adm_types::{Application, Child, School, Seq, Text};
 use std::alloc::{AllocError, Global};
 
@@ -50,35 +52,35 @@ fn application_row(alloc: Global, application: &Application) -> Result<Applicati
     })
 }
 
-fn school_rows(alloc: Global, schools: &[School]) -> Result<Vec<SchoolRow>, AllocError>
+fn school_rows(alloc: Global, schools: &[Shared<School>]) -> Result<Vec<SchoolRow>, AllocError>
     ensures { IfOk result (λ rows. map written_school rows.items ≡ map school_row schools.now) }
 {
     let mut rows = Vec::new(alloc);
     'items: for school in schools {
-        rows.push(school_row(alloc, school)?)?;
+        rows.push(school_row(alloc, school.as_ref())?)?;
     }
     Ok(rows)
 }
 
-fn child_rows(alloc: Global, children: &[Child]) -> Result<Vec<ChildRow>, AllocError>
+fn child_rows(alloc: Global, children: &[Shared<Child>]) -> Result<Vec<ChildRow>, AllocError>
     ensures { IfOk result (λ rows. map written_child rows.items ≡ map child_row children.now) }
 {
     let mut rows = Vec::new(alloc);
     'items: for child in children {
-        rows.push(child_row(alloc, child)?)?;
+        rows.push(child_row(alloc, child.as_ref())?)?;
     }
     Ok(rows)
 }
 
 fn application_rows(
     alloc: Global,
-    applications: &[Application],
+    applications: &[Shared<Application>],
 ) -> Result<Vec<ApplicationRow>, AllocError>
     ensures { IfOk result (λ rows. map written_application rows.items ≡ map application_row applications.now) }
 {
     let mut rows = Vec::new(alloc);
     'items: for application in applications {
-        rows.push(application_row(alloc, application)?)?;
+        rows.push(application_row(alloc, application.as_ref())?)?;
     }
     Ok(rows)
 }
@@ -94,7 +96,13 @@ pub fn changes(
     requires { TouchesOnly touched old.now new.now }
     ensures { IfOk result (IsChanges old.now new.now) }
 {
-    let difference = difference_of(alloc, old, new, touched)?;
+    written(alloc, difference_of(alloc, old, new, touched)?)
+}
+
+/// The rows of this difference, as they are written. What it costs grows with them.
+pub fn written(alloc: Global, difference: Difference) -> Result<Changes, AllocError>
+    ensures { IfOk result (λ changes. (old new : Facts) → IsDifference old new difference → IsChanges old new changes) }
+{
     let schools = school_rows(alloc, difference.schools.as_slice())?;
     let children = child_rows(alloc, difference.children.as_slice())?;
     let applications = application_rows(alloc, difference.applications.as_slice())?;

@@ -14,7 +14,7 @@ mod schools;
 mod season;
 mod store;
 
-pub use difference::changes;
+pub use difference::{changes, written};
 pub use fault::{CreateFault, Failed, OpenFault};
 pub use rows::{ApplicationRow, Changes, ChildRow, SchoolRow};
 pub use store::{Store, create, open};

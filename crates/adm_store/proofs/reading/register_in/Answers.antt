@@ -31,7 +31,7 @@ returns-in-Err-clause-bad g c clean structural has r held = c.in-Err.ensures.bad
 pub returns-in-Err-season_of-clause-bad : goal.returns-in-Err-season_of-clause-bad
 returns-in-Err-season_of-clause-bad g c clean structural has r held =
     let old = state g.S.Store c.args.tx.now.conn.now in
-    (rw c.as_slice.ensures.value at c.in-Err-season_of.ensures.bad) structural r.season held.formed.season (season_held old.now.trees r c.in-Ok.first.items (c.in-Ok.ensures.ok clean has _ _ _ asks_meta (omega arith)) held)
+    (rw c.as_slice.ensures.value at c.in-Err-season_of.ensures.bad) structural r.season held.formed.base.season_is (season_held old.now.trees r c.in-Ok.first.items (c.in-Ok.ensures.ok clean has _ _ _ asks_meta (omega arith)) held)
 
 pub returns-in-Err-tables_in-clause-bad : goal.returns-in-Err-tables_in-clause-bad
 returns-in-Err-tables_in-clause-bad g c clean structural has r held =
