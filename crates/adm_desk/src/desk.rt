@@ -4,7 +4,7 @@ ghost use Rattle.std.specs.Io.KnownBytes.{Consumes, IsAtEnd};
 ghost use Rattle.sqlite.specs.Held.{state};
 ghost use Rattle.sqlite.specs.State.{HasCleanDisk, Survives};
 ghost use Rattle.adm_register.specs.Extends.{Extends};
-ghost use Rattle.adm_register.specs.Tables.{TouchesOnly};
+ghost use Rattle.adm_register.specs.Difference.{IsDifference};
 ghost use Rattle.adm_register.specs.WellFormed.{WellFormed};
 ghost use Rattle.adm_store.specs.Faults.{IsNoRegister};
 ghost use Rattle.adm_store.specs.FirstFault.{IsFirstFault};
@@ -16,8 +16,8 @@ ghost use Rattle.adm_desk.specs.Written.{Finished, AnsweredUpTo, Stopped};
 
 use crate::handler::{self, Handler};
 use crate::{Answer, Run, RunFault, lines};
-use adm_register::{NotDone, Register, Touched};
-use adm_store::{OpenFault, Store, changes};
+use adm_register::{Difference, NotDone, Proposal, Register};
+use adm_store::{OpenFault, Store, written};
 use adm_types::{Command, Reply};
 use adm_wire::{Input, Output};
 use sqlite::{Alter, Connection};
@@ -113,29 +113,36 @@ impl<S: Alter> Desk<S> {
 
     /// Answers a command. A refusal and want of memory change nothing. After one Failed every later
     /// answer is Failed and the connection stays as it is, until the file is opened again.
-    /// What it costs grows with the table that the command changes, and what is written with the
-    /// rows that it changes.
+    /// What it costs grows with the tables that the command changes, of which the pointers to their
+    /// rows are copied; what is compared and written grows with the rows that it changes.
     pub fn handle(&mut self, command: &Command) -> Answer
         ensures { Handles (state S.Store) self.old command.now result self.new }
     {
         if self.failed {
             return Answer::Failed;
         }
-        match self.register.decide(self.alloc, command) {
-            Ok((new, reply)) => self.keep(Touched::by(command), new, reply),
+        match self.register.propose(self.alloc, command) {
+            Ok(proposal) => {
+                let Proposal {
+                    register,
+                    change,
+                    reply,
+                } = proposal;
+                self.keep(change, register, reply)
+            }
             Err(NotDone::Refused { refusal, row }) => Answer::Refused { refusal, row },
             Err(NotDone::Memory) => Answer::Memory,
         }
     }
 
-    /// Writes what the accepted command changed in these tables, and then takes its register over.
-    fn keep(&mut self, touched: Touched, new: Register, reply: Reply) -> Answer
+    /// Writes what the accepted command changed, and then takes its register over.
+    fn keep(&mut self, change: Difference, new: Register, reply: Reply) -> Answer
         requires alive { self.old.failed ≡ false }
-        requires touches { TouchesOnly touched self.old.register new }
+        requires differs { IsDifference self.old.register new change }
         requires extends { Extends self.old.register new × WellFormed new }
         ensures { Keeps (state S.Store) self.old new reply result self.new }
     {
-        match changes(self.alloc, &self.register, &new, touched) {
+        match written(self.alloc, change) {
             Err(_) => Answer::Memory,
             Ok(changes) => match self.store.commit(&changes) {
                 Ok(()) => {
