@@ -1,23 +1,22 @@
 -- What each command puts, where its tests pass, fits.
-use Rattle.std.proofs.Common.{◌≡◌, ◌∙◌, ◌+◌, ap, sym, refl, cond, false, ℕ, List, Some, None}
+use Rattle.std.proofs.Common.{◌≡◌, ◌∙◌, ◌+◌, ◌≤◌, ap, sym, refl, cond, false, ℕ, List, [], ◌∷◌, Some, None}
 use Rattle.std.specs.Prelude.{IsTrue, nat_le, is_some, ◌&&◌}
-use Rattle.std.specs.Ordering.{nat_cmp}
 use Rattle.std.specs.Cmp.{nat_cmp_total}
 use Rattle.std.specs.Cmp.Lexicographic.{nat_list_cmp_total}
-use Rattle.std.specs.FinMap.{get, len, len-insert, contains_key}
+use Rattle.std.specs.FinMap.{get, insert, len, len-insert, contains_key}
 use borrow.Author.Tests.{ltb-true}
 use Rattle.adm_types.specs.declared.rows.School.{School}
 use Rattle.adm_types.specs.declared.rows.Child.{Child}
-use Rattle.adm_types.specs.declared.rows.Application.{Application}
 use Rattle.adm_types.specs.declared.rows.PlaceRow.{PlaceRow}
 use Rattle.adm_types.specs.declared.rows.PlaceState.TheVariants.{Plan}
 use Rattle.adm_types.specs.declared.commands.Command.{Command}
 use Rattle.adm_types.specs.declared.commands.Command.TheVariants.{AddSchool, AddChild, Amend, NamePlan, Apply}
 use Rattle.adm_register.specs.declared.difference.Difference.{Difference}
-use Rattle.adm_register.specs.State.{State, code_cmp}
+use Rattle.adm_register.specs.State.{State}
+use Rattle.adm_register.specs.Change.{no_change}
 use Rattle.adm_register.specs.Plans.{has_plan, is_plan_row}
 use Rattle.adm_register.specs.KeptByTypes.{KeptBySchool, KeptByChild, KeptByTypes}
-use Rattle.adm_register.specs.WellFormed.{WellFormed}
+use Rattle.adm_register.specs.WellFormed.{WellFormed, ChildFits}
 use Rattle.adm_register.specs.Tests.{first_failing}
 use Rattle.adm_register.specs.Outcome.{tests_of, change_of}
 use Rattle.adm_register.specs.AddSchool as add_school
@@ -36,6 +35,14 @@ pub record Fit (old : State) (change : Difference) : Type 0 where
   pub places : PlacesPut old change
   pub tidy : IsTidy change
 
+-- a change of places and of what ends asks nothing of the schools, the children and the applications
+base_stays : (old : State) (places : List PlaceRow) (ended : List ℕ) → BasePut old (record no_change { places = places; ended = ended })
+base_stays old places ended = record { schools = tt; new_schools = tt; few_schools = tt; children = tt; few_children = tt; applications = tt }
+
+-- nor one of schools and children of the places
+places_stay : (old : State) (schools : List School) (children : List Child) → PlacesPut old (record no_change { schools = schools; children = children })
+places_stay old schools children = record { places = tt; unplaced = tt }
+
 add_school-fit : (old : State) (school : School) → KeptBySchool school → first_failing (add_school.tests old school) ≡ None → Fit old (add_school.change_of school)
 unfolding add_school.tests add_school.change_of
 add_school-fit old school kept passes =
@@ -49,56 +56,41 @@ add_school-fit old school kept passes =
         few_children = tt;
         applications = tt;
       };
-      places = record { places = tt; unplaced = tt };
-      tidy = record { schools = tidy_put code_cmp (λ (s : School). s.code) school; children = tidy_none nat_cmp (λ (c : Child). c.no); applications = tidy_none nat_cmp (λ (a : Application). a.child); places = tidy_none nat_cmp (λ (p : PlaceRow). p.child) };
+      places = places_stay old (school ∷ []) [];
+      tidy = record { schools = tidy_put _ _ school; children = tidy_none _ _; applications = tidy_none _ _; places = tidy_none _ _ };
     }
+
+-- a child that fits is put
+put_child-fit : (old : State) (child : Child) → ChildFits old.schools child.no child → len (insert old.children child.no child) ≤ 2000 → Fit old (record no_change { children = child ∷ [] })
+put_child-fit old child fits few = record {
+  base = record { schools = tt; new_schools = tt; few_schools = tt; children = (fits, tt); few_children = few; applications = tt };
+  places = places_stay old [] (child ∷ []);
+  tidy = record { schools = tidy_none _ _; children = tidy_put _ _ child; applications = tidy_none _ _; places = tidy_none _ _ };
+}
 
 add_child-fit : (old : State) (child : Child) → KeptByChild child → first_failing (add_child.tests old child) ≡ None → Fit old (add_child.change_of child)
 unfolding add_child.tests add_child.change_of
 add_child-fit old child kept passes =
     let pass = all_pass (add_child.tests old child) passes in
-    record {
-      base = record {
-        schools = tt;
-        new_schools = tt;
-        few_schools = tt;
-        children = (record { own_number = refl; number_form = kept.number_form; text = kept.text; name = pass.1.0; in_range = pass.1.1.0; flags = kept.flags; siblings = pass.1.1.1.0 }, tt);
-        few_children = len-insert_room nat_cmp_total old.children child.no child 2000 (ltb-true _ _ pass.1.1.1.1.0);
-        applications = tt;
-      };
-      places = record { places = tt; unplaced = tt };
-      tidy = record { schools = tidy_none code_cmp (λ (s : School). s.code); children = tidy_put nat_cmp (λ (c : Child). c.no) child; applications = tidy_none nat_cmp (λ (a : Application). a.child); places = tidy_none nat_cmp (λ (p : PlaceRow). p.child) };
-    }
+    put_child-fit old child (record { own_number = refl; number_form = kept.number_form; text = kept.text; name = pass.1.0; in_range = pass.1.1.0; flags = kept.flags; siblings = pass.1.1.1.0 })
+    (len-insert_room nat_cmp_total old.children child.no child 2000 (ltb-true _ _ pass.1.1.1.1.0))
 
 amend-fit : (old : State) (child : Child) → KeptByChild child → WellFormed old → first_failing (amend.tests old child) ≡ None → Fit old (amend.change_of child)
 unfolding amend.tests amend.change_of
 amend-fit old child kept well passes =
     let pass = all_pass (amend.tests old child) passes in
     let same_len = len-insert nat_cmp_total old.children child.no child ∙ ap (λ b. cond b (len old.children) (len old.children + 1)) pass.0 in
-    record {
-      base = record {
-        schools = tt;
-        new_schools = tt;
-        few_schools = tt;
-        children = (record { own_number = refl; number_form = kept.number_form; text = kept.text; name = pass.1.0; in_range = pass.1.1.0; flags = kept.flags; siblings = pass.1.1.1.0 }, tt);
-        few_children = rw same_len well.base.few_children;
-        applications = tt;
-      };
-      places = record { places = tt; unplaced = tt };
-      tidy = record { schools = tidy_none code_cmp (λ (s : School). s.code); children = tidy_put nat_cmp (λ (c : Child). c.no) child; applications = tidy_none nat_cmp (λ (a : Application). a.child); places = tidy_none nat_cmp (λ (p : PlaceRow). p.child) };
-    }
+    put_child-fit old child (record { own_number = refl; number_form = kept.number_form; text = kept.text; name = pass.1.0; in_range = pass.1.1.0; flags = kept.flags; siblings = pass.1.1.1.0 }) (rw same_len well.base.few_children)
 
 name_plan-fit : (old : State) (child : ℕ) (school : List ℕ) → first_failing (name_plan.tests old child school) ≡ None → Fit old (name_plan.change_of child school)
 unfolding name_plan.tests name_plan.change_of
 name_plan-fit old child school passes =
     let pass = all_pass (name_plan.tests old child school) passes in
+    let row : PlaceRow = record { child = child; place = record { school = school; state = Plan } } in
     record {
-      base = record { schools = tt; new_schools = tt; few_schools = tt; children = tt; few_children = tt; applications = tt };
-      places = record {
-        places = (record { own_number = refl; child = pass.0; school = pass.1.0; plan = refl; no_application = not_contains_key-removed nat_cmp_total old.applications child }, tt);
-        unplaced = tt;
-      };
-      tidy = record { schools = tidy_none code_cmp (λ (s : School). s.code); children = tidy_none nat_cmp (λ (c : Child). c.no); applications = tidy_cut nat_cmp (λ (a : Application). a.child) child; places = tidy_put nat_cmp (λ (p : PlaceRow). p.child) (record { child = child; place = record { school = school; state = Plan } }) };
+      base = base_stays old (row ∷ []) (child ∷ []);
+      places = record { places = (record { own_number = refl; child = pass.0; school = pass.1.0; plan = refl; no_application = not_contains_key-removed nat_cmp_total old.applications child }, tt); unplaced = tt };
+      tidy = record { schools = tidy_none _ _; children = tidy_none _ _; applications = tidy_cut _ _ child; places = tidy_put _ _ row };
     }
 
 -- each place is a plan, so a child without a plan has no place
@@ -125,7 +117,7 @@ apply-fit old child day list since well passes =
         applications = (record { own_number = refl; child = pass.0; day = λ i. since i && by i; list_length = preferences.0; without_repeat = preferences.1; known = pass.1.1.1.1.1.0 }, tt);
       };
       places = record { places = tt; unplaced = (no_place old child well (not_true _ pass.1.0), tt) };
-      tidy = record { schools = tidy_none code_cmp (λ (s : School). s.code); children = tidy_none nat_cmp (λ (c : Child). c.no); applications = tidy_put nat_cmp (λ (a : Application). a.child) (record { child = child; day = day; list = list }); places = tidy_none nat_cmp (λ (p : PlaceRow). p.child) };
+      tidy = record { schools = tidy_none _ _; children = tidy_none _ _; applications = tidy_put _ _ (record { child = child; day = day; list = list }); places = tidy_none _ _ };
     }
 
 pub command-fit : (old : State) (command : Command) → KeptByTypes command → WellFormed old → first_failing (tests_of old command) ≡ None → Fit old (change_of old command)
