@@ -1,8 +1,6 @@
 -- Which rows are those of no child, no application and no place.
-use Rattle.std.proofs.Common.{◌≡◌, ℕ, zero, suc, ◌<◌, ◌^◌, Bool, Option, true, false, List, [], ◌∷◌, map, length, Some, None, pos, nat_le, refl, ap, arith}
+use Rattle.std.proofs.Common.{◌≡◌, ℕ, zero, suc, ◌<◌, ◌^◌, Bool, Option, true, false, [], ◌∷◌, length, Some, None, pos, nat_le, refl, ap, arith}
 use Rattle.std.specs.Prelude.{◌&&◌, nat_lt, nat_eq}
-use Rattle.std.specs.List.{AllByRecursion}
-use Rattle.std.specs.List.Sorted.{IsPermutation}
 use Rattle.std.specs.Option.{unwrap_or}
 use Rattle.std.proofs.lemmas.Bool.{and_parts}
 use Rattle.std.proofs.lemmas.Bool.Decides.{nat_tests}
@@ -18,9 +16,8 @@ use Rattle.adm_types.specs.declared.rows.PlaceState.{PlaceState}
 use Rattle.adm_types.specs.declared.rows.PlaceState.TheVariants.{Offered, Accepted, Plan}
 use Rattle.adm_register.specs.State.{is_plan}
 use Rattle.adm_store.specs.Forms.{truth_code, day_value, state_columns, child_row, application_row, place_row}
-use Rattle.adm_store.specs.Faults.{IsChild, IsApplication, AreReadAgain}
-use Rattle.adm_store.proofs.RowLemmas.{number_in, text_in, same_values, recursion_map}
-use Rattle.adm_store.proofs.CodeLemmas.{codes_again}
+use Rattle.adm_store.specs.Faults.{IsChild, AreReadAgain}
+use Rattle.adm_store.proofs.RowLemmas.{number_in, text_in}
 
 -- ---- children
 
@@ -43,7 +40,7 @@ truth_back true = refl
 truth_back false = refl
 
 -- a child from its row
-abbrev child_from : Row → Child
+abbrev pub child_from : Row → Child
 child_from cells = record {
   no = number_in (column cells 0);
   name = text_in (column cells 1);
@@ -53,29 +50,20 @@ child_from cells = record {
   siblings = unwrap_or (codes_of (text_in (column cells 6))) [];
 }
 
-child_back : (c : Child) → AreReadAgain c.siblings → child_from (child_row c) ≡ c
+pub child_back : (c : Child) → AreReadAgain c.siblings → child_from (child_row c) ≡ c
 child_back c again = λ k. record { no = c.no; name = c.name; home = c.home; looked_after = truth_back c.looked_after k; flags = c.flags; siblings = unwrap_or (again k) [] }
-
--- children that are read back, and whose rows are those of others in another order, are those others
-pub same_children : (xs ys : List Child) → AllByRecursion (λ x. AreReadAgain x.siblings) xs → AllByRecursion IsChild ys → IsPermutation (map child_row ys) (map child_row xs) → IsPermutation xs ys
-same_children xs ys again fit moved =
-    same_values child_row child_from xs ys (recursion_map (λ x. AreReadAgain x.siblings) _ child_back xs again) (recursion_map IsChild _ (λ c fits. child_back c (codes_again c.siblings fits.codes)) ys fit) moved
 
 -- ---- applications
 
-abbrev application_from : Row → Application
+abbrev pub application_from : Row → Application
 application_from cells = record {
   child = number_in (column cells 0);
   day = number_in (column cells 1);
   list = unwrap_or (codes_of (text_in (column cells 2))) [];
 }
 
-application_back : (a : Application) → AreReadAgain a.list → application_from (application_row a) ≡ a
+pub application_back : (a : Application) → AreReadAgain a.list → application_from (application_row a) ≡ a
 application_back a again = λ k. record { child = a.child; day = a.day; list = unwrap_or (again k) [] }
-
-pub same_applications : (last : ℕ) (xs ys : List Application) → AllByRecursion (λ x. AreReadAgain x.list) xs → AllByRecursion (IsApplication last) ys → IsPermutation (map application_row ys) (map application_row xs) → IsPermutation xs ys
-same_applications last xs ys again fit moved =
-    same_values application_row application_from xs ys (recursion_map (λ x. AreReadAgain x.list) _ application_back xs again) (recursion_map (IsApplication last) _ (λ a fits. application_back a (codes_again a.list fits.codes)) ys fit) moved
 
 -- ---- places
 
@@ -92,7 +80,7 @@ pub null_day : (day : Option ℕ) → day_value day ≡ Null → day ≡ None
 null_day None is = refl
 null_day (Some day) is = absurd (cc)
 
-state_from : ℕ → Value → Value → PlaceState
+pub state_from : ℕ → Value → Value → PlaceState
 state_from (suc zero) day reminded = Offered (number_in day) (day_in reminded)
 state_from (suc (suc zero)) day reminded = Accepted
 state_from other day reminded = Plan
@@ -104,18 +92,11 @@ state_back Accepted = refl
 state_back Plan = refl
 
 -- a place from its row
-abbrev place_from : Row → PlaceRow
+abbrev pub place_from : Row → PlaceRow
 place_from cells = record { child = number_in (column cells 0); place = record { school = text_in (column cells 1); state = state_from (number_in (column cells 2)) (column cells 3) (column cells 4) } }
 
-place_back : (p : PlaceRow) → place_from (place_row p) ≡ p
+pub place_back : (p : PlaceRow) → place_from (place_row p) ≡ p
 place_back p = λ k. record { child = p.child; place = record { school = p.place.school; state = state_back p.place.state k } }
-
-all_back : (xs : List PlaceRow) → AllByRecursion (λ x. place_from (place_row x) ≡ x) xs
-all_back [] = tt
-all_back (x ∷ xs) = (place_back x, all_back xs)
-
-pub same_places : (xs ys : List PlaceRow) → IsPermutation (map place_row ys) (map place_row xs) → IsPermutation xs ys
-same_places xs ys moved = same_values place_row place_from xs ys (all_back xs) (all_back ys) moved
 
 -- the columns of the place of a plan
 pub plan_columns : (p : PlaceRow) → is_plan p.place.state ≡ true → place_row p ≡ Int (pos p.child) ∷ Text p.place.school ∷ Int (pos 3) ∷ Null ∷ Null ∷ []

@@ -1,9 +1,9 @@
 -- What a transaction of the store leaves.
-use Rattle.std.proofs.Common.{◌≡◌, ◌≤◌, ◌+◌, ℕ, pos, length, inl, inr, List, [], ◌∷◌, ◌++◌, map, not, refl, sym, ap, ◌∙◌, subst, subst₂, IsTrue, true, false, append-nil, Ok, Err, Result, Some, None, Option, OnOk, IfOk, IfErr, arith}
-use Rattle.std.specs.Prelude.{is_some}
+use Rattle.std.proofs.Common.{◌≡◌, ◌≤◌, ◌<◌, ◌+◌, ℕ, Bool, pos, length, inl, inr, List, [], ◌∷◌, ◌++◌, map, not, refl, sym, ap, ◌∙◌, subst, IsTrue, true, false, Ok, Err, Result, Some, None, Option, OnOk, IfOk, IfErr, arith}
+use Rattle.std.specs.Prelude.{is_some, if◌then◌else◌}
 use Rattle.std.specs.Ordering.{nat_cmp}
 use Rattle.std.specs.Cmp.{nat_cmp_total}
-use Rattle.std.proofs.lemmas.List.{map-append}
+use Rattle.std.proofs.lemmas.List.{map-append, length-map}
 use Rattle.std.specs.List.Sorted.{IsPermutation}
 use Rattle.std.proofs.lemmas.List.Sorted.{IsPermutation-refl, IsPermutation-map, IsPermutation-trans, IsPermutation-append_left, IsPermutation-sym}
 use Rattle.std.specs.FinMap.{FinMap, get, values, contains_key, nat_cmp-IsAntisymmetric}
@@ -17,7 +17,6 @@ use Rattle.adm_register.specs.State.{State as Register}
 use Rattle.adm_register.specs.WellFormed.{WellFormed}
 use Rattle.adm_register.specs.Difference.{ended}
 use Rattle.sqlite.specs.Order.{Row}
-use Rattle.sqlite.specs.Schema.{Schema}
 use Rattle.sqlite.specs.Table.{Table}
 use Rattle.sqlite.specs.Tree.{Trees}
 use Rattle.sqlite.specs.Edit.{have_rowids, without_all}
@@ -32,15 +31,18 @@ use Rattle.sqlite_catalog.specs.Listing.{IsSound, Lists}
 use Rattle.sqlite_catalog.proofs.ReadLemmas.{lists_once}
 use Rattle.sqlite_rules.specs.Lists.{Has}
 use Rattle.sqlite_rules.proofs.ListLemmas.{has_filtered, has_kept}
+use Rattle.sqlite.proofs.Callers.{one_permutation}
 use Rattle.adm_schema.specs.Rows.{columns_of, rows_of}
-use Rattle.adm_schema.specs.Effects.{Sees, SeesDatabase, put_each}
+use Rattle.adm_schema.specs.Effects.{key_of, put_each}
 use Rattle.adm_schema.specs.Schema.{meta, school, child, application, place, left_list, draw, offer, lot, imported, register_schema}
 use Rattle.adm_schema.proofs.Lists.{has_source, has_mapped}
 use Rattle.adm_store.specs.Forms.{season_row, school_row, child_row, application_row, place_row}
 use Rattle.adm_store.specs.StandsFor.{StandsFor, HoldsRegister, HoldNothing, LeavesOnly, LeavesEither}
 use Rattle.adm_store.specs.Changes.{IsStep, written_school, written_child, written_application}
-use Rattle.adm_store.specs.Writes.{IsOther, WritesChanges}
+use Rattle.adm_store.specs.Writes.{Write, Leaves, Writes, after, are_keyed, count_of, key_row, writes_of}
 use Rattle.adm_store.specs.declared.rows.Changes.{Changes}
+use Rattle.adm_store.proofs.LogLemmas.{after_none}
+use Rattle.adm_store.proofs.ReadingLemmas.{none_of}
 use Rattle.adm_store.proofs.MapLemmas.{old_and_new, coded_stable, table_new, less_each, other_key, gone_key, still_none, has_value}
 
 -- outside a transaction, what a connection sees of a file that stands for a register
@@ -118,47 +120,62 @@ application_rows old new changes step formed was now held turns =
         let wrong : true ≡ false = sym lacks ∙ here in
         cc
 
+-- the keys of rows that are keys alone
+keys_are : (keys : List ℕ) → map key_of (map key_row keys) ≡ map pos keys
+keys_are [] = refl
+keys_are (key ∷ keys) = ap (λ ks. pos key ∷ ks) (keys_are keys)
+
 -- a table to which no writer writes
-same_other : (was now : Trees) → ((t : Table) → Has register_schema.tables t → IsOther t → now t.tree ≡ was t.tree) → HoldNothing was → HoldNothing now
-same_other was now others h = (
-  others left_list (inr (inr (inr (inr (inr (inl refl)))))) (omega arith, omega arith, omega arith, omega arith) ∙ h.0,
+still_empty : (t : Table) (was now : Trees) → was t.tree ≡ [] → (IsTrue (are_keyed t (rows_of t was)) → IsPermutation (rows_of t was) (rows_of t now)) → now t.tree ≡ []
+still_empty t was now none moved =
+    let rows : rows_of t was ≡ [] = ap (map (columns_of t)) none in
+    none_of (columns_of t) (now t.tree) (rows_of t was) (IsPermutation-sym _ _ (moved (subst (λ xs. IsTrue (are_keyed t xs)) (sym rows) (go (is_some t.key))))) (ap length rows)
+  where
+    go : (b : Bool) → IsTrue (if b then have_rowids [] else true)
+    go true = refl
+    go false = refl
+
+-- each table has the rows of the old one after these writes
+abbrev Moves : List Write → Trees → Trees → Type 0
+Moves writes was now = (t : Table) → Has register_schema.tables t → IsTrue (are_keyed t (rows_of t was)) → IsPermutation (after t writes (rows_of t was)) (rows_of t now)
+
+same_other : (was now : Trees) (changes : Changes) → Moves (writes_of changes) was now → HoldNothing was → HoldNothing now
+same_other was now changes moves h = (
+  still_empty left_list was now h.0 (moves left_list (inr (inr (inr (inr (inr (inl refl))))))),
   (
-    others draw (inr (inr (inr (inr (inr (inr (inl refl))))))) (omega arith, omega arith, omega arith, omega arith) ∙ h.1.0,
+    still_empty draw was now h.1.0 (moves draw (inr (inr (inr (inr (inr (inr (inl refl)))))))),
     (
-      others offer (inr (inr (inr (inr (inr (inr (inr (inl refl)))))))) (omega arith, omega arith, omega arith, omega arith) ∙ h.1.1.0,
+      still_empty offer was now h.1.1.0 (moves offer (inr (inr (inr (inr (inr (inr (inr (inl refl))))))))),
       (
-        others lot (inr (inr (inr (inr (inr (inr (inr (inr (inl refl))))))))) (omega arith, omega arith, omega arith, omega arith) ∙ h.1.1.1.0,
-        (others imported (inr (inr (inr (inr (inr (inr (inr (inr (inr (inl refl)))))))))) (omega arith, omega arith, omega arith, omega arith) ∙ h.1.1.1.1.0, tt),
+        still_empty lot was now h.1.1.1.0 (moves lot (inr (inr (inr (inr (inr (inr (inr (inr (inl refl)))))))))),
+        (still_empty imported was now h.1.1.1.1.0 (moves imported (inr (inr (inr (inr (inr (inr (inr (inr (inr (inl refl))))))))))), tt),
       ),
     ),
   ),
 )
 
 -- trees that come of those of the old register by these changes
-new_trees : (was now : Trees) (old new : Register) (changes : Changes) → IsStep old new changes → HoldsRegister was old → IsSound register_schema now
-    → IsPermutation (rows_of school was ++ map written_school changes.schools) (rows_of school now)
-    → (IsTrue (have_rowids (rows_of child was)) → IsPermutation (put_each (rows_of child was) (map written_child changes.children)) (rows_of child now))
-    → (IsTrue (have_rowids (rows_of application was)) → IsPermutation (put_each (without_all (rows_of application was) (map pos changes.ended)) (map written_application changes.applications)) (rows_of application now))
-    → (IsTrue (have_rowids (rows_of place was)) → IsPermutation (put_each (rows_of place was) (map place_row changes.places)) (rows_of place now))
-    → ((t : Table) → Has register_schema.tables t → IsOther t → now t.tree ≡ was t.tree) → StandsFor now new
-new_trees was now old new changes step held sound schools children applications places others = record {
+new_trees : (was now : Trees) (old new : Register) (changes : Changes) → IsStep old new changes → HoldsRegister was old → IsSound register_schema now → Moves (writes_of changes) was now → StandsFor now new
+new_trees was now old new changes step held sound moves = record {
   sound = sound;
   holds = record {
-    season = ap (map (columns_of meta)) (others meta (inl refl) (omega arith, omega arith, omega arith, omega arith)) ∙ held.season ∙ ap (λ s. season_row s ∷ []) (sym step.extends.season);
-    schools = school_rows old new changes step (rows_of school was) (rows_of school now) held.schools schools;
-    children = child_rows old new changes step held.formed (rows_of child was) (rows_of child now) held.children children;
-    applications = application_rows old new changes step held.formed (rows_of application was) (rows_of application now) held.applications applications;
-    places = place_rows old new changes step held.formed (rows_of place was) (rows_of place now) held.places places;
-    others = same_other was now others held.others;
+    season =
+        let moved = moves meta (inl refl) (subst (λ rows. IsTrue (are_keyed meta rows)) (sym held.season) refl) in
+        one_permutation (season_row old.season) (rows_of meta now) (subst (λ rows. IsPermutation rows (rows_of meta now)) held.season moved) ∙ ap (λ s. season_row s ∷ []) (sym step.extends.season);
+    schools = school_rows old new changes step (rows_of school was) (rows_of school now) held.schools (moves school (inr (inl refl)) refl);
+    children = child_rows old new changes step held.formed (rows_of child was) (rows_of child now) held.children (moves child (inr (inr (inl refl))));
+    applications =
+        let moved = subst (λ keys. IsTrue (have_rowids (rows_of application was)) → IsPermutation (put_each (without_all (rows_of application was) keys) (map written_application changes.applications)) (rows_of application now)) (keys_are changes.ended) (moves application (inr (inr (inr (inl refl))))) in
+        application_rows old new changes step held.formed (rows_of application was) (rows_of application now) held.applications moved;
+    places = place_rows old new changes step held.formed (rows_of place was) (rows_of place now) held.places (moves place (inr (inr (inr (inr (inl refl))))));
+    others = same_other was now changes moves held.others;
     formed = step.formed;
   };
 }
 
 pub stands : (start end : State) (old new : Register) (changes : Changes) → IsStep old new changes → (start.now.schema ≡ register_schema) × HoldsRegister start.now.trees old
-    → WritesChanges changes start end → StandsFor end.now.trees new
-stands start end old new changes step held wrote =
-    new_trees start.now.trees end.now.trees old new changes step held.1 (subst (λ s. IsSound s end.now.trees) (wrote.schema ∙ held.0) wrote.sound) wrote.schools wrote.children wrote.applications wrote.places
-    (λ t listed other. wrote.others t (subst (λ (s : Schema). Has s.tables t) (sym held.0) listed) other)
+    → Leaves (writes_of changes) start end → StandsFor end.now.trees new
+stands start end old new changes step held wrote = new_trees start.now.trees end.now.trees old new changes step held.1 (subst (λ s. IsSound s end.now.trees) (wrote.schema ∙ held.0) wrote.sound) wrote.rows
 
 -- a commit leaves what it wrote, or what was there
 pub survives_commit : (start last end : State) (P : Trees → Type 0) → Survives start last (λ _. ⊥) → (HasCleanDisk last → P last.now.trees) → Survives last end (λ db. db ≡ last.now.trees) → Survives start end P
@@ -174,39 +191,27 @@ pub on_err : {X E : Type 0} (r : Result X E) (P Q : E → Type 0) → ((e : E) �
 on_err (Ok x) P Q f h = tt
 on_err (Err e) P Q f h = f e h
 
-pub no_rows : {X : Type 0} (xs : List X) → length xs ≡ 0 → xs ≡ []
-no_rows [] e = refl
-no_rows (x ∷ xs) e = absurd (omega arith)
-
 -- what the transaction wrote stands for the new register
 pub wrote : {S : Type 0} (g : store.Ghosts S) (start begun : Held S) (last : State) (old new : Register) (changes : Changes) → begun ≡ record start { in_transaction = true }
     → (IsTrue (state g start).is_open → (state g start).may_leave (state g start).committed.trees) → (IsTrue (state g start).is_open → (state g start).now ≡ (state g start).committed) → IsLive (state g start)
     → IsStep old new changes → LeavesOnly old (state g start) → doubt (state g begun).is_clean ≤ doubt last.is_clean
-    → (HasCleanDisk last → Sees register_schema (state g begun) → SeesDatabase (state g begun) → WritesChanges changes (state g begun) last)
-    → HasCleanDisk last → StandsFor last.now.trees new
-wrote g start begun last old new changes is stays settled live step before clean writes late =
+    → 0 < count_of (writes_of changes) → Writes (writes_of changes) (state g begun) last → HasCleanDisk last → StandsFor last.now.trees new
+wrote g start begun last old new changes is stays settled live step before clean some writes late =
     let holds : HasCleanDisk (state g begun) → IsTrue (state g begun).is_open → ((state g begun).now.schema ≡ register_schema) × HoldsRegister (state g begun).now.trees old =
     subst (λ h. HasCleanDisk (state g h) → IsTrue (state g h).is_open → ((state g h).now.schema ≡ register_schema) × HoldsRegister (state g h).now.trees old) (sym is) (holds_now (state g start) old before stays settled live) in
     let early : HasCleanDisk (state g begun) = omega (arith, clean, late) in
     let lively : IsLive (state g begun) = subst (λ h. IsLive (state g h)) (sym is) live in
-    let written = writes late (λ c o. (holds c o).0) (λ c o. (lively o).0) in
+    let writing = writes late (λ c o. (holds c o).0) (λ c o. (lively o).0) in
+    let written = writing.1 (writing.0 (inl some)) in
     stands (state g begun) last old new changes step (holds early written.was_open) written
 
+-- the rows and keys of a commit, counted
+pub count_is : (c : Changes) → count_of (writes_of c) ≡ (length c.schools + length c.children + length c.applications + length c.places) + length c.ended
+count_is c = omega (arith, length-map c.schools written_school, length-map c.children written_child, length-map c.applications written_application, length-map c.places place_row, length-map c.ended key_row)
+
 -- a file that stands for the old register stands for the new one, where nothing changed
-pub no_change : (old new : Register) (changes : Changes) → IsStep old new changes → length changes.schools + length changes.children + length changes.applications + length changes.places ≡ 0 → length changes.ended ≡ 0
-    → (db : Trees) → StandsFor db old → StandsFor db new
-no_change old new changes step none uncut db file =
-    let schools = no_rows changes.schools (omega (arith, none)) in
-    let children = no_rows changes.children (omega (arith, none)) in
-    let applications = no_rows changes.applications (omega (arith, none)) in
-    let places = no_rows changes.places (omega (arith, none)) in
-    let gone = no_rows changes.ended uncut in
-    new_trees db db old new changes step file.holds file.sound
-    (subst (λ xs. IsPermutation xs (rows_of school db)) (sym (append-nil (rows_of school db)) ∙ ap (λ xs. rows_of school db ++ map written_school xs) (sym schools)) (IsPermutation-refl _))
-    (λ keyed. subst (λ xs. IsPermutation (put_each (rows_of child db) (map written_child xs)) (rows_of child db)) (sym children) (IsPermutation-refl _))
-    (λ keyed. subst₂ (λ ks xs. IsPermutation (put_each (without_all (rows_of application db) (map pos ks)) (map written_application xs)) (rows_of application db)) (sym gone) (sym applications) (IsPermutation-refl _))
-    (λ keyed. subst (λ xs. IsPermutation (put_each (rows_of place db) (map place_row xs)) (rows_of place db)) (sym places) (IsPermutation-refl _))
-    (λ t listed other. refl)
+pub no_change : (old new : Register) (changes : Changes) → IsStep old new changes → count_of (writes_of changes) ≡ 0 → (db : Trees) → StandsFor db old → StandsFor db new
+no_change old new changes step none db file = new_trees db db old new changes step file.holds file.sound (λ t _ _. subst (λ rows. IsPermutation rows (rows_of t db)) (sym (after_none t (writes_of changes) (rows_of t db) none)) (IsPermutation-refl _))
 
 -- what is known of a commit that may not have happened
 pub either : (start end : State) (old new : Register) → Survives start end (λ db. StandsFor db new) → LeavesOnly old start → LeavesEither old new end

@@ -2,8 +2,8 @@ pub mod SeasonLemmas
 pub mod SchoolLemmas
 pub mod MapLemmas
 pub mod LoopLemmas
+pub mod LogLemmas
 pub mod WriteLemmas
-pub mod StepLemmas
 pub mod CommitLemmas
 pub mod CreationLemmas
 pub mod ListLemmas

@@ -1,5 +1,5 @@
 -- The rows of a register are such as are read.
-use Rattle.std.proofs.Common.{◌≡◌, ◌∙◌, ℕ, true, List, [], ◌∷◌, map, refl, sym, ap, subst}
+use Rattle.std.proofs.Common.{refl, ◌≡◌, ◌∙◌, ℕ, true, List, [], ◌∷◌, map, sym, ap, subst}
 use Rattle.std.specs.Prelude.{◌&&◌}
 use Rattle.std.specs.List.{AllByRecursion, list_all}
 use Rattle.std.specs.List.Sorted.{IsPermutation}
@@ -11,8 +11,6 @@ use Rattle.adm_types.specs.Code.{is_code}
 use Rattle.adm_types.specs.Limits.{is_from}
 use Rattle.adm_types.specs.Seasons.{SeasonFacts, IsSeason, lists_end}
 use Rattle.adm_types.specs.declared.rows.School.{School}
-use Rattle.adm_types.specs.declared.rows.Child.{Child}
-use Rattle.adm_types.specs.declared.rows.Application.{Application}
 use Rattle.adm_types.specs.declared.rows.PlaceRow.{PlaceRow}
 use Rattle.adm_register.specs.State.{code_cmp}
 use Rattle.adm_register.specs.State.{State as Register}
@@ -25,11 +23,15 @@ use Rattle.sqlite.proofs.Callers.{one_permutation}
 use Rattle.std.proofs.lemmas.List.Sorted.{IsPermutation-sym, IsPermutation-map, IsPermutation-trans}
 use Rattle.adm_store.specs.Forms.{season_row, school_row, child_row, application_row, place_row}
 use Rattle.adm_store.specs.StandsFor.{HoldsRegister}
-use Rattle.adm_store.specs.TableRows.{AreRead, AreRowsOf}
+use Rattle.adm_store.specs.Reads.{HoldsRows, AreReadBack}
+use Rattle.adm_register.specs.declared.all_rows.Rows.{Rows}
+use Rattle.adm_register.specs.Rows.{AreRowsOf}
 use Rattle.adm_store.specs.Faults.{IsSchool, IsReadAgain, IsChild, IsApplication, IsPlanRow, AreReadAgain}
 use Rattle.adm_store.proofs.SeasonRows.{same_season}
-use Rattle.adm_store.proofs.SchoolRows.{same_schools}
-use Rattle.adm_store.proofs.ChildRows.{same_children, same_applications, same_places}
+use Rattle.adm_store.proofs.RowLemmas.{values_back}
+use Rattle.adm_store.proofs.SchoolRows.{school_from, from_row, reads_again}
+use Rattle.adm_store.proofs.ChildRows.{child_from, child_back, application_from, application_back, place_from, place_back}
+use Rattle.adm_store.proofs.CodeLemmas.{codes_again}
 use Rattle.adm_store.proofs.MapRows.{each_value, row_there}
 
 same_code : IsAntisymmetric code_cmp
@@ -81,52 +83,33 @@ places_fit r formed = each_value nat_cmp_total nat_cmp-IsAntisymmetric IsPlanRow
   plan = fits.plan;
 })
 
--- ---- the rows that were read, and those of a register
-
--- values that are those of a register have its rows
-pub written : {X : Type 0} (row_of : X → Row) (seq read values : List X) (slice rows : List Row) → IsPermutation seq values → seq ≡ read → map row_of read ≡ slice → slice ≡ rows → IsPermutation (map row_of values) rows
-written row_of seq read values slice rows moved same is value =
-    subst (IsPermutation (map row_of values)) (ap (map row_of) same ∙ is ∙ value) (IsPermutation-map row_of _ _ (IsPermutation-sym _ _ moved))
-
--- the values that were read are those of the register of which the rows are
-module _ (r : Register) (formed : WellFormed r) where
-  pub schools_back : (seq read : List School) (slice rows : List Row) → seq ≡ read → map school_row read ≡ slice → slice ≡ rows → AllByRecursion IsReadAgain read → IsPermutation (map school_row (values r.schools)) rows → IsPermutation seq (values r.schools)
-  schools_back seq read slice rows same is value again moved =
-      subst (λ xs. IsPermutation xs (values r.schools)) (sym same) (same_schools read (values r.schools) again (schools_fit r formed) (subst (IsPermutation (map school_row (values r.schools))) (sym (is ∙ value)) moved))
-
-  pub children_back : (seq read : List Child) (slice rows : List Row) → seq ≡ read → map child_row read ≡ slice → slice ≡ rows → AllByRecursion (λ x. AreReadAgain x.siblings) read → IsPermutation (map child_row (values r.children)) rows → IsPermutation seq (values r.children)
-  children_back seq read slice rows same is value again moved =
-      subst (λ xs. IsPermutation xs (values r.children)) (sym same) (same_children read (values r.children) again (children_fit r formed) (subst (IsPermutation (map child_row (values r.children))) (sym (is ∙ value)) moved))
-
-  pub applications_back : (seq read : List Application) (slice rows : List Row) → seq ≡ read → map application_row read ≡ slice → slice ≡ rows → AllByRecursion (λ x. AreReadAgain x.list) read → IsPermutation (map application_row (values r.applications)) rows → IsPermutation seq (values r.applications)
-  applications_back seq read slice rows same is value again moved =
-      subst (λ xs. IsPermutation xs (values r.applications)) (sym same)
-      (same_applications (lists_end r.season) read (values r.applications) again (applications_fit r (lists_end r.season) formed refl) (subst (IsPermutation (map application_row (values r.applications))) (sym (is ∙ value)) moved))
-
-  pub places_back : (seq read : List PlaceRow) (slice rows : List Row) → seq ≡ read → map place_row read ≡ slice → slice ≡ rows → IsPermutation (map place_row (values r.places)) rows → IsPermutation seq (values r.places)
-  places_back seq read slice rows same is value moved =
-      subst (λ xs. IsPermutation xs (values r.places)) (sym same) (same_places read (values r.places) (subst (IsPermutation (map place_row (values r.places))) (sym (is ∙ value)) moved))
-
 -- ---- the rows of a file, and the register that it holds
 
-pub holds_register : (db : Trees) (r : Register) (first schools children applications places : List Row) (season : SeasonFacts) → IsPermutation (rows_of meta db) first → first ≡ season_row season ∷ [] → AreRead db schools children applications places
-    → r.season ≡ season → WellFormed r → AreRowsOf r schools children applications places → HoldsRegister db r
-holds_register db r first schools children applications places season one is read same formed rows = record {
-  season = one_permutation (season_row season) (rows_of meta db) (IsPermutation-sym _ _ (subst (IsPermutation (rows_of meta db)) is one)) ∙ ap (λ s. season_row s ∷ []) (sym same);
-  schools = IsPermutation-trans _ _ _ rows.of_schools (IsPermutation-sym _ _ read.schools_read);
-  children = IsPermutation-trans _ _ _ rows.of_children (IsPermutation-sym _ _ read.children_read);
-  applications = IsPermutation-trans _ _ _ rows.of_applications (IsPermutation-sym _ _ read.applications_read);
-  places = IsPermutation-trans _ _ _ rows.of_places (IsPermutation-sym _ _ read.places_read);
-  others = read.others;
+moved : {X : Type 0} (row_of : X → Row) (read values : List X) (rows : List Row) → IsPermutation read values → IsPermutation (map row_of read) rows → IsPermutation (map row_of values) rows
+moved row_of read values rows same held = IsPermutation-trans _ _ _ (IsPermutation-map row_of _ _ (IsPermutation-sym _ _ same)) held
+
+pub holds_register : (db : Trees) (r : Register) (first : List Row) (season : SeasonFacts) (rows : Rows) → IsPermutation (rows_of meta db) first → first ≡ season_row season ∷ [] → rows.season ≡ season → HoldsRows db rows → AreRowsOf rows r → WellFormed r → HoldsRegister db r
+holds_register db r first season rows one is same held are formed = record {
+  season = one_permutation (season_row season) (rows_of meta db) (IsPermutation-sym _ _ (subst (IsPermutation (rows_of meta db)) is one)) ∙ ap (λ s. season_row s ∷ []) (sym same ∙ are.season);
+  schools = moved school_row _ _ _ are.schools held.schools;
+  children = moved child_row _ _ _ are.children held.children;
+  applications = moved application_row _ _ _ are.applications held.applications;
+  places = moved place_row _ _ _ are.places held.places;
+  others = held.others;
   formed = formed;
 }
 
-pub rows_held : (db : Trees) (r : Register) (schools children applications places : List Row) → HoldsRegister db r → AreRead db schools children applications places → AreRowsOf r schools children applications places
-rows_held db r schools children applications places held read = record {
-  of_schools = IsPermutation-trans _ _ _ held.schools read.schools_read;
-  of_children = IsPermutation-trans _ _ _ held.children read.children_read;
-  of_applications = IsPermutation-trans _ _ _ held.applications read.applications_read;
-  of_places = IsPermutation-trans _ _ _ held.places read.places_read;
+no_condition : (xs : List PlaceRow) → AllByRecursion (λ _. Unit {0}) xs
+no_condition [] = tt
+no_condition (x ∷ xs) = (tt, no_condition xs)
+
+pub rows_held : (db : Trees) (r : Register) (rows : Rows) → HoldsRegister db r → HoldsRows db rows → AreReadBack rows → rows.season ≡ r.season → AreRowsOf rows r
+rows_held db r rows file held again season = record {
+  season = season;
+  schools = values_back school_row school_from IsReadAgain IsSchool from_row reads_again _ _ _ again.schools (schools_fit r file.formed) held.schools file.schools;
+  children = values_back child_row child_from (λ x. AreReadAgain x.siblings) IsChild child_back (λ x fits. codes_again x.siblings fits.codes) _ _ _ again.children (children_fit r file.formed) held.children file.children;
+  applications = values_back application_row application_from (λ x. AreReadAgain x.list) (IsApplication (lists_end r.season)) application_back (λ x fits. codes_again x.list fits.codes) _ _ _ again.applications (applications_fit r (lists_end r.season) file.formed refl) held.applications file.applications;
+  places = values_back place_row place_from (λ _. Unit {0}) IsPlanRow (λ x _. place_back x) (λ _ _. tt) _ _ _ (no_condition rows.places) (places_fit r file.formed) held.places file.places;
 }
 
 pub season_held : (db : Trees) (r : Register) (first : List Row) → IsPermutation (rows_of meta db) first → HoldsRegister db r → first ≡ season_row r.season ∷ []

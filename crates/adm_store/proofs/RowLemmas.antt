@@ -3,7 +3,7 @@ use Rattle.std.proofs.Common.{◌≡◌, ◌∙◌, ℕ, suc, ◌+◌, ◌<◌, 
 use Rattle.std.specs.List.{AllByRecursion}
 use Rattle.std.specs.List.Sorted.{IsPermutation}
 use Rattle.std.proofs.lemmas.List.{take_more, map-append}
-use Rattle.std.proofs.lemmas.List.Sorted.{IsPermutation-sym, IsPermutation-map, Contains-permutation}
+use Rattle.std.proofs.lemmas.List.Sorted.{IsPermutation-sym, IsPermutation-trans, IsPermutation-map, Contains-permutation}
 use Rattle.sqlite_rules.specs.Lists.{Has}
 use Rattle.sqlite_rules.proofs.ListLemmas.{has_at, has_contained, contains_had}
 use Rattle.sqlite.specs.declared.types.Value.{Value}
@@ -82,6 +82,12 @@ module _ {X : Type 0} (row_of : X → Row) where
   each_back back (x ∷ xs) all = λ k. all.0 k ∷ each_back back xs all.1 k
 
   -- values that their rows determine, and whose rows are those of others in another order, are those others
-  pub same_values : (back : Row → X) (xs ys : List X) → AllByRecursion (λ x. back (row_of x) ≡ x) xs → AllByRecursion (λ x. back (row_of x) ≡ x) ys → IsPermutation (map row_of ys) (map row_of xs) → IsPermutation xs ys
+  same_values : (back : Row → X) (xs ys : List X) → AllByRecursion (λ x. back (row_of x) ≡ x) xs → AllByRecursion (λ x. back (row_of x) ≡ x) ys → IsPermutation (map row_of ys) (map row_of xs) → IsPermutation xs ys
   same_values back xs ys one two moved =
       IsPermutation-sym _ _ (subst₂ IsPermutation (each_back back ys two) (each_back back xs one) (IsPermutation-map back _ _ moved))
+
+  -- values that were read, with the same rows as those of a register, are those
+  pub values_back : (back : Row → X) (IsRead Fits : X → Type 0) → ((x : X) → IsRead x → back (row_of x) ≡ x) → ((x : X) → Fits x → IsRead x) → (read values : List X) (rows : List Row)
+      → AllByRecursion IsRead read → AllByRecursion Fits values → IsPermutation (map row_of read) rows → IsPermutation (map row_of values) rows → IsPermutation read values
+  values_back back IsRead Fits returns fits read values rows again formed one two =
+      same_values back read values (recursion_map IsRead (λ x. back (row_of x) ≡ x) returns read again) (recursion_map Fits (λ x. back (row_of x) ≡ x) (λ x f. returns x (fits x f)) values formed) (IsPermutation-trans _ _ _ two (IsPermutation-sym _ _ one))

@@ -1,5 +1,5 @@
 -- What the statement on the table `school` does.
-use Rattle.std.proofs.Common.{◌≡◌, ℕ, pos, List, ◌∷◌, Ok, refl, ap}
+use Rattle.std.proofs.Common.{◌≡◌, ℕ, pos, List, ◌∷◌, [], ◌≤◌, inl, inr, arith, Ok, refl, ap}
 use Rattle.sqlite.specs.declared.types.Value.TheVariants.{Null, Int}
 use Rattle.sqlite.specs.Order.{Row}
 use Rattle.sqlite.specs.Edit.{next_rowid, with_rowid}
@@ -7,7 +7,7 @@ use Rattle.sqlite.specs.Cast.{cast_row}
 use Rattle.sqlite.specs.Rowids.TheVariants.{Chosen}
 use Rattle.sqlite.specs.State.{State, HasCleanDisk, ExecutesInside}
 use Rattle.adm_schema.specs.Rows.{columns_of}
-use Rattle.adm_schema.specs.Effects.{Sees, AddsRow}
+use Rattle.sqlite_trees.specs.View.{doubt}
 use Rattle.adm_schema.specs.Schema.{school, register_schema}
 use Rattle.adm_schema.specs.Texts.{insert_school, school_terms}
 use Rattle.adm_schema.proofs.Casts.{cast_null, cast_int}
@@ -15,11 +15,15 @@ use Rattle.adm_schema.proofs.Statements.{inserted, adds}
 use Rattle.adm_schema.proofs.Texts.{inserts_school}
 use Rattle.adm_store.specs.declared.rows.SchoolRow.{SchoolRow}
 use Rattle.adm_store.specs.Changes.{written_school}
+use Rattle.adm_store.specs.Writes.{Adds, Writes, write_of}
+use Rattle.adm_store.proofs.LogLemmas.{add_one}
 
 stored_school : (it : SchoolRow) (rows : List Row) → with_rowid Chosen rows (cast_row school (Null ∷ written_school it)) ≡ Int (next_rowid rows) ∷ written_school it
 stored_school it rows = rw (cast_null, cast_int (pos it.pan), cast_int (pos it.east), cast_int (pos it.north))
 
-pub adds_school : (old new : State) (count : ℕ) (it : SchoolRow) → Sees register_schema old → HasCleanDisk old → ExecutesInside 0 insert_school (written_school it) old new (Ok count) → AddsRow school (written_school it) old new
-adds_school old new count it sees clean h =
+pub adds_school : (old new : State) (count : ℕ) (it : SchoolRow) → doubt old.is_clean ≤ doubt new.is_clean → (HasCleanDisk new → ExecutesInside 0 insert_school (written_school it) old new (Ok count)) → Writes (write_of Adds school written_school (it ∷ []) ∷ []) old new
+adds_school old new count it later ran = add_one school (inr (inl refl)) old new later refl (written_school it) (λ clean sees.
+    let early : HasCleanDisk old = omega (arith, later, clean) in
+    let h = ran clean in
     adds register_schema school 1 refl refl refl (λ _ _. refl) old new (Null ∷ written_school it) (written_school it) (λ rows. ap (columns_of school) (stored_school it rows))
-    (inserted register_schema school 1 refl refl refl (λ _ _. refl) school_terms 7 insert_school (written_school it) (Null ∷ written_school it) old new count inserts_school.0 inserts_school.1 refl (sees clean h.1.was_open) h)
+    (inserted register_schema school 1 refl refl refl (λ _ _. refl) school_terms 7 insert_school (written_school it) (Null ∷ written_school it) old new count inserts_school.0 inserts_school.1 refl (sees early h.1.was_open) h))

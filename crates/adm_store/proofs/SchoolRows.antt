@@ -1,8 +1,7 @@
 -- Which rows are those of no school.
-use Rattle.std.proofs.Common.{◌≡◌, ◌∙◌, ℕ, ◌<◌, ◌^◌, true, List, [], ◌∷◌, map, length, Some, None, pos, nat_le, sym, ap, arith}
+use Rattle.std.proofs.Common.{◌≡◌, ◌∙◌, ℕ, ◌<◌, ◌^◌, true, List, [], ◌∷◌, length, Some, None, pos, nat_le, sym, ap, arith}
 use Rattle.std.specs.Prelude.{◌&&◌}
-use Rattle.std.specs.List.{AllByRecursion, list_all}
-use Rattle.std.specs.List.Sorted.{IsPermutation}
+use Rattle.std.specs.List.{list_all}
 use Rattle.std.specs.Option.{unwrap_or}
 use Rattle.std.proofs.lemmas.Bool.{and_parts}
 use Rattle.std.proofs.lemmas.Bool.Decides.{nat_tests}
@@ -14,7 +13,7 @@ use Rattle.adm_types.specs.declared.rows.Criterion.{Criterion}
 use Rattle.adm_types.specs.declared.rows.School.{School}
 use Rattle.adm_store.specs.Forms.{criteria_text, criteria_of, school_row}
 use Rattle.adm_store.specs.Faults.{IsSchool, IsReadAgain, HasSchoolColumns}
-use Rattle.adm_store.proofs.RowLemmas.{number_in, text_in, same_values, recursion_map}
+use Rattle.adm_store.proofs.RowLemmas.{number_in, text_in}
 use Rattle.adm_store.proofs.CriteriaLemmas.{criteria_again, criteria_utf8}
 use Rattle.adm_store.proofs.CodeLemmas.{code_utf8}
 
@@ -32,7 +31,7 @@ pan_fits n h = grind (arith, nat_tests)
 metres_fit : (n : ℕ) → nat_le n 1500000 ≡ true → n < 2 ^ 32
 metres_fit n h = grind (arith, nat_tests)
 
-pub in_range_criteria : (s : School) → IsSchool s → list_all is_criterion s.criteria ≡ true
+in_range_criteria : (s : School) → IsSchool s → list_all is_criterion s.criteria ≡ true
 in_range_criteria s fits = (range_parts s fits.in_range).2
 
 pub has_school_columns : (row : Row) (s : School) → IsSchool s → row ≡ school_row s → HasSchoolColumns row s.code s.name (criteria_text s.criteria) s.pan s.at.east s.at.north
@@ -67,7 +66,7 @@ criteria_text_again text read shown criteria fit is there same =
     is ∙ ap criteria_text (sym equal)
 
 -- a school from its row
-abbrev school_from : Row → School
+abbrev pub school_from : Row → School
 school_from cells = record {
   code = text_in (column cells 0);
   name = text_in (column cells 1);
@@ -76,14 +75,8 @@ school_from cells = record {
   criteria = unwrap_or (criteria_of (text_in (column cells 5))) [];
 }
 
-from_row : (s : School) → IsReadAgain s → school_from (school_row s) ≡ s
+pub from_row : (s : School) → IsReadAgain s → school_from (school_row s) ≡ s
 from_row s again = λ k. record { code = s.code; name = s.name; pan = s.pan; at = s.at; criteria = unwrap_or (again k) [] }
 
-reads_again : (xs : List School) → AllByRecursion IsSchool xs → AllByRecursion IsReadAgain xs
-reads_again [] all = tt
-reads_again (x ∷ xs) all = (criteria_again x.criteria (in_range_criteria x all.0), reads_again xs all.1)
-
--- schools that are read back, and whose rows are those of others in another order, are those others
-pub same_schools : (xs ys : List School) → AllByRecursion IsReadAgain xs → AllByRecursion IsSchool ys → IsPermutation (map school_row ys) (map school_row xs) → IsPermutation xs ys
-same_schools xs ys again fit moved =
-    same_values school_row school_from xs ys (recursion_map IsReadAgain _ from_row xs again) (recursion_map IsReadAgain _ from_row ys (reads_again ys fit)) moved
+pub reads_again : (s : School) → IsSchool s → IsReadAgain s
+reads_again s fits = criteria_again s.criteria (in_range_criteria s fits)

@@ -1,6 +1,6 @@
 pub mod Forms
 pub mod StandsFor
-pub mod TableRows
+pub mod Reads
 pub mod Faults
 pub mod FirstFault
 pub mod Changes

@@ -7,6 +7,7 @@ use Rattle.adm_register.specs.State.{only_season}
 use Rattle.adm_register.specs.State.{State as Register}
 use Rattle.adm_register.specs.WellFormed.{WellFormed}
 use Rattle.sqlite.specs.Table.{Table}
+use Rattle.sqlite.specs.Order.{Row}
 use Rattle.sqlite.specs.Tree.{Trees}
 use Rattle.sqlite.specs.State.{State, HasCleanDisk}
 use Rattle.sqlite_catalog.specs.Listing.{IsSound}
@@ -26,13 +27,17 @@ other_tables = left_list ∷ draw ∷ offer ∷ lot ∷ imported ∷ []
 abbrev pub HoldNothing : Trees → Type 0
 HoldNothing db = AllByRecursion (λ t. db t.tree ≡ []) other_tables
 
--- the tables hold the rows of the register, in some order, and no other row
+-- the table holds the rows of these values, in some order, and no other row
+abbrev pub Holds : {X : Type 0} → Table → (X → Row) → List X → Trees → Type 0
+Holds table row_of items db = IsPermutation (map row_of items) (rows_of table db)
+
+-- the tables hold the rows of the register, and no other row
 pub record HoldsRegister (db : Trees) (r : Register) : Type 0 where
   pub season : rows_of meta db ≡ season_row r.season ∷ []
-  pub schools : IsPermutation (map school_row (values r.schools)) (rows_of school db)
-  pub children : IsPermutation (map child_row (values r.children)) (rows_of child db)
-  pub applications : IsPermutation (map application_row (values r.applications)) (rows_of application db)
-  pub places : IsPermutation (map place_row (values r.places)) (rows_of place db)
+  pub schools : Holds school school_row (values r.schools) db
+  pub children : Holds child child_row (values r.children) db
+  pub applications : Holds application application_row (values r.applications) db
+  pub places : Holds place place_row (values r.places) db
   pub others : HoldNothing db
   pub formed : WellFormed r
 

@@ -1,33 +1,73 @@
--- What the writers of a commit leave, before it is committed.
-use Rattle.std.specs.Prelude.{◌≡◌, ◌≢◌, ◌+◌, ℕ, pos, map, ◌++◌, length, IsTrue, IsPermutation}
+-- What statements write, one after another, and what they leave before it is committed.
+use Rattle.std.specs.Prelude.{◌≡◌, ◌==◌, ℕ, Bool, true, pos, List, [], ◌∷◌, map, ◌++◌, length, fold, sum_by, is_some, if◌then◌else◌, IsTrue, IsPermutation}
+use Rattle.sqlite.specs.Order.{Row}
 use Rattle.sqlite.specs.Table.{Table}
 use Rattle.sqlite.specs.Edit.{have_rowids, without_all}
 use Rattle.sqlite.specs.Effect.{IsDatabase}
-use Rattle.sqlite.specs.State.{State}
+use Rattle.sqlite.specs.State.{State, HasCleanDisk}
+use Rattle.sqlite.specs.declared.types.Value.TheVariants.{Int}
 use Rattle.sqlite_rules.specs.Lists.{Has}
 use Rattle.adm_schema.specs.Rows.{rows_of}
-use Rattle.adm_schema.specs.Effects.{put_each}
-use Rattle.adm_schema.specs.Schema.{school, child, application, place}
+use Rattle.adm_schema.specs.Effects.{Sees, SeesDatabase, GoesOn, key_of, put_each}
+use Rattle.adm_schema.specs.Schema.{school, child, application, place, register_schema}
 use Rattle.adm_store.specs.declared.rows.Changes.{Changes}
 use Rattle.adm_store.specs.Changes.{written_school, written_child, written_application}
 use Rattle.adm_store.specs.Forms.{place_row}
 
--- how many rows are written and keys deleted
-abbrev pub writes_of : Changes → ℕ
-writes_of c = length c.schools + length c.children + length c.applications + length c.places + length c.ended
+-- rows that are more, rows in place of those of their keys, or keys alone, of which no row is left
+pub data Kind : Type 0 where
+  Adds : Kind
+  Puts : Kind
+  Cuts : Kind
 
--- no other table is written
-abbrev pub IsOther : Table → Type 0
-IsOther t = (t.tree ≢ school.tree) × (t.tree ≢ child.tree) × (t.tree ≢ application.tree) × (t.tree ≢ place.tree)
+-- what statements of one kind write in one table, one after another
+pub record Write : Type 0 where
+  pub kind : Kind
+  pub table : Table
+  pub rows : List Row
 
--- the transaction goes on, and the rows of the four tables are the old ones with these changes, each other table's as they were
-pub record WritesChanges (changes : Changes) (old new : State) : Type 0 where
+-- the row of a key alone
+abbrev pub key_row : ℕ → Row
+key_row key = Int (pos key) ∷ []
+
+-- the rows of the table then
+abbrev pub changed : Kind → List Row → List Row → List Row
+changed Adds news rows = rows ++ news
+changed Puts news rows = put_each rows news
+changed Cuts news rows = without_all rows (map key_of news)
+
+-- the rows of any table after one such, and after each of these
+abbrev pub turn : Table → List Row → Write → List Row
+turn t rows w = if t.tree == w.table.tree then changed w.kind w.rows rows else rows
+
+abbrev pub after : Table → List Write → List Row → List Row
+after t writes rows = fold (turn t) rows writes
+
+abbrev pub count_of : List Write → ℕ
+count_of = sum_by (λ w. length w.rows)
+
+-- each row has an integer as its key, where the table has such a key
+abbrev pub are_keyed : Table → List Row → Bool
+are_keyed t rows = if is_some t.key then have_rowids rows else true
+
+-- the transaction goes on with the same tables, whose rows are the old ones after these writes, in some order
+pub record Leaves (writes : List Write) (old new : State) : Type 0 where
   pub was_open : IsTrue old.is_open
+  pub is_open : IsTrue new.is_open
   pub schema : new.now.schema ≡ old.now.schema
   pub sound : IsDatabase new.now
-  pub schools : IsPermutation (rows_of school old.now.trees ++ map written_school changes.schools) (rows_of school new.now.trees)
-  pub children : IsTrue (have_rowids (rows_of child old.now.trees)) → IsPermutation (put_each (rows_of child old.now.trees) (map written_child changes.children)) (rows_of child new.now.trees)
-  pub applications : IsTrue (have_rowids (rows_of application old.now.trees))
-      → IsPermutation (put_each (without_all (rows_of application old.now.trees) (map pos changes.ended)) (map written_application changes.applications)) (rows_of application new.now.trees)
-  pub places : IsTrue (have_rowids (rows_of place old.now.trees)) → IsPermutation (put_each (rows_of place old.now.trees) (map place_row changes.places)) (rows_of place new.now.trees)
-  pub others : (t : Table) → Has old.now.schema.tables t → IsOther t → new.now.trees t.tree ≡ old.now.trees t.tree
+  pub rows : (t : Table) → Has register_schema.tables t → IsTrue (are_keyed t (rows_of t old.now.trees)) → IsPermutation (after t writes (rows_of t old.now.trees)) (rows_of t new.now.trees)
+  pub keyed : (t : Table) → Has register_schema.tables t → IsTrue (are_keyed t (rows_of t old.now.trees)) → IsTrue (are_keyed t (rows_of t new.now.trees))
+
+-- on a clean disk, where the transaction saw the register's tables: it is open if it was or if a row is written, and where it is open it leaves just these writes
+abbrev pub Writes : List Write → State → State → Type 0
+Writes writes old new = HasCleanDisk new → Sees register_schema old → SeesDatabase old → GoesOn (count_of writes) old new × (IsTrue new.is_open → Leaves writes old new)
+
+-- what the statements of one kind write for these items
+abbrev pub write_of : {X : Type 0} → Kind → Table → (X → Row) → List X → Write
+write_of kind table row_of items = record { kind = kind; table = table; rows = map row_of items }
+
+-- the writes of a commit, in their order
+abbrev pub writes_of : Changes → List Write
+writes_of c =
+    write_of Adds school written_school c.schools ∷ write_of Puts child written_child c.children ∷ write_of Cuts application key_row c.ended ∷ write_of Puts application written_application c.applications ∷ write_of Puts place place_row c.places ∷ []

@@ -12,75 +12,84 @@ use adm_register::{Difference, Register, Shared, Touched, difference_of};
 use adm_types::{Application, Child, School, Seq, Text};
 use std::alloc::{AllocError, Global};
 
-fn school_row(alloc: Global, school: &School) -> Result<SchoolRow, AllocError>
-    ensures { IfOk result (λ row. written_school row ≡ school_row school.now) }
-{
-    let criteria = lists::criteria_text(alloc, school.criteria.as_slice())?;
-    Ok(SchoolRow {
-        code: school.code,
-        name: school.name.clone()?,
-        pan: school.pan,
-        east: school.at.east,
-        north: school.at.north,
-        criteria: Text::from_string(criteria),
-    })
+/// A value of a register with a row as it is written.
+trait Lined {
+    ghost use Rattle.sqlite.specs.Order.{Row};
+
+    type Line: Drop;
+
+    ghost line: { Self.Line → Row };
+
+    ghost row_of: { Self → Row };
+
+    fn written(&self, alloc: Global) -> Result<Self::Line, AllocError>
+        ensures { IfOk result (λ row. line row ≡ row_of self.now) };
 }
 
-fn child_row(alloc: Global, child: &Child) -> Result<ChildRow, AllocError>
-    ensures { IfOk result (λ row. written_child row ≡ child_row child.now) }
-{
-    let siblings = lists::codes_text(alloc, child.siblings.as_slice())?;
-    Ok(ChildRow {
-        child: child.no,
-        name: child.name.clone()?,
-        east: child.home.east,
-        north: child.home.north,
-        looked_after: child.looked_after,
-        flags: child.flags,
-        siblings: Text::from_string(siblings),
-    })
-}
+impl Lined for School {
+    type Line = SchoolRow;
 
-fn application_row(alloc: Global, application: &Application) -> Result<ApplicationRow, AllocError>
-    ensures { IfOk result (λ row. written_application row ≡ application_row application.now) }
-{
-    let preferences = lists::codes_text(alloc, application.list.as_slice())?;
-    Ok(ApplicationRow {
-        child: application.child,
-        day: application.day,
-        preferences: Text::from_string(preferences),
-    })
-}
+    ghost line = { written_school };
 
-fn school_rows(alloc: Global, schools: &[Shared<School>]) -> Result<Vec<SchoolRow>, AllocError>
-    ensures { IfOk result (λ rows. map written_school rows.items ≡ map school_row schools.now) }
-{
-    let mut rows = Vec::new(alloc);
-    'items: for school in schools {
-        rows.push(school_row(alloc, school.as_ref())?)?;
+    ghost row_of = { school_row };
+
+    fn written(&self, alloc: Global) -> Result<SchoolRow, AllocError> {
+        let criteria = lists::criteria_text(alloc, self.criteria.as_slice())?;
+        Ok(SchoolRow {
+            code: self.code,
+            name: self.name.clone()?,
+            pan: self.pan,
+            east: self.at.east,
+            north: self.at.north,
+            criteria: Text::from_string(criteria),
+        })
     }
-    Ok(rows)
 }
 
-fn child_rows(alloc: Global, children: &[Shared<Child>]) -> Result<Vec<ChildRow>, AllocError>
-    ensures { IfOk result (λ rows. map written_child rows.items ≡ map child_row children.now) }
-{
-    let mut rows = Vec::new(alloc);
-    'items: for child in children {
-        rows.push(child_row(alloc, child.as_ref())?)?;
+impl Lined for Child {
+    type Line = ChildRow;
+
+    ghost line = { written_child };
+
+    ghost row_of = { child_row };
+
+    fn written(&self, alloc: Global) -> Result<ChildRow, AllocError> {
+        let siblings = lists::codes_text(alloc, self.siblings.as_slice())?;
+        Ok(ChildRow {
+            child: self.no,
+            name: self.name.clone()?,
+            east: self.home.east,
+            north: self.home.north,
+            looked_after: self.looked_after,
+            flags: self.flags,
+            siblings: Text::from_string(siblings),
+        })
     }
-    Ok(rows)
 }
 
-fn application_rows(
-    alloc: Global,
-    applications: &[Shared<Application>],
-) -> Result<Vec<ApplicationRow>, AllocError>
-    ensures { IfOk result (λ rows. map written_application rows.items ≡ map application_row applications.now) }
+impl Lined for Application {
+    type Line = ApplicationRow;
+
+    ghost line = { written_application };
+
+    ghost row_of = { application_row };
+
+    fn written(&self, alloc: Global) -> Result<ApplicationRow, AllocError> {
+        let preferences = lists::codes_text(alloc, self.list.as_slice())?;
+        Ok(ApplicationRow {
+            child: self.child,
+            day: self.day,
+            preferences: Text::from_string(preferences),
+        })
+    }
+}
+
+fn rows_of<T: Lined>(alloc: Global, values: &[Shared<T>]) -> Result<Vec<T::Line>, AllocError>
+    ensures { IfOk result (λ rows. map T.line rows.items ≡ map T.row_of values.now) }
 {
     let mut rows = Vec::new(alloc);
-    'items: for application in applications {
-        rows.push(application_row(alloc, application.as_ref())?)?;
+    'values: for value in values {
+        rows.push(value.as_ref().written(alloc)?)?;
     }
     Ok(rows)
 }
@@ -103,9 +112,9 @@ pub fn changes(
 pub fn written(alloc: Global, difference: Difference) -> Result<Changes, AllocError>
     ensures { IfOk result (λ changes. (old new : Facts) → IsDifference old new difference → IsChanges old new changes) }
 {
-    let schools = school_rows(alloc, difference.schools.as_slice())?;
-    let children = child_rows(alloc, difference.children.as_slice())?;
-    let applications = application_rows(alloc, difference.applications.as_slice())?;
+    let schools = rows_of(alloc, difference.schools.as_slice())?;
+    let children = rows_of(alloc, difference.children.as_slice())?;
+    let applications = rows_of(alloc, difference.applications.as_slice())?;
     Ok(Changes {
         schools: Seq::from_vec(schools),
         children: Seq::from_vec(children),

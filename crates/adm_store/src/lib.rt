@@ -12,6 +12,7 @@ mod reading;
 mod rows;
 mod schools;
 mod season;
+mod statement;
 mod store;
 
 pub use difference::{changes, written};

@@ -3,10 +3,9 @@ ghost use Rattle.std.specs.Prelude.{◌≡◌, IfOk, IfErr, OnOk};
 ghost use Rattle.sqlite.specs.Held.{state};
 ghost use Rattle.sqlite.specs.State.{HasCleanDisk, Survives};
 ghost use Rattle.adm_register.specs.State.{State as RegisterFacts};
-ghost use Rattle.adm_register.specs.WellFormed.{WellFormed};
 ghost use Rattle.adm_schema.specs.Schema.{register_schema};
 ghost use Rattle.adm_store.specs.StandsFor.{HoldsRegister};
-ghost use Rattle.adm_store.specs.TableRows.{AreRowsOf};
+ghost use Rattle.adm_store.specs.Reads.{HoldsRows, AreReadBack};
 ghost use Rattle.adm_store.specs.FirstFault.{IsFirstFault};
 ghost use Rattle.adm_store.specs.Faults.{IsNoRegister};
 
@@ -16,56 +15,65 @@ mod codes;
 mod columns;
 mod places;
 mod queries;
+mod reader;
 mod schools;
 mod season;
 
 use crate::OpenFault;
-use crate::reading::applications::applications_in;
-use crate::reading::children::children_in;
-use crate::reading::places::places_in;
-use crate::reading::queries::{TableRows, rows_of, tables_in};
-use crate::reading::schools::schools_in;
+use crate::reading::applications::ApplicationReader;
+use crate::reading::children::ChildReader;
+use crate::reading::places::PlaceReader;
+use crate::reading::queries::{expect_no_others, rows_of};
+use crate::reading::reader::read_table;
+use crate::reading::schools::SchoolReader;
 use crate::reading::season::season_of;
 use adm_register::{Register, Rows, RowsFault};
-use adm_types::{Season, Seq};
+use adm_types::Season;
 use sqlite::{Alter, Transaction};
 use std::alloc::Global;
 
-/// The register of a season and these rows.
-fn register_of(alloc: Global, season: Season, tables: &TableRows) -> Result<Register, OpenFault>
-    ensures ok { IfOk result (λ r. (r.season ≡ season) × WellFormed r × AreRowsOf r tables.now.schools.items tables.now.children.items tables.now.applications.items tables.now.places.items) }
-    ensures bad { IfErr result (λ e. IsNoRegister e → (r : RegisterFacts) → WellFormed r → r.season ≡ season → AreRowsOf r tables.now.schools.items tables.now.children.items tables.now.applications.items tables.now.places.items → ⊥) }
-    ensures first { IfErr result (λ e. IsNoRegister e → e ≡ OpenFault.BadRow) }
+/// The rows of the register's tables, beside that of this season.
+fn rows_in<S: Alter>(
+    alloc: Global,
+    tx: &mut Transaction<'_, S>,
+    season: Season,
+) -> Result<Rows, OpenFault>
+    ensures same_reference { tx.new.conn.ghost_name ≡ tx.old.conn.ghost_name }
+    ensures season { IfOk result (λ rows. rows.season ≡ season) }
+    ensures ok { HasCleanDisk (state S.Store tx.new.conn.now) → tx.old.conn.now.schema ≡ register_schema → IfOk result (HoldsRows (state S.Store tx.old.conn.now).now.trees) }
+    ensures again { IfOk result AreReadBack }
+    ensures bad { HasCleanDisk (state S.Store tx.new.conn.now) → IfErr result (λ e. IsNoRegister e → tx.old.conn.now.schema ≡ register_schema → (r : RegisterFacts) → r.season ≡ season → ¬ HoldsRegister (state S.Store tx.old.conn.now).now.trees r) }
+    ensures first { HasCleanDisk (state S.Store tx.new.conn.now) → IfErr result (λ e. IsNoRegister e → e ≡ OpenFault.BadRow) }
+    ensures survives { Survives (state S.Store tx.old.conn.now) (state S.Store tx.new.conn.now) (λ _. ⊥) }
 {
     let last = season.lists_end();
-    let schools = match schools_in(alloc, tables.schools.as_slice()) {
-        Ok(read) => Seq::from_vec(read),
+    let schools = match read_table(alloc, tx, &SchoolReader) {
+        Ok(read) => read,
         Err(fault) => return Err(fault),
     };
-    let children = match children_in(alloc, tables.children.as_slice()) {
-        Ok(read) => Seq::from_vec(read),
+    let children = match read_table(alloc, tx, &ChildReader) {
+        Ok(read) => read,
         Err(fault) => return Err(fault),
     };
-    let applications = match applications_in(alloc, last, tables.applications.as_slice()) {
-        Ok(read) => Seq::from_vec(read),
+    let applications = match read_table(alloc, tx, &ApplicationReader { last }) {
+        Ok(read) => read,
         Err(fault) => return Err(fault),
     };
-    let places = match places_in(alloc, tables.places.as_slice()) {
-        Ok(read) => Seq::from_vec(read),
+    let places = match read_table(alloc, tx, &PlaceReader) {
+        Ok(read) => read,
         Err(fault) => return Err(fault),
     };
-    let rows = Rows {
+    match expect_no_others(tx) {
+        Ok(()) => {}
+        Err(fault) => return Err(fault),
+    }
+    Ok(Rows {
         season,
         schools,
         children,
         applications,
         places,
-    };
-    match Register::from_rows(alloc, rows) {
-        Ok(register) => Ok(register),
-        Err(RowsFault::BadRow) => Err(OpenFault::BadRow),
-        Err(RowsFault::Memory) => Err(OpenFault::Memory),
-    }
+    })
 }
 
 /// The register that the tables hold.
@@ -92,12 +100,13 @@ pub(crate) fn register_in<S: Alter>(
         Ok(season) => season,
         Err(fault) => return Err(fault),
     };
-    let tables = match tables_in(tx) {
-        Ok(tables) => tables,
+    let rows = match rows_in(alloc, tx, season) {
+        Ok(rows) => rows,
         Err(fault) => return Err(fault),
     };
-    match register_of(alloc, season, &tables) {
+    match Register::from_rows(alloc, rows) {
         Ok(register) => Ok(register),
-        Err(fault) => Err(fault),
+        Err(RowsFault::BadRow) => Err(OpenFault::BadRow),
+        Err(RowsFault::Memory) => Err(OpenFault::Memory),
     }
 }

@@ -2,21 +2,22 @@
 ghost use Rattle.std.specs.Prelude.{◌≡◌, ◌≢◌, ◌<◌, false, Err, OnOk, OnErr, IfOk, IfErr, IsTrue};
 ghost use Rattle.sqlite.specs.Held.{state};
 ghost use Rattle.sqlite.specs.State.{HasCleanDisk, Survives};
-ghost use Rattle.adm_schema.specs.Schema.{no_schema, register_schema};
-ghost use Rattle.adm_schema.specs.Effects.{Sees, SeesDatabase};
+ghost use Rattle.adm_schema.specs.Schema.{no_schema};
 ghost use Rattle.sqlite.specs.Tree.{Trees};
 ghost use Rattle.adm_register.specs.State.{only_season, State as Facts};
 ghost use Rattle.adm_store.specs.Changes.{IsStep, Commits, CommitsOrNot};
 ghost use Rattle.adm_store.specs.StandsFor.{IsStarted, StandsFor, LeavesOnly, LeavesOldOrNew, LeavesNone};
 ghost use Rattle.adm_store.specs.Faults.{IsNoRegister};
 ghost use Rattle.adm_store.specs.FirstFault.{IsFirstFault};
-ghost use Rattle.adm_store.specs.Writes.{writes_of, WritesChanges};
+ghost use Rattle.adm_store.specs.Writes.{count_of, writes_of, Writes};
 
+use crate::applications::{CutApplication, PutApplication};
+use crate::children::PutChild;
+use crate::places::PutPlace;
 use crate::rows::Changes;
-use crate::{
-    CreateFault, Failed, OpenFault, applications, children, creation, lists, places, reading,
-    schools,
-};
+use crate::schools::AddSchool;
+use crate::statement::run_each;
+use crate::{CreateFault, Failed, OpenFault, creation, lists, reading};
 use adm_register::Register;
 use adm_schema::is_register_schema;
 use adm_types::Season;
@@ -160,20 +161,20 @@ impl<S: Alter> Store<S> {
 /// Writes the rows of each table, and takes out the applications that ended.
 fn write_rows<S: Alter>(tx: &mut Transaction<'_, S>, changes: &Changes) -> Result<(), Error>
     ensures same_reference { tx.new.conn.ghost_name ≡ tx.old.conn.ghost_name }
-    ensures writes { HasCleanDisk (state S.Store tx.new.conn.now) → Sees register_schema (state S.Store tx.old.conn.now) → SeesDatabase (state S.Store tx.old.conn.now) → 0 < writes_of changes.now → OnOk result (WritesChanges changes.now (state S.Store tx.old.conn.now) (state S.Store tx.new.conn.now)) }
+    ensures writes { OnOk result (Writes (writes_of changes.now) (state S.Store tx.old.conn.now) (state S.Store tx.new.conn.now)) }
     ensures survives { Survives (state S.Store tx.old.conn.now) (state S.Store tx.new.conn.now) (λ _. ⊥) }
 {
-    schools::put(tx, changes.schools.as_slice())?;
-    children::put(tx, changes.children.as_slice())?;
-    applications::cut(tx, changes.ended.as_slice())?;
-    applications::put(tx, changes.applications.as_slice())?;
-    places::put(tx, changes.places.as_slice())?;
+    run_each::<AddSchool, S>(tx, changes.schools.as_slice())?;
+    run_each::<PutChild, S>(tx, changes.children.as_slice())?;
+    run_each::<CutApplication, S>(tx, changes.ended.as_slice())?;
+    run_each::<PutApplication, S>(tx, changes.applications.as_slice())?;
+    run_each::<PutPlace, S>(tx, changes.places.as_slice())?;
     Ok(())
 }
 
 fn write<S: Alter>(conn: &mut Connection<S>, changes: &Changes) -> Result<(), Error>
     requires ended { conn.old.in_transaction ≡ false }
-    requires some { 0 < writes_of changes.now }
+    requires some { 0 < count_of (writes_of changes.now) }
     ensures ended { conn.new.in_transaction ≡ false }
     ensures committed { HasCleanDisk (state S.Store conn.new) → OnOk result (IsTrue (state S.Store conn.new).is_open × ((old new : Facts) → IsStep old new changes.now → LeavesOnly old (state S.Store conn.old) → StandsFor (state S.Store conn.new).committed.trees new)) }
     ensures survives { (old new : Facts) → IsStep old new changes.now → LeavesOnly old (state S.Store conn.old) → Survives (state S.Store conn.old) (state S.Store conn.new) (λ db. StandsFor db new) }

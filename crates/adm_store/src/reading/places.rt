@@ -1,14 +1,15 @@
 // The rows of `place` as places.
-ghost use Rattle.std.specs.Prelude.{◌≡◌, pos, None, [], ◌∷◌, List, map, IsPermutation, IfOk, IfErr, IfSome};
-ghost use Rattle.std.specs.List.{AllByRecursion};
+ghost use Rattle.std.specs.Prelude.{◌≡◌, pos, None, [], ◌∷◌, IfOk, IfErr, IfSome};
 ghost use Rattle.sqlite.specs.declared.types.Value.TheVariants.{Int, Text as TextValue};
 ghost use Rattle.adm_types.specs.declared.rows.PlaceRow.{PlaceRow as Facts};
+ghost use Rattle.adm_schema.specs.Schema.{place};
 ghost use Rattle.adm_store.specs.Forms.{place_row, state_columns, day_value};
 ghost use Rattle.adm_store.specs.Faults.{IsNoRegister, IsPlanRow};
 
 use crate::OpenFault;
 use crate::reading::codes::code_at;
 use crate::reading::columns::{child_at, day_or_null_at, number_at};
+use crate::reading::reader::Reader;
 use adm_types::{ChildNo, Day, Place, PlaceRow, PlaceState, SchoolCode};
 use sqlite::Row;
 use std::alloc::Global;
@@ -70,32 +71,38 @@ fn state_of(kind: u32, day: Option<Day>, reminded: Option<Day>) -> Option<PlaceS
     }
 }
 
-/// The places of these rows.
-pub(super) fn places_in(alloc: Global, rows: &[Row]) -> Result<Vec<PlaceRow>, OpenFault>
-    ensures ok { IfOk result (λ all. map place_row all.items ≡ rows.now) }
-    ensures bad { IfErr result (λ e. IsNoRegister e → (all : List Facts) → AllByRecursion IsPlanRow all → IsPermutation (map place_row all) rows.now → ⊥) }
-    ensures first { IfErr result (λ e. IsNoRegister e → e ≡ OpenFault.BadRow) }
-{
-    let mut all = Vec::new(alloc);
-    'rows: for row in rows {
-        let columns = match place_columns(row) {
-            Ok(columns) => columns,
-            Err(fault) => return Err(fault),
-        };
+pub(super) struct PlaceReader;
+
+impl Reader for PlaceReader {
+    type Item = PlaceRow;
+
+    ghost table = { place };
+
+    ghost row_of = { place_row };
+
+    ghost Fits = { λ _ x. IsPlanRow x };
+
+    ghost IsRead = { λ _. Unit {0} };
+
+    fn select() -> &'static str {
+        "SELECT child, school, kind, day, reminded FROM place ORDER BY child"
+    }
+
+    fn read(&self, _alloc: Global, row: &Row) -> Result<PlaceRow, OpenFault> {
         let PlaceColumns {
             child,
             school,
             kind,
             day,
             reminded,
-        } = columns;
+        } = match place_columns(row) {
+            Ok(columns) => columns,
+            Err(fault) => return Err(fault),
+        };
         let Some(state) = state_of(kind, day, reminded) else {
             return Err(OpenFault::BadRow);
         };
         let place = Place { school, state };
-        if all.push(PlaceRow { child, place }).is_err() {
-            return Err(OpenFault::Memory);
-        }
+        Ok(PlaceRow { child, place })
     }
-    Ok(all)
 }

@@ -10,7 +10,6 @@ ghost use Rattle.adm_schema.specs.Queries.{Asks};
 ghost use Rattle.adm_schema.specs.Schema.{register_schema};
 ghost use Rattle.adm_schema.specs.Texts.{looks};
 ghost use Rattle.adm_store.specs.StandsFor.{HoldNothing};
-ghost use Rattle.adm_store.specs.TableRows.{AreRead};
 ghost use Rattle.adm_store.specs.FirstFault.{IsAnswered, IsNotAsked};
 ghost use Rattle.adm_store.specs.Faults.{IsNoRegister};
 
@@ -84,7 +83,7 @@ fn expect_none<S: Alter>(tx: &mut Transaction<'_, S>, text: &str) -> Result<(), 
 }
 
 /// That no table to which no command writes has a row.
-fn expect_no_others<S: Alter>(tx: &mut Transaction<'_, S>) -> Result<(), OpenFault>
+pub(super) fn expect_no_others<S: Alter>(tx: &mut Transaction<'_, S>) -> Result<(), OpenFault>
     ensures same_reference { tx.new.conn.ghost_name ≡ tx.old.conn.ghost_name }
     ensures ok { HasCleanDisk (state S.Store tx.new.conn.now) → tx.old.conn.now.schema ≡ register_schema → OnOk result (HoldNothing (state S.Store tx.old.conn.now).now.trees) }
     ensures bad { HasCleanDisk (state S.Store tx.new.conn.now) → tx.old.conn.now.schema ≡ register_schema → IfErr result (λ e. IsNoRegister e → ¬ HoldNothing (state S.Store tx.old.conn.now).now.trees) }
@@ -98,65 +97,4 @@ fn expect_no_others<S: Alter>(tx: &mut Transaction<'_, S>) -> Result<(), OpenFau
         }
     }
     Ok(())
-}
-
-/// The rows of the tables beside that of the season.
-#[derive(Drop)]
-pub(super) struct TableRows {
-    pub(super) schools: Vec<Row>,
-    pub(super) children: Vec<Row>,
-    pub(super) applications: Vec<Row>,
-    pub(super) places: Vec<Row>,
-}
-
-/// All rows of those tables.
-pub(super) fn tables_in<S: Alter>(tx: &mut Transaction<'_, S>) -> Result<TableRows, OpenFault>
-    ensures same_reference { tx.new.conn.ghost_name ≡ tx.old.conn.ghost_name }
-    ensures ok { HasCleanDisk (state S.Store tx.new.conn.now) → tx.old.conn.now.schema ≡ register_schema → IfOk result (λ t. AreRead (state S.Store tx.old.conn.now).now.trees t.schools.items t.children.items t.applications.items t.places.items) }
-    ensures first { HasCleanDisk (state S.Store tx.new.conn.now) → IfErr result (λ e. IsNoRegister e → e ≡ OpenFault.BadRow) }
-    ensures bad { HasCleanDisk (state S.Store tx.new.conn.now) → IfErr result (λ e. IsNoRegister e → tx.old.conn.now.schema ≡ register_schema → ¬ HoldNothing (state S.Store tx.old.conn.now).now.trees) }
-    ensures survives { Survives (state S.Store tx.old.conn.now) (state S.Store tx.new.conn.now) (λ _. ⊥) }
-{
-    let schools = match rows_of(
-        tx,
-        "SELECT code, name, pan, east, north, criteria FROM school ORDER BY code",
-        OpenFault::BadRow,
-    ) {
-        Ok(rows) => rows,
-        Err(fault) => return Err(fault),
-    };
-    let children = match rows_of(
-        tx,
-        "SELECT child, name, east, north, looked_after, flags, siblings FROM child ORDER BY child",
-        OpenFault::BadRow,
-    ) {
-        Ok(rows) => rows,
-        Err(fault) => return Err(fault),
-    };
-    let applications = match rows_of(
-        tx,
-        "SELECT child, day, preferences FROM application ORDER BY child",
-        OpenFault::BadRow,
-    ) {
-        Ok(rows) => rows,
-        Err(fault) => return Err(fault),
-    };
-    let places = match rows_of(
-        tx,
-        "SELECT child, school, kind, day, reminded FROM place ORDER BY child",
-        OpenFault::BadRow,
-    ) {
-        Ok(rows) => rows,
-        Err(fault) => return Err(fault),
-    };
-    match expect_no_others(tx) {
-        Ok(()) => {}
-        Err(fault) => return Err(fault),
-    }
-    Ok(TableRows {
-        schools,
-        children,
-        applications,
-        places,
-    })
 }

@@ -1,15 +1,16 @@
 // The rows of `school` as schools.
-ghost use Rattle.std.specs.Prelude.{◌≡◌, ◌↔◌, true, pos, None, [], ◌∷◌, map, IsPermutation, IfOk, IfErr, IsTrue, Some, string_bytes};
+ghost use Rattle.std.specs.Prelude.{◌≡◌, ◌↔◌, true, pos, None, [], ◌∷◌, IfOk, IfErr, IsTrue, Some, string_bytes};
 ghost use Rattle.sqlite.specs.declared.types.Value.TheVariants.{Int, Text as TextValue};
 ghost use Rattle.std.specs.Prelude.{ℕ, List};
-ghost use Rattle.std.specs.List.{AllByRecursion, list_all};
+ghost use Rattle.std.specs.List.{list_all};
 ghost use Rattle.adm_types.specs.Limits.{is_criterion};
 ghost use Rattle.adm_types.specs.declared.rows.Criterion.{Criterion as Facts};
-ghost use Rattle.adm_types.specs.declared.rows.School.{School as SchoolFacts};
+ghost use Rattle.adm_schema.specs.Schema.{school};
 ghost use Rattle.adm_store.specs.Forms.{criteria_text, criteria_of, school_row};
 ghost use Rattle.adm_store.specs.Faults.{IsNoRegister, IsSchool, IsReadAgain, HasSchoolColumns};
 
 use crate::reading::columns::value_at;
+use crate::reading::reader::Reader;
 use crate::{OpenFault, lists};
 use adm_types::{Criterion, Point, School, SchoolCode, Seq, Text};
 use sqlite::Row;
@@ -98,52 +99,44 @@ fn school_columns(row: &Row) -> Result<SchoolColumns, OpenFault>
     })
 }
 
-/// A school from its row.
-fn school_in(alloc: Global, row: &Row) -> Result<School, OpenFault>
-    ensures ok { IfOk result (λ school. row.now ≡ school_row school) }
-    ensures again { IfOk result IsReadAgain }
-    ensures bad { IfErr result (λ e. IsNoRegister e → (school : SchoolFacts) → IsSchool school → row.now ≡ school_row school → ⊥) }
-    ensures first { IfErr result (λ e. IsNoRegister e → e ≡ OpenFault.BadRow) }
-{
-    let columns = match school_columns(row) {
-        Ok(columns) => columns,
-        Err(fault) => return Err(fault),
-    };
-    let Some(code) = SchoolCode::new(&columns.code) else {
-        return Err(OpenFault::BadRow);
-    };
-    let criteria = match criteria_in(alloc, &columns.criteria) {
-        Ok(criteria) => criteria,
-        Err(fault) => return Err(fault),
-    };
-    Ok(School {
-        code,
-        name: Text::from_string(columns.name),
-        pan: columns.pan,
-        at: Point {
-            east: columns.east,
-            north: columns.north,
-        },
-        criteria: Seq::from_vec(criteria),
-    })
-}
+pub(super) struct SchoolReader;
 
-/// The schools of these rows.
-pub(super) fn schools_in(alloc: Global, rows: &[Row]) -> Result<Vec<School>, OpenFault>
-    ensures ok { IfOk result (λ schools. map school_row schools.items ≡ rows.now) }
-    ensures again { IfOk result (λ schools. AllByRecursion IsReadAgain schools.items) }
-    ensures bad { IfErr result (λ e. IsNoRegister e → (schools : List SchoolFacts) → AllByRecursion IsSchool schools → IsPermutation (map school_row schools) rows.now → ⊥) }
-    ensures first { IfErr result (λ e. IsNoRegister e → e ≡ OpenFault.BadRow) }
-{
-    let mut schools = Vec::new(alloc);
-    'rows: for row in rows {
-        let school = match school_in(alloc, row) {
-            Ok(school) => school,
+impl Reader for SchoolReader {
+    type Item = School;
+
+    ghost table = { school };
+
+    ghost row_of = { school_row };
+
+    ghost Fits = { λ _ x. IsSchool x };
+
+    ghost IsRead = { IsReadAgain };
+
+    fn select() -> &'static str {
+        "SELECT code, name, pan, east, north, criteria FROM school ORDER BY code"
+    }
+
+    fn read(&self, alloc: Global, row: &Row) -> Result<School, OpenFault> {
+        let columns = match school_columns(row) {
+            Ok(columns) => columns,
             Err(fault) => return Err(fault),
         };
-        if schools.push(school).is_err() {
-            return Err(OpenFault::Memory);
-        }
+        let Some(code) = SchoolCode::new(&columns.code) else {
+            return Err(OpenFault::BadRow);
+        };
+        let criteria = match criteria_in(alloc, &columns.criteria) {
+            Ok(criteria) => criteria,
+            Err(fault) => return Err(fault),
+        };
+        Ok(School {
+            code,
+            name: Text::from_string(columns.name),
+            pan: columns.pan,
+            at: Point {
+                east: columns.east,
+                north: columns.north,
+            },
+            criteria: Seq::from_vec(criteria),
+        })
     }
-    Ok(schools)
 }

@@ -23,8 +23,7 @@ returns-clause-committed g c clean =
       done.1.is_open,
       λ old new step before.
           subst (λ (d : Database). StandsFor d.trees new) (sym done.1.committed_is)
-          (wrote g.S.Store c.args.conn.now c.transaction-tx.result.conn.now last old new c.args.changes.now c.transaction-tx.ensures.begun (g.met.S.Store.stays c.args.conn.now.store) (c.if-prove.ensures.settled refl) c.schema-tables.ensures.live step before c.write_rows.ensures.survives.clean
-          (λ clean sees live. c.in_ok-write_rows.ensures.writes clean sees live c.requires.some) early),
+          (wrote g.S.Store c.args.conn.now c.transaction-tx.result.conn.now last old new c.args.changes.now c.transaction-tx.ensures.begun (g.met.S.Store.stays c.args.conn.now.store) (c.if-prove.ensures.settled refl) c.schema-tables.ensures.live step before c.write_rows.ensures.survives.clean c.requires.some c.in_ok-write_rows.ensures.writes early),
     ))
     (c.commit.ensures.ok late))
 
@@ -33,8 +32,7 @@ returns-clause-survives g c old new step before =
     let start = state g.S.Store c.args.conn.now in
     let last = state g.S.Store c.write_rows.new.tx.conn.now in
     let file = λ (early : HasCleanDisk last).
-    wrote g.S.Store c.args.conn.now c.transaction-tx.result.conn.now last old new c.args.changes.now c.transaction-tx.ensures.begun (g.met.S.Store.stays c.args.conn.now.store) (c.if-prove.ensures.settled refl) c.schema-tables.ensures.live step before c.write_rows.ensures.survives.clean
-    (λ clean sees live. c.in_ok-write_rows.ensures.writes clean sees live c.requires.some) early in
+    wrote g.S.Store c.args.conn.now c.transaction-tx.result.conn.now last old new c.args.changes.now c.transaction-tx.ensures.begun (g.met.S.Store.stays c.args.conn.now.store) (c.if-prove.ensures.settled refl) c.schema-tables.ensures.live step before c.write_rows.ensures.survives.clean c.requires.some c.in_ok-write_rows.ensures.writes early in
     let whole = survives_commit start last (state g.S.Store c.commit.new.self.0) (λ db. StandsFor db new)
     (survives_begin g.S.Store c.args.conn.now last _ (subst (λ h. Survives (state g.S.Store h) last (λ _. ⊥)) c.transaction-tx.ensures.begun c.write_rows.ensures.survives)) file c.commit.ensures.survives in
     let same : c.commit.new.self.0 ≡ c.conn-2-1.given.0 = search rules in

@@ -1,7 +1,7 @@
-use Rattle.std.proofs.Common.{sym, subst, ◌∙◌}
+use Rattle.std.proofs.Common.{arith, sym, subst}
 use Rattle.sqlite.specs.Held.{state}
 use Rattle.adm_store.specs.StandsFor.{StandsFor, LeavesOnly}
-use Rattle.adm_store.proofs.CommitLemmas.{no_change, either}
+use Rattle.adm_store.proofs.CommitLemmas.{count_is, no_change, either}
 use Rattle.adm_store.proofs.store.Store.commit.Goals as goal
 
 pub returns-clause-ok : goal.returns-clause-ok
@@ -16,4 +16,4 @@ returns-in_default-clause-err g c old new step before =
     either (state g.S.Store c.self.inside.conn) (state g.S.Store c.write.new.conn) old new (c.write.ensures.survives old new step early) early
 
 pub returns-then-cut-eq0-clause-ok : goal.returns-then-cut-eq0-clause-ok
-returns-then-cut-eq0-clause-ok g c old new step before clean db may = no_change old new c.args.changes.now step (sym c.put.ensures ∙ c.if-put-eq0.true) (sym c.cut.ensures ∙ c.if-cut-eq0.true) db (before clean db may)
+returns-then-cut-eq0-clause-ok g c old new step before clean db may = no_change old new c.args.changes.now step (omega (arith, count_is c.args.changes.now, c.put.ensures, c.if-put-eq0.true, c.cut.ensures, c.if-cut-eq0.true)) db (before clean db may)

@@ -1,0 +1,44 @@
+// Statements that write one row each, run one after another.
+ghost use Rattle.std.specs.Prelude.{◌≡◌, [], ◌∷◌, OnOk};
+ghost use Rattle.sqlite.specs.Held.{state};
+ghost use Rattle.sqlite.specs.State.{Survives};
+ghost use Rattle.adm_store.specs.Writes.{write_of, Writes};
+
+use sqlite::{Alter, Error, Transaction};
+
+/// A statement that writes one row of a table, or takes one out.
+pub(crate) trait Statement {
+    ghost use Rattle.sqlite.specs.Order.{Row};
+    ghost use Rattle.sqlite.specs.Table.{Table};
+    ghost use Rattle.adm_store.specs.Writes.{Kind};
+
+    /// What it is run for.
+    type Item;
+
+    ghost kind: { Kind };
+
+    ghost table: { Table };
+
+    // The row that is written for an item, or the key alone.
+    ghost row_of: { Self.Item → Row };
+
+    fn run<S: Alter>(tx: &mut Transaction<'_, S>, item: &Self::Item) -> Result<(), Error>
+        ensures same_reference { tx.new.conn.ghost_name ≡ tx.old.conn.ghost_name }
+        ensures writes { OnOk result (Writes (write_of kind table row_of (item.now ∷ []) ∷ []) (state S.Store tx.old.conn.now) (state S.Store tx.new.conn.now)) }
+        ensures survives { Survives (state S.Store tx.old.conn.now) (state S.Store tx.new.conn.now) (λ _. ⊥) };
+}
+
+/// Runs the statement for each of these items.
+pub(crate) fn run_each<W: Statement, S: Alter>(
+    tx: &mut Transaction<'_, S>,
+    items: &[W::Item],
+) -> Result<(), Error>
+    ensures same_reference { tx.new.conn.ghost_name ≡ tx.old.conn.ghost_name }
+    ensures writes { OnOk result (Writes (write_of W.kind W.table W.row_of items.now ∷ []) (state S.Store tx.old.conn.now) (state S.Store tx.new.conn.now)) }
+    ensures survives { Survives (state S.Store tx.old.conn.now) (state S.Store tx.new.conn.now) (λ _. ⊥) }
+{
+    'items: for item in items {
+        W::run(tx, item)?;
+    }
+    Ok(())
+}
