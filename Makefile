@@ -2,19 +2,23 @@
 #
 #   make build    the proved program, at bin/admissions
 #   make demo     the examples, run and compared with what they must print
-#   make test     every proof, wrong body, test and example; its last line is 'N passed, M failed'
+#   make cases    the cases, the same way; they take seconds once the program is built
+#   make test     every proof, wrong body, test, example and case; its last line is 'N passed, M failed'
 #   make bench    what commands cost, beside a baseline in the same run
 #   make install  PREFIX=/usr/local by default
 PREFIX ?= /usr/local
 EXAMPLES := first_path applications
 
-.PHONY: build demo test bench install
+.PHONY: build demo cases test bench install
 
 build:
 	tools/build
 
 demo: build
 	@tools/examples bin/admissions $(EXAMPLES)
+
+cases: build
+	@tools/cases bin/admissions $(notdir $(wildcard cases/*))
 
 test:
 	@tools/test $(EXAMPLES)
