@@ -1,0 +1,76 @@
+// Two disks in memory, a database's and its log's. Between steps they are kept as bytes.
+use crate::step::Which;
+use sqlite::Files;
+use sqlite_disk::{Disk, Fuse, Memory};
+use std::alloc::{AllocError, Global};
+use std::io;
+
+/// A disk in memory that passes so many calls, and then none.
+pub(crate) type Fused = Fuse<Memory>;
+
+/// What the two disks hold.
+#[derive(Drop)]
+pub(crate) struct Disks {
+    log: Vec<u8>,
+    db: Vec<u8>,
+}
+
+/// A disk that holds these bytes and passes so many calls.
+fn disk(alloc: Global, bytes: &[u8], calls: u64) -> io::Result<Fused> {
+    let mut memory = Memory::new(alloc);
+    if !bytes.is_empty() {
+        memory.write_at(0, bytes)?;
+        if memory.may_be_used() {
+            memory.sync()?;
+        }
+    }
+    Ok(Fuse::new(memory, calls))
+}
+
+impl Disks {
+    /// Empty disks.
+    pub(crate) fn new(alloc: Global) -> Disks {
+        Disks {
+            log: Vec::new(alloc),
+            db: Vec::new(alloc),
+        }
+    }
+
+    /// What these files hold.
+    pub(crate) fn of(alloc: Global, files: &Files<Fused>) -> Result<Disks, AllocError> {
+        Ok(Disks {
+            log: Vec::from_slice(alloc, files.log.inner().bytes())?,
+            db: Vec::from_slice(alloc, files.db.inner().bytes())?,
+        })
+    }
+
+    /// The same.
+    pub(crate) fn copy(&self, alloc: Global) -> Result<Disks, AllocError> {
+        Ok(Disks {
+            log: Vec::from_slice(alloc, &self.log)?,
+            db: Vec::from_slice(alloc, &self.db)?,
+        })
+    }
+
+    /// Files that hold the same, of which one may stop after so many calls.
+    pub(crate) fn files(
+        &self,
+        alloc: Global,
+        stop: Option<(Which, u64)>,
+    ) -> io::Result<Files<Fused>> {
+        let (log, db) = match stop {
+            None => (u64::MAX, u64::MAX),
+            Some((Which::Log, calls)) => (calls, u64::MAX),
+            Some((Which::Database, calls)) => (u64::MAX, calls),
+        };
+        Ok(Files {
+            log: disk(alloc, &self.log, log)?,
+            db: disk(alloc, &self.db, db)?,
+        })
+    }
+
+    /// Whether both disks hold the same.
+    pub(crate) fn is_same(&self, other: &Disks) -> bool {
+        self.log.as_slice() == other.log.as_slice() && self.db.as_slice() == other.db.as_slice()
+    }
+}

@@ -1,0 +1,33 @@
+//! Runs of a desk over disks in memory. Each line of the input is a step, a remark (`#`) or empty; it is
+//! printed as it stands, and below it, set in, what the step came to.
+#![tactic(auto)]
+
+mod acts;
+mod bench;
+mod desks;
+mod disks;
+mod lines;
+mod step;
+mod stops;
+mod streams;
+
+use bench::Bench;
+use std::io::{self, BufRead, BufReader};
+use step::Step;
+
+fn main(rt: HostRuntime) -> io::Result<()> {
+    let alloc = rt.alloc();
+    let mut bench = Bench::new(alloc);
+    for line in BufReader::new(alloc, rt.reader())?.lines(alloc) {
+        let line = line?;
+        println!(rt; "{line}")?;
+        if line.is_empty() || line.starts_with('#') {
+            continue;
+        }
+        match Step::read(alloc, &line) {
+            Some(step) => bench.take(&rt, &step)?,
+            None => println!(rt; "  NOT A STEP")?,
+        }
+    }
+    Ok(())
+}
