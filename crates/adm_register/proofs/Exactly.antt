@@ -24,7 +24,7 @@ use Rattle.adm_register.specs.State.{State, code_cmp}
 use Rattle.adm_register.specs.TableRows.{row_at, put_at, cut_at}
 use Rattle.adm_register.specs.Change.{put_all, cut_all, after}
 use Rattle.adm_register.specs.Difference.{AreNew, IsDifference, differing}
-use Rattle.adm_register.specs.Same.{is_other, is_same_school, same_school, is_same_child, same_child, is_same_application, same_application, is_same_place, same_place}
+use Rattle.adm_register.specs.Same.{is_other, is_same_school, is_same_child, is_same_application, is_same_place}
 use Rattle.adm_register.specs.WellFormed.{WellFormed, AllRows}
 use Rattle.adm_register.proofs.TableMaps.{get_rows, entries_rows}
 use Rattle.adm_register.proofs.Maps.{code_cmp-IsAntisymmetric, same_key}
@@ -32,33 +32,8 @@ use Rattle.adm_register.proofs.EachRow.{none_at}
 use Rattle.adm_register.proofs.Keyed.{none_of}
 use Rattle.adm_register.proofs.SameRows.{entries_in_order, map_of_entries, entries_at_own_keys}
 use Rattle.adm_register.proofs.Puts.{get-put_all, get-cut_all, there_before}
-use Rattle.adm_register.proofs.Differences.{other_row}
-
--- what is put is in the order of its keys, and so is what is cut; nothing is both put and cut
-pub record IsTidyIn {K V : Type 0} (R : K → K → Ordering) (key : V → K) (cut : List K) (put : List V) : Type 0 where
-  pub put_sorted : IsStrictlySortedBy R (map key put)
-  pub cut_sorted : IsStrictlySortedBy R cut
-  pub apart : AllByRecursion (λ k. list_any (eq_by_cmp R k) (map key put) ≡ false) cut
-
-pub record IsTidy (change : Difference) : Type 0 where
-  pub schools : IsTidyIn code_cmp (λ (s : School). s.code) [] change.schools
-  pub children : IsTidyIn nat_cmp (λ (c : Child). c.no) [] change.children
-  pub applications : IsTidyIn nat_cmp (λ (a : Application). a.child) change.ended change.applications
-  pub places : IsTidyIn nat_cmp (λ (p : PlaceRow). p.child) [] change.places
-
--- nothing is tidy, and so is one row, or one key
-module _ {K V : Type 0} (R : K → K → Ordering) (key : V → K) where
-  pub tidy_none : IsTidyIn R key [] []
-  unfolding IsStrictlySortedBy
-  tidy_none = record { put_sorted = tt; cut_sorted = tt; apart = tt }
-
-  pub tidy_put : (row : V) → IsTidyIn R key [] (row ∷ [])
-  unfolding IsStrictlySortedBy
-  tidy_put row = record { put_sorted = (tt, tt); cut_sorted = tt; apart = tt }
-
-  pub tidy_cut : (k : K) → IsTidyIn R key (k ∷ []) []
-  unfolding IsStrictlySortedBy
-  tidy_cut k = record { put_sorted = tt; cut_sorted = (tt, tt); apart = (refl, tt) }
+use Rattle.adm_register.proofs.SameLemmas.{same_school, same_child, same_application, same_place, other_row}
+use Rattle.adm_register.proofs.Tidy.{IsTidyIn, IsTidy}
 
 not_Some : {A : Type 0} (x : A) → None ≡ Some x → ⊥
 not_Some x e = cc
@@ -304,6 +279,7 @@ differing_is old change well tidy = record {
   schools = exactly_new nat_list_cmp_total code_cmp-IsAntisymmetric (λ (s : School). s.code) is_same_school same_school old.schools (λ k s there. (well.base.schools_fit k s there).own_code) [] change.schools tidy.schools;
   children = exactly_new nat_cmp_total nat_cmp-IsAntisymmetric (λ (c : Child). c.no) is_same_child same_child old.children (λ k c there. (well.base.children_fit k c there).own_number) [] change.children tidy.children;
   applications = exactly_new nat_cmp_total nat_cmp-IsAntisymmetric (λ (a : Application). a.child) is_same_application same_application old.applications (λ k a there. (well.base.applications_fit k a there).own_number) change.ended change.applications tidy.applications;
-  places = exactly_new nat_cmp_total nat_cmp-IsAntisymmetric (λ (p : PlaceRow). p.child) is_same_place same_place old.places (λ k p there. (well.places k p there).own_number) [] change.places tidy.places;
+  places = exactly_new nat_cmp_total nat_cmp-IsAntisymmetric (λ (p : PlaceRow). p.child) is_same_place same_place old.places (λ k p there. (well.places k p there).own_number) change.vacated change.places tidy.places;
   ended = exactly_ended nat_cmp_total nat_cmp-IsAntisymmetric (λ (a : Application). a.child) old.applications (λ k a there. (well.base.applications_fit k a there).own_number) change.ended change.applications tidy.applications;
+  vacated = exactly_ended nat_cmp_total nat_cmp-IsAntisymmetric (λ (p : PlaceRow). p.child) old.places (λ k p there. (well.places k p there).own_number) change.vacated change.places tidy.places;
 }

@@ -7,6 +7,7 @@ use Rattle.std.specs.List.{AllByRecursion}
 use Rattle.std.specs.Cmp.{nat_cmp_total}
 use Rattle.std.specs.Cmp.Lexicographic.{nat_list_cmp_total}
 use Rattle.std.specs.FinMap.{FinMap, get, len, contains_key, nat_cmp-IsAntisymmetric}
+use Rattle.adm_types.specs.Limits.{most_schools, most_children}
 use Rattle.adm_types.specs.Seasons.{lists_end}
 use Rattle.adm_types.specs.declared.rows.School.{School}
 use Rattle.adm_types.specs.declared.rows.Child.{Child}
@@ -15,7 +16,7 @@ use Rattle.adm_types.specs.declared.rows.PlaceRow.{PlaceRow}
 use Rattle.adm_register.specs.declared.difference.Difference.{Difference}
 use Rattle.adm_register.specs.State.{State, code_cmp}
 use Rattle.adm_register.specs.Change.{put_all, cut_all, after}
-use Rattle.adm_register.specs.Extends.{Extends}
+use Rattle.adm_register.specs.Extends.{Extends, KeepsSchools}
 use Rattle.adm_register.specs.WellFormed.{WellFormed, BaseFits, PlacesFit, SchoolFits, ChildFits, ApplicationFits, PlaceFits}
 use Rattle.adm_register.proofs.Maps.{code_cmp-IsAntisymmetric}
 use Rattle.adm_register.proofs.Puts.{Grows, put_all-grows, there_before, all_stay, AllRows-put_all, are_schools-grows}
@@ -29,9 +30,9 @@ FewAfter limit rows (row ∷ put) = len rows ≤ limit
 pub record BasePut (old : State) (change : Difference) : Type 0 where
   pub schools : AllByRecursion (λ (s : School). SchoolFits s.code s) change.schools
   pub new_schools : AllByRecursion (λ (s : School). not (contains_key old.schools s.code) ≡ true) change.schools
-  pub few_schools : FewAfter 200 (after old change).schools change.schools
+  pub few_schools : FewAfter most_schools (after old change).schools change.schools
   pub children : AllByRecursion (λ (c : Child). ChildFits (after old change).schools c.no c) change.children
-  pub few_children : FewAfter 2000 (after old change).children change.children
+  pub few_children : FewAfter most_children (after old change).children change.children
   pub applications : AllByRecursion (λ (a : Application). ApplicationFits (lists_end old.season) (after old change).schools (after old change).children a.child a) change.applications
 
 -- what is put into the places fits the rows after the change, and a child whose application is put has no place
@@ -89,9 +90,9 @@ module _ (old : State) (change : Difference) where
   base_fits : BaseFits old.season old.schools old.children old.applications → BasePut old change → BaseFits new.season new.schools new.children new.applications
   base_fits base put = record {
     season_is = base.season_is;
-    few_schools = few (λ (s : School). s.code) 200 old.schools change.schools base.few_schools put.few_schools;
+    few_schools = few (λ (s : School). s.code) most_schools old.schools change.schools base.few_schools put.few_schools;
     schools_fit = AllRows-put_all nat_list_cmp_total code_cmp-IsAntisymmetric (λ (s : School). s.code) SchoolFits old.schools change.schools (λ code row there still. base.schools_fit code row there) put.schools;
-    few_children = few (λ (c : Child). c.no) 2000 old.children change.children base.few_children put.few_children;
+    few_children = few (λ (c : Child). c.no) most_children old.children change.children base.few_children put.few_children;
     children_fit = AllRows-put_all nat_cmp_total nat_cmp-IsAntisymmetric (λ (c : Child). c.no) (ChildFits new.schools) old.children change.children
         (λ number row there still. ChildFits-grows old.schools new.schools more_schools number row (base.children_fit number row there)) put.children;
     applications_fit = AllRows-put_all nat_cmp_total nat_cmp-IsAntisymmetric (λ (a : Application). a.child) (ApplicationFits (lists_end old.season) new.schools new.children) (cut_all old.applications change.ended) change.applications
@@ -118,9 +119,9 @@ module _ (old : State) (change : Difference) where
 
   -- the places fit after the change
   places_fit : PlacesFit old.schools old.children old.applications old.places → PlacesPut old change → PlacesFit new.schools new.children new.applications new.places
-  places_fit places put = AllRows-put_all nat_cmp_total nat_cmp-IsAntisymmetric (λ (p : PlaceRow). p.child) (PlaceFits new.schools new.children new.applications) old.places change.places
+  places_fit places put = AllRows-put_all nat_cmp_total nat_cmp-IsAntisymmetric (λ (p : PlaceRow). p.child) (PlaceFits new.schools new.children new.applications) (cut_all old.places change.vacated) change.places
       (λ number row there still.
-      let fits = places number row there in
+      let fits = places number row (there_before nat_cmp_total old.places change.vacated number row there) in
       let own = fits.own_number in
       let was : contains_key old.applications number ≡ false = subst (λ n. contains_key old.applications n ≡ false) own (absent _ fits.no_application) in
       let none = subst (λ n. not (contains_key new.applications n) ≡ true) (sym own) (no_application put number row was still) in
@@ -135,10 +136,9 @@ module _ (old : State) (change : Difference) where
   after-keeps well base places = record { base = base_fits well.base base; places = places_fit well.places places }
 
   -- and what every command leaves is as it was
-  pub after-extends : BasePut old change → Extends old new
-  after-extends base = record {
-    season = refl;
-    schools = all_stay nat_list_cmp_total code_cmp-IsAntisymmetric (λ (s : School). s.code) old.schools change.schools base.new_schools;
-    children = more_children;
-    places = put_all-grows nat_cmp_total (λ (p : PlaceRow). p.child) old.places change.places;
-  }
+  pub after-extends : Extends old new
+  after-extends = record { season = refl; schools = more_schools; children = more_children }
+
+  -- no school is changed where those that are put are new
+  pub after-keeps_schools : BasePut old change → KeepsSchools old new
+  after-keeps_schools base = all_stay nat_list_cmp_total code_cmp-IsAntisymmetric (λ (s : School). s.code) old.schools change.schools base.new_schools

@@ -4,7 +4,6 @@ pub mod Maps
 pub mod Puts
 pub mod Fits
 pub mod Accepted
-pub mod Touches
 pub mod Keeps
 pub mod RowLemmas
 pub mod Repeats
@@ -16,5 +15,6 @@ pub mod ChildChecks
 pub mod ApplicationChecks
 pub mod PlaceChecks
 pub mod RowsAgain
-pub mod Differences
+pub mod SameLemmas
+pub mod Tidy
 pub mod Exactly

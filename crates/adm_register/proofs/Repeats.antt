@@ -18,9 +18,10 @@ use Rattle.adm_register.specs.AddChild as add_child
 use Rattle.adm_register.specs.Amend as amend
 use Rattle.adm_register.specs.NamePlan as name_plan
 use Rattle.adm_register.specs.Apply as apply
-use Rattle.adm_register.specs.Outcome.{RepeatSafe, tests_of, change_of}
+use Rattle.adm_register.specs.Outcome.{RepeatSafe, tests_of, change_of, refused}
 use Rattle.adm_register.proofs.Maps.{tied}
 use Rattle.adm_register.proofs.Keeps.{all_pass}
+use Rattle.adm_register.proofs.Accepted.{no_row}
 
 module _ {K V : Type 0} {R : K → K → Ordering} (total : IsTotalOrder R) where
   -- what was put is there
@@ -50,15 +51,16 @@ again old (NamePlan child school) passes =
   where
     both : {b : Bool} → b ≡ true → not b ≡ true → ⊥
     both one other = cc
-again old (Apply child day list) passes =
-    absurd (not_again nat_cmp_total old.applications child (record { child = child; day = day; list = list }) (all_pass (apply.tests (after old (apply.change_of child day list)) child day list) passes).1.1.0)
+again old (Apply application) passes =
+    absurd (not_again nat_cmp_total old.applications application.child application (all_pass (apply.tests (after old (apply.change_of application)) application) passes).1.1.0)
 
 pub repeat_safe_lem : RepeatSafe
 repeat_safe_lem old mid new command (Ok first) (Ok second) well step next =
-    let passes = subst (λ s. first_failing (tests_of s command) ≡ None) step.1.1 next.0 in
+    let accepted = subst (λ s. refused s command ≡ None) step.1.1 next.0 in
+    let passes = no_row (first_failing (tests_of (after old (change_of old command)) command)) accepted in
     next.1.1 ∙ ap (λ s. after s (change_of s command)) step.1.1 ∙ again old command passes ∙ sym step.1.1
 repeat_safe_lem old mid new command (Ok first) (Err refusal) well step next = next.1
 repeat_safe_lem old mid new command (Err refusal) (Err other) well step next = next.1
 repeat_safe_lem old mid new command (Err refusal) (Ok second) well step next =
-    let stays = ap (λ s. first_failing (tests_of s command)) step.1 in
+    let stays = ap (λ s. refused s command) step.1 in
     cc (stays, step.0, next.0)

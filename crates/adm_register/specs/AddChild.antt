@@ -4,7 +4,7 @@ use Rattle.std.specs.FinMap.{len, contains_key}
 use Rattle.adm_types.specs.declared.rows.Child.{Child}
 use Rattle.adm_types.specs.declared.commands.Refusal.{Refusal}
 use Rattle.adm_types.specs.declared.commands.Refusal.TheVariants.{ChildKnown, BadText, OutOfRange, UnknownSchool, RegisterFull}
-use Rattle.adm_types.specs.Limits.{is_name, is_child_in_range}
+use Rattle.adm_types.specs.Limits.{is_name, is_child_in_range, most_children}
 use Rattle.adm_register.specs.declared.difference.Difference.{Difference}
 use Rattle.adm_register.specs.State.{State}
 use Rattle.adm_register.specs.Change.{no_change}
@@ -17,7 +17,7 @@ tests old child =
     ∷ (is_name child.name, BadText)
     ∷ (is_child_in_range child, OutOfRange)
     ∷ (are_schools old.schools child.siblings, UnknownSchool)
-    ∷ (nat_lt (len old.children) 2000, RegisterFull)
+    ∷ (nat_lt (len old.children) most_children, RegisterFull)
     ∷ []
 
 -- the child is put

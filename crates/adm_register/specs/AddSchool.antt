@@ -4,7 +4,7 @@ use Rattle.std.specs.FinMap.{len, contains_key}
 use Rattle.adm_types.specs.declared.rows.School.{School}
 use Rattle.adm_types.specs.declared.commands.Refusal.{Refusal}
 use Rattle.adm_types.specs.declared.commands.Refusal.TheVariants.{SchoolKnown, BadText, OutOfRange, RegisterFull}
-use Rattle.adm_types.specs.Limits.{is_name, is_school_in_range}
+use Rattle.adm_types.specs.Limits.{is_name, is_school_in_range, most_schools}
 use Rattle.adm_register.specs.declared.difference.Difference.{Difference}
 use Rattle.adm_register.specs.State.{State}
 use Rattle.adm_register.specs.Change.{no_change}
@@ -15,7 +15,7 @@ tests old school =
     (not (contains_key old.schools school.code), SchoolKnown)
     ∷ (is_name school.name, BadText)
     ∷ (is_school_in_range school, OutOfRange)
-    ∷ (nat_lt (len old.schools) 200, RegisterFull)
+    ∷ (nat_lt (len old.schools) most_schools, RegisterFull)
     ∷ []
 
 -- the school is put

@@ -1,6 +1,7 @@
 -- To apply.
-use Rattle.std.specs.Prelude.{ℕ, Bool, not, ◌&&◌, nat_le, List, [], ◌∷◌, length}
+use Rattle.std.specs.Prelude.{Bool, not, ◌&&◌, nat_le, List, [], ◌∷◌, length}
 use Rattle.std.specs.FinMap.{contains_key}
+use Rattle.adm_types.specs.declared.rows.Application.{Application}
 use Rattle.adm_types.specs.declared.commands.Refusal.{Refusal}
 use Rattle.adm_types.specs.declared.commands.Refusal.TheVariants.{UnknownChild, HasPlan, AlreadyApplied, ListClosed, BadPreferences, UnknownSchool}
 use Rattle.adm_types.specs.Limits.{is_from, is_without_repeat}
@@ -12,16 +13,16 @@ use Rattle.adm_register.specs.Plans.{has_plan}
 use Rattle.adm_register.specs.WellFormed.{are_schools}
 
 -- the child is there, with no plan and no application, the lists are open, and the list has 1 to 6 schools of the register without repeat
-unfoldable pub tests : State → ℕ → ℕ → List (List ℕ) → List (Bool × Refusal)
-tests old child day list =
-    (contains_key old.children child, UnknownChild)
-    ∷ (not (has_plan old.places child), HasPlan)
-    ∷ (not (contains_key old.applications child), AlreadyApplied)
-    ∷ (nat_le day (lists_end old.season), ListClosed)
-    ∷ (is_from 1 6 (length list) && is_without_repeat list, BadPreferences)
-    ∷ (are_schools old.schools list, UnknownSchool)
+unfoldable pub tests : State → Application → List (Bool × Refusal)
+tests old application =
+    (contains_key old.children application.child, UnknownChild)
+    ∷ (not (has_plan old.places application.child), HasPlan)
+    ∷ (not (contains_key old.applications application.child), AlreadyApplied)
+    ∷ (nat_le application.day (lists_end old.season), ListClosed)
+    ∷ (is_from 1 6 (length application.list) && is_without_repeat application.list, BadPreferences)
+    ∷ (are_schools old.schools application.list, UnknownSchool)
     ∷ []
 
 -- the application is put
-unfoldable pub change_of : ℕ → ℕ → List (List ℕ) → Difference
-change_of child day list = record no_change { applications = record { child = child; day = day; list = list } ∷ [] }
+unfoldable pub change_of : Application → Difference
+change_of application = record no_change { applications = application ∷ [] }

@@ -21,14 +21,14 @@ cut_all rows (key ∷ more) = cut_all (remove rows key) more
 
 -- nothing is put and nothing is cut
 abbrev pub no_change : Difference
-no_change = record { schools = []; children = []; applications = []; places = []; ended = [] }
+no_change = record { schools = []; children = []; applications = []; places = []; ended = []; vacated = [] }
 
--- the state after the change
+-- the state after the change: in each table what is cut is cut first
 abbrev pub after : State → Difference → State
 after old change = record {
   season = old.season;
   schools = put_all (λ (s : School). s.code) old.schools change.schools;
   children = put_all (λ (c : Child). c.no) old.children change.children;
   applications = put_all (λ (a : Application). a.child) (cut_all old.applications change.ended) change.applications;
-  places = put_all (λ (p : PlaceRow). p.child) old.places change.places;
+  places = put_all (λ (p : PlaceRow). p.child) (cut_all old.places change.vacated) change.places;
 }

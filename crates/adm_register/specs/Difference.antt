@@ -20,13 +20,18 @@ pub record AreNew {K V : Type 0} {R : K → K → Ordering} (key : V → K) (old
 abbrev pub ended : State → State → List Application
 ended old new = filter (λ (a : Application). not (contains_key new.applications a.child)) (values old.applications)
 
--- the difference is just the rows of the new register that the old one has not, and the applications that ended
+-- the places of the old register whose children have none in the new one
+abbrev pub vacated : State → State → List PlaceRow
+vacated old new = filter (λ (p : PlaceRow). not (contains_key new.places p.child)) (values old.places)
+
+-- the difference is just the rows of the new register that the old one has not, and the applications and the places that ended
 pub record IsDifference (old new : State) (difference : Difference) : Type 0 where
   pub schools : AreNew (λ (s : School). s.code) old.schools new.schools difference.schools
   pub children : AreNew (λ (c : Child). c.no) old.children new.children difference.children
   pub applications : AreNew (λ (a : Application). a.child) old.applications new.applications difference.applications
   pub places : AreNew (λ (p : PlaceRow). p.child) old.places new.places difference.places
   pub ended : difference.ended ≡ map (λ (a : Application). a.child) (ended old new)
+  pub vacated : difference.vacated ≡ map (λ (p : PlaceRow). p.child) (vacated old new)
 
 -- what of a change differs from what the old register has
 abbrev pub differing : State → Difference → Difference
@@ -36,4 +41,5 @@ differing old change = record {
   applications = filter (λ (a : Application). is_other is_same_application (get old.applications a.child) a) change.applications;
   places = filter (λ (p : PlaceRow). is_other is_same_place (get old.places p.child) p) change.places;
   ended = filter (contains_key old.applications) change.ended;
+  vacated = filter (contains_key old.places) change.vacated;
 }

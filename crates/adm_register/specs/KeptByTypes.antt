@@ -2,7 +2,7 @@
 use Rattle.std.specs.Prelude.{⊤, IsTrue, nat_le, nat_lt}
 use Rattle.std.specs.Str.{is_utf8}
 use Rattle.adm_types.specs.Code.{is_code}
-use Rattle.adm_types.specs.Limits.{is_from}
+use Rattle.adm_types.specs.Limits.{is_child_number, first_day}
 use Rattle.adm_types.specs.declared.rows.School.{School}
 use Rattle.adm_types.specs.declared.rows.Child.{Child}
 use Rattle.adm_types.specs.declared.commands.Command.{Command}
@@ -15,7 +15,7 @@ pub record KeptBySchool (school : School) : Type 0 where
 
 -- a child's number is one of a child, its name is a text, and its flags are 16
 pub record KeptByChild (child : Child) : Type 0 where
-  pub number_form : IsTrue (is_from 1 9999999 child.no)
+  pub number_form : IsTrue (is_child_number child.no)
   pub text : IsTrue (is_utf8 child.name)
   pub flags : IsTrue (nat_lt child.flags 65536)
 
@@ -24,4 +24,4 @@ KeptByTypes (AddSchool school) = KeptBySchool school
 KeptByTypes (AddChild child) = KeptByChild child
 KeptByTypes (Amend child) = KeptByChild child
 KeptByTypes (NamePlan child school) = ⊤
-KeptByTypes (Apply child day list) = IsTrue (nat_le 7305 day)
+KeptByTypes (Apply application) = IsTrue (nat_le first_day application.day)

@@ -11,7 +11,6 @@ pub mod Amend
 pub mod NamePlan
 pub mod Apply
 pub mod Extends
-pub mod Tables
 pub mod Outcome
 pub mod Rows
 pub mod Difference

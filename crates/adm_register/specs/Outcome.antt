@@ -1,5 +1,5 @@
 -- What a command leaves and answers.
-use Rattle.std.specs.Prelude.{◌≡◌, ⊤, Bool, List, Some, None, Result, Ok, Err}
+use Rattle.std.specs.Prelude.{◌≡◌, ⊤, ℕ, Bool, List, Option, Some, None, Result, Ok, Err}
 use Rattle.adm_types.specs.declared.commands.Command.{Command}
 use Rattle.adm_types.specs.declared.commands.Command.TheVariants.{AddSchool, AddChild, Amend, NamePlan, Apply}
 use Rattle.adm_types.specs.declared.commands.Refusal.{Refusal}
@@ -25,7 +25,16 @@ tests_of old (AddSchool school) = add_school.tests old school
 tests_of old (AddChild child) = add_child.tests old child
 tests_of old (Amend child) = amend.tests old child
 tests_of old (NamePlan child school) = name_plan.tests old child school
-tests_of old (Apply child day list) = apply.tests old child day list
+tests_of old (Apply application) = apply.tests old application
+
+-- a refusal that names no row
+abbrev pub without_row : Option Refusal → Option (Refusal × ℕ)
+without_row None = None
+without_row (Some refusal) = Some (refusal, 0)
+
+-- why a command is refused: by the first of its tests that fails. Beside it stands the row of an import, from 1, and 0 for a command without rows
+abbrev pub refused : State → Command → Option (Refusal × ℕ)
+refused old command = without_row (first_failing (tests_of old command))
 
 -- what an accepted command changes
 abbrev pub change_of : State → Command → Difference
@@ -33,7 +42,7 @@ change_of old (AddSchool school) = add_school.change_of school
 change_of old (AddChild child) = add_child.change_of child
 change_of old (Amend child) = amend.change_of child
 change_of old (NamePlan child school) = name_plan.change_of child school
-change_of old (Apply child day list) = apply.change_of child day list
+change_of old (Apply application) = apply.change_of application
 
 -- what it answers
 abbrev pub reply_of : State → Command → Reply
@@ -44,14 +53,14 @@ abbrev pub Effect : State → Command → Reply → State → Type 0
 Effect old command reply new = (reply ≡ reply_of old command) × (new ≡ after old (change_of old command))
 
 -- from old, the command is answered so, and leaves new: where no test fails by its effect, and else by the refusal of the first that fails
-abbrev pub Step : State → Command → Result Reply Refusal → State → Type 0
-Step old command (Ok reply) new = (first_failing (tests_of old command) ≡ None) × Effect old command reply new
-Step old command (Err refusal) new = (first_failing (tests_of old command) ≡ Some refusal) × (new ≡ old)
+abbrev pub Step : State → Command → Result Reply (Refusal × ℕ) → State → Type 0
+Step old command (Ok reply) new = (refused old command ≡ None) × Effect old command reply new
+Step old command (Err refusal) new = (refused old command ≡ Some refusal) × (new ≡ old)
 
 -- a new state and its reply by an accepted step, the refusal of a refused one, or want of memory
 abbrev pub Decides : State → Command → Result (State × Reply) NotDone → Type 0
 Decides old command (Ok done) = Step old command (Ok done.1) done.0
-Decides old command (Err (Refused refusal row)) = Step old command (Err refusal) old × (row ≡ 0)
+Decides old command (Err (Refused refusal row)) = Step old command (Err (refusal, row)) old
 Decides old command (Err Memory) = ⊤
 
 -- the same of a proposal, whose change is left out
@@ -62,5 +71,5 @@ decision (Err why) = Err why
 -- a command that follows itself at once leaves a register as it was
 abbrev pub RepeatSafe : Type 0
 RepeatSafe =
-    (old mid new : State) (command : Command) (first second : Result Reply Refusal) → WellFormed old
+    (old mid new : State) (command : Command) (first second : Result Reply (Refusal × ℕ)) → WellFormed old
     → Step old command first mid → Step mid command second new → new ≡ mid

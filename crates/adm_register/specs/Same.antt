@@ -1,94 +1,13 @@
--- Tests that decide whether two rows are the same, and which rows a table has not.
-use Rattle.std.specs.Prelude.{◌≡◌, ◌↔◌, ◌&&◌, not, nat_eq, ℕ, Bool, true, false, List, Option, Some, None}
-use Rattle.std.proofs.Common.{refl, ap, sym, subst, true≢false}
+-- Tests that tell whether two rows are the same, and which rows a table has not.
+use Rattle.std.specs.Prelude.{◌&&◌, not, nat_eq, Bool, true, Option, Some, None}
 use mathlib.Core.Bool.{beq}
-use Rattle.std.specs.Option.{option_eq}
-use Rattle.std.specs.Cmp.{unsigned_Decides, booleans_Decides, first_so, second_so}
-use Rattle.std.specs.Cmp.Lexicographic.{pointwise, pointwise_decides, bytes_decides}
-use Rattle.adm_types.specs.declared.rows.Point.{Point}
-use Rattle.adm_types.specs.declared.rows.Criterion.{Criterion}
-use Rattle.adm_types.specs.declared.rows.Criterion.TheVariants.{Sibling, Within, Flag}
-use Rattle.adm_types.specs.declared.rows.PlaceState.{PlaceState}
-use Rattle.adm_types.specs.declared.rows.PlaceState.TheVariants.{Offered, Accepted, Plan}
+use Rattle.std.specs.Cmp.Lexicographic.{pointwise}
 use Rattle.adm_types.specs.declared.rows.School.{School}
 use Rattle.adm_types.specs.declared.rows.Child.{Child}
 use Rattle.adm_types.specs.declared.rows.Application.{Application}
 use Rattle.adm_types.specs.declared.rows.PlaceRow.{PlaceRow}
 use Rattle.adm_types.specs.contracts.rows.CriterionPartialEq.TheImpl.{eq-value as criterion_eq}
 use Rattle.adm_types.specs.contracts.rows.PlaceStatePartialEq.TheImpl.{eq-value as state_eq}
-
-not_true : {A : Type 0} → false ≡ true → A
-not_true e = absurd (true≢false (sym e))
-
-split : (a b : Bool) → (a && b) ≡ true → (a ≡ true) × (b ≡ true)
-split a b e = (first_so a b e, second_so a b e)
-
--- a test that is true of each value and itself, and of no others
-module _ {A : Type 0} (test : A → A → Bool) where
-  decided : ((x y : A) → test x y ≡ true → x ≡ y) → ((x : A) → test x x ≡ true) → (x y : A) → (test x y ≡ true) ↔ (x ≡ y)
-  decided told itself x y = (told x y, λ e. subst (λ z. test x z ≡ true) e (itself x))
-
-same_nat : (m n : ℕ) → (nat_eq m n ≡ true) ↔ (m ≡ n)
-same_nat m n = unsigned_Decides m n
-
-same_codes : (xs ys : List (List ℕ)) → (pointwise (pointwise nat_eq) xs ys ≡ true) ↔ (xs ≡ ys)
-same_codes = pointwise_decides bytes_decides
-
-same_day : (m n : Option ℕ) → (option_eq nat_eq m n ≡ true) ↔ (m ≡ n)
-same_day = decided (option_eq nat_eq) told itself
-  where
-    told : (m n : Option ℕ) → option_eq nat_eq m n ≡ true → m ≡ n
-    told None None e = refl
-    told None (Some n) e = not_true e
-    told (Some m) None e = not_true e
-    told (Some m) (Some n) e = ap Some ((same_nat m n).0 e)
-
-    itself : (m : Option ℕ) → option_eq nat_eq m m ≡ true
-    itself None = refl
-    itself (Some m) = (same_nat m m).1 refl
-
-same_point : (x y : Point) → ((nat_eq x.east y.east && nat_eq x.north y.north) ≡ true) ↔ (x ≡ y)
-same_point = decided (λ x y. nat_eq x.east y.east && nat_eq x.north y.north)
-    (λ x y e i. let parts = split _ _ e in record { east = (same_nat x.east y.east).0 parts.0 i; north = (same_nat x.north y.north).0 parts.1 i })
-    (λ x i. (same_nat x.east x.east).1 refl i && (same_nat x.north x.north).1 refl i)
-
-same_criterion : (x y : Criterion) → (criterion_eq.it x y ≡ true) ↔ (x ≡ y)
-same_criterion = decided criterion_eq.it told itself
-  where
-    told : (x y : Criterion) → criterion_eq.it x y ≡ true → x ≡ y
-    told Sibling Sibling e = refl
-    told Sibling (Within n) e = not_true e
-    told Sibling (Flag n) e = not_true e
-    told (Within m) Sibling e = not_true e
-    told (Within m) (Within n) e = ap Within ((same_nat m n).0 e)
-    told (Within m) (Flag n) e = not_true e
-    told (Flag m) Sibling e = not_true e
-    told (Flag m) (Within n) e = not_true e
-    told (Flag m) (Flag n) e = ap Flag ((same_nat m n).0 e)
-
-    itself : (x : Criterion) → criterion_eq.it x x ≡ true
-    itself Sibling = refl
-    itself (Within m) = (same_nat m m).1 refl
-    itself (Flag m) = (same_nat m m).1 refl
-
-same_state : (x y : PlaceState) → (state_eq.it x y ≡ true) ↔ (x ≡ y)
-same_state = decided state_eq.it told itself
-  where
-    told : (x y : PlaceState) → state_eq.it x y ≡ true → x ≡ y
-    told (Offered a b) (Offered d e) h = λ i. Offered ((same_nat a d).0 (first_so (nat_eq a d) (option_eq nat_eq b e) h) i) ((same_day b e).0 (second_so (nat_eq a d) (option_eq nat_eq b e) h) i)
-    told (Offered a b) Accepted h = not_true h
-    told (Offered a b) Plan h = not_true h
-    told Accepted (Offered d e) h = not_true h
-    told Accepted Accepted h = refl
-    told Accepted Plan h = not_true h
-    told Plan (Offered d e) h = not_true h
-    told Plan Accepted h = not_true h
-    told Plan Plan h = refl
-
-    itself : (x : PlaceState) → state_eq.it x x ≡ true
-    itself (Offered a b) = λ i. (same_nat a a).1 refl i && (same_day b b).1 refl i
-    itself Accepted = refl
-    itself Plan = refl
 
 abbrev pub is_same_school : School → School → Bool
 is_same_school x y =
@@ -103,77 +22,6 @@ is_same_application x y = nat_eq x.child y.child && (nat_eq x.day y.day && point
 
 abbrev pub is_same_place : PlaceRow → PlaceRow → Bool
 is_same_place x y = nat_eq x.child y.child && (pointwise nat_eq x.place.school y.place.school && state_eq.it x.place.state y.place.state)
-
-same_criteria : (xs ys : List Criterion) → (pointwise criterion_eq.it xs ys ≡ true) ↔ (xs ≡ ys)
-same_criteria = pointwise_decides same_criterion
-
-pub same_school : (x y : School) → (is_same_school x y ≡ true) ↔ (x ≡ y)
-same_school = decided is_same_school
-    (λ x y e.
-    let code = split _ _ e in
-    let name = split _ _ code.1 in
-    let pan = split _ _ name.1 in
-    let at = split _ _ pan.1 in
-    λ i. record {
-      code = (bytes_decides x.code y.code).0 code.0 i;
-      name = (bytes_decides x.name y.name).0 name.0 i;
-      pan = (same_nat x.pan y.pan).0 pan.0 i;
-      at = (same_point x.at y.at).0 at.0 i;
-      criteria = (same_criteria x.criteria y.criteria).0 at.1 i;
-    })
-    (λ x i.
-    (bytes_decides x.code x.code).1 refl i
-    && ((bytes_decides x.name x.name).1 refl i
-    && ((same_nat x.pan x.pan).1 refl i
-    && ((same_point x.at x.at).1 refl i
-    && (same_criteria x.criteria x.criteria).1 refl i))))
-
-pub same_child : (x y : Child) → (is_same_child x y ≡ true) ↔ (x ≡ y)
-same_child = decided is_same_child
-    (λ x y e.
-    let number = split _ _ e in
-    let name = split _ _ number.1 in
-    let home = split _ _ name.1 in
-    let looked = split _ _ home.1 in
-    let flags = split _ _ looked.1 in
-    λ i. record {
-      no = (same_nat x.no y.no).0 number.0 i;
-      name = (bytes_decides x.name y.name).0 name.0 i;
-      home = (same_point x.home y.home).0 home.0 i;
-      looked_after = (booleans_Decides x.looked_after y.looked_after).0 looked.0 i;
-      flags = (same_nat x.flags y.flags).0 flags.0 i;
-      siblings = (same_codes x.siblings y.siblings).0 flags.1 i;
-    })
-    (λ x i.
-    (same_nat x.no x.no).1 refl i
-    && ((bytes_decides x.name x.name).1 refl i
-    && ((same_point x.home x.home).1 refl i
-    && ((booleans_Decides x.looked_after x.looked_after).1 refl i
-    && ((same_nat x.flags x.flags).1 refl i
-    && (same_codes x.siblings x.siblings).1 refl i)))))
-
-pub same_application : (x y : Application) → (is_same_application x y ≡ true) ↔ (x ≡ y)
-same_application = decided is_same_application
-    (λ x y e.
-    let child = split _ _ e in
-    let day = split _ _ child.1 in
-    λ i. record {
-      child = (same_nat x.child y.child).0 child.0 i;
-      day = (same_nat x.day y.day).0 day.0 i;
-      list = (same_codes x.list y.list).0 day.1 i;
-    })
-    (λ x i. (same_nat x.child x.child).1 refl i && ((same_nat x.day x.day).1 refl i && (same_codes x.list x.list).1 refl i))
-
-pub same_place : (x y : PlaceRow) → (is_same_place x y ≡ true) ↔ (x ≡ y)
-same_place = decided is_same_place
-    (λ x y e.
-    let child = split _ _ e in
-    let school = split _ _ child.1 in
-    λ i. record {
-      child = (same_nat x.child y.child).0 child.0 i;
-      place = record { school = (bytes_decides x.place.school y.place.school).0 school.0 i; state = (same_state x.place.state y.place.state).0 school.1 i };
-    })
-    (λ x i. (same_nat x.child x.child).1 refl i && ((bytes_decides x.place.school x.place.school).1 refl i && (same_state x.place.state x.place.state).1 refl i))
 
 -- whether a row is not the one that is there
 abbrev pub is_other : {V : Type 0} → (V → V → Bool) → Option V → V → Bool

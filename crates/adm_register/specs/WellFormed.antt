@@ -8,7 +8,7 @@ use Rattle.std.specs.FinMap.{FinMap, get, len, contains_key}
 use Rattle.std.specs.Str.{is_utf8}
 use Rattle.adm_types.specs.Code.{is_code}
 use Rattle.adm_types.specs.Seasons.{SeasonFacts, IsSeason, lists_end}
-use Rattle.adm_types.specs.Limits.{is_from, is_name, is_school_in_range, is_child_in_range, is_without_repeat}
+use Rattle.adm_types.specs.Limits.{is_from, is_child_number, first_day, most_schools, most_children, is_name, is_school_in_range, is_child_in_range, is_without_repeat}
 use Rattle.adm_types.specs.declared.rows.School.{School}
 use Rattle.adm_types.specs.declared.rows.Child.{Child}
 use Rattle.adm_types.specs.declared.rows.Application.{Application}
@@ -41,7 +41,7 @@ fits_school code school = pointwise nat_eq school.code code && is_school school
 -- a child stands at its own number, with a name and numbers in their limits, 16 flags, and siblings at schools that are there
 pub record ChildFits (schools : FinMap code_cmp School) (number : ℕ) (child : Child) : Type 0 where
   pub own_number : child.no ≡ number
-  pub number_form : IsTrue (is_from 1 9999999 child.no)
+  pub number_form : IsTrue (is_child_number child.no)
   pub text : IsTrue (is_utf8 child.name)
   pub name : IsTrue (is_name child.name)
   pub in_range : IsTrue (is_child_in_range child)
@@ -51,7 +51,7 @@ pub record ChildFits (schools : FinMap code_cmp School) (number : ℕ) (child : 
 -- the test of all but its key
 abbrev pub is_child : FinMap code_cmp School → Child → Bool
 is_child schools child =
-    is_from 1 9999999 child.no && is_utf8 child.name && is_name child.name && is_child_in_range child && nat_lt child.flags 65536 && are_schools schools child.siblings
+    is_child_number child.no && is_utf8 child.name && is_name child.name && is_child_in_range child && nat_lt child.flags 65536 && are_schools schools child.siblings
 
 abbrev pub fits_child : FinMap code_cmp School → ℕ → Child → Bool
 fits_child schools number child = nat_eq child.no number && is_child schools child
@@ -60,7 +60,7 @@ fits_child schools number child = nat_eq child.no number && is_child schools chi
 pub record ApplicationFits (last_day : ℕ) (schools : FinMap code_cmp School) (children : FinMap nat_cmp Child) (number : ℕ) (application : Application) : Type 0 where
   pub own_number : application.child ≡ number
   pub child : IsTrue (contains_key children application.child)
-  pub day : IsTrue (is_from 7305 last_day application.day)
+  pub day : IsTrue (is_from first_day last_day application.day)
   pub list_length : IsTrue (is_from 1 6 (length application.list))
   pub without_repeat : IsTrue (is_without_repeat application.list)
   pub known : IsTrue (are_schools schools application.list)
@@ -68,7 +68,7 @@ pub record ApplicationFits (last_day : ℕ) (schools : FinMap code_cmp School) (
 -- the test of all but its key
 abbrev pub is_application : ℕ → FinMap code_cmp School → FinMap nat_cmp Child → Application → Bool
 is_application last_day schools children application =
-    contains_key children application.child && is_from 7305 last_day application.day && is_from 1 6 (length application.list)
+    contains_key children application.child && is_from first_day last_day application.day && is_from 1 6 (length application.list)
     && is_without_repeat application.list && are_schools schools application.list
 
 abbrev pub fits_application : ℕ → FinMap code_cmp School → FinMap nat_cmp Child → ℕ → Application → Bool
@@ -93,9 +93,9 @@ fits_place schools children applications number row = nat_eq row.child number &&
 -- the season and the values are in their limits, each child and school that a row names is there, and there are at most 200 schools and 2,000 children
 pub record BaseFits (season : SeasonFacts) (schools : FinMap code_cmp School) (children : FinMap nat_cmp Child) (applications : FinMap nat_cmp Application) : Type 0 where
   pub season_is : IsSeason season
-  pub few_schools : len schools ≤ 200
+  pub few_schools : len schools ≤ most_schools
   pub schools_fit : AllRows SchoolFits schools
-  pub few_children : len children ≤ 2000
+  pub few_children : len children ≤ most_children
   pub children_fit : AllRows (ChildFits schools) children
   pub applications_fit : AllRows (ApplicationFits (lists_end season) schools children) applications
 

@@ -5,10 +5,10 @@ ghost use Rattle.adm_register.specs.AddChild.{tests, change_of};
 
 use crate::Difference;
 use crate::difference::one;
+use crate::failing::first_failing;
 use crate::shared::Shared;
 use crate::tables::Tables;
-use crate::tests_of::first_failing;
-use adm_types::limits::{is_child_in_range, is_name};
+use adm_types::limits::{MOST_CHILDREN, is_child_in_range, is_name};
 use adm_types::{Child, Refusal};
 use std::alloc::{AllocError, Global};
 
@@ -25,7 +25,7 @@ pub(crate) fn refusal_of(old: &Tables, child: &Child) -> Option<Refusal>
             old.are_schools(child.siblings.as_slice()),
             Refusal::UnknownSchool,
         ),
-        (old.child_count() < 2000, Refusal::RegisterFull),
+        (old.child_count() < MOST_CHILDREN, Refusal::RegisterFull),
     ])
 }
 

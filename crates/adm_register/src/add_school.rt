@@ -5,10 +5,10 @@ ghost use Rattle.adm_register.specs.AddSchool.{tests, change_of};
 
 use crate::Difference;
 use crate::difference::one;
+use crate::failing::first_failing;
 use crate::shared::Shared;
 use crate::tables::Tables;
-use crate::tests_of::first_failing;
-use adm_types::limits::{is_name, is_school_in_range};
+use adm_types::limits::{MOST_SCHOOLS, is_name, is_school_in_range};
 use adm_types::{Refusal, School};
 use std::alloc::{AllocError, Global};
 
@@ -21,7 +21,7 @@ pub(crate) fn refusal_of(old: &Tables, school: &School) -> Option<Refusal>
         (!old.has_school(school.code), Refusal::SchoolKnown),
         (is_name(&school.name), Refusal::BadText),
         (is_school_in_range(school), Refusal::OutOfRange),
-        (old.school_count() < 200, Refusal::RegisterFull),
+        (old.school_count() < MOST_SCHOOLS, Refusal::RegisterFull),
     ])
 }
 

@@ -5,9 +5,9 @@ ghost use Rattle.adm_register.specs.Amend.{tests, change_of};
 
 use crate::Difference;
 use crate::difference::one;
+use crate::failing::first_failing;
 use crate::shared::Shared;
 use crate::tables::Tables;
-use crate::tests_of::first_failing;
 use adm_types::limits::{is_child_in_range, is_name};
 use adm_types::{Child, Refusal};
 use std::alloc::{AllocError, Global};

@@ -6,29 +6,26 @@ ghost use Rattle.adm_register.specs.Apply.{tests, change_of};
 
 use crate::Difference;
 use crate::difference::one;
+use crate::failing::first_failing;
 use crate::shared::Shared;
 use crate::tables::Tables;
-use crate::tests_of::first_failing;
 use adm_types::limits::is_without_repeat;
-use adm_types::{Application, ChildNo, Day, Refusal, SchoolCode, Seq};
+use adm_types::{Application, Refusal, SchoolCode};
 use std::alloc::{AllocError, Global};
 
 /// Why the application is refused.
 #[tactic(auto, unfolding(crate::specs::Apply::tests))]
-pub(crate) fn refusal_of(
-    old: &Tables,
-    child: ChildNo,
-    day: Day,
-    list: &Seq<SchoolCode>,
-) -> Option<Refusal>
-    ensures { result ≡ first_failing (tests old.now child day list.now) }
+pub(crate) fn refusal_of(old: &Tables, application: &Application) -> Option<Refusal>
+    ensures { result ≡ first_failing (tests old.now application.now) }
 {
-    let list = list.as_slice();
+    let child = application.child;
+    let list = application.list.as_slice();
+    let in_time = application.day <= old.season().lists_end();
     first_failing(&[
         (old.has_child(child), Refusal::UnknownChild),
         (!old.has_plan(child), Refusal::HasPlan),
         (!old.has_application(child), Refusal::AlreadyApplied),
-        (day <= old.season().lists_end(), Refusal::ListClosed),
+        (in_time, Refusal::ListClosed),
         (is_preference_list(list), Refusal::BadPreferences),
         (old.are_schools(list), Refusal::UnknownSchool),
     ])
@@ -44,16 +41,10 @@ fn is_preference_list(list: &[SchoolCode]) -> bool
 
 /// The application is put.
 #[tactic(auto, unfolding(crate::specs::Apply::change_of))]
-pub(crate) fn change_of(
-    alloc: Global,
-    child: ChildNo,
-    day: Day,
-    list: &Seq<SchoolCode>,
-) -> Result<Difference, AllocError>
-    ensures { IfOk result (λ change. change ≡ change_of child day list.now) }
+pub(crate) fn change_of(alloc: Global, application: &Application) -> Result<Difference, AllocError>
+    ensures { IfOk result (λ change. change ≡ change_of application.now) }
 {
-    let list = list.clone()?;
-    let row = Shared::new(alloc, Application { child, day, list })?;
+    let row = Shared::new(alloc, application.clone()?)?;
     let mut change = Difference::none(alloc);
     change.applications = one(alloc, row)?;
     Ok(change)

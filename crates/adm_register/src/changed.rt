@@ -25,7 +25,11 @@ impl Tables {
                 change.ended.as_slice(),
                 change.applications.as_slice(),
             )?,
-            places: self.places.with_all(alloc, &[], change.places.as_slice())?,
+            places: self.places.with_all(
+                alloc,
+                change.vacated.as_slice(),
+                change.places.as_slice(),
+            )?,
         })
     }
 
@@ -43,6 +47,7 @@ impl Tables {
             applications,
             places,
             ended,
+            vacated,
         } = change;
         Ok(Difference {
             schools: self.schools.lacked(alloc, schools)?,
@@ -50,6 +55,7 @@ impl Tables {
             applications: self.applications.lacked(alloc, applications)?,
             places: self.places.lacked(alloc, places)?,
             ended: self.applications.known(alloc, ended)?,
+            vacated: self.places.known(alloc, vacated)?,
         })
     }
 }

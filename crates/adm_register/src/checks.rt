@@ -5,6 +5,7 @@ ghost use Rattle.std.specs.List.Sorted.{IsStrictlySortedBy};
 ghost use Rattle.std.specs.Map.{keys_of};
 ghost use Rattle.std.specs.Ordering.{nat_cmp};
 ghost use Rattle.std.specs.FinMap.{len};
+ghost use Rattle.adm_types.specs.Limits.{most_schools, most_children};
 ghost use Rattle.adm_types.specs.Seasons.{lists_end};
 ghost use Rattle.adm_register.specs.State.{code_cmp, is_plan};
 ghost use Rattle.adm_register.specs.WellFormed.{AllRows, SchoolFits, ChildFits, ApplicationFits, PlaceFits, WellFormed};
@@ -12,6 +13,7 @@ ghost use Rattle.adm_register.specs.WellFormed.{fits_school, is_school, fits_chi
 
 use crate::shared::Shared;
 use crate::tables::Tables;
+use adm_types::limits::{MOST_CHILDREN, MOST_SCHOOLS};
 use adm_types::limits::{is_child_in_range, is_name, is_school_in_range, is_without_repeat};
 use adm_types::{Application, Child, ChildNo, PlaceRow, PlaceState, School, SchoolCode};
 use std::collections::BTreeMap;
@@ -30,9 +32,9 @@ pub(crate) fn is_well_formed(tables: &Tables) -> bool
 
 /// Whether there are at most 200 schools and 2,000 children.
 fn are_few(tables: &Tables) -> bool
-    ensures { IsTrue result ↔ ((len tables.now.schools ≤ 200) × (len tables.now.children ≤ 2000)) }
+    ensures { IsTrue result ↔ ((len tables.now.schools ≤ most_schools) × (len tables.now.children ≤ most_children)) }
 {
-    tables.school_count() <= 200 && tables.child_count() <= 2000
+    tables.school_count() <= MOST_SCHOOLS && tables.child_count() <= MOST_CHILDREN
 }
 
 /// Whether each school is in its limits.

@@ -1,7 +1,7 @@
 // Each command's tests, and what it changes.
 ghost use Rattle.std.specs.Prelude.{◌≡◌, IfOk};
 ghost use Rattle.adm_register.specs.Tests.{first_failing};
-ghost use Rattle.adm_register.specs.Outcome.{tests_of, change_of};
+ghost use Rattle.adm_register.specs.Outcome.{tests_of, change_of, refused};
 ghost use Rattle.adm_register.specs.KeptByTypes.{KeptByTypes};
 
 use crate::child_values::kept_by_child;
@@ -10,8 +10,18 @@ use crate::{Difference, add_child, add_school, amend, apply, name_plan};
 use adm_types::{Command, Refusal};
 use std::alloc::{AllocError, Global};
 
-/// Why the command is refused: by the first of its tests that fails.
-pub(crate) fn refusal_of(old: &Tables, command: &Command) -> Option<Refusal>
+/// Why the command is refused: by the first of its tests that fails, beside the row of an import,
+/// which is 0 for a command without rows.
+pub(crate) fn refused(old: &Tables, command: &Command) -> Option<(Refusal, u64)>
+    ensures { result ≡ refused old.now command.now }
+{
+    match refusal_of(old, command) {
+        Some(refusal) => Some((refusal, 0)),
+        None => None,
+    }
+}
+
+fn refusal_of(old: &Tables, command: &Command) -> Option<Refusal>
     ensures { result ≡ first_failing (tests_of old.now command.now) }
 {
     match command {
@@ -19,7 +29,7 @@ pub(crate) fn refusal_of(old: &Tables, command: &Command) -> Option<Refusal>
         Command::AddChild(child) => add_child::refusal_of(old, child),
         Command::Amend(child) => amend::refusal_of(old, child),
         Command::NamePlan { child, school } => name_plan::refusal_of(old, *child, *school),
-        Command::Apply { child, day, list } => apply::refusal_of(old, *child, *day, list),
+        Command::Apply(application) => apply::refusal_of(old, application),
     }
 }
 
@@ -36,7 +46,7 @@ pub(crate) fn change_of(
         Command::AddChild(child) => add_child::change_of(alloc, child),
         Command::Amend(child) => amend::change_of(alloc, child),
         Command::NamePlan { child, school } => name_plan::change_of(alloc, *child, *school),
-        Command::Apply { child, day, list } => apply::change_of(alloc, *child, *day, list),
+        Command::Apply(application) => apply::change_of(alloc, application),
     }
 }
 
@@ -51,8 +61,8 @@ pub(crate) fn kept_by_types(command: &Command)
         }
         Command::AddChild(child) | Command::Amend(child) => kept_by_child(child),
         Command::NamePlan { .. } => {}
-        Command::Apply { day, .. } => {
-            let _number = day.number();
+        Command::Apply(application) => {
+            let _number = application.day.number();
         }
     }
 }

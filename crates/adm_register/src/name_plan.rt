@@ -5,8 +5,8 @@ ghost use Rattle.adm_register.specs.NamePlan.{tests, change_of};
 
 use crate::Difference;
 use crate::difference::{one, one_place};
+use crate::failing::first_failing;
 use crate::tables::Tables;
-use crate::tests_of::first_failing;
 use adm_types::{ChildNo, PlaceState, Refusal, SchoolCode};
 use std::alloc::{AllocError, Global};
 

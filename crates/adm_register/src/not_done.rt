@@ -1,7 +1,4 @@
 // Why a command was not done.
-ghost use Rattle.std.specs.Prelude.{◌≡◌};
-ghost use Rattle.adm_register.specs.declared.not_done.NotDone.{NotDone};
-
 use adm_types::Refusal;
 use std::alloc::AllocError;
 
@@ -11,15 +8,6 @@ pub enum NotDone {
     /// By the first test that fails. The row is that of an import, and else 0.
     Refused { refusal: Refusal, row: u64 },
     Memory,
-}
-
-impl NotDone {
-    /// By the first test that fails, of a command without rows.
-    pub(crate) fn by(refusal: Refusal) -> NotDone
-        ensures { result ≡ NotDone.Refused refusal 0 }
-    {
-        NotDone::Refused { refusal, row: 0 }
-    }
 }
 
 impl From<AllocError> for NotDone {

@@ -3,14 +3,13 @@ ghost use Rattle.std.specs.Prelude.{◌≡◌, Err, IfOk, option_copied};
 ghost use Rattle.std.specs.FinMap as map;
 ghost use Rattle.adm_register.specs.State.{State, only_season};
 ghost use Rattle.adm_register.specs.WellFormed.{WellFormed};
-ghost use Rattle.adm_register.specs.Extends.{Extends};
-ghost use Rattle.adm_register.specs.Tables.{TouchesOnly, touched_by};
+ghost use Rattle.adm_register.specs.Extends.{Extends, KeepsSchools};
 ghost use Rattle.adm_register.specs.Outcome.{Decides, decision};
 ghost use Rattle.adm_register.specs.Difference.{IsDifference};
 ghost use Rattle.adm_register.specs.Rows.{rows_of, AreRowsOf, place_of, vacancies};
 
 use crate::checks::is_well_formed;
-use crate::commands::{change_of, kept_by_types, refusal_of};
+use crate::commands::{change_of, kept_by_types, refused};
 use crate::tables::Tables;
 use crate::{Difference, NotDone, Rows, RowsFault};
 use adm_types::{Application, Child, ChildNo, Command, Place, Reply, School, SchoolCode, Season};
@@ -62,14 +61,6 @@ impl Register {
             }
             None => Err(RowsFault::BadRow),
         }
-    }
-
-    /// The season and the tables. It takes no memory.
-    pub(crate) fn tables(&self) -> &Tables
-        ensures value { result.now ≡ self.now }
-        ensures well_formed { WellFormed self.now }
-    {
-        &self.tables
     }
 
     /// The season. It takes no memory.
@@ -130,12 +121,12 @@ impl Register {
     pub fn propose(&self, alloc: Global, command: &Command) -> Result<Proposal, NotDone>
         ensures step { Decides self.now command.now (decision result) }
         ensures extends { IfOk result (λ proposal. Extends self.now proposal.register × WellFormed proposal.register) }
-        ensures touches { IfOk result (λ proposal. TouchesOnly (touched_by command.now) self.now proposal.register) }
+        ensures schools { IfOk result (λ proposal. KeepsSchools self.now proposal.register) }
         ensures change { IfOk result (λ proposal. IsDifference self.now proposal.register proposal.change) }
     {
         kept_by_types(command);
-        match refusal_of(&self.tables, command) {
-            Some(refusal) => Err(NotDone::by(refusal)),
+        match refused(&self.tables, command) {
+            Some((refusal, row)) => Err(NotDone::Refused { refusal, row }),
             None => {
                 let change = change_of(&self.tables, alloc, command)?;
                 let tables = self.tables.after(alloc, &change)?;
@@ -154,7 +145,7 @@ impl Register {
     pub fn decide(&self, alloc: Global, command: &Command) -> Result<(Register, Reply), NotDone>
         ensures step { Decides self.now command.now result }
         ensures extends { IfOk result (λ done. Extends self.now done.0 × WellFormed done.0) }
-        ensures touches { IfOk result (λ done. TouchesOnly (touched_by command.now) self.now done.0) }
+        ensures schools { IfOk result (λ done. KeepsSchools self.now done.0) }
     {
         match self.propose(alloc, command) {
             Ok(

@@ -1,6 +1,6 @@
 // Whether two rows are the same.
-ghost use Rattle.std.specs.Prelude.{◌≡◌, ◌↔◌, Bool, true};
-ghost use Rattle.adm_register.specs.Same.{is_same_school, is_same_child, is_same_application, is_same_place, same_school, same_child, same_application, same_place};
+ghost use Rattle.std.specs.Prelude.{◌≡◌, Bool};
+ghost use Rattle.adm_register.specs.Same.{is_same_school, is_same_child, is_same_application, is_same_place};
 
 use crate::shared::Shared;
 use adm_types::{Application, Child, PlaceRow, School};
@@ -12,15 +12,10 @@ pub(crate) trait Same {
     /// Whether the two rows are the same.
     fn is_same(&self, other: &Self) -> bool
         ensures { result ≡ same self.now other.now };
-
-    /// It tells whether they are equal.
-    ghost is_equality: { (x y : Self) → same x y ≡ true ↔ x ≡ y };
 }
 
 impl Same for School {
     ghost same = { is_same_school };
-
-    ghost is_equality = { same_school };
 
     fn is_same(&self, other: &School) -> bool {
         self.code == other.code
@@ -33,8 +28,6 @@ impl Same for School {
 
 impl Same for Child {
     ghost same = { is_same_child };
-
-    ghost is_equality = { same_child };
 
     fn is_same(&self, other: &Child) -> bool {
         self.no == other.no
@@ -49,8 +42,6 @@ impl Same for Child {
 impl Same for Application {
     ghost same = { is_same_application };
 
-    ghost is_equality = { same_application };
-
     fn is_same(&self, other: &Application) -> bool {
         self.child == other.child
             && self.day == other.day
@@ -61,8 +52,6 @@ impl Same for Application {
 impl Same for PlaceRow {
     ghost same = { is_same_place };
 
-    ghost is_equality = { same_place };
-
     fn is_same(&self, other: &PlaceRow) -> bool {
         self == other
     }
@@ -70,8 +59,6 @@ impl Same for PlaceRow {
 
 impl<T: Same> Same for Shared<T> {
     ghost same = { T.same };
-
-    ghost is_equality = { T.is_equality };
 
     fn is_same(&self, other: &Shared<T>) -> bool {
         self.as_ref().is_same(other.as_ref())

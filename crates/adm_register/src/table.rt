@@ -1,5 +1,5 @@
 // Tables of rows by their keys. A changed table is a new one, and the old one stays as it was.
-ghost use Rattle.std.specs.Prelude.{◌≡◌, [], length, map, not, is_some, IfOk, IfSome, IfNone, OnOk, option_copied};
+ghost use Rattle.std.specs.Prelude.{◌≡◌, [], length, map, is_some, IfOk, IfSome, IfNone, OnOk, option_copied};
 ghost use Rattle.std.specs.Map.{keys_of, values_of};
 ghost use Rattle.std.specs.List.{IsDistinct, filter};
 ghost use Rattle.std.specs.List.Sorted.{IsStrictlySortedBy, IsPermutation};
@@ -202,17 +202,6 @@ impl<K: Ord + Drop, V: Keyed<K> + Same + Exact> Table<K, V> {
         }
         Ok(Seq::from_vec(lacked))
     }
-
-    /// The rows of this table that the old one has not, in the order of their keys.
-    pub(crate) fn lacking(&self, alloc: Global, old: &Self) -> Result<Vec<V>, AllocError>
-        ensures rows { IfOk result (λ rows. rows.items ≡ filter (λ row. is_other V.same (row_at K.cmp old.now (V.key row)) row) (values_of self.now)) }
-        ensures ordered { IsStrictlySortedBy K.cmp (keys_of self.now) }
-    {
-        match &self.rows {
-            Some(rows) => lacking_of(alloc, rows, old),
-            None => Ok(Vec::new(alloc)),
-        }
-    }
 }
 
 impl<K: Ord + Drop, V> Table<K, V> {
@@ -228,56 +217,6 @@ impl<K: Ord + Drop, V> Table<K, V> {
         }
         Ok(Seq::from_vec(known))
     }
-}
-
-impl<K: Ord + Drop, V: Keyed<K>> Table<K, V> {
-    /// The keys of this table at which the new one has no row, in order.
-    pub(crate) fn ended(&self, alloc: Global, new: &Self) -> Result<Vec<K>, AllocError>
-        ensures keys { IfOk result (λ keys. keys.items ≡ map V.key (filter (λ row. not (is_some (row_at K.cmp new.now (V.key row)))) (values_of self.now))) }
-        ensures ordered { IsStrictlySortedBy K.cmp (keys_of self.now) }
-    {
-        match &self.rows {
-            Some(rows) => ended_of(alloc, rows, new),
-            None => Ok(Vec::new(alloc)),
-        }
-    }
-}
-
-/// The rows of a map that the table has not, in the order of their keys.
-fn lacking_of<K: Ord + Drop, V: Keyed<K> + Same + Exact>(
-    alloc: Global,
-    new: &BTreeMap<K, V>,
-    old: &Table<K, V>,
-) -> Result<Vec<V>, AllocError>
-    ensures rows { IfOk result (λ rows. rows.items ≡ filter (λ row. is_other V.same (row_at K.cmp old.now (V.key row)) row) (values_of new.now.entries)) }
-    ensures ordered { IsStrictlySortedBy K.cmp (keys_of new.now.entries) }
-{
-    let mut rows = Vec::new(alloc);
-    for row in new.values() {
-        if old.lacks(row) {
-            rows.push(row.clone()?)?;
-        }
-    }
-    Ok(rows)
-}
-
-/// The keys of a map's rows at which the table has no row, in order.
-fn ended_of<K: Ord + Drop, V: Keyed<K>>(
-    alloc: Global,
-    old: &BTreeMap<K, V>,
-    new: &Table<K, V>,
-) -> Result<Vec<K>, AllocError>
-    ensures keys { IfOk result (λ keys. keys.items ≡ map V.key (filter (λ row. not (is_some (row_at K.cmp new.now (V.key row)))) (values_of old.now.entries))) }
-    ensures ordered { IsStrictlySortedBy K.cmp (keys_of old.now.entries) }
-{
-    let mut keys = Vec::new(alloc);
-    for row in old.values() {
-        let key = row.key();
-        if new.get(&key).is_none() {
-            keys.push(key)?;
-        }
-    }
-    Ok(keys)
 }
 
 /// The values of a map, in the order of its keys.

@@ -90,11 +90,7 @@ pub(crate) fn application(
 }
 
 pub(crate) fn apply(alloc: Global, child: u32, on: &str, list: &[&str]) -> Result<Command, Fail> {
-    Ok(Command::Apply {
-        child: number(child)?,
-        day: day(on)?,
-        list: codes(alloc, list)?,
-    })
+    Ok(Command::Apply(application(alloc, child, on, list)?))
 }
 
 pub(crate) fn name_plan(child: u32, school: &str) -> Result<Command, Fail> {

@@ -11,6 +11,7 @@ use Rattle.jiff_core.proofs.DateLemmas.{epoch_day_same}
 use Rattle.jiff.specs.Words.{parse_date, date_text, date_view, date_parts}
 use Rattle.jiff.proofs.Family.{parse_date-date_text}
 use Rattle.adm_types.specs.DayText.{IsDayText, date_form, is_day_number, day_on, day_named}
+use Rattle.adm_types.specs.Numbers.{first_day, last_day}
 use Rattle.adm_types.proofs.Calendar.{epoch_day_lower}
 
 pub if_some_both : {A : Type 0} (P Q R : A → Type 0) (r : Option A) → IfSome r P → IfSome r Q → ((x : A) → P x → Q x → R x) → IfSome r R
@@ -36,7 +37,7 @@ if_none_weaker P Q (Some x) p f = tt
 
 -- a text that is the text of this date and of another names one day
 pub none_read : (text : List ℕ) (date : Date) → date_view (Ok date) ≡ parse_date text
-    → ((day : ℕ) → text ≡ date_text date → pos day ≡ epoch_day date → 7305 ≤ day → day ≤ 51498 → ⊥) → (day : ℕ) → IsDayText text day → ⊥
+    → ((day : ℕ) → text ≡ date_text date → pos day ≡ epoch_day date → first_day ≤ day → day ≤ last_day → ⊥) → (day : ℕ) → IsDayText text day → ⊥
 none_read text date is none day named =
     let same = read_same named.date date (read_text text named.date (Ok date) is named.written) in
     none day (named.written ∙ sym (same_text date named.date same)) (named.number ∙ sym (epoch_day_same date named.date same.0 same.1 same.2)) named.in_range.0 named.in_range.1
@@ -46,8 +47,8 @@ none_unread text e is day named = read_err named.date e (read_text text named.da
 
 -- ---- the day that a text names
 
-in_range : (n : ℤ) → is_day_number n ≡ true → (pos 7305 ≤ℤ n) × (n ≤ℤ pos 51498)
-in_range n e = let both = and_parts (int_le (pos 7305) n) (int_le n (pos 51498)) e in let low = both.0 in let high = both.1 in (omega (arith, ints), omega (arith, ints))
+in_range : (n : ℤ) → is_day_number n ≡ true → (pos first_day ≤ℤ n) × (n ≤ℤ pos last_day)
+in_range n e = let both = and_parts (int_le (pos first_day) n) (int_le n (pos last_day)) e in let low = both.0 in let high = both.1 in (omega (arith, ints), omega (arith, ints))
 
 int_le-true : (a b : ℤ) → a ≤ℤ b → int_le a b ≡ true
 int_le-true a b h = by (int_le a b) refl
@@ -56,11 +57,11 @@ int_le-true a b h = by (int_le a b) refl
     by true e = e
     by false e = absurd (omega (arith, ints, h))
 
-is_in_range : (n : ℤ) → (pos 7305 ≤ℤ n) × (n ≤ℤ pos 51498) → is_day_number n ≡ true
+is_in_range : (n : ℤ) → (pos first_day ≤ℤ n) × (n ≤ℤ pos last_day) → is_day_number n ≡ true
 is_in_range n h =
-    rw (int_le-true (pos 7305) n h.0, int_le-true n (pos 51498) h.1) refl
+    rw (int_le-true (pos first_day) n h.0, int_le-true n (pos last_day) h.1) refl
 
-number_by : (n : ℤ) (b : Bool) (r : Option ℕ) → is_day_number n ≡ b → (IsSome r ↔ ((pos 7305 ≤ℤ n) × (n ≤ℤ pos 51498))) → IfSome r (λ day. pos day ≡ n) → r ≡ (if b then Some (unsigned_abs n) else None)
+number_by : (n : ℤ) (b : Bool) (r : Option ℕ) → is_day_number n ≡ b → (IsSome r ↔ ((pos first_day ≤ℤ n) × (n ≤ℤ pos last_day))) → IfSome r (λ day. pos day ≡ n) → r ≡ (if b then Some (unsigned_abs n) else None)
 number_by n true (Some day) e valid value = ap (λ k. Some (unsigned_abs k)) value
 number_by n false None e valid value = refl
 number_by n true None e valid value = absurd (true≢false (sym (valid.1 (in_range n e))))
@@ -88,7 +89,7 @@ day_on_none text date other = sym (day_on_by text date (is_day_number (epoch_day
     last false false e = refl
     last a true e = absurd (true≢false e)
 
-pub day_on_some : (text : List ℕ) (date : Date) (n : ℤ) (r : Option ℕ) → bytes_eq (date_text date) text ≡ true → n ≡ epoch_day date → (IsSome r ↔ ((pos 7305 ≤ℤ n) × (n ≤ℤ pos 51498))) → IfSome r (λ day. pos day ≡ n) → r ≡ day_on text date.year date.month date.day
+pub day_on_some : (text : List ℕ) (date : Date) (n : ℤ) (r : Option ℕ) → bytes_eq (date_text date) text ≡ true → n ≡ epoch_day date → (IsSome r ↔ ((pos first_day ≤ℤ n) × (n ≤ℤ pos last_day))) → IfSome r (λ day. pos day ≡ n) → r ≡ day_on text date.year date.month date.day
 day_on_some text date n r same is valid value =
     number_by n (is_day_number n) r refl valid value
     ∙ (λ k. if is_day_number (is k) then Some (unsigned_abs (is k)) else None)

@@ -3,13 +3,20 @@ use Rattle.std.specs.Prelude.{ℕ, Bool, true, not, ◌&&◌, List, [], ◌∷�
 use Rattle.std.specs.List.{list_any, list_all}
 use Rattle.std.specs.Str.{chars}
 use Rattle.std.specs.Char.{is_control}
-pub use Rattle.adm_types.specs.Numbers.{is_from}
+pub use Rattle.adm_types.specs.Numbers.{is_from, is_child_number, first_day}
 use Rattle.std.specs.Cmp.Lexicographic.{pointwise}
 use Rattle.adm_types.specs.declared.rows.Point.{Point}
 use Rattle.adm_types.specs.declared.rows.Criterion.{Criterion}
 use Rattle.adm_types.specs.declared.rows.Criterion.TheVariants.{Sibling, Within, Flag}
 use Rattle.adm_types.specs.declared.rows.School.{School}
 use Rattle.adm_types.specs.declared.rows.Child.{Child}
+
+-- how many schools and how many children a register has at the most
+abbrev pub most_schools : ℕ
+most_schools = 200
+
+abbrev pub most_children : ℕ
+most_children = 2000
 
 -- 1 to 80 bytes without control characters
 abbrev pub is_name : List ℕ → Bool

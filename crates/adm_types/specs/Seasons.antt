@@ -3,6 +3,7 @@ use Rattle.std.specs.Prelude.{◌≡◌, ℕ, ◌≤◌, ◌<◌, ◌-◌, ◌==
 use Rattle.std.specs.List.{list_any}
 use Rattle.std.specs.List.Sorted.{IsStrictlyIncreasing}
 use Rattle.jiff_core.specs.Calendar.{days_from_civil, weekday_number}
+use Rattle.adm_types.specs.Numbers.{first_day, last_day}
 use Rattle.adm_types.specs.declared.seasons.Phase.{Phase}
 use Rattle.adm_types.specs.declared.seasons.Phase.TheVariants.{Primary, Secondary}
 
@@ -14,7 +15,7 @@ pub record SeasonFacts : Type 0 where
 
 -- a day from 1990-01-01 to 2110-12-31
 abbrev pub IsDay : ℕ → Type 0
-IsDay day = (7305 ≤ day) × (day ≤ 51498)
+IsDay day = (first_day ≤ day) × (day ≤ last_day)
 
 -- an entry year from 2000 to 2100, and at most 40 holidays, in rising order and each once
 pub record IsSeason (season : SeasonFacts) : Type 0 where

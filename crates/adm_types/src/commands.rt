@@ -1,5 +1,5 @@
 // What a register is asked to do, what it answers, and why it refuses.
-use crate::{Child, ChildNo, Day, School, SchoolCode, Seq};
+use crate::{Application, Child, ChildNo, School, SchoolCode};
 
 /// A command to the register.
 #[derive(Drop)]
@@ -16,11 +16,7 @@ pub enum Command {
         school: SchoolCode,
     },
     /// Applies for a child on a day, with the schools in the order of its preference.
-    Apply {
-        child: ChildNo,
-        day: Day,
-        list: Seq<SchoolCode>,
-    },
+    Apply(Application),
 }
 
 /// What an accepted command answers.

@@ -3,6 +3,8 @@ ghost use Rattle.jiff_core.specs.Calendar.{weekday_number};
 ghost use Rattle.std.specs.Prelude.{◌≡◌, ◌+◌, ◌<◌, nat_lt, ◌≤◌, ◌↔◌, pos, ◌≤ℤ◌, IsSome, IfSome};
 ghost use Rattle.jiff.specs.Words.{epoch_day, date_text};
 ghost use Rattle.std.specs.Prelude.{ℕ, IfNone};
+ghost use Rattle.adm_types.specs.Numbers.{first_day, last_day};
+ghost use Rattle.adm_types.specs.Seasons.{IsDay};
 ghost use Rattle.adm_types.specs.DayText.{IsDayText, day_on, day_named};
 
 use arrayvec::ArrayString;
@@ -12,6 +14,12 @@ use jiff_core::civil;
 use std::fmt;
 use std::marker::Model;
 
+/// The number of 1990-01-01.
+const FIRST: i64 = 7305;
+
+/// The number of 2110-12-31.
+const LAST: i64 = 51498;
+
 /// A day from 1990-01-01 to 2110-12-31, which contracts see as its number, counted from 1970-01-01.
 #[derive(Clone, Copy, PartialEq, Eq, PartialOrd, Ord, Debug)]
 pub struct Day {
@@ -19,13 +27,14 @@ pub struct Day {
 }
 
 impl Model for Day {
-    ghost use Rattle.std.specs.Prelude.{ℕ, ◌≤◌};
+    ghost use Rattle.std.specs.Prelude.{ℕ};
+    ghost use Rattle.adm_types.specs.Seasons.{IsDay};
 
     ghost Value = { ℕ };
 
     ghost view = { λ d. d.number };
 
-    ghost invariant = { λ d. (7305 ≤ d.number) × (d.number ≤ 51498) };
+    ghost invariant = { λ d. IsDay d.number };
 
     ghost inverse = { λ n. record { number = n } };
 }
@@ -46,7 +55,7 @@ impl Day {
     /// The day of a date in range, where the text is its text.
     fn written(text: &str, date: civil::Date) -> Option<Day>
         ensures found { IfSome result (IsDayText text.now) }
-        ensures none { IfNone result ((day : ℕ) → text.now ≡ date_text date → pos day ≡ epoch_day date → 7305 ≤ day → day ≤ 51498 → ⊥) }
+        ensures none { IfNone result ((day : ℕ) → text.now ≡ date_text date → pos day ≡ epoch_day date → first_day ≤ day → day ≤ last_day → ⊥) }
         ensures reads { result ≡ day_on text.now date.year date.month date.day }
     {
         if temporal::DateTimePrinter::new().date_text(date).as_str() != text {
@@ -56,11 +65,11 @@ impl Day {
     }
 
     pub fn from_number(number: i64) -> Option<Day>
-        ensures valid { IsSome result ↔ ((pos 7305 ≤ℤ number) × (number ≤ℤ pos 51498)) }
+        ensures valid { IsSome result ↔ ((pos first_day ≤ℤ number) × (number ≤ℤ pos last_day)) }
         ensures value { IfSome result (λ day. pos day ≡ number) }
-        ensures in_range { IfSome result (λ day. (7305 ≤ day) × (day ≤ 51498)) }
+        ensures in_range { IfSome result IsDay }
     {
-        if 7305 <= number && number <= 51498 {
+        if FIRST <= number && number <= LAST {
             Some(Day {
                 number: number as u32,
             })
@@ -71,7 +80,7 @@ impl Day {
 
     pub fn number(&self) -> i64
         ensures value { result ≡ pos self.now }
-        ensures in_range { (7305 ≤ self.now) × (self.now ≤ 51498) }
+        ensures in_range { IsDay self.now }
     {
         i64::from(self.number)
     }
@@ -88,7 +97,7 @@ impl Day {
 
     /// The day of a date from 1990-01-01 to 2110-12-31.
     pub(crate) fn on(date: Date) -> Day
-        requires { (pos 7305 ≤ℤ epoch_day date) × (epoch_day date ≤ℤ pos 51498) }
+        requires { (pos first_day ≤ℤ epoch_day date) × (epoch_day date ≤ℤ pos last_day) }
         ensures { pos result ≡ epoch_day date }
     {
         Day {
@@ -98,7 +107,7 @@ impl Day {
 
     /// The day after this one.
     pub(crate) fn next(self) -> Day
-        requires { self < 51498 }
+        requires { self < last_day }
         ensures { result ≡ self + 1 }
     {
         Day {

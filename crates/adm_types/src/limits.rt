@@ -7,6 +7,12 @@ ghost use Rattle.adm_types.specs.Limits.{is_name, is_on_map, is_criterion, is_sc
 
 use crate::{Child, Criterion, Point, School, SchoolCode, Text};
 
+/// How many schools a register has at the most.
+pub const MOST_SCHOOLS: usize = 200;
+
+/// How many children a register has at the most.
+pub const MOST_CHILDREN: usize = 2000;
+
 /// Whether a text has a control character.
 fn has_control(text: &str) -> bool
     ensures { result ≡ list_any is_control (chars text.now) }

@@ -31,7 +31,7 @@ form_of n.NamePlan d = do
   Ok (c.NamePlan p.0 p.1)
 form_of n.Apply d = do
   a ← application_form d
-  Ok (c.Apply a.0 a.1 a.2)
+  Ok (c.Apply a)
 
 -- what JSON data says
 unfoldable pub command_in : Data → Result Command WireFault

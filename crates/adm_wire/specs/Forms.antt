@@ -2,6 +2,7 @@
 use Rattle.std.specs.Prelude.{ℕ, List, [], ◌∷◌, codes, Result}
 use Rattle.serde_json.specs.Data.{Data}
 use Rattle.adm_types.specs.Flags.{bits_of}
+use Rattle.adm_types.specs.declared.rows.Application.{Application}
 use Rattle.adm_types.specs.declared.rows.Child.{Child}
 use Rattle.adm_types.specs.declared.rows.School.{School}
 use Rattle.adm_wire.specs.declared.fault.WireFault.{WireFault}
@@ -39,10 +40,10 @@ pair_form d = do
   s ← field_at a_code (codes "school") d
   only (codes "cmd" ∷ codes "child" ∷ codes "school" ∷ []) d (c, s)
 
--- a child, a day and the schools of its preference
-unfoldable pub application_form : Data → Result (ℕ × ℕ × List (List ℕ)) WireFault
+-- an application: a child, a day and the schools of its preference
+unfoldable pub application_form : Data → Result Application WireFault
 application_form d = do
   c ← field_at a_child (codes "child") d
   t ← field_at a_day (codes "day") d
   ps ← field_at (a_list a_code) (codes "preferences") d
-  only (codes "cmd" ∷ codes "child" ∷ codes "day" ∷ codes "preferences" ∷ []) d (c, t, ps)
+  only (codes "cmd" ∷ codes "child" ∷ codes "day" ∷ codes "preferences" ∷ []) d (record { child = c; day = t; list = ps })

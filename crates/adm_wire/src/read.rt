@@ -10,7 +10,7 @@ use crate::field::field;
 use crate::keys::only;
 use crate::name::{Name, read_name};
 use adm_types::{
-    Child, ChildNo, Command, Day, Flag, Point, School, SchoolCode, Seq, Text, flag_bits,
+    Application, Child, ChildNo, Command, Flag, Point, School, SchoolCode, Seq, Text, flag_bits,
 };
 use serde_json::Value;
 use std::alloc::Global;
@@ -81,16 +81,16 @@ fn pair(alloc: Global, object: &Value) -> Result<(ChildNo, SchoolCode), WireFaul
     Ok((child, school))
 }
 
-/// A child, a day and the schools of its preference.
+/// An application: a child, a day and the schools of its preference.
 #[tactic(auto, unfolding(crate::specs::Forms::application_form))]
-fn application(alloc: Global, object: &Value) -> Result<(ChildNo, Day, Seq<SchoolCode>), WireFault>
+fn application(alloc: Global, object: &Value) -> Result<Application, WireFault>
     ensures { Gives result (application_form (view object.now)) }
 {
     let child = field(alloc, object, "child")?;
     let day = field(alloc, object, "day")?;
-    let preferences = field(alloc, object, "preferences")?;
+    let list = field(alloc, object, "preferences")?;
     only(object, &["cmd", "child", "day", "preferences"])?;
-    Ok((child, day, preferences))
+    Ok(Application { child, day, list })
 }
 
 #[tactic(auto, unfolding(crate::specs::Commands::form_of))]
@@ -105,10 +105,7 @@ fn command(alloc: Global, name: Name, object: &Value) -> Result<Command, WireFau
             let (child, school) = pair(alloc, object)?;
             Ok(Command::NamePlan { child, school })
         }
-        Name::Apply => {
-            let (child, day, list) = application(alloc, object)?;
-            Ok(Command::Apply { child, day, list })
-        }
+        Name::Apply => Ok(Command::Apply(application(alloc, object)?)),
     }
 }
 

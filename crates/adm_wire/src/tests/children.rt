@@ -1,6 +1,6 @@
 // Commands about children as lines.
 use crate::{WireFault, read_command};
-use adm_types::{Child, ChildNo, Command, Day, Point, SchoolCode, Seq};
+use adm_types::{Application, Child, ChildNo, Command, Point, SchoolCode};
 use std::test::Fail;
 
 /// The child that a line adds or amends.
@@ -86,17 +86,17 @@ fn reads_a_plan(rt: HostRuntime) -> Result<(), Fail> {
     Ok(())
 }
 
-/// The child, the day and the schools of an application that a line makes.
-fn application(rt: HostRuntime, line: &[u8]) -> Result<(ChildNo, Day, Seq<SchoolCode>), Fail> {
+/// The application that a line makes.
+fn application(rt: HostRuntime, line: &[u8]) -> Result<Application, Fail> {
     match read_command(rt.alloc(), line)? {
-        Command::Apply { child, day, list } => Ok((child, day, list)),
+        Command::Apply(application) => Ok(application),
         _command => Err("an application")?,
     }
 }
 
 #[test]
 fn reads_an_application(rt: HostRuntime) -> Result<(), Fail> {
-    let (child, day, list) = application(
+    let Application { child, day, list } = application(
         rt,
         b"{\"cmd\":\"apply\",\"child\":7,\"day\":\"2024-10-31\",\"preferences\":[\"B\",\"A\",\"B\"]}",
     )?;
@@ -113,7 +113,7 @@ fn reads_an_application(rt: HostRuntime) -> Result<(), Fail> {
 
 #[test]
 fn reads_an_application_without_preferences(rt: HostRuntime) -> Result<(), Fail> {
-    let (child, day, list) = application(
+    let Application { child, day, list } = application(
         rt,
         b"{\"cmd\":\"apply\",\"child\":7,\"day\":\"1990-01-01\",\"preferences\":[]}",
     )?;

@@ -1,21 +1,19 @@
 use Rattle.std.proofs.Common.{◌∙◌, ap, sym, subst}
 use Rattle.adm_register.specs.Change.{after}
 use Rattle.adm_register.specs.Difference.{IsDifference, differing}
-use Rattle.adm_register.specs.Extends.{Extends}
+use Rattle.adm_register.specs.Extends.{Extends, KeepsSchools}
 use Rattle.adm_register.specs.Outcome.{change_of}
-use Rattle.adm_register.specs.Tables.{TouchesOnly, touched_by}
 use Rattle.adm_register.specs.WellFormed.{WellFormed}
 use Rattle.adm_register.proofs.Accepted.{command-fit}
 use Rattle.adm_register.proofs.Exactly.{differing_is}
-use Rattle.adm_register.proofs.Fits.{after-keeps, after-extends}
-use Rattle.adm_register.proofs.Touches.{after-touches}
+use Rattle.adm_register.proofs.Fits.{after-keeps, after-extends, after-keeps_schools}
 use Rattle.adm_register.proofs.registers.Register.propose.Goals as goal
 
 pub invariant_of-result : goal.invariant_of-result
 invariant_of-result c =
     let old = c.self.inside.tables in
     let change = change_of old c.args.command.now in
-    let fit = command-fit old c.args.command.now c.kept_by_types.ensures c.self.invariant (sym c.refusal_of.ensures ∙ c.in-None.is) in
+    let fit = command-fit old c.args.command.now c.kept_by_types.ensures c.self.invariant (sym c.refused.ensures ∙ c.in-None.is) in
     let is = c.in_ok-tables-in-None.ensures ∙ ap (after old) c.in_ok-change-in-None.ensures in
     subst WellFormed (sym is) (after-keeps old change c.self.invariant fit.base fit.places)
 
@@ -23,24 +21,25 @@ pub returns-in_ok-change-in-None-2-clause-extends : goal.returns-in_ok-change-in
 returns-in_ok-change-in-None-2-clause-extends c =
     let old = c.self.inside.tables in
     let change = change_of old c.args.command.now in
-    let fit = command-fit old c.args.command.now c.kept_by_types.ensures c.self.invariant (sym c.refusal_of.ensures ∙ c.in-None.is) in
+    let fit = command-fit old c.args.command.now c.kept_by_types.ensures c.self.invariant (sym c.refused.ensures ∙ c.in-None.is) in
     let is = c.in_ok-tables-in-None.ensures ∙ ap (after old) c.in_ok-change-in-None.ensures in (
-      subst (λ s. Extends s c.in_ok-tables-in-None.tables) c.self.view_is (subst (Extends old) (sym is) (after-extends old change fit.base)),
+      subst (λ s. Extends s c.in_ok-tables-in-None.tables) c.self.view_is (subst (Extends old) (sym is) (after-extends old change)),
       subst WellFormed (sym is) (after-keeps old change c.self.invariant fit.base fit.places),
     )
 
-pub returns-in_ok-change-in-None-2-clause-touches : goal.returns-in_ok-change-in-None-2-clause-touches
-returns-in_ok-change-in-None-2-clause-touches c =
+pub returns-in_ok-change-in-None-2-clause-schools : goal.returns-in_ok-change-in-None-2-clause-schools
+returns-in_ok-change-in-None-2-clause-schools c =
     let old = c.self.inside.tables in
-    let touched = touched_by c.args.command.now in
+    let change = change_of old c.args.command.now in
+    let fit = command-fit old c.args.command.now c.kept_by_types.ensures c.self.invariant (sym c.refused.ensures ∙ c.in-None.is) in
     let is = c.in_ok-tables-in-None.ensures ∙ ap (after old) c.in_ok-change-in-None.ensures in
-    subst (λ s. TouchesOnly touched s c.in_ok-tables-in-None.tables) c.self.view_is (subst (TouchesOnly touched old) (sym is) (after-touches old c.args.command.now))
+    subst (λ s. KeepsSchools s c.in_ok-tables-in-None.tables) c.self.view_is (subst (KeepsSchools old) (sym is) (after-keeps_schools old change fit.base))
 
 pub returns-in_ok-change-in-None-2-clause-change : goal.returns-in_ok-change-in-None-2-clause-change
 returns-in_ok-change-in-None-2-clause-change c =
     let old = c.self.inside.tables in
     let whole = change_of old c.args.command.now in
-    let fit = command-fit old c.args.command.now c.kept_by_types.ensures c.self.invariant (sym c.refusal_of.ensures ∙ c.in-None.is) in
+    let fit = command-fit old c.args.command.now c.kept_by_types.ensures c.self.invariant (sym c.refused.ensures ∙ c.in-None.is) in
     let is = c.in_ok-tables-in-None.ensures ∙ ap (after old) c.in_ok-change-in-None.ensures in
     let differs = c.in_ok-change-in-None-2.ensures ∙ ap (differing old) c.in_ok-change-in-None.ensures in
     subst (λ s. IsDifference s c.in_ok-tables-in-None.tables c.in_ok-change-in-None-2.change) c.self.view_is

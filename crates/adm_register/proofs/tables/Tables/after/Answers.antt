@@ -22,7 +22,7 @@ returns c =
     ∙ ap (put_all (λ (s : Child). s.no) (from_entries inside.children)) c.as_slice-2.ensures ∙ ap (λ s. s.children) was in
     let applications = changed_rows nat_cmp_total nat_cmp-IsAntisymmetric (λ (s : Application). s.child) inside.applications c.in_ok-with_all-3.field-0 c.as_slice-3.result.now c.as_slice-4.result.now c.in_ok-with_all-3.ensures
     ∙ (λ i. put_all (λ (s : Application). s.child) (cut_all (from_entries inside.applications) (c.as_slice-3.ensures i)) (c.as_slice-4.ensures i)) ∙ ap (λ s. s.applications) was in
-    let places = changed_rows nat_cmp_total nat_cmp-IsAntisymmetric (λ (s : PlaceRow). s.child) inside.places c.in_ok-with_all-4.field-0 [] c.as_slice-5.result.now c.in_ok-with_all-4.ensures
-    ∙ ap (put_all (λ (s : PlaceRow). s.child) (from_entries inside.places)) c.as_slice-5.ensures ∙ ap (λ s. s.places) was in
+    let places = changed_rows nat_cmp_total nat_cmp-IsAntisymmetric (λ (s : PlaceRow). s.child) inside.places c.in_ok-with_all-4.field-0 c.as_slice-5.result.now c.as_slice-6.result.now c.in_ok-with_all-4.ensures
+    ∙ (λ i. put_all (λ (s : PlaceRow). s.child) (cut_all (from_entries inside.places) (c.as_slice-5.ensures i)) (c.as_slice-6.ensures i)) ∙ ap (λ s. s.places) was in
     let season = c.in_ok-clone.ensures.cases ∙ ap (λ s. s.season) was in
     λ i. record { season = season i; schools = schools i; children = children i; applications = applications i; places = places i }

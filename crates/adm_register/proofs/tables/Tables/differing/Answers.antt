@@ -22,4 +22,5 @@ returns c =
     let applications = c.in_ok-lacked-3.ensures ∙ (λ i. filter (λ (s : Application). is_other is_same_application ((sym (get_rows nat_cmp_total inside.applications s.child) ∙ ap (λ o. get o.applications s.child) old) i) s) change.applications) in
     let places = c.in_ok-lacked-4.ensures ∙ (λ i. filter (λ (s : PlaceRow). is_other is_same_place ((sym (get_rows nat_cmp_total inside.places s.child) ∙ ap (λ o. get o.places s.child) old) i) s) change.places) in
     let ended = c.in_ok-known.ensures ∙ (λ i. filter (λ child. is_some ((sym (get_rows nat_cmp_total inside.applications child) ∙ ap (λ o. get o.applications child) old) i)) change.ended) in
-    λ i. record { schools = schools i; children = children i; applications = applications i; places = places i; ended = ended i }
+    let vacated = c.in_ok-known-2.ensures ∙ (λ i. filter (λ child. is_some ((sym (get_rows nat_cmp_total inside.places child) ∙ ap (λ o. get o.places child) old) i)) change.vacated) in
+    λ i. record { schools = schools i; children = children i; applications = applications i; places = places i; ended = ended i; vacated = vacated i }

@@ -1,6 +1,6 @@
 use Rattle.std.proofs.Common.{◌≡◌, drop}
 use Rattle.adm_register.specs.Tests.{first_failing}
-use Rattle.adm_register.proofs.tests_of.first_failing.Given as goal
+use Rattle.adm_register.proofs.failing.first_failing.Given as goal
 
 -- the tests that are left decide
 abbrev pub invariant-loop-passes : goal.invariant-loop-passes
