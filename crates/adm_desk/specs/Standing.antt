@@ -34,12 +34,12 @@ pub record InWork (register : Register) (command : Command) (left : Disk) : Type
 
 -- A command is answered, where `disk` is what a connection's file may be.
 -- Done: an accepted step, and all that a crash may leave stands for the register after it.
--- Refused: by the first test that fails, and nothing changes.
+-- Refused: by the first test that fails, with the row of an import and 0 for a command without rows, and nothing changes.
 -- Memory: nothing changes.
 -- Failed: the register stays that of the acknowledged commands; from then on each answer is Failed, and the connection stays.
 abbrev pub Handles : {C : Type 0} → (C → Disk) → Standing C → Command → Answer → Standing C → Type 0
 Handles disk old command (Done reply) new = (old.failed ≡ false) × Step old.register command (Ok reply) new.register × (new.failed ≡ false) × LeavesOnly new.register (disk new.conn)
-Handles disk old command (Refused refusal row) new = (old.failed ≡ false) × Step old.register command (Err refusal) old.register × (row ≡ 0) × (new ≡ old)
+Handles disk old command (Refused refusal row) new = (old.failed ≡ false) × Step old.register command (Err (refusal, row)) old.register × (new ≡ old)
 Handles disk old command Memory new = (old.failed ≡ false) × (new ≡ old)
 Handles disk old command Failed new = (new.failed ≡ true) × (new.register ≡ old.register) × (old.failed ≡ true → new ≡ old) × (old.failed ≡ false → InWork old.register command (disk new.conn))
 

@@ -3,7 +3,7 @@ ghost use Rattle.std.specs.Prelude.{◌≡◌, ◌≢◌, ◌^◌, ◌<◌, ◌-
 ghost use Rattle.std.specs.Io.KnownBytes.{Consumes, IsAtEnd};
 ghost use Rattle.sqlite.specs.Held.{state};
 ghost use Rattle.sqlite.specs.State.{HasCleanDisk, Survives};
-ghost use Rattle.adm_register.specs.Extends.{Extends};
+ghost use Rattle.adm_register.specs.Extends.{Extends, KeepsSchools};
 ghost use Rattle.adm_register.specs.Difference.{IsDifference};
 ghost use Rattle.adm_register.specs.WellFormed.{WellFormed};
 ghost use Rattle.adm_store.specs.Faults.{IsNoRegister};
@@ -17,7 +17,7 @@ ghost use Rattle.adm_desk.specs.Written.{Finished, AnsweredUpTo, Stopped};
 use crate::handler::{self, Handler};
 use crate::{Answer, Run, RunFault, lines};
 use adm_register::{Difference, NotDone, Proposal, Register};
-use adm_store::{OpenFault, Store, written};
+use adm_store::{OpenFault, Store, changes};
 use adm_types::{Command, Reply};
 use adm_wire::{Input, Output};
 use sqlite::{Alter, Connection};
@@ -140,9 +140,10 @@ impl<S: Alter> Desk<S> {
         requires alive { self.old.failed ≡ false }
         requires differs { IsDifference self.old.register new change }
         requires extends { Extends self.old.register new × WellFormed new }
+        requires schools { KeepsSchools self.old.register new }
         ensures { Keeps (state S.Store) self.old new reply result self.new }
     {
-        match written(self.alloc, change) {
+        match changes(self.alloc, change) {
             Err(_) => Answer::Memory,
             Ok(changes) => match self.store.commit(&changes) {
                 Ok(()) => {
