@@ -16,7 +16,7 @@ use Rattle.adm_types.specs.declared.commands.Command.{Command}
 use Rattle.adm_types.specs.declared.commands.Command.TheVariants.{AddSchool, AddChild, Amend, NamePlan, Apply}
 use Rattle.adm_register.specs.declared.difference.Difference.{Difference}
 use Rattle.adm_register.specs.State.{State}
-use Rattle.adm_register.specs.Change.{no_change}
+use Rattle.adm_register.specs.Change.{no_change, put_child}
 use Rattle.adm_register.specs.Plans.{has_plan, is_plan_row}
 use Rattle.adm_register.specs.KeptByTypes.{KeptBySchool, KeptByChild, KeptByTypes}
 use Rattle.adm_register.specs.WellFormed.{WellFormed, ChildFits}
@@ -64,22 +64,22 @@ add_school-fit old school kept passes =
     }
 
 -- a child that fits is put
-put_child-fit : (old : State) (child : Child) → ChildFits old.schools child.no child → len (insert old.children child.no child) ≤ most_children → Fit old (record no_change { children = child ∷ [] })
+put_child-fit : (old : State) (child : Child) → ChildFits old.schools child.no child → len (insert old.children child.no child) ≤ most_children → Fit old (put_child child)
 put_child-fit old child fits few = record {
   base = record { schools = tt; new_schools = tt; few_schools = tt; children = (fits, tt); few_children = few; applications = tt };
   places = places_stay old [] (child ∷ []);
   tidy = record { schools = tidy_none _ _; children = tidy_put _ _ child; applications = tidy_none _ _; places = tidy_none _ _ };
 }
 
-add_child-fit : (old : State) (child : Child) → KeptByChild child → first_failing (add_child.tests old child) ≡ None → Fit old (add_child.change_of child)
-unfolding add_child.tests add_child.change_of
+add_child-fit : (old : State) (child : Child) → KeptByChild child → first_failing (add_child.tests old child) ≡ None → Fit old (put_child child)
+unfolding add_child.tests
 add_child-fit old child kept passes =
     let pass = all_pass (add_child.tests old child) passes in
     put_child-fit old child (record { own_number = refl; number_form = kept.number_form; text = kept.text; name = pass.1.0; in_range = pass.1.1.0; flags = kept.flags; siblings = pass.1.1.1.0 })
     (len-insert_room nat_cmp_total old.children child.no child most_children (ltb-true _ _ pass.1.1.1.1.0))
 
-amend-fit : (old : State) (child : Child) → KeptByChild child → WellFormed old → first_failing (amend.tests old child) ≡ None → Fit old (amend.change_of child)
-unfolding amend.tests amend.change_of
+amend-fit : (old : State) (child : Child) → KeptByChild child → WellFormed old → first_failing (amend.tests old child) ≡ None → Fit old (put_child child)
+unfolding amend.tests
 amend-fit old child kept well passes =
     let pass = all_pass (amend.tests old child) passes in
     let same_len = len-insert nat_cmp_total old.children child.no child ∙ ap (λ b. cond b (len old.children) (len old.children + 1)) pass.0 in

@@ -10,12 +10,11 @@ use Rattle.adm_types.specs.declared.commands.Command.{Command}
 use Rattle.adm_types.specs.declared.commands.Command.TheVariants.{AddSchool, AddChild, Amend, NamePlan, Apply}
 use Rattle.adm_types.specs.declared.rows.PlaceState.TheVariants.{Plan}
 use Rattle.adm_register.specs.State.{State}
-use Rattle.adm_register.specs.Change.{after}
+use Rattle.adm_register.specs.Change.{after, put_child}
 use Rattle.adm_register.specs.Plans.{is_plan_row}
 use Rattle.adm_register.specs.Tests.{first_failing}
 use Rattle.adm_register.specs.AddSchool as add_school
 use Rattle.adm_register.specs.AddChild as add_child
-use Rattle.adm_register.specs.Amend as amend
 use Rattle.adm_register.specs.NamePlan as name_plan
 use Rattle.adm_register.specs.Apply as apply
 use Rattle.adm_register.specs.Outcome.{RepeatSafe, tests_of, change_of, refused}
@@ -40,9 +39,9 @@ module _ {K V : Type 0} {R : K → K → Ordering} (total : IsTotalOrder R) wher
 -- after its change a command's tests fail, or it changes nothing more
 again : (old : State) (command : Command) → first_failing (tests_of (after old (change_of old command)) command) ≡ None
     → after (after old (change_of old command)) (change_of (after old (change_of old command)) command) ≡ after old (change_of old command)
-unfolding add_school.tests add_school.change_of add_child.tests add_child.change_of amend.change_of name_plan.tests name_plan.change_of apply.tests apply.change_of
+unfolding add_school.tests add_school.change_of add_child.tests name_plan.tests name_plan.change_of apply.tests apply.change_of
 again old (AddSchool school) passes = absurd (not_again nat_list_cmp_total old.schools school.code school (all_pass (add_school.tests (after old (add_school.change_of school)) school) passes).0)
-again old (AddChild child) passes = absurd (not_again nat_cmp_total old.children child.no child (all_pass (add_child.tests (after old (add_child.change_of child)) child) passes).0)
+again old (AddChild child) passes = absurd (not_again nat_cmp_total old.children child.no child (all_pass (add_child.tests (after old (put_child child)) child) passes).0)
 again old (Amend child) passes = let same = insert_again nat_cmp_total nat_cmp-IsAntisymmetric old.children child.no child in λ i. record old { children = same i }
 again old (NamePlan child school) passes =
     let unplanned = (all_pass (name_plan.tests (after old (name_plan.change_of child school)) child school) passes).1.1.0 in

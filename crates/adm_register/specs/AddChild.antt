@@ -5,9 +5,7 @@ use Rattle.adm_types.specs.declared.rows.Child.{Child}
 use Rattle.adm_types.specs.declared.commands.Refusal.{Refusal}
 use Rattle.adm_types.specs.declared.commands.Refusal.TheVariants.{ChildKnown, BadText, OutOfRange, UnknownSchool, RegisterFull}
 use Rattle.adm_types.specs.Limits.{is_name, is_child_in_range, most_children}
-use Rattle.adm_register.specs.declared.difference.Difference.{Difference}
 use Rattle.adm_register.specs.State.{State}
-use Rattle.adm_register.specs.Change.{no_change}
 use Rattle.adm_register.specs.WellFormed.{are_schools}
 
 -- its number is new, its name and its numbers are in their limits, its siblings' schools are there, and there are fewer than 2,000 children
@@ -19,7 +17,3 @@ tests old child =
     ∷ (are_schools old.schools child.siblings, UnknownSchool)
     ∷ (nat_lt (len old.children) most_children, RegisterFull)
     ∷ []
-
--- the child is put
-unfoldable pub change_of : Child → Difference
-change_of child = record no_change { children = child ∷ [] }

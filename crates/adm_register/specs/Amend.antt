@@ -5,9 +5,7 @@ use Rattle.adm_types.specs.declared.rows.Child.{Child}
 use Rattle.adm_types.specs.declared.commands.Refusal.{Refusal}
 use Rattle.adm_types.specs.declared.commands.Refusal.TheVariants.{UnknownChild, BadText, OutOfRange, UnknownSchool}
 use Rattle.adm_types.specs.Limits.{is_name, is_child_in_range}
-use Rattle.adm_register.specs.declared.difference.Difference.{Difference}
 use Rattle.adm_register.specs.State.{State}
-use Rattle.adm_register.specs.Change.{no_change}
 use Rattle.adm_register.specs.WellFormed.{are_schools}
 
 -- the child is there, its name and its numbers are in their limits, and its siblings' schools are there
@@ -18,7 +16,3 @@ tests old child =
     ∷ (is_child_in_range child, OutOfRange)
     ∷ (are_schools old.schools child.siblings, UnknownSchool)
     ∷ []
-
--- the child's data are put in place of those that were there
-unfoldable pub change_of : Child → Difference
-change_of child = record no_change { children = child ∷ [] }

@@ -23,6 +23,10 @@ cut_all rows (key ∷ more) = cut_all (remove rows key) more
 abbrev pub no_change : Difference
 no_change = record { schools = []; children = []; applications = []; places = []; ended = []; vacated = [] }
 
+-- a child's data are put, in place of those that were there
+abbrev pub put_child : Child → Difference
+put_child child = record no_change { children = child ∷ [] }
+
 -- the state after the change: in each table what is cut is cut first
 abbrev pub after : State → Difference → State
 after old change = record {

@@ -7,7 +7,7 @@ use Rattle.adm_types.specs.declared.commands.Reply.{Reply}
 use Rattle.adm_types.specs.declared.commands.Reply.TheVariants.{Done}
 use Rattle.adm_register.specs.declared.difference.Difference.{Difference}
 use Rattle.adm_register.specs.State.{State}
-use Rattle.adm_register.specs.Change.{after}
+use Rattle.adm_register.specs.Change.{after, put_child}
 use Rattle.adm_register.specs.Tests.{first_failing}
 use Rattle.adm_register.specs.WellFormed.{WellFormed}
 use Rattle.adm_register.specs.AddSchool as add_school
@@ -39,8 +39,8 @@ refused old command = without_row (first_failing (tests_of old command))
 -- what an accepted command changes
 abbrev pub change_of : State → Command → Difference
 change_of old (AddSchool school) = add_school.change_of school
-change_of old (AddChild child) = add_child.change_of child
-change_of old (Amend child) = amend.change_of child
+change_of old (AddChild child) = put_child child
+change_of old (Amend child) = put_child child
 change_of old (NamePlan child school) = name_plan.change_of child school
 change_of old (Apply application) = apply.change_of application
 

@@ -1,16 +1,12 @@
 // To replace a child's data.
-ghost use Rattle.std.specs.Prelude.{◌≡◌, IfOk};
+ghost use Rattle.std.specs.Prelude.{◌≡◌};
 ghost use Rattle.adm_register.specs.Tests.{first_failing};
-ghost use Rattle.adm_register.specs.Amend.{tests, change_of};
+ghost use Rattle.adm_register.specs.Amend.{tests};
 
-use crate::Difference;
-use crate::difference::one;
 use crate::failing::first_failing;
-use crate::shared::Shared;
 use crate::tables::Tables;
 use adm_types::limits::{is_child_in_range, is_name};
 use adm_types::{Child, Refusal};
-use std::alloc::{AllocError, Global};
 
 /// Why the data are refused.
 #[tactic(auto, unfolding(crate::specs::Amend::tests))]
@@ -26,15 +22,4 @@ pub(crate) fn refusal_of(old: &Tables, child: &Child) -> Option<Refusal>
             Refusal::UnknownSchool,
         ),
     ])
-}
-
-/// The child's data are put in place of those that were there.
-#[tactic(auto, unfolding(crate::specs::Amend::change_of))]
-pub(crate) fn change_of(alloc: Global, child: &Child) -> Result<Difference, AllocError>
-    ensures { IfOk result (λ change. change ≡ change_of child.now) }
-{
-    let row = Shared::new(alloc, child.clone()?)?;
-    let mut change = Difference::none(alloc);
-    change.children = one(alloc, row)?;
-    Ok(change)
 }

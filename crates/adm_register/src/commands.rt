@@ -4,7 +4,7 @@ ghost use Rattle.adm_register.specs.Tests.{first_failing};
 ghost use Rattle.adm_register.specs.Outcome.{tests_of, change_of, refused};
 ghost use Rattle.adm_register.specs.KeptByTypes.{KeptByTypes};
 
-use crate::child_values::kept_by_child;
+use crate::child_values::{kept_by_child, put_child};
 use crate::tables::Tables;
 use crate::{Difference, add_child, add_school, amend, apply, name_plan};
 use adm_types::{Command, Refusal};
@@ -43,8 +43,7 @@ pub(crate) fn change_of(
 {
     match command {
         Command::AddSchool(school) => add_school::change_of(alloc, school),
-        Command::AddChild(child) => add_child::change_of(alloc, child),
-        Command::Amend(child) => amend::change_of(alloc, child),
+        Command::AddChild(child) | Command::Amend(child) => put_child(alloc, child),
         Command::NamePlan { child, school } => name_plan::change_of(alloc, *child, *school),
         Command::Apply(application) => apply::change_of(alloc, application),
     }
@@ -55,6 +54,7 @@ pub(crate) fn kept_by_types(command: &Command)
     ensures { KeptByTypes command.now }
 {
     match command {
+        // Each is read only so that the check sees what its type keeps.
         Command::AddSchool(school) => {
             let _code = school.code.as_str();
             let _text = school.name.as_str();
