@@ -40,6 +40,7 @@ impl Register {
     pub fn new(season: Season) -> Register
         ensures { result ≡ only_season season }
     {
+        // Read only so that the check sees that the season is one.
         let _year = season.year();
         Register {
             tables: Tables::new(season),
@@ -147,16 +148,12 @@ impl Register {
         ensures extends { IfOk result (λ done. Extends self.now done.0 × WellFormed done.0) }
         ensures schools { IfOk result (λ done. KeepsSchools self.now done.0) }
     {
-        match self.propose(alloc, command) {
-            Ok(
-                Proposal {
-                    register,
-                    change: _,
-                    reply,
-                },
-            ) => Ok((register, reply)),
-            Err(why) => Err(why),
-        }
+        let Proposal {
+            register,
+            change: _,
+            reply,
+        } = self.propose(alloc, command)?;
+        Ok((register, reply))
     }
 }
 

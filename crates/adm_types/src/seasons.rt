@@ -162,6 +162,7 @@ impl Season {
     pub fn offer_day(&self) -> Day
         ensures { IsOfferDay self.now result }
     {
+        // Read only so that the check sees that there are at most 40, and the search ends.
         let _holidays = self.holidays.len();
         let mut day = self.national_day();
         while !self.is_working_day(day) {
@@ -200,6 +201,7 @@ fn rising(alloc: Global, days: &[Day]) -> Result<Seq<Day>, AllocError>
 {
     let mut set = BTreeSet::new(alloc);
     for day in days {
+        // Read only so that the check sees that the day is in range.
         let _number = day.number();
         set.insert(*day)?;
     }
