@@ -1,12 +1,12 @@
 -- What the proof needs of a problem, as facts about its entrants.
 use Rattle.std.proofs.Common.{◌≡◌, List, Some, false, inl, inr, refl, sym, ◌∙◌, subst}
 use Rattle.std.proofs.lemmas.Bool.{cases_order}
-use Rattle.adm_match.specs.declared.standings.Standing.{Standing}
+use Rattle.adm_match.specs.declared.progress.Progress.{Progress}
 use Rattle.adm_rank.specs.Ranking.{precedes}
 use Rattle.adm_match.specs.Market.{Code, Market, is_tenant, key_at, both_precede}
 use Rattle.adm_match.specs.Turns.{Shaped, AreRanked}
 use Rattle.adm_match.specs.Distinct.{Distinct}
-use Rattle.adm_match.proofs.Departure.{kept_wish}
+use Rattle.adm_match.proofs.Departure.{held_wish}
 use Rattle.adm_match.proofs.Posed.{Posed, well_listed, list_apart, key_is, ranked_by, precedes_total, precedes_total', child_once}
 
 pub distinct : (m : Market) → Posed m → Distinct m
@@ -27,13 +27,13 @@ distinct m h = record {
   ];
 }
 
-pub ranked_of : (m : Market) (rows : List Standing) (s : Code) → Distinct m → Shaped m rows → AreRanked m.entrants rows s
+pub ranked_of : (m : Market) (rows : List Progress) (s : Code) → Distinct m → Shaped m rows → AreRanked m.entrants rows s
 ranked_of m rows s h shaped k l d c apart gd gc before =
-    let w = kept_wish d gd.1.0 s (shaped.keeps k d gd.1.0 gd.0 gd.1.1) gd.1.2 in
-    let z = kept_wish c gc.1.0 s (shaped.keeps l c gc.1.0 gc.0 gc.1.1) gc.1.2 in
-    let d_key : key_at d.list s ≡ Some w.0.key = subst (λ (t : Code). key_at d.list t ≡ Some w.0.key) w.2 (h.key_of k d gd.1.0.refusals w.0 gd.0 w.1) in
-    let c_key : key_at c.list s ≡ Some z.0.key = subst (λ (t : Code). key_at c.list t ≡ Some z.0.key) z.2 (h.key_of l c gc.1.0.refusals z.0 gc.0 z.1) in
+    let w = held_wish d gd.1.0 s (shaped.holds k d gd.1.0 gd.0 gd.1.1) gd.1.2 in
+    let z = held_wish c gc.1.0 s (shaped.holds l c gc.1.0 gc.0 gc.1.1) gc.1.2 in
+    let d_key : key_at d.list s ≡ Some w.0.key = subst (λ (t : Code). key_at d.list t ≡ Some w.0.key) w.2 (h.key_of k d gd.1.0.rejections w.0 gd.0 w.1) in
+    let c_key : key_at c.list s ≡ Some z.0.key = subst (λ (t : Code). key_at c.list t ≡ Some z.0.key) z.2 (h.key_of l c gc.1.0.rejections z.0 gc.0 z.1) in
     let was : precedes w.0.key z.0.key ≡ false = sym (λ i. both_precede (d_key i) (c_key i)) ∙ before in
     (λ i. both_precede (c_key i) (d_key i))
-    ∙ h.keys k l d c gd.1.0.refusals gc.1.0.refusals w.0 z.0 apart gd.0 gc.0 w.1 z.1 (w.2 ∙ sym z.2)
+    ∙ h.keys k l d c gd.1.0.rejections gc.1.0.rejections w.0 z.0 apart gd.0 gc.0 w.1 z.1 (w.2 ∙ sym z.2)
     (subst (λ (t : Code). is_tenant d t ≡ false) (sym w.2) gd.2) (subst (λ (t : Code). is_tenant c t ≡ false) (sym w.2) gc.2) was

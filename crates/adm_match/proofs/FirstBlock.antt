@@ -1,4 +1,4 @@
--- The first block: of one list, and among the entrants before a place.
+-- The first block: of one list, and among the entrants before an index.
 use Rattle.std.proofs.Common.{◌≡◌, ℕ, zero, suc, ◌+◌, ◌<◌, ◌≤◌, List, [], ◌∷◌, length, Option, None, Some, Bool, true, false, cond, not, leb, MatchOption, IfSome, IfNone, inl, inr, refl, sym, ap, ◌∙◌, subst, arith}
 use Rattle.std.specs.Prelude.{All, bytes_eq, option_map, find}
 use Rattle.std.specs.List.{slice_get}
@@ -7,10 +7,10 @@ use Rattle.std.proofs.lemmas.Slice.Eq.{bytes_eq-Decides}
 use Rattle.std.proofs.lemmas.List.Sums.{prefix_len-le-length}
 use Rattle.std.proofs.lemmas.Option.{none-some, same_Some, slice_get_within, get_or_from_slice_get}
 use Rattle.adm_match.specs.declared.problem.Wish.{Wish}
-use Rattle.adm_match.specs.Market.{Code, Candidate, Market, place, place_of}
+use Rattle.adm_match.specs.Market.{Code, Candidate, Market, preference_rank, assigned_rank}
 use Rattle.adm_match.specs.Stability.{Allocation, prefers, blocks, IsContent, IsFirstOfList, IsFirstBlock}
 use Rattle.adm_match.specs.Blocks.{earlier}
-use Rattle.adm_match.proofs.Places.{wish_at_place, All_at}
+use Rattle.adm_match.proofs.Words.{wish_at_rank, All_at}
 
 -- what `find` says
 pub found_at : {X : Type 0} (p : X → Bool) (xs : List X) (x : X) → find p xs ≡ Some x → (k : ℕ) × (slice_get xs k ≡ Some x) × (p x ≡ true) × ((j : ℕ) (y : X) → j < k → slice_get xs j ≡ Some y → p y ≡ false)
@@ -39,38 +39,38 @@ not_found p (x ∷ xs) e j y a = elim (cases_Bool (p x)) [
     at p x xs miss h zero y a = ap p (sym (same_Some x y a)) ∙ miss
     at p x xs miss h (suc j) y a = h j y a
 
--- a wish stands at its school's place or after it
-pub place_upto : (ws : List Wish) (k : ℕ) (w : Wish) → slice_get ws k ≡ Some w → place ws w.school ≤ k
-place_upto [] k w e = absurd (none-some w e)
-place_upto (x ∷ xs) zero w e =
+-- a wish stands at its school's rank or after it
+pub rank_upto : (ws : List Wish) (k : ℕ) (w : Wish) → slice_get ws k ≡ Some w → preference_rank ws w.school ≤ k
+rank_upto [] k w e = absurd (none-some w e)
+rank_upto (x ∷ xs) zero w e =
     let hit = (bytes_eq-Decides x.school w.school).1 (ap (λ (z : Wish). z.school) (same_Some x w e)) in
-    omega (arith, ap (λ b. cond (not b) (1 + place xs w.school) 0) hit)
-place_upto (x ∷ xs) (suc k) w e =
-    let rest = place_upto xs k w e in
+    omega (arith, ap (λ b. cond (not b) (1 + preference_rank xs w.school) 0) hit)
+rank_upto (x ∷ xs) (suc k) w e =
+    let rest = rank_upto xs k w e in
     elim (cases_Bool (bytes_eq x.school w.school)) [
-      | inl hit ↦ omega (arith, ap (λ b. cond (not b) (1 + place xs w.school) 0) hit)
-      | inr miss ↦ omega (arith, ap (λ b. cond (not b) (1 + place xs w.school) 0) miss, rest)
+      | inl hit ↦ omega (arith, ap (λ b. cond (not b) (1 + preference_rank xs w.school) 0) hit)
+      | inr miss ↦ omega (arith, ap (λ b. cond (not b) (1 + preference_rank xs w.school) 0) miss, rest)
     ]
 
-pub place_within : (ws : List Wish) (o : Option Code) → place_of ws o ≤ length ws
-place_within ws None = omega arith
-place_within ws (Some s) = prefix_len-le-length (λ (w : Wish). not (bytes_eq w.school s)) ws
+pub rank_within : (ws : List Wish) (o : Option Code) → assigned_rank ws o ≤ length ws
+rank_within ws None = omega arith
+rank_within ws (Some s) = prefix_len-le-length (λ (w : Wish). not (bytes_eq w.school s)) ws
 
 -- a school that blocks stands on the list
-blocks_listed : (m : Market) (a : Allocation) (e : Candidate) (s : Code) → blocks m a e s ≡ true → place e.list s < length e.list
+blocks_listed : (m : Market) (a : Allocation) (e : Candidate) (s : Code) → blocks m a e s ≡ true → preference_rank e.list s < length e.list
 blocks_listed m a e s h =
     let parts = and_parts (prefers a e s) _ h in
-    omega (arith, ltb-true _ _ parts.0, place_within e.list (a e.child))
+    omega (arith, ltb-true _ _ parts.0, rank_within e.list (a e.child))
 
--- a test that fails at each wish before a place fails at each school before it
-fails_before : (m : Market) (a : Allocation) (e : Candidate) (k : ℕ) → ((j : ℕ) (w : Wish) → j < k → slice_get e.list j ≡ Some w → blocks m a e w.school ≡ false) → (s : Code) → place e.list s < k → place e.list s < length e.list → blocks m a e s ≡ false
+-- a test that fails at each wish before an index fails at each school before it
+fails_before : (m : Market) (a : Allocation) (e : Candidate) (k : ℕ) → ((j : ℕ) (w : Wish) → j < k → slice_get e.list j ≡ Some w → blocks m a e w.school ≡ false) → (s : Code) → preference_rank e.list s < k → preference_rank e.list s < length e.list → blocks m a e s ≡ false
 fails_before m a e k h s early inside =
-    let w = wish_at_place e.list s inside in
-    subst (λ (t : Code). blocks m a e t ≡ false) w.2 (h (place e.list s) w.0 early w.1)
+    let w = wish_at_rank e.list s inside in
+    subst (λ (t : Code). blocks m a e t ≡ false) w.2 (h (preference_rank e.list s) w.0 early w.1)
 
 pub first_of : (m : Market) (a : Allocation) (e : Candidate) (o : Option Wish) → find (λ w. blocks m a e w.school) e.list ≡ o → MatchOption (option_map (λ (w : Wish). w.school) o) (IsContent m a e) (IsFirstOfList m a e)
 first_of m a e None none = λ s. elim (cases_Bool (blocks m a e s)) [
-  | inr calm ↦ calm
+  | inr unblocked ↦ unblocked
   | inl blocking ↦
       let inside = blocks_listed m a e s blocking in
       fails_before m a e (length e.list) (λ j w l jw. not_found (λ (z : Wish). blocks m a e z.school) e.list none j w jw) s inside inside
@@ -80,11 +80,11 @@ first_of m a e (Some w) found =
     record {
       blocking = at.2;
       first = λ s early.
-          let upto = place_upto e.list at.0 w at.1 in
+          let upto = rank_upto e.list at.0 w at.1 in
           fails_before m a e at.0 at.3 s (omega (arith, early, upto)) (omega (arith, early, upto, slice_get_within e.list at.0 w at.1));
     }
 
--- the first block among the entrants before the place i
+-- the first block among the entrants before the index i
 abbrev pub FirstBelow : Market → Allocation → ℕ → ℕ × Code → Type 0
 FirstBelow m a i pair =
     ((k : ℕ) × (e : Candidate) × (k < i) × (slice_get m.entrants k ≡ Some e) × (e.child ≡ pair.0) × IsFirstOfList m a e pair.1)
@@ -118,11 +118,11 @@ block_more m a i None e (Some s) h ei f = (
   ],
 )
 block_more m a i (Some p) e (Some s) h ei f = elim (cases_Bool (leb p.0 e.child)) [
-  | inl keeps ↦ subst (λ b. MatchOption (cond b (Some p) (Some (e.child, s))) (ContentBelow m a (i + 1)) (FirstBelow m a (i + 1))) (sym keeps) (
+  | inl holds ↦ subst (λ b. MatchOption (cond b (Some p) (Some (e.child, s))) (ContentBelow m a (i + 1)) (FirstBelow m a (i + 1))) (sym holds) (
     (h.0.0, h.0.1, omega (arith, h.0.2), h.0.3, h.0.4, h.0.5),
     λ k d below dk small. elim (cases_lt k i) [
       | inl less ↦ h.1 k d less dk small
-      | inr most ↦ absurd (omega (arith, small, leb-true _ _ keeps, ap (λ (x : Candidate). x.child) (same_at m i k e d ei dk below most)))
+      | inr most ↦ absurd (omega (arith, small, leb-true _ _ holds, ap (λ (x : Candidate). x.child) (same_at m i k e d ei dk below most)))
     ],
   )
   | inr takes ↦ subst (λ b. MatchOption (cond b (Some p) (Some (e.child, s))) (ContentBelow m a (i + 1)) (FirstBelow m a (i + 1))) (sym takes) (

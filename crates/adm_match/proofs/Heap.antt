@@ -5,10 +5,10 @@ use Rattle.std.specs.Ordering.{is_lt}
 use Rattle.std.specs.BinaryHeap.{IsUpperBound}
 use Rattle.std.proofs.lemmas.Bool.Decides.{nat_tests}
 use Rattle.std.proofs.lemmas.List.Elements.{All-from_recursion, All-weaker}
-use Rattle.adm_match.specs.declared.kept.Guest.{Guest}
+use Rattle.adm_match.specs.declared.held.Guest.{Guest}
 use Rattle.adm_rank.specs.Ranking.{precedes}
 use Rattle.adm_rank.specs.declared.keys.RankKey.{RankKey}
-use Rattle.adm_match.specs.Keeping.{Keeping, keeping_of, guest_cmp, tenants_with, guests_with, RanksLast, Takes}
+use Rattle.adm_match.specs.Holding.{Holding, holding_of, guest_cmp, tenants_with, guests_with, RanksLast, Considers}
 use Rattle.std.proofs.lemmas.List.Sorted.{length_permutation, IsPermutation-trans}
 
 precedes_greatest : (a b : Guest) → is_lt (guest_cmp a b) ≡ false → precedes a.key b.key ≡ false
@@ -26,14 +26,14 @@ nil_if : (xs : List Guest) → length xs ≡ 0 → xs ≡ []
 nil_if [] h = refl
 nil_if (x ∷ xs) h = absurd (omega arith)
 
--- More than the quota are kept: the last guest goes, if there is one.
-pub takes_over : (old : Keeping) (quota : ℕ) (mt : List ℕ) (mg ng : List Guest) (child : ℕ) (key : RankKey) (tenant : Bool) (out : Option ℕ) → quota ≡ old.quota → mt ≡ tenants_with old child tenant → IsPermutation (guests_with old child key tenant) mg → quota < length mt + length mg → IfSome out (RanksLast mg ng) → IfNone out ((mg ≡ []) × (ng ≡ [])) → Takes old (keeping_of quota mt ng) child key tenant out
+-- More than the quota are held: the last guest goes, if there is one.
+pub takes_over : (old : Holding) (quota : ℕ) (mt : List ℕ) (mg ng : List Guest) (child : ℕ) (key : RankKey) (tenant : Bool) (out : Option ℕ) → quota ≡ old.quota → mt ≡ tenants_with old child tenant → IsPermutation (guests_with old child key tenant) mg → quota < length mt + length mg → IfSome out (RanksLast mg ng) → IfNone out ((mg ≡ []) × (ng ≡ [])) → Considers old (holding_of quota mt ng) child key tenant out
 takes_over old quota mt mg ng child key tenant None q t p over some none = record {
   quota = q;
   tenants = t;
   guests = record {
     guests = subst (λ (x : List Guest). IsPermutation (guests_with old child key tenant) x) (none.0 ∙ sym none.1) p;
-    calm = inr (nil_if (guests_with old child key tenant) (omega (arith, length_permutation (guests_with old child key tenant) mg p, ap length none.0)));
+    may_stay = inr (nil_if (guests_with old child key tenant) (omega (arith, length_permutation (guests_with old child key tenant) mg p, ap length none.0)));
   };
 }
 takes_over old quota mt mg ng child key tenant (Some c) q t p over some none = record {

@@ -1,5 +1,5 @@
 pub mod Side
-pub mod Places
+pub mod Words
 pub mod Arrival
 pub mod Departure
 pub mod Ending
@@ -13,6 +13,7 @@ pub mod Distinct
 pub mod Existence
 pub mod Placed
 pub mod Moved
+pub mod Beginning
 pub mod NoGain
 pub mod Relisted
 pub mod Heap
@@ -24,4 +25,4 @@ pub mod Ready
 pub mod Twice
 pub mod Asking
 pub mod Coded
-pub mod Advised
+pub mod WhatIfs

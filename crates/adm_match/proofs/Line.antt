@@ -7,13 +7,13 @@ use Rattle.std.proofs.lemmas.Bool.{cases_eq, cases_lt, false≢true, or_cases, o
 use Rattle.std.proofs.lemmas.Option.{none-some, same_Some, slice_get_within, slice_get-map}
 use Rattle.std.proofs.lemmas.List.Folds.{list_any-append}
 use Rattle.adm_match.specs.declared.problem.Seats.{Seats}
-use Rattle.adm_match.specs.declared.standings.Standing.{Standing}
+use Rattle.adm_match.specs.declared.progress.Progress.{Progress}
 use Rattle.adm_match.specs.declared.directory.Directory.{Directory}
 use Rattle.adm_match.specs.Market.{Code, Candidate, Market}
-use Rattle.adm_match.specs.Turns.{kept_at, IsFree, AllDone, Sound, start_of}
-use Rattle.adm_match.specs.Keeping.{Keeping, guests_of, nobody_kept}
-use Rattle.adm_match.specs.Queue.{Directs, IsMirror, Turned, Queued, Afoot}
-use Rattle.adm_match.proofs.Places.{at_All, All_at}
+use Rattle.adm_match.specs.Turns.{held_at, IsFree, AllDone, Sound, start_of}
+use Rattle.adm_match.specs.Holding.{Holding, guests_of, nobody_held}
+use Rattle.adm_match.specs.Queue.{IsDirectory, IsMirror, Turned, Queued, BetweenTurns}
+use Rattle.adm_match.proofs.Words.{at_All, All_at}
 use Rattle.adm_match.proofs.Turn.{starts}
 
 -- all of the rest of a list
@@ -48,25 +48,25 @@ is_pushed : (k : ℕ) (xs : List ℕ) (y : ℕ) → y ≡ k → list_any (λ q. 
 is_pushed k xs y h = list_any-append (λ q. q == k) xs (y ∷ []) ∙ or_right (list_any (λ q. q == k) xs) _ (or_left (y == k) false (eq-eqb y k h))
 
 -- the entrant that the test finds free is free, and no other
-pub free_if : (es : List Candidate) (rows : List Standing) (k : ℕ) (e : Candidate) (r : Standing) → slice_get es k ≡ Some e → slice_get rows k ≡ Some r → (is_none r.school && nat_lt r.refusals (length e.list)) ≡ true → IsFree es rows k
+pub free_if : (es : List Candidate) (rows : List Progress) (k : ℕ) (e : Candidate) (r : Progress) → slice_get es k ≡ Some e → slice_get rows k ≡ Some r → (is_none r.school && nat_lt r.rejections (length e.list)) ≡ true → IsFree es rows k
 free_if es rows k e r ek rk h =
-    let parts = and_parts (is_none r.school) (nat_lt r.refusals (length e.list)) h in
+    let parts = and_parts (is_none r.school) (nat_lt r.rejections (length e.list)) h in
     (e, r, ek, rk, none_of r.school parts.0, ltb-true _ _ parts.1)
   where
     none_of : (o : Option Code) → is_none o ≡ true → o ≡ None
     none_of None h = refl
     none_of (Some s) h = absurd (false≢true h)
 
-pub not_free_if : (es : List Candidate) (rows : List Standing) (k : ℕ) (e : Candidate) (r : Standing) → slice_get es k ≡ Some e → slice_get rows k ≡ Some r → (is_none r.school && nat_lt r.refusals (length e.list)) ≡ false → IsFree es rows k → ⊥
+pub not_free_if : (es : List Candidate) (rows : List Progress) (k : ℕ) (e : Candidate) (r : Progress) → slice_get es k ≡ Some e → slice_get rows k ≡ Some r → (is_none r.school && nat_lt r.rejections (length e.list)) ≡ false → IsFree es rows k → ⊥
 not_free_if es rows k e r ek rk h f =
     let e_is : f.0 ≡ e = same_Some f.0 e (sym f.2 ∙ ek) in
     let r_is : f.1 ≡ r = same_Some f.1 r (sym f.3 ∙ rk) in
-    let none : is_none r.school ≡ true = ap (λ (x : Standing). is_none x.school) (sym r_is) ∙ ap is_none f.4 in
-    let less : r.refusals < length e.list = omega (arith, f.5, ap (λ (x : Standing). x.refusals) r_is, ap (λ (x : Candidate). length x.list) e_is) in
-    false≢true (sym h ∙ and_from (is_none r.school) (nat_lt r.refusals (length e.list)) none (lt-ltb _ _ less))
+    let none : is_none r.school ≡ true = ap (λ (x : Progress). is_none x.school) (sym r_is) ∙ ap is_none f.4 in
+    let less : r.rejections < length e.list = omega (arith, f.5, ap (λ (x : Progress). x.rejections) r_is, ap (λ (x : Candidate). length x.list) e_is) in
+    false≢true (sym h ∙ and_from (is_none r.school) (nat_lt r.rejections (length e.list)) none (lt-ltb _ _ less))
 
--- a place that is not free is skipped
-pub skipped : (m : Market) (directory : Directory) (rows : List Standing) (schools : List Keeping) (index : ℕ) (queue rest : List ℕ) → Afoot m directory rows schools queue → queue ≡ index ∷ rest → (IsFree m.entrants rows index → ⊥) → Afoot m directory rows schools rest
+-- an index that is not free is skipped
+pub skipped : (m : Market) (directory : Directory) (rows : List Progress) (schools : List Holding) (index : ℕ) (queue rest : List ℕ) → BetweenTurns m directory rows schools queue → queue ≡ index ∷ rest → (IsFree m.entrants rows index → ⊥) → BetweenTurns m directory rows schools rest
 skipped m directory rows schools index queue rest h is not_free =
     let q : Queued m.entrants rows (index ∷ rest) = subst (λ (x : List ℕ). Queued m.entrants rows x) is h.queued in
     record {
@@ -79,8 +79,8 @@ skipped m directory rows schools index queue rest h is not_free =
       };
     }
 
--- nobody was sent back
-pub nobody_back : (m : Market) (directory : Directory) (old new : List Standing) (schools now : List Keeping) (index : ℕ) (queue rest : List ℕ) → Afoot m directory old schools queue → queue ≡ index ∷ rest → Turned m old new now index None → Afoot m directory new now rest
+-- nobody was rejected
+pub nobody_back : (m : Market) (directory : Directory) (old new : List Progress) (schools now : List Holding) (index : ℕ) (queue rest : List ℕ) → BetweenTurns m directory old schools queue → queue ≡ index ∷ rest → Turned m old new now index None → BetweenTurns m directory new now rest
 nobody_back m directory old new schools now index queue rest h is t =
     let q : Queued m.entrants old (index ∷ rest) = subst (λ (x : List ℕ). Queued m.entrants old x) is h.queued in
     record {
@@ -96,75 +96,75 @@ nobody_back m directory old new schools now index queue rest h is t =
       };
     }
 
--- the one who was sent back joins the queue
-pub one_back : (m : Market) (directory : Directory) (old new : List Standing) (schools now : List Keeping) (index place : ℕ) (queue rest queue' : List ℕ) → Afoot m directory old schools queue → queue ≡ index ∷ rest → Turned m old new now index (Some place) → queue' ≡ rest ++ place ∷ [] → Afoot m directory new now queue'
-one_back m directory old new schools now index place queue rest queue' h is t pushed =
+-- the one who was rejected joins the queue
+pub one_back : (m : Market) (directory : Directory) (old new : List Progress) (schools now : List Holding) (index back_at : ℕ) (queue rest queue' : List ℕ) → BetweenTurns m directory old schools queue → queue ≡ index ∷ rest → Turned m old new now index (Some back_at) → queue' ≡ rest ++ back_at ∷ [] → BetweenTurns m directory new now queue'
+one_back m directory old new schools now index back_at queue rest queue' h is t pushed =
     let q : Queued m.entrants old (index ∷ rest) = subst (λ (x : List ℕ). Queued m.entrants old x) is h.queued in
-    subst (λ (x : List ℕ). Afoot m directory new now x) (sym pushed) (record {
+    subst (λ (x : List ℕ). BetweenTurns m directory new now x) (sym pushed) (record {
       directs = h.directs;
       sound = t.sound;
       mirrored = t.mirrored;
       queued = record {
         waiting = λ k f. elim (t.free k f) [
-          | inl still ↦ in_pushed k rest place (in_rest k index rest (q.waiting k still.1) (λ same. still.0 (sym same)))
-          | inr out ↦ is_pushed k rest place (same_Some place k out)
+          | inl still ↦ in_pushed k rest back_at (in_rest k index rest (q.waiting k still.1) (λ same. still.0 (sym same)))
+          | inr out ↦ is_pushed k rest back_at (same_Some back_at k out)
         ];
-        within = push_all (λ x. x < length m.entrants) rest place (rest_all (λ x. x < length m.entrants) index rest q.within) (omega (arith, t.within, t.sound.shaped.same));
+        within = push_all (λ x. x < length m.entrants) rest back_at (rest_all (λ x. x < length m.entrants) index rest q.within) (omega (arith, t.within, t.sound.shaped.same));
       };
     })
 
-pub some_back : (m : Market) (directory : Directory) (old new : List Standing) (schools now : List Keeping) (index : ℕ) (out : Option ℕ) (queue rest queue' : List ℕ) → Afoot m directory old schools queue → queue ≡ index ∷ rest → Turned m old new now index out → queue' ≡ rest ++ option_to_list out → Afoot m directory new now queue'
+pub some_back : (m : Market) (directory : Directory) (old new : List Progress) (schools now : List Holding) (index : ℕ) (out : Option ℕ) (queue rest queue' : List ℕ) → BetweenTurns m directory old schools queue → queue ≡ index ∷ rest → Turned m old new now index out → queue' ≡ rest ++ option_to_list out → BetweenTurns m directory new now queue'
 some_back m directory old new schools now index None queue rest queue' h is t pushed =
-    subst (λ (x : List ℕ). Afoot m directory new now x) (sym (pushed ∙ append-nil rest)) (nobody_back m directory old new schools now index queue rest h is t)
-some_back m directory old new schools now index (Some place) queue rest queue' h is t pushed =
-    one_back m directory old new schools now index place queue rest queue' h is t pushed
+    subst (λ (x : List ℕ). BetweenTurns m directory new now x) (sym (pushed ∙ append-nil rest)) (nobody_back m directory old new schools now index queue rest h is t)
+some_back m directory old new schools now index (Some back_at) queue rest queue' h is t pushed =
+    one_back m directory old new schools now index back_at queue rest queue' h is t pushed
 
--- the place that leaves the queue is one of an entrant
-pub queued_within : (m : Market) (directory : Directory) (rows : List Standing) (schools : List Keeping) (index : ℕ) (queue rest : List ℕ) → Afoot m directory rows schools queue → queue ≡ index ∷ rest → index < length m.entrants
+-- the index that leaves the queue is one of an entrant
+pub queued_within : (m : Market) (directory : Directory) (rows : List Progress) (schools : List Holding) (index : ℕ) (queue rest : List ℕ) → BetweenTurns m directory rows schools queue → queue ≡ index ∷ rest → index < length m.entrants
 queued_within m directory rows schools index queue rest h is =
     first_of_all (λ x. x < length m.entrants) index rest (subst (λ (x : List ℕ). All (λ x. x < length m.entrants) x) is h.queued.within)
 
 -- where the queue is empty no turn is left
-pub empty_done : (m : Market) (directory : Directory) (rows : List Standing) (schools : List Keeping) (queue : List ℕ) → Afoot m directory rows schools queue → queue ≡ [] → AllDone m.entrants rows
-empty_done m directory rows schools queue h is k e r ek rk none = elim (cases_lt r.refusals (length e.list)) [
+pub empty_done : (m : Market) (directory : Directory) (rows : List Progress) (schools : List Holding) (queue : List ℕ) → BetweenTurns m directory rows schools queue → queue ≡ [] → AllDone m.entrants rows
+empty_done m directory rows schools queue h is k e r ek rk none = elim (cases_lt r.rejections (length e.list)) [
   | inr most ↦ most
   | inl less ↦ absurd (false≢true (ap (list_any (λ q. q == k)) (sym is) ∙ h.queued.waiting k (e, r, ek, rk, none, less)))
 ]
 
--- the start: nobody is kept
-none_kept : (es : List Candidate) (s : Code) → kept_at (map start_of es) s ≡ 0
-none_kept [] s = refl
-none_kept (e ∷ es) s = omega (arith, count_none es s, none_kept es s)
+-- the start: nobody is held
+none_held : (es : List Candidate) (s : Code) → held_at (map start_of es) s ≡ 0
+none_held [] s = refl
+none_held (e ∷ es) s = omega (arith, count_none es s, none_held es s)
   where
-    count_none : (es : List Candidate) (s : Code) → kept_at (map start_of es) s ≡ kept_at (map start_of es) s
+    count_none : (es : List Candidate) (s : Code) → held_at (map start_of es) s ≡ held_at (map start_of es) s
     count_none es s = refl
 
 no_guests : (es : List Candidate) (s : Code) → guests_of es (map start_of es) s ≡ []
 no_guests [] s = refl
 no_guests (e ∷ es) s = no_guests es s
 
-pub afoot_first : (m : Market) (directory : Directory) (rows : List Standing) (schools : List Keeping) (queue : List ℕ) → Directs m directory → rows ≡ map start_of m.entrants → schools ≡ map nobody_kept m.seats → ((k : ℕ) → k < length m.entrants → list_any (λ q. q == k) queue ≡ true) → All (λ q. q < length m.entrants) queue → Afoot m directory rows schools queue
-afoot_first m directory rows schools queue directs rows_is schools_is waiting within = record {
+pub between_turns_first : (m : Market) (directory : Directory) (rows : List Progress) (schools : List Holding) (queue : List ℕ) → IsDirectory m directory → rows ≡ map start_of m.entrants → schools ≡ map nobody_held m.seats → ((k : ℕ) → k < length m.entrants → list_any (λ q. q == k) queue ≡ true) → All (λ q. q < length m.entrants) queue → BetweenTurns m directory rows schools queue
+between_turns_first m directory rows schools queue directs rows_is schools_is waiting within = record {
   directs = directs;
-  sound = subst (λ (x : List Standing). Sound m x) (sym rows_is) (starts m);
+  sound = subst (λ (x : List Progress). Sound m x) (sym rows_is) (starts m);
   mirrored = record {
     same = ap length schools_is ∙ length_of m.seats;
-    each = λ j seat kept at there.
-        let kept_is : nobody_kept seat ≡ kept = same_Some (nobody_kept seat) kept (sym (slice_get-map nobody_kept m.seats j ∙ ap (option_map nobody_kept) at) ∙ (ap (λ (x : List Keeping). slice_get x j) (sym schools_is) ∙ there)) in
-        subst (λ (k : Keeping). IsMirror m rows seat k) kept_is (record {
+    each = λ j seat held at there.
+        let held_is : nobody_held seat ≡ held = same_Some (nobody_held seat) held (sym (slice_get-map nobody_held m.seats j ∙ ap (option_map nobody_held) at) ∙ (ap (λ (x : List Holding). slice_get x j) (sym schools_is) ∙ there)) in
+        subst (λ (k : Holding). IsMirror m rows seat k) held_is (record {
           quota = refl;
-          count = sym (ap (λ (x : List Standing). kept_at x seat.code) rows_is ∙ none_kept m.entrants seat.code);
-          guests = λ p. ap (count_by p) (ap (λ (x : List Standing). guests_of m.entrants x seat.code) rows_is ∙ no_guests m.entrants seat.code);
+          count = sym (ap (λ (x : List Progress). held_at x seat.code) rows_is ∙ none_held m.entrants seat.code);
+          guests = λ p. ap (count_by p) (ap (λ (x : List Progress). guests_of m.entrants x seat.code) rows_is ∙ no_guests m.entrants seat.code);
         });
   };
   queued = record { waiting = λ k f. waiting k (slice_get_within m.entrants k f.0 f.2); within = within };
 }
   where
-    length_of : (seats : List Seats) → length (map nobody_kept seats) ≡ length seats
+    length_of : (seats : List Seats) → length (map nobody_held seats) ≡ length seats
     length_of [] = refl
     length_of (s ∷ ss) = ap suc (length_of ss)
 
--- one more place is lined up
+-- one more index is lined up
 pub line_more : (n i : ℕ) (old new : List ℕ) → i < n → ((k : ℕ) → k < i → list_any (λ q. q == k) old ≡ true) × All (λ q. q < n) old → new ≡ old ++ i ∷ [] → ((k : ℕ) → k < i + 1 → list_any (λ q. q == k) new ≡ true) × All (λ q. q < n) new
 line_more n i old new l h is = subst (λ (x : List ℕ). ((k : ℕ) → k < i + 1 → list_any (λ q. q == k) x ≡ true) × All (λ q. q < n) x) (sym is) (
   λ k lk. elim (cases_eq i k) [
@@ -192,9 +192,9 @@ written n new old same is = rw (drop_all old (length new) same) (rw append-nil (
         all [] = refl
         all (x ∷ xs) = ap (λ (ys : List _). x ∷ ys) (all xs)
 
-pub afoot_as : (m : Market) (directory : Directory) (rows' rows : List Standing) (schools' schools : List Keeping) (queue : List ℕ) → rows' ≡ rows → schools' ≡ schools → Afoot m directory rows schools queue → Afoot m directory rows' schools' queue
-afoot_as m directory rows' rows schools' schools queue r s h =
-    subst (λ (x : List Standing). Afoot m directory x schools' queue) (sym r) (subst (λ (x : List Keeping). Afoot m directory rows x queue) (sym s) h)
+pub between_turns_as : (m : Market) (directory : Directory) (rows' rows : List Progress) (schools' schools : List Holding) (queue : List ℕ) → rows' ≡ rows → schools' ≡ schools → BetweenTurns m directory rows schools queue → BetweenTurns m directory rows' schools' queue
+between_turns_as m directory rows' rows schools' schools queue r s h =
+    subst (λ (x : List Progress). BetweenTurns m directory x schools' queue) (sym r) (subst (λ (x : List Holding). BetweenTurns m directory rows x queue) (sym s) h)
 
 pub empty_if : (xs : List ℕ) → length xs ≡ 0 → xs ≡ []
 empty_if [] h = refl

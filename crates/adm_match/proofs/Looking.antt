@@ -38,7 +38,7 @@ pub school_stands : (seats : List Seats) (schools : BTreeMap Code ℕ) (school :
 school_stands seats schools school finds there o x read is =
     subst (λ k. SeatedAt seats school k) (sym (copied_is o there.0 x (read ∙ school_found seats schools school finds there) is)) there.1
 
--- the children before a place are found
+-- the children before an index are found
 pub record ChildrenBelow (es : List Candidate) (children : BTreeMap ℕ ℕ) (n : ℕ) : Type 0 where
   pub found : (k : ℕ) (e : Candidate) → k < n → slice_get es k ≡ Some e → get nat_cmp children e.child ≡ Some k
 

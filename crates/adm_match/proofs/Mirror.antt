@@ -7,17 +7,17 @@ use Rattle.std.proofs.lemmas.Bool.{cases_order, and_from, and_parts, not-true, n
 use Rattle.std.proofs.lemmas.Option.{none-some, same_Some}
 use Rattle.std.proofs.lemmas.List.Sorted.{IsPermutation-trans, IsPermutation-sym, IsPermutation-append_left, IsPermutation-append_right, IsPermutation-append_comm, Contains-permutation}
 use Rattle.adm_rank.specs.declared.keys.RankKey.{RankKey}
-use Rattle.adm_match.specs.declared.kept.Guest.{Guest}
-use Rattle.adm_match.specs.declared.standings.Standing.{Standing}
+use Rattle.adm_match.specs.declared.held.Guest.{Guest}
+use Rattle.adm_match.specs.declared.progress.Progress.{Progress}
 use Rattle.std.proofs.lemmas.List.Elements.{Contains-append_cases, Contains-append_left, Contains-append_right, All-contains}
 use Rattle.adm_rank.specs.Ranking.{precedes}
 use Rattle.adm_match.specs.Market.{Code, Candidate, Market, has, is_tenant, key_at, both_precede, ranks_before}
-use Rattle.adm_match.specs.Turns.{Guest as GuestAt, Shaped, IsLast}
-use Rattle.adm_match.specs.Keeping.{entry_of, guests_of, RanksLast, SameBag}
-use Rattle.adm_match.proofs.Departure.{kept_wish}
+use Rattle.adm_match.specs.Turns.{IsGuestAt, Shaped, IsLast}
+use Rattle.adm_match.specs.Holding.{entry_of, guests_of, RanksLast, SameBag}
+use Rattle.adm_match.proofs.Departure.{held_wish}
 use Rattle.adm_match.specs.Distinct.{Distinct}
 use Rattle.adm_match.proofs.Distinct.{ranked_of}
-use Rattle.adm_match.proofs.Places.{has_tells, has_true}
+use Rattle.adm_match.proofs.Words.{has_tells, has_true}
 use Rattle.std.specs.Prelude.{◌==◌, ◌≤◌}
 use Rattle.std.specs.List.{count_by}
 use Rattle.std.proofs.lemmas.Bool.{eqb-true, cases_Bool}
@@ -27,23 +27,23 @@ use Rattle.std.proofs.lemmas.List.Sums.{sum_by-cons, get_or-le-sum_by}
 use Rattle.adm_match.proofs.Side.{count_no}
 
 -- the entry of a guest, and of one that is none
-pub entry_is : (e : Candidate) (r : Standing) (s : Code) (key : RankKey) → r.school ≡ Some s → is_tenant e s ≡ false → key_at e.list s ≡ Some key → entry_of e r s ≡ (record { key = key; child = e.child } ∷ [])
+pub entry_is : (e : Candidate) (r : Progress) (s : Code) (key : RankKey) → r.school ≡ Some s → is_tenant e s ≡ false → key_at e.list s ≡ Some key → entry_of e r s ≡ (record { key = key; child = e.child } ∷ [])
 entry_is e r s key at free k =
     ap (λ b. cond b (option_to_list (option_map (λ (q : RankKey). record { key = q; child = e.child }) (key_at e.list s))) []) (and_from (has r.school s) (not (is_tenant e s)) (has_true r.school s at) (not_from_false (is_tenant e s) free))
     ∙ ap (λ o. option_to_list (option_map (λ (q : RankKey). record { key = q; child = e.child }) o)) k
 
-pub entry_none : (e : Candidate) (r : Standing) (s : Code) → (has r.school s && not (is_tenant e s)) ≡ false → entry_of e r s ≡ []
+pub entry_none : (e : Candidate) (r : Progress) (s : Code) → (has r.school s && not (is_tenant e s)) ≡ false → entry_of e r s ≡ []
 entry_none e r s out = ap (λ b. cond b (option_to_list (option_map (λ (q : RankKey). record { key = q; child = e.child }) (key_at e.list s))) []) out
 
 -- one row is written: the guests before and after, with the entries of that row
-pub guests_set : (es : List Candidate) (rows : List Standing) (s : Code) (i : ℕ) (e : Candidate) (r v : Standing) → slice_get es i ≡ Some e → slice_get rows i ≡ Some r → IsPermutation (entry_of e v s ++ guests_of es rows s) (entry_of e r s ++ guests_of es (set rows i v) s)
+pub guests_set : (es : List Candidate) (rows : List Progress) (s : Code) (i : ℕ) (e : Candidate) (r v : Progress) → slice_get es i ≡ Some e → slice_get rows i ≡ Some r → IsPermutation (entry_of e v s ++ guests_of es rows s) (entry_of e r s ++ guests_of es (set rows i v) s)
 guests_set [] rows s i e r v ei ri = absurd (none-some e ei)
 guests_set (d ∷ es) [] s i e r v ei ri = absurd (none-some r ri)
 guests_set (d ∷ es) (q ∷ rows) s zero e r v ei ri =
     let d_is : d ≡ e = same_Some d e ei in
     let q_is : q ≡ r = same_Some q r ri in
     subst (λ (x : Candidate). IsPermutation (entry_of e v s ++ (entry_of x q s ++ guests_of es rows s)) (entry_of e r s ++ (entry_of x v s ++ guests_of es rows s))) (sym d_is)
-    (subst (λ (x : Standing). IsPermutation (entry_of e v s ++ (entry_of e x s ++ guests_of es rows s)) (entry_of e r s ++ (entry_of e v s ++ guests_of es rows s))) (sym q_is)
+    (subst (λ (x : Progress). IsPermutation (entry_of e v s ++ (entry_of e x s ++ guests_of es rows s)) (entry_of e r s ++ (entry_of e v s ++ guests_of es rows s))) (sym q_is)
     (swap_front (entry_of e v s) (entry_of e r s) (guests_of es rows s)))
   where
     swap_front : (xs ys zs : List Guest) → IsPermutation (xs ++ (ys ++ zs)) (ys ++ (xs ++ zs))
@@ -60,7 +60,7 @@ guests_set (d ∷ es) (q ∷ rows) s (suc i) e r v ei ri =
         rw (← append_assoc) (rw (← append_assoc) (IsPermutation-append_left zs (xs ++ ys) (ys ++ xs) (IsPermutation-append_comm xs ys)))
 
 -- the guest that an entry is of
-pub guest_behind : (es : List Candidate) (rows : List Standing) (s : Code) (g : Guest) → Contains (guests_of es rows s) g → (k : ℕ) × (e : Candidate) × GuestAt es rows s k e × (key_at e.list s ≡ Some g.key) × (e.child ≡ g.child)
+pub guest_behind : (es : List Candidate) (rows : List Progress) (s : Code) (g : Guest) → Contains (guests_of es rows s) g → (k : ℕ) × (e : Candidate) × IsGuestAt es rows s k e × (key_at e.list s ≡ Some g.key) × (e.child ≡ g.child)
 guest_behind [] rows s g h = absurd (omega (arith, h.1))
 guest_behind (e ∷ es) [] s g h = absurd (omega (arith, h.1))
 guest_behind (e ∷ es) (r ∷ rows) s g h = elim (Contains-append_cases (entry_of e r s) (guests_of es rows s) g h) [
@@ -79,21 +79,21 @@ guest_behind (e ∷ es) (r ∷ rows) s g h = elim (Contains-append_cases (entry_
         one zero l is = (refl, ap (λ (x : Guest). Some x.key) is, ap (λ (x : Guest). x.child) is)
         one (suc k) l is = absurd (omega arith)
 
-    first : (e : Candidate) (es : List Candidate) (r : Standing) (rows : List Standing) (s : Code) (g : Guest) → Contains (entry_of e r s) g → (o : Option RankKey) → key_at e.list s ≡ o → (k : ℕ) × (d : Candidate) × GuestAt (e ∷ es) (r ∷ rows) s k d × (key_at d.list s ≡ Some g.key) × (d.child ≡ g.child)
+    first : (e : Candidate) (es : List Candidate) (r : Progress) (rows : List Progress) (s : Code) (g : Guest) → Contains (entry_of e r s) g → (o : Option RankKey) → key_at e.list s ≡ o → (k : ℕ) × (d : Candidate) × IsGuestAt (e ∷ es) (r ∷ rows) s k d × (key_at d.list s ≡ Some g.key) × (d.child ≡ g.child)
     first e es r rows s g here o is =
         let f = in_entry (has r.school s && not (is_tenant e s)) (key_at e.list s) e.child g here in
         let parts = and_parts (has r.school s) (not (is_tenant e s)) f.0 in
         (0, e, (refl, (r, refl, (has_tells r.school s).0 parts.0), not-true (is_tenant e s) parts.1), f.1, f.2)
 
 -- a guest has its entry
-pub entry_behind : (es : List Candidate) (rows : List Standing) (s : Code) (k : ℕ) (e : Candidate) (key : RankKey) → GuestAt es rows s k e → key_at e.list s ≡ Some key → Contains (guests_of es rows s) (record { key = key; child = e.child })
+pub entry_behind : (es : List Candidate) (rows : List Progress) (s : Code) (k : ℕ) (e : Candidate) (key : RankKey) → IsGuestAt es rows s k e → key_at e.list s ≡ Some key → Contains (guests_of es rows s) (record { key = key; child = e.child })
 entry_behind [] rows s k e key g h = absurd (none-some e g.0)
 entry_behind (d ∷ es) [] s k e key g h = absurd (none-some g.1.0 g.1.1)
 entry_behind (d ∷ es) (q ∷ rows) s zero e key g h =
     let d_is : e ≡ d = sym (same_Some d e g.0) in
     let q_is : g.1.0 ≡ q = sym (same_Some q g.1.0 g.1.1) in
     let here = subst (λ (x : Candidate). Contains (entry_of x q s) (record { key = key; child = e.child })) d_is
-    (subst (λ (x : Standing). Contains (entry_of e x s) (record { key = key; child = e.child })) q_is
+    (subst (λ (x : Progress). Contains (entry_of e x s) (record { key = key; child = e.child })) q_is
     (subst (λ (xs : List Guest). Contains xs (record { key = key; child = e.child })) (sym (entry_is e g.1.0 s key g.1.2 g.2 h)) (0, omega arith, refl))) in
     Contains-append_left (entry_of d q s) (guests_of es rows s) _ here
 entry_behind (d ∷ es) (q ∷ rows) s (suc k) e key g h =
@@ -146,8 +146,8 @@ bag_contains xs ys g h c =
     let there = found (same_guest g) ys (omega (arith, h (same_guest g), counted (same_guest g) xs g c (same_itself g))) in
     subst (λ (x : Guest). Contains ys x) (sym (same_if g there.0 there.2)) there.1
 
--- The guest that a heap of the school's guests sends back is the one that ranks last.
-pub last_from_heap : (m : Market) (rows : List Standing) (s : Code) (all left : List Guest) (child : ℕ) → Distinct m → Shaped m rows → SameBag (guests_of m.entrants rows s) all → (last : RanksLast all left child) → (k : ℕ) × (is_last : IsLast m.entrants rows s k) × (is_last.0.child ≡ child) × (key_at is_last.0.list s ≡ Some last.guest.key)
+-- The guest that a heap of the school's guests rejects is the one that ranks last.
+pub last_from_heap : (m : Market) (rows : List Progress) (s : Code) (all left : List Guest) (child : ℕ) → Distinct m → Shaped m rows → SameBag (guests_of m.entrants rows s) all → (last : RanksLast all left child) → (k : ℕ) × (is_last : IsLast m.entrants rows s k) × (is_last.0.child ≡ child) × (key_at is_last.0.list s ≡ Some last.guest.key)
 last_from_heap m rows s all left child d shaped bag last =
     let top : Contains all last.guest = Contains-permutation (last.guest ∷ left) all last.guest (IsPermutation-sym all (last.guest ∷ left) last.others) (0, omega arith, refl) in
     let w = guest_behind m.entrants rows s last.guest (bag_contains all (guests_of m.entrants rows s) last.guest (λ p. sym (bag p)) top) in
@@ -158,13 +158,13 @@ last_from_heap m rows s all left child d shaped bag last =
         e,
         w.2,
         λ l c apart g.
-            let z = kept_wish c g.1.0 s (shaped.keeps l c g.1.0 g.0 g.1.1) g.1.2 in
-            let c_key : key_at c.list s ≡ Some z.0.key = subst (λ (t : Code). key_at c.list t ≡ Some z.0.key) z.2 (d.key_of l c g.1.0.refusals z.0 g.0 z.1) in
+            let z = held_wish c g.1.0 s (shaped.holds l c g.1.0 g.0 g.1.1) g.1.2 in
+            let c_key : key_at c.list s ≡ Some z.0.key = subst (λ (t : Code). key_at c.list t ≡ Some z.0.key) z.2 (d.key_of l c g.1.0.rejections z.0 g.0 z.1) in
             let mine : Contains (last.guest ∷ left) (record { key = z.0.key; child = c.child }) =
             Contains-permutation all (last.guest ∷ left) _ last.others
             (bag_contains (guests_of m.entrants rows s) all _ bag (entry_behind m.entrants rows s l c z.0.key g c_key)) in
             elim (contains_cons last.guest left _ mine) [
-              | inl same ↦ absurd (one_place m d l k c e g.0 w.2.0 apart (ap (λ (x : Guest). x.child) (sym same) ∙ sym w.4))
+              | inl same ↦ absurd (one_index m d l k c e g.0 w.2.0 apart (ap (λ (x : Guest). x.child) (sym same) ∙ sym w.4))
               | inr there ↦
                   let before : ranks_before s e c ≡ false = (λ i. both_precede (w.3 i) (c_key i)) ∙ All-contains (λ (other : Guest). precedes last.guest.key other.key ≡ false) left _ last.last there in
                   ranked_of m rows s d shaped k l e c (λ h. apart (sym h)) w.2 g before
@@ -181,8 +181,8 @@ last_from_heap m rows s all left child d shaped bag last =
         go zero l is = inl is
         go (suc k) l is = inr (k, omega arith, is)
 
-    one_place : (m : Market) → Distinct m → (i j : ℕ) (a b : Candidate) → slice_get m.entrants i ≡ Some a → slice_get m.entrants j ≡ Some b → i ≢ j → a.child ≡ b.child → ⊥
-    one_place m d i j a b ia jb apart same = elim (cases_order i j) [
+    one_index : (m : Market) → Distinct m → (i j : ℕ) (a b : Candidate) → slice_get m.entrants i ≡ Some a → slice_get m.entrants j ≡ Some b → i ≢ j → a.child ≡ b.child → ⊥
+    one_index m d i j a b ia jb apart same = elim (cases_order i j) [
       | inl is ↦ apart is
       | inr other ↦ elim other [ inl less ↦ d.children i j a b ia jb less same | inr more ↦ d.children j i b a jb ia more (sym same) ]
     ]

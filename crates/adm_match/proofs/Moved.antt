@@ -5,12 +5,12 @@ use Rattle.std.specs.List.{slice_get, list_any}
 use Rattle.std.proofs.lemmas.Bool.{cases_Bool, cases_eq, false≢true, and_from, and_parts, and_left}
 use Rattle.std.proofs.lemmas.Option.{same_Some, slice_get_within}
 use Rattle.adm_match.specs.declared.problem.Seats.{Seats}
-use Rattle.adm_match.specs.Market.{Code, Candidate, Market, has, place, is_tenant, key_at, both_precede, ranks_before, quota_of}
+use Rattle.adm_match.specs.Market.{Code, Candidate, Market, has, preference_rank, is_tenant, key_at, both_precede, ranks_before, quota_of}
 use Rattle.adm_match.specs.Stability.{Allocation, count_at, is_guest, prefers, ranks_after, blocks, IsContent, IsStable}
 use Rattle.adm_match.proofs.Side.{count_beside}
-use Rattle.adm_match.proofs.Places.{has_tells, at_All, All_at}
+use Rattle.adm_match.proofs.Words.{has_tells, at_All, All_at}
 
--- two problems that differ in the entrant at one place
+-- two problems that differ in the entrant at one index
 pub record Differs (m m' : Market) (k : ℕ) (e e' : Candidate) : Type 0 where
   pub seats : m'.seats ≡ m.seats
   pub same : length m'.entrants ≡ length m.entrants
@@ -73,7 +73,7 @@ any_beside p q (x ∷ xs) (y ∷ ys) e h =
     let rest = any_beside p q xs ys (omega arith) (λ j a b r s. h (suc j) a b r s) in
     λ i. first i || rest i
 
--- a fact about the two entrants at a place, where they are the same or the two that differ
+-- a fact about the two entrants at an index, where they are the same or the two that differ
 beside : {X : Type 0} (f g : Candidate → X) (m m' : Market) (k : ℕ) (e e' : Candidate) → Differs m m' k e e' → g e' ≡ f e → ((x : Candidate) → g x ≡ f x) → (j : ℕ) (x y : Candidate) → slice_get m'.entrants j ≡ Some x → slice_get m.entrants j ≡ Some y → g x ≡ f y
 beside f g m m' k e e' h here all j x y xj yj = elim (cases_eq j k) [
   | inl is ↦
@@ -126,41 +126,41 @@ entitled_same m m' k e e' d d' a s h alike tenant key =
     let r = some_after_same m m' k e e' d d' a s h alike key in
     λ i. tenant i || (nat_lt (c i) (quota_of (h.seats i) s) || r i)
 
--- a pair of the entrant that differs stays calm, where it was preferred before
-pub calm_moves : (m m' : Market) (k : ℕ) (e e' : Candidate) (a : Allocation) (s : Code) → Differs m m' k e e' → RanksAlike a e e' → is_tenant e' s ≡ is_tenant e s → key_at e'.list s ≡ key_at e.list s → prefers a e s ≡ true → blocks m a e s ≡ false → blocks m' a e' s ≡ false
-calm_moves m m' k e e' a s h alike tenant key wants calm =
+-- a pair of the entrant that differs stays unblocked, where it was preferred before
+pub unblocked_moves : (m m' : Market) (k : ℕ) (e e' : Candidate) (a : Allocation) (s : Code) → Differs m m' k e e' → RanksAlike a e e' → is_tenant e' s ≡ is_tenant e s → key_at e'.list s ≡ key_at e.list s → prefers a e s ≡ true → blocks m a e s ≡ false → blocks m' a e' s ≡ false
+unblocked_moves m m' k e e' a s h alike tenant key wants unblocked =
     let now = entitled_same m m' k e e' e e' a s h alike tenant key in
     elim (cases_Bool (blocks m' a e' s)) [
-      | inr calm' ↦ calm'
+      | inr unblocked' ↦ unblocked'
       | inl blocking ↦
           let parts = and_parts (prefers a e' s) _ blocking in
-          absurd (false≢true (sym calm ∙ and_from (prefers a e s) _ wants (sym now ∙ parts.1)))
+          absurd (false≢true (sym unblocked ∙ and_from (prefers a e s) _ wants (sym now ∙ parts.1)))
     ]
 
 -- An allocation stays stable, where the entrant ranks as before at the school that it has, and is content.
-pub stable_moves : (m m' : Market) (k : ℕ) (e e' : Candidate) (a : Allocation) → Differs m m' k e e' → RanksAlike a e e' → ((s : Code) → a e.child ≡ Some s → place e'.list s < length e'.list) → IsContent m' a e' → IsStable m a → IsStable m' a
+pub stable_moves : (m m' : Market) (k : ℕ) (e e' : Candidate) (a : Allocation) → Differs m m' k e e' → RanksAlike a e e' → ((s : Code) → a e.child ≡ Some s → preference_rank e'.list s < length e'.list) → IsContent m' a e' → IsStable m a → IsStable m' a
 stable_moves m m' k e e' a h alike listed content stable = record {
-  allocates = All_at (λ x. IfSome (a x.child) (λ s. place x.list s < length x.list)) m'.entrants (λ j x xj. elim (cases_eq j k) [
+  acceptable = All_at (λ x. IfSome (a x.child) (λ s. preference_rank x.list s < length x.list)) m'.entrants (λ j x xj. elim (cases_eq j k) [
     | inl is ↦
         let x_is : e' ≡ x = same_Some e' x (sym h.here' ∙ (ap (slice_get m'.entrants) (sym is) ∙ xj)) in
-        subst (λ (y : Candidate). IfSome (a y.child) (λ s. place y.list s < length y.list)) x_is
-        (subst (λ n. IfSome (a n) (λ s. place e'.list s < length e'.list)) (sym h.child) (some_of (a e.child) e' listed))
-    | inr n ↦ at_All (λ x. IfSome (a x.child) (λ s. place x.list s < length x.list)) m.entrants j x stable.allocates (sym (h.others j n) ∙ xj)
+        subst (λ (y : Candidate). IfSome (a y.child) (λ s. preference_rank y.list s < length y.list)) x_is
+        (subst (λ n. IfSome (a n) (λ s. preference_rank e'.list s < length e'.list)) (sym h.child) (some_of (a e.child) e' listed))
+    | inr n ↦ at_All (λ x. IfSome (a x.child) (λ s. preference_rank x.list s < length x.list)) m.entrants j x stable.acceptable (sym (h.others j n) ∙ xj)
   ]);
-  fits = λ s some.
+  feasible = λ s some.
       let was : list_any (is_guest a s) m'.entrants ≡ list_any (is_guest a s) m.entrants
       = any_beside (is_guest a s) (is_guest a s) m'.entrants m.entrants h.same
       (beside (is_guest a s) (is_guest a s) m m' k e e' h (guest_same k e e' a s h.child alike) (λ x. refl)) in
-      let few = stable.fits s (sym was ∙ some) in
+      let few = stable.feasible s (sym was ∙ some) in
       omega (arith, few, count_same m m' k e e' a s h, ap (λ (x : List Seats). quota_of x s) h.seats);
   unblocked = All_at (IsContent m' a) m'.entrants (λ j x xj. elim (cases_eq j k) [
     | inl is ↦ subst (λ (y : Candidate). IsContent m' a y) (same_Some e' x (sym h.here' ∙ (ap (slice_get m'.entrants) (sym is) ∙ xj))) content
     | inr n ↦ λ s.
-        let calm = at_All (IsContent m a) m.entrants j x stable.unblocked (sym (h.others j n) ∙ xj) s in
-        ap (λ b. prefers a x s && b) (entitled_same m m' k e e' x x a s h alike refl refl) ∙ calm
+        let unblocked = at_All (IsContent m a) m.entrants j x stable.unblocked (sym (h.others j n) ∙ xj) s in
+        ap (λ b. prefers a x s && b) (entitled_same m m' k e e' x x a s h alike refl refl) ∙ unblocked
   ]);
 }
   where
-    some_of : (o : Option Code) (e' : Candidate) → ((s : Code) → o ≡ Some s → place e'.list s < length e'.list) → IfSome o (λ s. place e'.list s < length e'.list)
+    some_of : (o : Option Code) (e' : Candidate) → ((s : Code) → o ≡ Some s → preference_rank e'.list s < length e'.list) → IfSome o (λ s. preference_rank e'.list s < length e'.list)
     some_of None e' g = tt
     some_of (Some s) e' g = g s refl

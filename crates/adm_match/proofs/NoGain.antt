@@ -1,79 +1,31 @@
 -- No gain by listing otherwise.
 use Rattle.std.proofs.Common.{◌≡◌, ◌⊎◌, ℕ, zero, suc, ◌+◌, ◌<◌, ◌≤◌, List, [], ◌∷◌, length, take, Option, None, Some, true, false, cond, not, inl, inr, refl, sym, ap, ◌∙◌, subst, arith, add-one}
-use Rattle.std.specs.Prelude.{is_some, bytes_eq, option_map, find}
+use Rattle.std.specs.Prelude.{is_some, bytes_eq, option_map}
 use Rattle.std.specs.List.{slice_get, list_any}
 use Rattle.std.proofs.lemmas.Bool.{cases_Bool, cases_eq, cases_lt, false≢true, and_left, lt-ltb, le-ltb, ltb-true}
 use Rattle.std.proofs.lemmas.Option.{none-some, same_Some, slice_get_within}
 use Rattle.std.proofs.lemmas.Slice.Eq.{bytes_eq-Decides}
 use Rattle.adm_match.specs.declared.problem.Wish.{Wish}
 use Rattle.adm_match.specs.declared.problem.Seats.{Seats}
-use Rattle.adm_match.specs.Market.{Code, Candidate, Market, place, place_of, is_tenant, key_at, some_pair, same_code}
+use Rattle.adm_match.specs.Market.{Code, Candidate, Market, preference_rank, assigned_rank, is_tenant, key_at, some_pair, same_code}
 use Rattle.adm_match.specs.Stability.{Allocation, prefers, blocks, IsContent, IsStable, IsBest}
-use Rattle.adm_match.proofs.Places.{at_All, wish_at_place}
-use Rattle.adm_match.proofs.FirstBlock.{place_within}
+use Rattle.adm_match.proofs.Words.{at_All, wish_at_rank}
+use Rattle.adm_match.proofs.Beginning.{rank_take, key_take, rank_taken, at_take}
+use Rattle.adm_match.proofs.FirstBlock.{rank_within}
 use Rattle.adm_match.specs.Distinct.{Distinct}
 use Rattle.adm_match.proofs.Existence.{best_exists}
 use Rattle.adm_match.specs.Distinct.{Seated}
-use Rattle.adm_match.proofs.Placed.{on_list, full_if_calm, same_placed}
-use Rattle.adm_match.proofs.Moved.{Differs, differs_back, differs_on, differs_set, replaced, RanksAlike, calm_moves, stable_moves}
-
--- the beginning of a list
-place_take : (ws : List Wish) (n : ℕ) (s : Code) → place ws s < n → place (take n ws) s ≡ place ws s
-place_take [] zero s l = refl
-place_take [] (suc n) s l = refl
-place_take (w ∷ ws) zero s l = absurd (omega arith)
-place_take (w ∷ ws) (suc n) s l = elim (cases_Bool (bytes_eq w.school s)) [
-  | inl hit ↦
-      ap (λ b. cond (not b) (1 + place (take n ws) s) 0) hit ∙ sym (ap (λ b. cond (not b) (1 + place ws s) 0) hit)
-  | inr miss ↦
-      let here : place (w ∷ ws) s ≡ 1 + place ws s = ap (λ b. cond (not b) (1 + place ws s) 0) miss in
-      let there : place (w ∷ take n ws) s ≡ 1 + place (take n ws) s = ap (λ b. cond (not b) (1 + place (take n ws) s) 0) miss in
-      there ∙ (ap (λ x. 1 + x) (place_take ws n s (omega (arith, here, l))) ∙ sym here)
-]
-
-key_take : (ws : List Wish) (n : ℕ) (s : Code) → place ws s < n → key_at (take n ws) s ≡ key_at ws s
-key_take [] zero s l = refl
-key_take [] (suc n) s l = refl
-key_take (w ∷ ws) zero s l = absurd (omega arith)
-key_take (w ∷ ws) (suc n) s l = elim (cases_Bool (bytes_eq w.school s)) [
-  | inl hit ↦
-      ap (λ b. option_map (λ (x : Wish). x.key) (cond b (Some w) (find (λ x. bytes_eq x.school s) (take n ws)))) hit
-      ∙ sym (ap (λ b. option_map (λ (x : Wish). x.key) (cond b (Some w) (find (λ x. bytes_eq x.school s) ws))) hit)
-  | inr miss ↦
-      let here : place (w ∷ ws) s ≡ 1 + place ws s = ap (λ b. cond (not b) (1 + place ws s) 0) miss in
-      ap (λ b. option_map (λ (x : Wish). x.key) (cond b (Some w) (find (λ x. bytes_eq x.school s) (take n ws)))) miss
-      ∙ (key_take ws n s (omega (arith, here, l))
-      ∙ sym (ap (λ b. option_map (λ (x : Wish). x.key) (cond b (Some w) (find (λ x. bytes_eq x.school s) ws))) miss))
-]
-
--- what stands on the beginning stands before its end
-place_taken : (ws : List Wish) (n : ℕ) (s : Code) → place (take n ws) s < length (take n ws) → place ws s < n
-place_taken [] zero s l = absurd (omega arith)
-place_taken [] (suc n) s l = absurd (omega arith)
-place_taken (w ∷ ws) zero s l = absurd (omega arith)
-place_taken (w ∷ ws) (suc n) s l = elim (cases_Bool (bytes_eq w.school s)) [
-  | inl hit ↦ omega (arith, ap (λ b. cond (not b) (1 + place ws s) 0) hit)
-  | inr miss ↦
-      let here : place (w ∷ ws) s ≡ 1 + place ws s = ap (λ b. cond (not b) (1 + place ws s) 0) miss in
-      let there : place (w ∷ take n ws) s ≡ 1 + place (take n ws) s = ap (λ b. cond (not b) (1 + place (take n ws) s) 0) miss in
-      omega (arith, here, place_taken ws n s (omega (arith, there, l)))
-]
-
-at_take : (ws : List Wish) (n j : ℕ) (w : Wish) → slice_get (take n ws) j ≡ Some w → (slice_get ws j ≡ Some w) × (j < n)
-at_take [] zero j w e = absurd (none-some w e)
-at_take [] (suc n) j w e = absurd (none-some w e)
-at_take (x ∷ xs) zero j w e = absurd (none-some w e)
-at_take (x ∷ xs) (suc n) zero w e = (e, omega arith)
-at_take (x ∷ xs) (suc n) (suc j) w e = let h = at_take xs n j w e in (h.0, omega (arith, h.1))
+use Rattle.adm_match.proofs.Placed.{on_list, full_if_unblocked, same_placed}
+use Rattle.adm_match.proofs.Moved.{Differs, differs_back, differs_on, differs_set, replaced, RanksAlike, unblocked_moves, stable_moves}
 
 -- An entrant with a part of the list, and no tenant: each of its wishes is the old one's, who is no tenant there.
 pub record Part (m : Market) (k : ℕ) (e e' : Candidate) : Type 0 where
-  pub places : (j : ℕ) (w : Wish) → slice_get e'.list j ≡ Some w → place e'.list w.school ≡ j
+  pub own_rank : (j : ℕ) (w : Wish) → slice_get e'.list j ≡ Some w → preference_rank e'.list w.school ≡ j
   pub keys : (j : ℕ) (w : Wish) → slice_get e'.list j ≡ Some w → key_at e'.list w.school ≡ Some w.key
   pub old : (j : ℕ) (w : Wish) → slice_get e'.list j ≡ Some w → (i : ℕ) × (slice_get e.list i ≡ Some w)
   pub free : (j : ℕ) (w : Wish) → slice_get e'.list j ≡ Some w → is_tenant e' w.school ≡ false → is_tenant e w.school ≡ false
 
--- an entrant of the changed problem, and the one whose place it has
+-- an entrant of the changed problem, and the one at whose index it stands
 origin : (m m' : Market) (k : ℕ) (e e' : Candidate) → Differs m m' k e e' → Part m k e e' → (j : ℕ) (x : Candidate) → slice_get m'.entrants j ≡ Some x → (y : Candidate) × (slice_get m.entrants j ≡ Some y) × (x.child ≡ y.child) × ((i : ℕ) (w : Wish) → slice_get x.list i ≡ Some w → is_tenant x w.school ≡ false → ((n : ℕ) × (slice_get y.list n ≡ Some w)) × (is_tenant y w.school ≡ false)) × ((i : ℕ) (w : Wish) → slice_get x.list i ≡ Some w → (n : ℕ) × (slice_get y.list n ≡ Some w))
 origin m m' k e e' h part j x xj = elim (cases_eq j k) [
   | inl is ↦
@@ -92,11 +44,11 @@ origin m m' k e e' h part j x xj = elim (cases_eq j k) [
 pub part_distinct : (m m' : Market) (k : ℕ) (e e' : Candidate) → Differs m m' k e e' → Part m k e e' → Distinct m → Distinct m'
 part_distinct m m' k e e' h part d = record {
   well = record {
-    places = λ j x i w xj iw. elim (cases_eq j k) [
+    own_rank = λ j x i w xj iw. elim (cases_eq j k) [
       | inl is ↦
           let x_is : e' ≡ x = same_Some e' x (sym h.here' ∙ (ap (slice_get m'.entrants) (sym is) ∙ xj)) in
-          ap (λ (z : Candidate). place z.list w.school) (sym x_is) ∙ part.places i w (ap (λ (z : Candidate). slice_get z.list i) x_is ∙ iw)
-      | inr n ↦ d.well.places j x i w (sym (h.others j n) ∙ xj) iw
+          ap (λ (z : Candidate). preference_rank z.list w.school) (sym x_is) ∙ part.own_rank i w (ap (λ (z : Candidate). slice_get z.list i) x_is ∙ iw)
+      | inr n ↦ d.well.own_rank j x i w (sym (h.others j n) ∙ xj) iw
     ];
   };
   children = λ i j x y xi yj less same.
@@ -128,16 +80,16 @@ part_seated m m' k e e' h part d = record {
 }
 
 -- the list of one wish
-one_place : (w : Wish) (s : Code) → w.school ≡ s → place (w ∷ []) s ≡ 0
-one_place w s is = ap (λ b. cond (not b) 1 0) ((bytes_eq-Decides w.school s).1 is)
+one_rank : (w : Wish) (s : Code) → w.school ≡ s → preference_rank (w ∷ []) s ≡ 0
+one_rank w s is = ap (λ b. cond (not b) 1 0) ((bytes_eq-Decides w.school s).1 is)
 
 one_key : (w : Wish) (s : Code) → w.school ≡ s → key_at (w ∷ []) s ≡ Some w.key
 one_key w s is = ap (λ b. option_map (λ (x : Wish). x.key) (cond b (Some w) None)) ((bytes_eq-Decides w.school s).1 is)
 
-one_only : (w : Wish) (s : Code) → place (w ∷ []) s < 1 → w.school ≡ s
+one_only : (w : Wish) (s : Code) → preference_rank (w ∷ []) s < 1 → w.school ≡ s
 one_only w s l = elim (cases_Bool (bytes_eq w.school s)) [
   | inl hit ↦ (bytes_eq-Decides w.school s).0 hit
-  | inr miss ↦ absurd (let far : place (w ∷ []) s ≡ 1 = ap (λ b. cond (not b) (1 + 0) 0) miss in omega (arith, l, far))
+  | inr miss ↦ absurd (let far : preference_rank (w ∷ []) s ≡ 1 = ap (λ b. cond (not b) (1 + 0) 0) miss in omega (arith, l, far))
 ]
 
 one_at : (w : Wish) (j : ℕ) (x : Wish) → slice_get (w ∷ []) j ≡ Some x → w ≡ x
@@ -156,8 +108,8 @@ pub record Wanted (m : Market) (k : ℕ) (e : Candidate) (n : ℕ) (w : Wish) : 
 
 part_one : (m : Market) (k : ℕ) (e : Candidate) (n : ℕ) (w : Wish) → Distinct m → Wanted m k e n w → Part m k e (alone e (w ∷ []))
 part_one m k e n w d h = record {
-  places = λ j x jx. elim (cases_eq j 0) [
-    | inl is ↦ one_place w x.school (ap (λ (z : Wish). z.school) (one_at w j x jx)) ∙ sym is
+  own_rank = λ j x jx. elim (cases_eq j 0) [
+    | inl is ↦ one_rank w x.school (ap (λ (z : Wish). z.school) (one_at w j x jx)) ∙ sym is
     | inr more ↦ absurd (omega (arith, more, slice_get_within (w ∷ []) j x jx))
   ];
   keys = λ j x jx.
@@ -169,13 +121,13 @@ part_one m k e n w d h = record {
 
 part_front : (m : Market) (k : ℕ) (e : Candidate) (n : ℕ) (w : Wish) → Distinct m → Wanted m k e n w → Part m k e (alone e (take (n + 1) e.list))
 part_front m k e n w d h = record {
-  places = λ j x jx.
+  own_rank = λ j x jx.
       let old = at_take e.list (n + 1) j x jx in
-      let is = d.well.places k e j x h.here old.0 in
-      place_take e.list (n + 1) x.school (omega (arith, is, old.1)) ∙ is;
+      let is = d.well.own_rank k e j x h.here old.0 in
+      rank_take e.list (n + 1) x.school (omega (arith, is, old.1)) ∙ is;
   keys = λ j x jx.
       let old = at_take e.list (n + 1) j x jx in
-      let is = d.well.places k e j x h.here old.0 in
+      let is = d.well.own_rank k e j x h.here old.0 in
       key_take e.list (n + 1) x.school (omega (arith, is, old.1)) ∙ d.key_of k e j x h.here old.0;
   old = λ j x jx. (j, (at_take e.list (n + 1) j x jx).0);
   free = λ j x jx _. let old = at_take e.list (n + 1) j x jx in h.free_upto j x (omega (arith, old.1)) old.0;
@@ -184,15 +136,15 @@ part_front m k e n w d h = record {
 -- a child that is given the one school of its list wants no other
 one_content : (m : Market) (a : Allocation) (e : Candidate) (w : Wish) (s : Code) → w.school ≡ s → a e.child ≡ Some s → IsContent m a (alone e (w ∷ []))
 one_content m a e w s is at = λ t.
-    let here : place_of (w ∷ []) (a e.child) ≡ 0 = ap (place_of (w ∷ [])) at ∙ one_place w s is in
+    let here : assigned_rank (w ∷ []) (a e.child) ≡ 0 = ap (assigned_rank (w ∷ [])) at ∙ one_rank w s is in
     and_left (prefers a (alone e (w ∷ [])) t) _ (le-ltb _ _ (omega (arith, here)))
 
 -- The school s, of which c is no tenant, is before what the best allocation gives c. Then no list of c leads to
 -- a stable allocation that gives it s.
-pub never_gained : (m m' : Market) (k : ℕ) (e e' : Candidate) (b a : Allocation) (w : Wish) → Differs m m' k e e' → Distinct m → Seated m → IsBest m b → IsStable m' a → Wanted m k e (place e.list w.school) w → a e.child ≡ Some w.school → is_tenant e' w.school ≡ false → key_at e'.list w.school ≡ Some w.key → place e.list w.school < place_of e.list (b e.child) → ⊥
+pub never_gained : (m m' : Market) (k : ℕ) (e e' : Candidate) (b a : Allocation) (w : Wish) → Differs m m' k e e' → Distinct m → Seated m → IsBest m b → IsStable m' a → Wanted m k e (preference_rank e.list w.school) w → a e.child ≡ Some w.school → is_tenant e' w.school ≡ false → key_at e'.list w.school ≡ Some w.key → preference_rank e.list w.school < assigned_rank e.list (b e.child) → ⊥
 never_gained m m' k e e' b a w h d seated best stable wanted at free' key' gain =
     let s = w.school in
-    let n = place e.list s in
+    let n = preference_rank e.list s in
     let e1 = alone e (w ∷ []) in
     let e2 = alone e (take (n + 1) e.list) in
     let m1 = replaced m k e1 in
@@ -212,57 +164,57 @@ never_gained m m' k e e' b a w h d seated best stable wanted at free' key' gain 
     let t_is : s ≡ t = same_Some s t (sym a_at' ∙ is) in
     subst (λ (u : Code). (is_tenant e1 u ≡ is_tenant e' u) × (key_at e1.list u ≡ key_at e'.list u)) t_is
     (sym free', one_key w s refl ∙ sym key') in
-    let listed : (t : Code) → a e'.child ≡ Some t → place e1.list t < length e1.list = λ t is.
+    let listed : (t : Code) → a e'.child ≡ Some t → preference_rank e1.list t < length e1.list = λ t is.
     let t_is : s ≡ t = same_Some s t (sym a_at' ∙ is) in
-    omega (arith, one_place w t t_is) in
+    omega (arith, one_rank w t t_is) in
     let a1 : IsStable m1 a = stable_moves m' m1 k e' e1 a from' alike listed (one_content m1 a e w s refl at) stable in
     -- the list up to s: the child is not left out
     elim (given_or_not (b2.0 e.child)) [
       | inl out ↦
           let back = differs_on m m2 m1 k e e2 e1 h2 h1 in
           let nothing : RanksAlike b2.0 e2 e1 = λ t is. absurd (none-some t (sym out ∙ is)) in
-          let wants : prefers b2.0 e2 s ≡ true = lt-ltb _ _ (omega (arith, p2.places n w (front_at e.list n w wanted.at), ap (place_of e2.list) out, slice_get_within e2.list n w (front_at e.list n w wanted.at))) in
-          let calm : blocks m2 b2.0 e2 s ≡ false = at_All (IsContent m2 b2.0) m2.entrants k e2 b2.1.stable.unblocked h2.here' s in
+          let wants : prefers b2.0 e2 s ≡ true = lt-ltb _ _ (omega (arith, p2.own_rank n w (front_at e.list n w wanted.at), ap (assigned_rank e2.list) out, slice_get_within e2.list n w (front_at e.list n w wanted.at))) in
+          let unblocked : blocks m2 b2.0 e2 s ≡ false = at_All (IsContent m2 b2.0) m2.entrants k e2 b2.1.stable.unblocked h2.here' s in
           let content : IsContent m1 b2.0 e1 = λ t. elim (cases_Bool (prefers b2.0 e1 t)) [
-            | inr calm' ↦ and_left (prefers b2.0 e1 t) _ calm'
+            | inr unblocked' ↦ and_left (prefers b2.0 e1 t) _ unblocked'
             | inl more ↦
-                let t_is : s ≡ t = one_only w t (omega (arith, ltb-true _ _ more, ap (place_of e1.list) out)) in
+                let t_is : s ≡ t = one_only w t (omega (arith, ltb-true _ _ more, ap (assigned_rank e1.list) out)) in
                 subst (λ (u : Code). blocks m1 b2.0 e1 u ≡ false) t_is
-                (calm_moves m2 m1 k e2 e1 b2.0 s back nothing refl (one_key w s refl ∙ sym key2) wants calm)
+                (unblocked_moves m2 m1 k e2 e1 b2.0 s back nothing refl (one_key w s refl ∙ sym key2) wants unblocked)
           ] in
           let c1 : IsStable m1 b2.0 = stable_moves m2 m1 k e2 e1 b2.0 back nothing (λ t is. absurd (none-some t (sym out ∙ is))) content b2.1.stable in
           let there = same_placed m1 b1.0 a b2.0 s1 b1.1 a1 c1 k e1 h1.here' (ap is_some at) in
           false≢true (sym (ap is_some out) ∙ there)
       | inr given ↦
           let t = given.0 in
-          let inside2 = on_list m2 b2.0 k e2 t b2.1.stable.allocates h2.here' given.1 in
-          let early : place e.list t < n + 1 = place_taken e.list (n + 1) t inside2 in
+          let inside2 = on_list m2 b2.0 k e2 t b2.1.stable.acceptable h2.here' given.1 in
+          let early : preference_rank e.list t < n + 1 = rank_taken e.list (n + 1) t inside2 in
           let within = slice_get_within e.list n w wanted.at in
           let back = differs_back m m2 k e e2 h2 in
-          let free_at : (u : Code) → place e.list u < n + 1 → is_tenant e u ≡ false = λ u l.
-          let x = wish_at_place e.list u (omega (arith, l, within)) in
-          ap (is_tenant e) (sym x.2) ∙ wanted.free_upto (place e.list u) x.0 (omega (arith, l)) x.1 in
+          let free_at : (u : Code) → preference_rank e.list u < n + 1 → is_tenant e u ≡ false = λ u l.
+          let x = wish_at_rank e.list u (omega (arith, l, within)) in
+          ap (is_tenant e) (sym x.2) ∙ wanted.free_upto (preference_rank e.list u) x.0 (omega (arith, l)) x.1 in
           let alike2 : RanksAlike b2.0 e2 e = λ u is.
           let u_is : t ≡ u = same_Some t u (sym given.1 ∙ is) in
           subst (λ (x : Code). (is_tenant e x ≡ is_tenant e2 x) × (key_at e.list x ≡ key_at e2.list x)) u_is
           (free_at t early, sym (key_take e.list (n + 1) t early)) in
-          let listed2 : (u : Code) → b2.0 e2.child ≡ Some u → place e.list u < length e.list = λ u is.
+          let listed2 : (u : Code) → b2.0 e2.child ≡ Some u → preference_rank e.list u < length e.list = λ u is.
           let u_is : t ≡ u = same_Some t u (sym given.1 ∙ is) in
-          subst (λ (x : Code). place e.list x < length e.list) u_is (omega (arith, early, within)) in
-          let t_place : place_of e.list (b2.0 e.child) ≡ place e.list t = ap (place_of e.list) given.1 in
-          let t_place2 : place_of e2.list (b2.0 e.child) ≡ place e.list t = ap (place_of e2.list) given.1 ∙ place_take e.list (n + 1) t early in
+          subst (λ (x : Code). preference_rank e.list x < length e.list) u_is (omega (arith, early, within)) in
+          let t_rank : assigned_rank e.list (b2.0 e.child) ≡ preference_rank e.list t = ap (assigned_rank e.list) given.1 in
+          let t_rank2 : assigned_rank e2.list (b2.0 e.child) ≡ preference_rank e.list t = ap (assigned_rank e2.list) given.1 ∙ rank_take e.list (n + 1) t early in
           let content : IsContent m b2.0 e = λ u. elim (cases_Bool (prefers b2.0 e u)) [
-            | inr calm' ↦ and_left (prefers b2.0 e u) _ calm'
+            | inr unblocked' ↦ and_left (prefers b2.0 e u) _ unblocked'
             | inl more ↦
                 let before = ltb-true _ _ more in
-                let u_early : place e.list u < n + 1 = omega (arith, before, t_place, early) in
-                let wants2 : prefers b2.0 e2 u ≡ true = lt-ltb _ _ (omega (arith, place_take e.list (n + 1) u u_early, before, t_place, t_place2)) in
-                let calm2 : blocks m2 b2.0 e2 u ≡ false = at_All (IsContent m2 b2.0) m2.entrants k e2 b2.1.stable.unblocked h2.here' u in
-                calm_moves m2 m k e2 e b2.0 u back alike2 (free_at u u_early) (sym (key_take e.list (n + 1) u u_early)) wants2 calm2
+                let u_early : preference_rank e.list u < n + 1 = omega (arith, before, t_rank, early) in
+                let wants2 : prefers b2.0 e2 u ≡ true = lt-ltb _ _ (omega (arith, rank_take e.list (n + 1) u u_early, before, t_rank, t_rank2)) in
+                let unblocked2 : blocks m2 b2.0 e2 u ≡ false = at_All (IsContent m2 b2.0) m2.entrants k e2 b2.1.stable.unblocked h2.here' u in
+                unblocked_moves m2 m k e2 e b2.0 u back alike2 (free_at u u_early) (sym (key_take e.list (n + 1) u u_early)) wants2 unblocked2
           ] in
           let c2 : IsStable m b2.0 = stable_moves m2 m k e2 e b2.0 back alike2 listed2 content b2.1.stable in
-          let least : place_of e.list (b e.child) ≤ place_of e.list (b2.0 e.child) = at_All (λ x. place_of x.list (b x.child) ≤ place_of x.list (b2.0 x.child)) m.entrants k e (best.none_better b2.0 c2) wanted.here in
-          omega (arith, least, t_place, early, gain)
+          let least : assigned_rank e.list (b e.child) ≤ assigned_rank e.list (b2.0 e.child) = at_All (λ x. assigned_rank x.list (b x.child) ≤ assigned_rank x.list (b2.0 x.child)) m.entrants k e (best.none_better b2.0 c2) wanted.here in
+          omega (arith, least, t_rank, early, gain)
     ]
   where
     given_or_not : (o : Option Code) → (o ≡ None) ⊎ ((t : Code) × (o ≡ Some t))
@@ -280,39 +232,39 @@ never_gained m m' k e e' b a w h d seated best stable wanted at free' key' gain 
 -- A list that names schools of the entrant's own list, by their keys there, and the same tenancy.
 pub record Listing (e e' : Candidate) : Type 0 where
   pub tenant : (s : Code) → is_tenant e' s ≡ is_tenant e s
-  pub own : (s : Code) → place e'.list s < length e'.list → (place e.list s < length e.list) × (key_at e'.list s ≡ key_at e.list s)
+  pub own : (s : Code) → preference_rank e'.list s < length e'.list → (preference_rank e.list s < length e.list) × (key_at e'.list s ≡ key_at e.list s)
 
 -- Whatever such list the child hands in: no stable allocation of that problem gives it a school before the one
 -- that it has in the best allocation.
-pub no_gain : (m m' : Market) (k : ℕ) (e e' : Candidate) (b a : Allocation) → Differs m m' k e e' → Listing e e' → Distinct m → Seated m → ((s : Code) → is_tenant e s ≡ true → place e.list s + 1 ≡ length e.list) → IsBest m b → IsStable m' a → place_of e.list (b e.child) ≤ place_of e.list (a e.child)
+pub no_gain : (m m' : Market) (k : ℕ) (e e' : Candidate) (b a : Allocation) → Differs m m' k e e' → Listing e e' → Distinct m → Seated m → ((s : Code) → is_tenant e s ≡ true → preference_rank e.list s + 1 ≡ length e.list) → IsBest m b → IsStable m' a → assigned_rank e.list (b e.child) ≤ assigned_rank e.list (a e.child)
 no_gain m m' k e e' b a h listing d seated tenant_last best stable = elim (given_or_not (a e.child)) [
-  | inl out ↦ omega (arith, place_within e.list (b e.child), ap (place_of e.list) out)
+  | inl out ↦ omega (arith, rank_within e.list (b e.child), ap (assigned_rank e.list) out)
   | inr given ↦
       let s = given.0 in
       let at' : a e'.child ≡ Some s = ap a h.child ∙ given.1 in
-      let own = listing.own s (on_list m' a k e' s stable.allocates h.here' at') in
-      let w = wish_at_place e.list s own.0 in
-      let a_place : place_of e.list (a e.child) ≡ place e.list s = ap (place_of e.list) given.1 in
-      elim (cases_lt (place e.list s) (place_of e.list (b e.child))) [
-        | inr most ↦ omega (arith, most, a_place)
+      let own = listing.own s (on_list m' a k e' s stable.acceptable h.here' at') in
+      let w = wish_at_rank e.list s own.0 in
+      let a_rank : assigned_rank e.list (a e.child) ≡ preference_rank e.list s = ap (assigned_rank e.list) given.1 in
+      elim (cases_lt (preference_rank e.list s) (assigned_rank e.list (b e.child))) [
+        | inr most ↦ omega (arith, most, a_rank)
         | inl gain ↦ elim (cases_Bool (is_tenant e s)) [
           | inl tenant ↦
               -- the tenant's school is the last, and the tenant always has it or a better one
               let wants : prefers b e s ≡ true = lt-ltb _ _ gain in
-              let calm = at_All (IsContent m b) m.entrants k e best.stable.unblocked h.here s in
-              absurd (false≢true (sym (full_if_calm m b e s wants calm).0 ∙ tenant))
+              let unblocked = at_All (IsContent m b) m.entrants k e best.stable.unblocked h.here s in
+              absurd (false≢true (sym (full_if_unblocked m b e s wants unblocked).0 ∙ tenant))
           | inr free ↦
-              let w_key : key_at e.list s ≡ Some w.0.key = ap (key_at e.list) (sym w.2) ∙ d.key_of k e (place e.list s) w.0 h.here w.1 in
-              let wanted : Wanted m k e (place e.list w.0.school) w.0 = record {
+              let w_key : key_at e.list s ≡ Some w.0.key = ap (key_at e.list) (sym w.2) ∙ d.key_of k e (preference_rank e.list s) w.0 h.here w.1 in
+              let wanted : Wanted m k e (preference_rank e.list w.0.school) w.0 = record {
                 here = h.here;
-                at = ap (λ (t : Code). slice_get e.list (place e.list t)) w.2 ∙ w.1;
+                at = ap (λ (t : Code). slice_get e.list (preference_rank e.list t)) w.2 ∙ w.1;
                 free_upto = λ j x upto jx. elim (cases_Bool (is_tenant e x.school)) [
                   | inr free' ↦ free'
                   | inl tenant ↦ absurd (
                       let last = tenant_last x.school tenant in
-                      let x_place = d.well.places k e j x h.here jx in
-                      let s_place : place e.list w.0.school ≡ place e.list s = ap (place e.list) w.2 in
-                      let same : j ≡ place e.list s = omega (arith, last, x_place, upto, s_place, own.0) in
+                      let x_rank = d.well.own_rank k e j x h.here jx in
+                      let s_rank : preference_rank e.list w.0.school ≡ preference_rank e.list s = ap (preference_rank e.list) w.2 in
+                      let same : j ≡ preference_rank e.list s = omega (arith, last, x_rank, upto, s_rank, own.0) in
                       let x_is : x ≡ w.0 = same_Some x w.0 (sym jx ∙ (ap (slice_get e.list) same ∙ w.1)) in
                       false≢true (sym free ∙ (ap (is_tenant e) (sym w.2 ∙ ap (λ (z : Wish). z.school) (sym x_is)) ∙ tenant)))
                 ];
@@ -320,7 +272,7 @@ no_gain m m' k e e' b a h listing d seated tenant_last best stable = elim (given
               absurd (never_gained m m' k e e' b a w.0 h d seated best stable wanted (given.1 ∙ ap Some (sym w.2))
               (listing.tenant w.0.school ∙ (ap (is_tenant e) w.2 ∙ free))
               (ap (key_at e'.list) w.2 ∙ (own.1 ∙ w_key))
-              (omega (arith, ap (place e.list) w.2, gain)))
+              (omega (arith, ap (preference_rank e.list) w.2, gain)))
         ]
       ]
 ]

@@ -7,30 +7,30 @@ use Rattle.std.proofs.lemmas.Option.{none-some, same_Some}
 use Rattle.std.proofs.lemmas.List.Sums.{sum_by-cons}
 use Rattle.std.proofs.lemmas.Slice.Eq.{bytes_eq-Decides}
 use Rattle.adm_match.specs.declared.problem.Seats.{Seats}
-use Rattle.adm_match.specs.Market.{Code, Candidate, Market, has, place, place_of, is_tenant, quota_of, some_pair, same_code}
+use Rattle.adm_match.specs.Market.{Code, Candidate, Market, has, preference_rank, assigned_rank, is_tenant, quota_of, some_pair, same_code}
 use Rattle.adm_match.specs.Distinct.{Seated}
-use Rattle.adm_match.specs.Stability.{Allocation, Allocates, count_at, is_guest, prefers, ranks_after, blocks, IsContent, IsStable, IsBest}
+use Rattle.adm_match.specs.Stability.{Allocation, IsAcceptable, count_at, is_guest, prefers, ranks_after, blocks, IsContent, IsStable, IsBest}
 use Rattle.adm_match.proofs.Side.{more_pass, count_yes, count_no}
 use Rattle.adm_match.proofs.Turn.{sum_beside}
-use Rattle.adm_match.proofs.Places.{has_tells, not_has, at_All, list_any_of, wish_at_place, same_place, guest_from}
+use Rattle.adm_match.proofs.Words.{has_tells, not_has, at_All, list_any_of, wish_at_rank, same_rank, guest_from}
 
 -- what an entrant has in an allocation is on its list
-pub on_list : (m : Market) (a : Allocation) (k : ℕ) (e : Candidate) (s : Code) → Allocates m a → slice_get m.entrants k ≡ Some e → a e.child ≡ Some s → place e.list s < length e.list
+pub on_list : (m : Market) (a : Allocation) (k : ℕ) (e : Candidate) (s : Code) → IsAcceptable m a → slice_get m.entrants k ≡ Some e → a e.child ≡ Some s → preference_rank e.list s < length e.list
 on_list m a k e s h ek at =
-    subst (λ (o : Option Code). IfSome o (λ t. place e.list t < length e.list)) at
-    (at_All (λ e. IfSome (a e.child) (λ t. place e.list t < length e.list)) m.entrants k e h ek)
+    subst (λ (o : Option Code). IfSome o (λ t. preference_rank e.list t < length e.list)) at
+    (at_All (λ e. IfSome (a e.child) (λ t. preference_rank e.list t < length e.list)) m.entrants k e h ek)
 
 -- the test of a block, from its parts
 pub blocks_from : (m : Market) (a : Allocation) (e : Candidate) (s : Code) → prefers a e s ≡ true → (is_tenant e s || (nat_lt (count_at m a s) (quota_of m.seats s) || list_any (ranks_after a s e) m.entrants)) ≡ true → blocks m a e s ≡ true
 blocks_from m a e s p q = and_from (prefers a e s) _ p q
 
 -- a pair that is preferred and does not block: its school is full, and the entrant is no tenant of it
-pub full_if_calm : (m : Market) (a : Allocation) (e : Candidate) (s : Code) → prefers a e s ≡ true → blocks m a e s ≡ false → (is_tenant e s ≡ false) × (quota_of m.seats s ≤ count_at m a s)
-full_if_calm m a e s p calm =
+pub full_if_unblocked : (m : Market) (a : Allocation) (e : Candidate) (s : Code) → prefers a e s ≡ true → blocks m a e s ≡ false → (is_tenant e s ≡ false) × (quota_of m.seats s ≤ count_at m a s)
+full_if_unblocked m a e s p unblocked =
     let room = nat_lt (count_at m a s) (quota_of m.seats s) in
     let behind = list_any (ranks_after a s e) m.entrants in
     let none : (is_tenant e s || (room || behind)) ≡ false = elim (cases_Bool (is_tenant e s || (room || behind))) [
-      | inl yes' ↦ absurd (false≢true (sym calm ∙ blocks_from m a e s p yes'))
+      | inl yes' ↦ absurd (false≢true (sym unblocked ∙ blocks_from m a e s p yes'))
       | inr no' ↦ no'
     ] in
     let parts = or_parts (is_tenant e s) (room || behind) none in
@@ -40,11 +40,11 @@ full_if_calm m a e s p calm =
 -- what differs in the best allocation is preferred there
 pub prefers_best : (m : Market) (best a : Allocation) (k : ℕ) (e : Candidate) (s : Code) → IsBest m best → IsStable m a → slice_get m.entrants k ≡ Some e → best e.child ≡ Some s → (a e.child ≡ Some s → ⊥) → prefers a e s ≡ true
 prefers_best m best a k e s b h ek at other =
-    let inside = on_list m best k e s b.stable.allocates ek at in
-    let w = wish_at_place e.list s inside in
-    let least : place_of e.list (best e.child) ≤ place_of e.list (a e.child) = at_All (λ e. place_of e.list (best e.child) ≤ place_of e.list (a e.child)) m.entrants k e (b.none_better a h) ek in
-    let here : place_of e.list (best e.child) ≡ place e.list s = ap (place_of e.list) at in
-    let apart : place_of e.list (a e.child) ≡ place e.list s → ⊥ = λ same. other (same_place e.list (a e.child) (place e.list s) w.0 w.1 same ∙ ap Some w.2) in
+    let inside = on_list m best k e s b.stable.acceptable ek at in
+    let w = wish_at_rank e.list s inside in
+    let least : assigned_rank e.list (best e.child) ≤ assigned_rank e.list (a e.child) = at_All (λ e. assigned_rank e.list (best e.child) ≤ assigned_rank e.list (a e.child)) m.entrants k e (b.none_better a h) ek in
+    let here : assigned_rank e.list (best e.child) ≡ preference_rank e.list s = ap (assigned_rank e.list) at in
+    let apart : assigned_rank e.list (a e.child) ≡ preference_rank e.list s → ⊥ = λ same. other (same_rank e.list (a e.child) (preference_rank e.list s) w.0 w.1 same ∙ ap Some w.2) in
     lt-ltb _ _ (omega (arith, least, here, apart))
 
 -- no school has more children in the best allocation than in a stable one
@@ -59,8 +59,8 @@ no_more m best a s b h = elim (cases_lt (count_at m a s) (count_at m best s)) [
       let here : best e.child ≡ Some s = (has_tells (best e.child) s).0 one.5 in
       let other : has (a e.child) s ≡ false = subst (λ (x : Candidate). has (a x.child) s ≡ false) same one.6 in
       let wants = prefers_best m best a k e s b h one.3 here (not_has (a e.child) s other) in
-      let full = full_if_calm m a e s wants (at_All (IsContent m a) m.entrants k e h.unblocked one.3 s) in
-      let few = b.stable.fits s (list_any_of (is_guest best s) m.entrants k e one.3 (guest_from best s e here full.0)) in
+      let full = full_if_unblocked m a e s wants (at_All (IsContent m a) m.entrants k e h.unblocked one.3 s) in
+      let few = b.stable.feasible s (list_any_of (is_guest best s) m.entrants k e one.3 (guest_from best s e here full.0)) in
       omega (arith, few, full.1)
 ]
 
@@ -135,7 +135,7 @@ some_from : (o : Option Code) (s : Code) → o ≡ Some s → is_some o ≡ true
 some_from o s e = ap is_some e
 
 -- at most as many are placed as the schools have
-placed_from : (m : Market) (a : Allocation) → Seated m → Allocates m a → count_by (placed a) m.entrants ≤ sum_by (λ e. at_seats m.seats (a e.child)) m.entrants
+placed_from : (m : Market) (a : Allocation) → Seated m → IsAcceptable m a → count_by (placed a) m.entrants ≤ sum_by (λ e. at_seats m.seats (a e.child)) m.entrants
 placed_from m a h l = sum_beside (λ e. tally (placed a e)) (λ e. at_seats m.seats (a e.child)) m.entrants m.entrants refl (λ k e e' ek ek'.
     subst (λ (x : Candidate). tally (placed a e) ≤ at_seats m.seats (a x.child)) (same_Some e e' (sym ek ∙ ek')) (one k e ek))
   where
@@ -145,8 +145,8 @@ placed_from m a h l = sum_beside (λ e. tally (placed a e)) (λ e. at_seats m.se
       | inl in' ↦
           let one' : tally (placed a e) ≡ 1 = ap tally in' in
           let s = some_of (a e.child) in' in
-          let w = wish_at_place e.list s.0 (on_list m a k e s.0 l ek s.1) in
-          let known = h.known k e (place e.list s.0) w.0 ek w.1 in
+          let w = wish_at_rank e.list s.0 (on_list m a k e s.0 l ek s.1) in
+          let known = h.known k e (preference_rank e.list s.0) w.0 ek w.1 in
           let here : 1 ≤ at_seats m.seats (a e.child) = subst (λ o. 1 ≤ at_seats m.seats o) (ap Some w.2 ∙ sym s.1) (seats_has m.seats w.0.school known) in
           omega (arith, one', here)
     ]
@@ -195,12 +195,12 @@ count_less p q xs k x all at in' out = elim (cases_lt (count_by q xs) (count_by 
 pub placed_in_best : (m : Market) (best a : Allocation) → IsBest m best → IsStable m a → (k : ℕ) (e : Candidate) → slice_get m.entrants k ≡ Some e → is_some (a e.child) ≡ true → is_some (best e.child) ≡ true
 placed_in_best m best a b h k e ek in' =
     let s = some_of (a e.child) in' in
-    let inside = on_list m a k e s.0 h.allocates ek s.1 in
-    let there : place_of e.list (a e.child) ≡ place e.list s.0 = ap (place_of e.list) s.1 in
-    let least : place_of e.list (best e.child) ≤ place_of e.list (a e.child) = at_All (λ e. place_of e.list (best e.child) ≤ place_of e.list (a e.child)) m.entrants k e (b.none_better a h) ek in
+    let inside = on_list m a k e s.0 h.acceptable ek s.1 in
+    let there : assigned_rank e.list (a e.child) ≡ preference_rank e.list s.0 = ap (assigned_rank e.list) s.1 in
+    let least : assigned_rank e.list (best e.child) ≤ assigned_rank e.list (a e.child) = at_All (λ e. assigned_rank e.list (best e.child) ≤ assigned_rank e.list (a e.child)) m.entrants k e (b.none_better a h) ek in
     elim (cases_Bool (is_some (best e.child))) [
       | inl t ↦ t
-      | inr f ↦ absurd (omega (arith, inside, there, least, ap (place_of e.list) (none_if (best e.child) f)))
+      | inr f ↦ absurd (omega (arith, inside, there, least, ap (assigned_rank e.list) (none_if (best e.child) f)))
     ]
   where
     none_if : (o : Option Code) → is_some o ≡ false → o ≡ None
@@ -214,7 +214,7 @@ placed_in_all m best a seated b h k e ek in' = elim (cases_Bool (is_some (a e.ch
   | inr out ↦ absurd (
       let fewer = count_less (placed best) (placed a) m.entrants k e (λ j y jy t. placed_in_best m best a b h j y jy t) ek in' out in
       let schools : sum_by (λ seat. count_at m best seat.code) m.seats ≤ sum_by (λ seat. count_at m a seat.code) m.seats = sum_upto (λ (seat : Seats). count_at m best seat.code) (λ seat. count_at m a seat.code) m.seats (λ seat. no_more m best a seat.code b h) in
-      omega (arith, fewer, schools, placed_from m best seated b.stable.allocates, placed_upto m a seated, swap_sums best m.seats m.entrants, swap_sums a m.seats m.entrants))
+      omega (arith, fewer, schools, placed_from m best seated b.stable.acceptable, placed_upto m a seated, swap_sums best m.seats m.entrants, swap_sums a m.seats m.entrants))
 ]
 
 -- all stable allocations place the same children

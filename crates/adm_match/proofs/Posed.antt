@@ -9,12 +9,12 @@ use Rattle.std.proofs.lemmas.Option.{none-some, same_Some}
 use Rattle.adm_rank.specs.declared.keys.RankKey.{RankKey}
 use Rattle.adm_match.specs.declared.problem.Wish.{Wish}
 use Rattle.adm_match.specs.declared.problem.BadProblem.{BadProblem}
-use Rattle.adm_match.specs.declared.standings.Standing.{Standing}
+use Rattle.adm_match.specs.declared.progress.Progress.{Progress}
 use Rattle.adm_rank.specs.Ranking.{precedes}
-use Rattle.adm_match.specs.Market.{Code, Candidate, Market, place, is_tenant, key_at, both_precede, some_pair, same_code, same_child, same_school, repeats_school, names_unknown, repeats_child, has_tenant_not_last, is_key, share_rank, has_equal_rank, first_fault}
+use Rattle.adm_match.specs.Market.{Code, Candidate, Market, preference_rank, is_tenant, key_at, both_precede, some_pair, same_code, same_child, same_school, repeats_school, names_unknown, repeats_child, has_tenant_not_last, is_key, share_rank, has_equal_rank, first_fault}
 use Rattle.adm_match.specs.Turns.{WellListed, Shaped, AreRanked}
-use Rattle.adm_match.proofs.Places.{list_any_of}
-use Rattle.adm_match.proofs.Departure.{kept_wish}
+use Rattle.adm_match.proofs.Words.{list_any_of}
+use Rattle.adm_match.proofs.Departure.{held_wish}
 
 some_or_none : (b : Bool) (x : BadProblem) (o : Option BadProblem) → cond b (Some x) o ≡ None → (b ≡ false) × (o ≡ None)
 some_or_none true x o h = absurd (none-some x (sym h))
@@ -53,15 +53,15 @@ some_pair_not test (z ∷ zs) (suc i) zero x y h a b l = absurd (omega arith)
 some_pair_not test (z ∷ zs) (suc i) (suc j) x y h a b l =
     some_pair_not test zs i j x y (or_parts (list_any (test z) zs) (some_pair test zs) h).1 a b (omega arith)
 
--- a wish of a list without repeats stands at its school's place, and gives the key there
-pub place_is : (ws : List Wish) (j : ℕ) (w : Wish) → some_pair same_school ws ≡ false → slice_get ws j ≡ Some w → place ws w.school ≡ j
-place_is [] j w h e = absurd (none-some w e)
-place_is (x ∷ xs) zero w h e =
-    ap (λ b. cond (not b) (1 + place xs w.school) 0) ((bytes_eq-Decides x.school w.school).1 (ap (λ (z : Wish). z.school) (same_Some x w e)))
-place_is (x ∷ xs) (suc j) w h e =
+-- a wish of a list without repeats stands at its school's rank, and gives the key there
+pub rank_is : (ws : List Wish) (j : ℕ) (w : Wish) → some_pair same_school ws ≡ false → slice_get ws j ≡ Some w → preference_rank ws w.school ≡ j
+rank_is [] j w h e = absurd (none-some w e)
+rank_is (x ∷ xs) zero w h e =
+    ap (λ b. cond (not b) (1 + preference_rank xs w.school) 0) ((bytes_eq-Decides x.school w.school).1 (ap (λ (z : Wish). z.school) (same_Some x w e)))
+rank_is (x ∷ xs) (suc j) w h e =
     let parts = or_parts (list_any (same_school x) xs) (some_pair same_school xs) h in
     let other = list_any_not (same_school x) xs j w parts.0 e in
-    ap (λ b. cond (not b) (1 + place xs w.school) 0) other ∙ omega (arith, place_is xs j w parts.1 e)
+    ap (λ b. cond (not b) (1 + preference_rank xs w.school) 0) other ∙ omega (arith, rank_is xs j w parts.1 e)
 
 pub key_is : (ws : List Wish) (j : ℕ) (w : Wish) → some_pair same_school ws ≡ false → slice_get ws j ≡ Some w → key_at ws w.school ≡ Some w.key
 key_is [] j w h e = absurd (none-some w e)
@@ -80,7 +80,7 @@ list_apart m h k e ek =
     (or_parts (some_pair same_code m.seats) (list_any (λ (entrant : Candidate). some_pair same_school entrant.list) m.entrants) h.schools).1 ek
 
 pub well_listed : (m : Market) → Posed m → WellListed m
-well_listed m h = record { places = λ k e j w ek jw. place_is e.list j w (list_apart m h k e ek) jw }
+well_listed m h = record { own_rank = λ k e j w ek jw. rank_is e.list j w (list_apart m h k e ek) jw }
 
 pub precedes_total : (a b : RankKey) → is_key (Some a) b ≡ false → precedes b a ≡ false → precedes a b ≡ true
 precedes_total a b n p = grind (arith, nat_tests)
@@ -107,25 +107,25 @@ ranked_by m h s k l d c j i w z less dk cl jw iz ws zs free free' =
     let apart = keys_apart d c j w none jw (subst (λ (t : Code). is_tenant d t ≡ false) (sym ws) free) (subst (λ (t : Code). is_tenant c t ≡ false) (sym ws) free') in
     (d_key, c_key, subst (λ o. is_key o w.key ≡ false) (ap (key_at c.list) ws ∙ c_key) apart)
 
-pub are_ranked : (m : Market) (rows : List Standing) (s : Code) → Posed m → Shaped m rows → AreRanked m.entrants rows s
+pub are_ranked : (m : Market) (rows : List Progress) (s : Code) → Posed m → Shaped m rows → AreRanked m.entrants rows s
 are_ranked m rows s h shaped k l d c apart gd gc before =
-    let w = kept_wish d gd.1.0 s (shaped.keeps k d gd.1.0 gd.0 gd.1.1) gd.1.2 in
-    let z = kept_wish c gc.1.0 s (shaped.keeps l c gc.1.0 gc.0 gc.1.1) gc.1.2 in
+    let w = held_wish d gd.1.0 s (shaped.holds k d gd.1.0 gd.0 gd.1.1) gd.1.2 in
+    let z = held_wish c gc.1.0 s (shaped.holds l c gc.1.0 gc.0 gc.1.1) gc.1.2 in
     elim (cases_order k l) [
       | inl same ↦ absurd (apart same)
       | inr other ↦ elim other [
         | inl less ↦
-            let f = ranked_by m h s k l d c gd.1.0.refusals gc.1.0.refusals w.0 z.0 less gd.0 gc.0 w.1 z.1 w.2 z.2 gd.2 gc.2 in
+            let f = ranked_by m h s k l d c gd.1.0.rejections gc.1.0.rejections w.0 z.0 less gd.0 gc.0 w.1 z.1 w.2 z.2 gd.2 gc.2 in
             let was : precedes w.0.key z.0.key ≡ false = sym (λ i. both_precede (f.0 i) (f.1 i)) ∙ before in
             (λ i. both_precede (f.1 i) (f.0 i)) ∙ precedes_total z.0.key w.0.key f.2 was
         | inr more ↦
-            let f = ranked_by m h s l k c d gc.1.0.refusals gd.1.0.refusals z.0 w.0 more gc.0 gd.0 z.1 w.1 z.2 w.2 gc.2 gd.2 in
+            let f = ranked_by m h s l k c d gc.1.0.rejections gd.1.0.rejections z.0 w.0 more gc.0 gd.0 z.1 w.1 z.2 w.2 gc.2 gd.2 in
             let was : precedes w.0.key z.0.key ≡ false = sym (λ i. both_precede (f.1 i) (f.0 i)) ∙ before in
             (λ i. both_precede (f.0 i) (f.1 i)) ∙ precedes_total' w.0.key z.0.key f.2 was
       ]
     ]
 
--- a child stands at one place
+-- a child stands at one index
 pub child_once : (m : Market) → Posed m → (i j : ℕ) (d e : Candidate) → slice_get m.entrants i ≡ Some d → slice_get m.entrants j ≡ Some e → i < j → d.child ≡ e.child → ⊥
 child_once m h i j d e di ej less same =
     eqb-false d.child e.child (some_pair_not same_child m.entrants i j d e h.children di ej less) same

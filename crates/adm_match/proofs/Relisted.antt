@@ -8,11 +8,11 @@ use Rattle.std.proofs.lemmas.List.{length-map}
 use Rattle.std.proofs.lemmas.Option.{slice_get-map, slice_get_within}
 use Rattle.std.proofs.lemmas.Slice.Eq.{bytes_eq-Decides}
 use Rattle.adm_match.specs.declared.problem.Wish.{Wish}
-use Rattle.adm_match.specs.Market.{Code, Candidate, Market, place, place_of, is_tenant, key_at, is_not_last, some_pair, same_code, same_school}
+use Rattle.adm_match.specs.Market.{Code, Candidate, Market, preference_rank, assigned_rank, is_tenant, key_at, is_not_last, some_pair, same_code, same_school}
 use Rattle.adm_match.specs.Stability.{Allocation, IsStable}
 use Rattle.adm_match.specs.Relisting.{wishes_for, with_list, relist, relisted, NoGain, SamePlaced, OneBest}
-use Rattle.adm_match.proofs.Places.{has_tells, at_All, All_at, same_place, wish_at_place}
-use Rattle.adm_match.proofs.FirstBlock.{found_at, place_upto}
+use Rattle.adm_match.proofs.Words.{has_tells, at_All, All_at, same_rank, wish_at_rank}
+use Rattle.adm_match.proofs.FirstBlock.{found_at, rank_upto}
 use Rattle.adm_match.proofs.Posed.{Posed, posed, list_any_not}
 use Rattle.adm_match.specs.Distinct.{Distinct}
 use Rattle.adm_match.proofs.Distinct.{distinct}
@@ -48,7 +48,7 @@ differs_relisted m schools k e d here = record {
 
 -- the wishes for some schools are wishes of the list
 abbrev Own : List Wish → List Wish → Code → Type 0
-Own list wishes s = place wishes s < length wishes → (place list s < length list) × (key_at wishes s ≡ key_at list s)
+Own list wishes s = preference_rank wishes s < length wishes → (preference_rank list s < length list) × (key_at wishes s ≡ key_at list s)
 
 wish_own : (list rest : List Wish) (t s : Code) (o : Option Wish) → find (λ wish. bytes_eq wish.school t) list ≡ o → Own list rest s → Own list (cons_option o rest) s
 wish_own list rest t s None found h l = h l
@@ -57,12 +57,12 @@ wish_own list rest t s (Some w) found h l = elim (cases_Bool (bytes_eq w.school 
       let at = found_at (λ (wish : Wish). bytes_eq wish.school t) list w found in
       let w_s : w.school ≡ s = (bytes_eq-Decides w.school s).0 hit in
       let w_t : w.school ≡ t = (bytes_eq-Decides w.school t).0 at.2 in (
-        omega (arith, ap (place list) w_s, place_upto list at.0 w at.1, slice_get_within list at.0 w at.1),
+        omega (arith, ap (preference_rank list) w_s, rank_upto list at.0 w at.1, slice_get_within list at.0 w at.1),
         ap (λ b. option_map (λ (x : Wish). x.key) (cond b (Some w) (find (λ x. bytes_eq x.school s) rest))) hit
             ∙ ap (option_map (λ (x : Wish). x.key)) (sym found ∙ ap (λ (c : Code). find (λ (x : Wish). bytes_eq x.school c) list) (sym w_t ∙ w_s)),
       )
   | inr miss ↦
-      let step : place (w ∷ rest) s ≡ 1 + place rest s = ap (λ b. cond (not b) (1 + place rest s) 0) miss in
+      let step : preference_rank (w ∷ rest) s ≡ 1 + preference_rank rest s = ap (λ b. cond (not b) (1 + preference_rank rest s) 0) miss in
       let own = h (omega (arith, step, l)) in
       (own.0, ap (λ b. option_map (λ (x : Wish). x.key) (cond b (Some w) (find (λ x. bytes_eq x.school s) rest))) miss ∙ own.1)
 ]
@@ -85,7 +85,7 @@ seated m h = record {
       not-false _ (list_any_not (λ (wish : Wish). not (list_any (λ seat. bytes_eq seat.code wish.school) m.seats)) e.list j w of_list jw);
 }
 
-tenant_last : (m : Market) → Posed m → (k : ℕ) (e : Candidate) → slice_get m.entrants k ≡ Some e → (s : Code) → is_tenant e s ≡ true → place e.list s + 1 ≡ length e.list
+tenant_last : (m : Market) → Posed m → (k : ℕ) (e : Candidate) → slice_get m.entrants k ≡ Some e → (s : Code) → is_tenant e s ≡ true → preference_rank e.list s + 1 ≡ length e.list
 tenant_last m h k e ek s tenant =
     let home : e.tenant ≡ Some s = (has_tells e.tenant s).0 tenant in
     let last : is_not_last e.list (Some s) ≡ false = ap (is_not_last e.list) (sym home) ∙ list_any_not (λ (entrant : Candidate). is_not_last entrant.list entrant.tenant) m.entrants k e h.tenants ek in
@@ -94,11 +94,11 @@ tenant_last m h k e ek s tenant =
 pub no_gain_law : NoGain
 no_gain_law m child schools best other ok b o =
     let h = posed m ok in
-    All_at (λ e. e.child ≡ child → place_of e.list (best child) ≤ place_of e.list (other child)) m.entrants (λ k e ek is.
+    All_at (λ e. e.child ≡ child → assigned_rank e.list (best child) ≤ assigned_rank e.list (other child)) m.entrants (λ k e ek is.
     let gain = no_gain m (relisted m e.child schools) k e (with_list e schools) best other
     (differs_relisted m schools k e (distinct m h) ek) (listing e schools) (distinct m h) (seated m h) (tenant_last m h k e ek) b
     (subst (λ n. IsStable (relisted m n schools) other) (sym is) o.stable) in
-    subst (λ n. place_of e.list (best n) ≤ place_of e.list (other n)) is gain)
+    subst (λ n. assigned_rank e.list (best n) ≤ assigned_rank e.list (other n)) is gain)
 
 pub same_placed_law : SamePlaced
 same_placed_law m a other ok h g =
@@ -113,15 +113,15 @@ one_best_law m ok =
       best.0,
       best.1,
       λ other o. All_at (λ e. best.0 e.child ≡ other e.child) m.entrants (λ k e ek.
-          let there = at_All (λ e. place_of e.list (best.0 e.child) ≤ place_of e.list (other e.child)) m.entrants k e (best.1.none_better other o.stable) ek in
-          let back = at_All (λ e. place_of e.list (other e.child) ≤ place_of e.list (best.0 e.child)) m.entrants k e (o.none_better best.0 best.1.stable) ek in
-          let same : place_of e.list (other e.child) ≡ place_of e.list (best.0 e.child) = omega (arith, there, back) in
+          let there = at_All (λ e. assigned_rank e.list (best.0 e.child) ≤ assigned_rank e.list (other e.child)) m.entrants k e (best.1.none_better other o.stable) ek in
+          let back = at_All (λ e. assigned_rank e.list (other e.child) ≤ assigned_rank e.list (best.0 e.child)) m.entrants k e (o.none_better best.0 best.1.stable) ek in
+          let same : assigned_rank e.list (other e.child) ≡ assigned_rank e.list (best.0 e.child) = omega (arith, there, back) in
           same_thing m best.0 other k e (best.0 e.child) (other e.child) refl refl best.1.stable o.stable ek same),
     )
   where
-    same_thing : (m : Market) (a b : Allocation) (k : ℕ) (e : Candidate) (o p : Option Code) → a e.child ≡ o → b e.child ≡ p → IsStable m a → IsStable m b → slice_get m.entrants k ≡ Some e → place_of e.list p ≡ place_of e.list o → o ≡ p
+    same_thing : (m : Market) (a b : Allocation) (k : ℕ) (e : Candidate) (o p : Option Code) → a e.child ≡ o → b e.child ≡ p → IsStable m a → IsStable m b → slice_get m.entrants k ≡ Some e → assigned_rank e.list p ≡ assigned_rank e.list o → o ≡ p
     same_thing m a b k e None None ao bp h g ek same = refl
-    same_thing m a b k e None (Some t) ao bp h g ek same = absurd (omega (arith, same, on_list m b k e t g.allocates ek bp))
+    same_thing m a b k e None (Some t) ao bp h g ek same = absurd (omega (arith, same, on_list m b k e t g.acceptable ek bp))
     same_thing m a b k e (Some s) p ao bp h g ek same =
-        let w = wish_at_place e.list s (on_list m a k e s h.allocates ek ao) in
-        ap Some (sym w.2) ∙ sym (same_place e.list p (place e.list s) w.0 w.1 same)
+        let w = wish_at_rank e.list s (on_list m a k e s h.acceptable ek ao) in
+        ap Some (sym w.2) ∙ sym (same_rank e.list p (preference_rank e.list s) w.0 w.1 same)

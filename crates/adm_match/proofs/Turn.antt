@@ -6,15 +6,15 @@ use Rattle.std.proofs.lemmas.List.{length-map}
 use Rattle.std.proofs.lemmas.Option.{none-some, same_Some, slice_get_within, get_or_from_slice_get, slice_get_read, slice_get-map}
 use Rattle.std.proofs.lemmas.List.Sums.{sum_by-cons, sum_by-set}
 use Rattle.adm_match.specs.declared.problem.Wish.{Wish}
-use Rattle.adm_match.specs.declared.standings.Standing.{Standing}
+use Rattle.adm_match.specs.declared.progress.Progress.{Progress}
 use Rattle.adm_match.specs.Market.{Code, Candidate, Market, first_fault, quota_of}
-use Rattle.adm_match.specs.Turns.{kept_at, Shaped, Sound, Guest, IsFree, IsLast, left, start_of, kept_by, released}
+use Rattle.adm_match.specs.Turns.{held_at, Shaped, Sound, IsGuestAt, IsFree, IsLast, turns_left, start_of, held_by, with_rejection}
 use Rattle.adm_match.proofs.Side.{count_set}
 use Rattle.adm_match.proofs.Arrival.{Arrived, arrive}
-use Rattle.adm_match.proofs.Departure.{leave, kept_wish}
+use Rattle.adm_match.proofs.Departure.{leave, held_wish}
 use Rattle.adm_match.proofs.Posed.{posed, well_listed}
 
--- a sum of smaller terms, place by place
+-- a sum of smaller terms, index by index
 pub sum_beside : {X Y : Type 0} (f : X → ℕ) (g : Y → ℕ) (xs : List X) (ys : List Y) → length xs ≡ length ys → ((k : ℕ) (x : X) (y : Y) → slice_get xs k ≡ Some x → slice_get ys k ≡ Some y → f x ≤ g y) → sum_by f xs ≤ sum_by g ys
 sum_beside f g [] ys e h = omega arith
 sum_beside f g (x ∷ xs) [] e h = absurd (omega arith)
@@ -29,76 +29,76 @@ sum_set f xs i x y e =
 abbrev tally : Bool → ℕ
 tally b = cond b 1 0
 
-refused_few : (m : Market) (rows : List Standing) → Shaped m rows → sum_by (λ r. r.refusals) rows ≤ sum_by (λ e. length e.list) m.entrants
-refused_few m rows h = sum_beside (λ r. r.refusals) (λ e. length e.list) rows m.entrants h.same (λ k r e rk ek. h.within k e r ek rk)
+rejected_few : (m : Market) (rows : List Progress) → Shaped m rows → sum_by (λ r. r.rejections) rows ≤ sum_by (λ e. length e.list) m.entrants
+rejected_few m rows h = sum_beside (λ r. r.rejections) (λ e. length e.list) rows m.entrants h.same (λ k r e rk ek. h.within k e r ek rk)
 
--- one that comes to a school is one less that no school keeps
-pub left_arrive : (m : Market) (rows : List Standing) (i : ℕ) (r : Standing) (s : Code) → Shaped m rows → slice_get rows i ≡ Some r → r.school ≡ None → left m.entrants (set rows i (record r { school = Some s })) + 1 ≡ left m.entrants rows
-left_arrive m rows i r s h at free =
-    let v : Standing = record r { school = Some s } in
+-- one that comes to a school is one less that no school holds
+pub turns_left_arrive : (m : Market) (rows : List Progress) (i : ℕ) (r : Progress) (s : Code) → Shaped m rows → slice_get rows i ≡ Some r → r.school ≡ None → turns_left m.entrants (set rows i (record r { school = Some s })) + 1 ≡ turns_left m.entrants rows
+turns_left_arrive m rows i r s h at free =
+    let v : Progress = record r { school = Some s } in
     let c = count_set (λ x. is_none x.school) rows i r v at in
     let was : tally (is_none r.school) ≡ 1 = ap (λ o. tally (is_none o)) free in
-    let same = sum_set (λ x. x.refusals) rows i r v at in
-    omega (arith, c, was, same, refused_few m rows h)
+    let same = sum_set (λ x. x.rejections) rows i r v at in
+    omega (arith, c, was, same, rejected_few m rows h)
 
--- one that is sent back has one school less
-pub left_leave : (m : Market) (rows : List Standing) (k : ℕ) (q : Standing) (s : Code) → slice_get rows k ≡ Some q → q.school ≡ Some s → left m.entrants (set rows k (record q { school = None; refusals = q.refusals + 1 })) ≡ left m.entrants rows
-left_leave m rows k q s at here =
-    let v : Standing = record q { school = None; refusals = q.refusals + 1 } in
+-- one that is rejected has one school less
+pub turns_left_leave : (m : Market) (rows : List Progress) (k : ℕ) (q : Progress) (s : Code) → slice_get rows k ≡ Some q → q.school ≡ Some s → turns_left m.entrants (set rows k (record q { school = None; rejections = q.rejections + 1 })) ≡ turns_left m.entrants rows
+turns_left_leave m rows k q s at here =
+    let v : Progress = record q { school = None; rejections = q.rejections + 1 } in
     let c = count_set (λ x. is_none x.school) rows k q v at in
     let was : tally (is_none q.school) ≡ 0 = ap (λ o. tally (is_none o)) here in
-    let more = sum_set (λ x. x.refusals) rows k q v at in
+    let more = sum_set (λ x. x.rejections) rows k q v at in
     omega (arith, c, was, more)
 
 -- the start
 pub starts : (m : Market) → Sound m (map start_of m.entrants)
 starts m =
-    let row : (k : ℕ) (e : Candidate) (r : Standing) → slice_get m.entrants k ≡ Some e → slice_get (map start_of m.entrants) k ≡ Some r → r ≡ start_of e
+    let row : (k : ℕ) (e : Candidate) (r : Progress) → slice_get m.entrants k ≡ Some e → slice_get (map start_of m.entrants) k ≡ Some r → r ≡ start_of e
     = λ k e r ek rk. same_Some r (start_of e) (sym rk ∙ (slice_get-map start_of m.entrants k ∙ ap (option_map start_of) ek)) in
-    let empty : (s : Code) (k : ℕ) (e : Candidate) → Guest m.entrants (map start_of m.entrants) s k e → ⊥
-    = λ s k e g. none-some s (sym (ap (λ (x : Standing). x.school) (row k e g.1.0 g.0 g.1.1)) ∙ g.1.2) in
+    let empty : (s : Code) (k : ℕ) (e : Candidate) → IsGuestAt m.entrants (map start_of m.entrants) s k e → ⊥
+    = λ s k e g. none-some s (sym (ap (λ (x : Progress). x.school) (row k e g.1.0 g.0 g.1.1)) ∙ g.1.2) in
     record {
       shaped = record {
         same = length-map m.entrants start_of;
-        children = λ k e r ek rk. ap (λ (x : Standing). x.child) (row k e r ek rk);
-        keeps = λ k e r ek rk. inl (ap (λ (x : Standing). x.school) (row k e r ek rk));
-        within = λ k e r ek rk. omega (arith, ap (λ (x : Standing). x.refusals) (row k e r ek rk));
+        children = λ k e r ek rk. ap (λ (x : Progress). x.child) (row k e r ek rk);
+        holds = λ k e r ek rk. inl (ap (λ (x : Progress). x.school) (row k e r ek rk));
+        within = λ k e r ek rk. omega (arith, ap (λ (x : Progress). x.rejections) (row k e r ek rk));
       };
-      fitting = λ s k e g. absurd (empty s k e g);
-      refused = λ k e r j w ek rk l jw. absurd (omega (arith, l, ap (λ (x : Standing). x.refusals) (row k e r ek rk)));
-      none_lost = λ a stable k e r ek rk. omega (arith, ap (λ (x : Standing). x.refusals) (row k e r ek rk));
+      within_quota = λ s k e g. absurd (empty s k e g);
+      rejected = λ k e r j w ek rk l jw. absurd (omega (arith, l, ap (λ (x : Progress). x.rejections) (row k e r ek rk)));
+      none_lost = λ a stable k e r ek rk. omega (arith, ap (λ (x : Progress). x.rejections) (row k e r ek rk));
     }
 
 -- the wish that the code reads is the next one
-pub next_wish : (es : List Candidate) (rows : List Standing) (i : ℕ) (free : IsFree es rows i) (e : Candidate) (items : List Wish) (row : Standing) (w : Wish) → e ≡ get_or es i e → items ≡ e.list → w ≡ get_or items (get_or rows i row).refusals w → slice_get free.0.list free.1.refusals ≡ Some w
+pub next_wish : (es : List Candidate) (rows : List Progress) (i : ℕ) (free : IsFree es rows i) (e : Candidate) (items : List Wish) (row : Progress) (w : Wish) → e ≡ get_or es i e → items ≡ e.list → w ≡ get_or items (get_or rows i row).rejections w → slice_get free.0.list free.1.rejections ≡ Some w
 next_wish es rows i free e items row w e_is list_is w_is =
     let e_same : e ≡ free.0 = e_is ∙ get_or_from_slice_get es i free.0 e free.2 in
     let row_same : get_or rows i row ≡ free.1 = get_or_from_slice_get rows i free.1 row free.3 in
     let items_same : items ≡ free.0.list = list_is ∙ ap (λ (x : Candidate). x.list) e_same in
-    let read : w ≡ get_or free.0.list free.1.refusals w = w_is ∙ (λ j. get_or (items_same j) (row_same j).refusals w) in
-    slice_get_read free.0.list (length free.0.list) free.1.refusals w refl free.5 read
+    let read : w ≡ get_or free.0.list free.1.rejections w = w_is ∙ (λ j. get_or (items_same j) (row_same j).rejections w) in
+    slice_get_read free.0.list (length free.0.list) free.1.rejections w refl free.5 read
 
 -- the entrant comes to the school of its next wish
-pub came : (m : Market) (rows now : List Standing) (i : ℕ) (w : Wish) (free : IsFree m.entrants rows i) → Sound m rows → slice_get free.0.list free.1.refusals ≡ Some w → now ≡ set rows i (kept_by free.1 w.school) → Arrived m now i w.school × (left m.entrants now + 1 ≡ left m.entrants rows)
+pub came : (m : Market) (rows now : List Progress) (i : ℕ) (w : Wish) (free : IsFree m.entrants rows i) → Sound m rows → slice_get free.0.list free.1.rejections ≡ Some w → now ≡ set rows i (held_by free.1 w.school) → Arrived m now i w.school × (turns_left m.entrants now + 1 ≡ turns_left m.entrants rows)
 came m rows now i w free h next now_is = (
-  subst (λ (x : List Standing). Arrived m x i w.school) (sym now_is) (arrive m rows i free.0 free.1 w h free.2 free.3 free.4 next),
-  ap (λ (x : List Standing). left m.entrants x + 1) now_is ∙ left_arrive m rows i free.1 w.school h.shaped free.3 free.4,
+  subst (λ (x : List Progress). Arrived m x i w.school) (sym now_is) (arrive m rows i free.0 free.1 w h free.2 free.3 free.4 next),
+  ap (λ (x : List Progress). turns_left m.entrants x + 1) now_is ∙ turns_left_arrive m rows i free.1 w.school h.shaped free.3 free.4,
 )
 
 -- the guest that ranks last leaves
-pub left_school : (m : Market) (rows now : List Standing) (i : ℕ) (s : Code) (k : ℕ) (last : IsLast m.entrants rows s k) → first_fault m ≡ None → Arrived m rows i s → quota_of m.seats s < kept_at rows s → now ≡ set rows k (released last.1.1.0) → Sound m now × (left m.entrants now ≡ left m.entrants rows)
+pub left_school : (m : Market) (rows now : List Progress) (i : ℕ) (s : Code) (k : ℕ) (last : IsLast m.entrants rows s k) → first_fault m ≡ None → Arrived m rows i s → quota_of m.seats s < held_at rows s → now ≡ set rows k (with_rejection last.1.1.0) → Sound m now × (turns_left m.entrants now ≡ turns_left m.entrants rows)
 left_school m rows now i s k last ok h over now_is =
     let g = last.1 in (
-      subst (λ (x : List Standing). Sound m x) (sym now_is) (leave m rows i s k last.0 g.1.0 (well_listed m (posed m ok)) h g.0 g.1.1 g.1.2 g.2 over last.2),
-      ap (λ (x : List Standing). left m.entrants x) now_is ∙ left_leave m rows k g.1.0 s g.1.1 g.1.2,
+      subst (λ (x : List Progress). Sound m x) (sym now_is) (leave m rows i s k last.0 g.1.0 (well_listed m (posed m ok)) h g.0 g.1.1 g.1.2 g.2 over last.2),
+      ap (λ (x : List Progress). turns_left m.entrants x) now_is ∙ turns_left_leave m rows k g.1.0 s g.1.1 g.1.2,
     )
 
 -- the guest that ranks last has the school on its list
-pub last_listed : (m : Market) (rows : List Standing) (s : Code) (k : ℕ) (last : IsLast m.entrants rows s k) → Shaped m rows → (e : Candidate) (row : Standing) → e ≡ get_or m.entrants k e → slice_get rows k ≡ Some row → row.refusals < length e.list
+pub last_listed : (m : Market) (rows : List Progress) (s : Code) (k : ℕ) (last : IsLast m.entrants rows s k) → Shaped m rows → (e : Candidate) (row : Progress) → e ≡ get_or m.entrants k e → slice_get rows k ≡ Some row → row.rejections < length e.list
 last_listed m rows s k last h e row e_is rk =
     let g = last.1 in
-    let w = kept_wish last.0 g.1.0 s (h.keeps k last.0 g.1.0 g.0 g.1.1) g.1.2 in
+    let w = held_wish last.0 g.1.0 s (h.holds k last.0 g.1.0 g.0 g.1.1) g.1.2 in
     let e_same : e ≡ last.0 = e_is ∙ get_or_from_slice_get m.entrants k last.0 e g.0 in
     let r_same : g.1.0 ≡ row = same_Some g.1.0 row (sym g.1.1 ∙ rk) in
-    let within = slice_get_within last.0.list g.1.0.refusals w.0 w.1 in
-    omega (arith, within, ap (λ (x : Candidate). length x.list) e_same, ap (λ (x : Standing). x.refusals) r_same)
+    let within = slice_get_within last.0.list g.1.0.rejections w.0 w.1 in
+    omega (arith, within, ap (λ (x : Candidate). length x.list) e_same, ap (λ (x : Progress). x.rejections) r_same)

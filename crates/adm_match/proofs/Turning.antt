@@ -1,4 +1,4 @@
--- One turn of the queue: the rows, the schools' keepings and the queue after it.
+-- One turn of the queue: the rows, the schools' holdings and the queue after it.
 use Rattle.std.proofs.Common.{◌≡◌, ◌≢◌, ◌⊎◌, ℕ, ◌+◌, ◌<◌, ◌≤◌, List, [], ◌∷◌, ◌++◌, length, set, get_or, Option, None, Some, Bool, false, cond, not, ◌&&◌, inl, inr, refl, sym, ap, ◌∙◌, subst, arith, length-set}
 use Rattle.std.specs.Prelude.{option_map, unwrap_or, bytes_eq, count_by}
 use Rattle.std.specs.List.{slice_get}
@@ -9,24 +9,24 @@ use Rattle.std.proofs.lemmas.List.Sorted.{length_permutation}
 use Rattle.std.proofs.lemmas.List.Sums.{sum_by-cons}
 use Rattle.adm_match.specs.declared.problem.Wish.{Wish}
 use Rattle.adm_match.specs.declared.problem.Seats.{Seats}
-use Rattle.adm_match.specs.declared.kept.Guest.{Guest}
-use Rattle.adm_match.specs.declared.standings.Standing.{Standing}
+use Rattle.adm_match.specs.declared.held.Guest.{Guest}
+use Rattle.adm_match.specs.declared.progress.Progress.{Progress}
 use Rattle.adm_match.specs.Market.{Code, Candidate, Market, has, is_tenant, key_at, quota_of, some_pair, same_code}
-use Rattle.adm_match.specs.Turns.{kept_at, Shaped, Sound, IsFree, IsLast, NoGuest, kept_by, released}
+use Rattle.adm_match.specs.Turns.{held_at, Shaped, Sound, IsFree, IsLast, NoGuest, held_by, with_rejection}
 use Rattle.adm_match.specs.Distinct.{Distinct, Seated, ChildrenOnce}
-use Rattle.adm_match.specs.Keeping.{Keeping, tenants_with, guests_with, KeepsAll, SendsBack, Takes, entry_of, guests_of, SameBag}
+use Rattle.adm_match.specs.Holding.{Holding, tenants_with, guests_with, HoldsAll, Rejects, Considers, entry_of, guests_of, SameBag}
 use Rattle.adm_match.specs.Queue.{StandsAt, SeatedAt, IsMirror, Mirrored, Turned}
 use Rattle.adm_match.proofs.Side.{after_set}
-use Rattle.adm_match.proofs.Places.{has_true, list_any_gives}
-use Rattle.adm_match.proofs.Arrival.{stay, kept_set_more, kept_set_less, kept_set_other, none_has, other_has}
-use Rattle.adm_match.proofs.Departure.{leave, kept_wish}
+use Rattle.adm_match.proofs.Words.{has_true, list_any_gives}
+use Rattle.adm_match.proofs.Arrival.{stay, held_set_more, held_set_less, held_set_other, none_has, other_has}
+use Rattle.adm_match.proofs.Departure.{leave, held_wish}
 use Rattle.adm_match.proofs.Posed.{some_pair_not}
-use Rattle.adm_match.proofs.Turn.{came, left_leave, last_listed}
+use Rattle.adm_match.proofs.Turn.{came, turns_left_leave, last_listed}
 use Rattle.adm_rank.specs.declared.keys.RankKey.{RankKey}
 use Rattle.adm_match.proofs.Given.{find_is}
 use Rattle.adm_match.proofs.Mirror.{entry_is, entry_none, guests_set, entry_behind, bag_of, bag_rest, bag_contains, last_from_heap}
 
--- two seats at different places have different codes
+-- two seats at different indices have different codes
 pub codes_apart : (seats : List Seats) (i j : ℕ) (a b : Seats) → some_pair same_code seats ≡ false → slice_get seats i ≡ Some a → slice_get seats j ≡ Some b → i ≢ j → a.code ≡ b.code → ⊥
 codes_apart seats i j a b once ia jb apart same = elim (cases_order i j) [
   | inl is ↦ apart is
@@ -44,21 +44,21 @@ quota_at m j seat h at =
     (λ i other less io. some_pair_not same_code m.seats i j other seat h.once io at less))
 
 -- a written row that names neither before nor after the school leaves its guests
-bag_other : (es : List Candidate) (rows : List Standing) (t : Code) (i : ℕ) (e : Candidate) (r v : Standing) → slice_get es i ≡ Some e → slice_get rows i ≡ Some r → has r.school t ≡ false → has v.school t ≡ false → SameBag (guests_of es (set rows i v) t) (guests_of es rows t)
+bag_other : (es : List Candidate) (rows : List Progress) (t : Code) (i : ℕ) (e : Candidate) (r v : Progress) → slice_get es i ≡ Some e → slice_get rows i ≡ Some r → has r.school t ≡ false → has v.school t ≡ false → SameBag (guests_of es (set rows i v) t) (guests_of es rows t)
 bag_other es rows t i e r v ei ri was is p =
     let before : entry_of e r t ≡ [] = entry_none e r t (ap (λ b. b && not (is_tenant e t)) was) in
     let after : entry_of e v t ≡ [] = entry_none e v t (ap (λ b. b && not (is_tenant e t)) is) in
     let moved = bag_of _ _ (guests_set es rows t i e r v ei ri) p in
     sym ((λ k. count_by p (sym after k ++ guests_of es rows t)) ∙ (moved ∙ (λ k. count_by p (before k ++ guests_of es (set rows i v) t))))
 
--- the newcomer's school: how many it keeps now, and which guests
-came_here : (m : Market) (rows : List Standing) (i : ℕ) (e : Candidate) (r : Standing) (w : Wish) (seat : Seats) (old : Keeping) → Distinct m → slice_get m.entrants i ≡ Some e → slice_get rows i ≡ Some r → r.school ≡ None → slice_get e.list r.refusals ≡ Some w → IsMirror m rows seat old → seat.code ≡ w.school → (length (tenants_with old e.child (is_tenant e w.school)) + length (guests_with old e.child w.key (is_tenant e w.school)) ≡ kept_at (set rows i (kept_by r w.school)) w.school) × SameBag (guests_of m.entrants (set rows i (kept_by r w.school)) w.school) (guests_with old e.child w.key (is_tenant e w.school))
+-- the newcomer's school: how many it holds now, and which guests
+came_here : (m : Market) (rows : List Progress) (i : ℕ) (e : Candidate) (r : Progress) (w : Wish) (seat : Seats) (old : Holding) → Distinct m → slice_get m.entrants i ≡ Some e → slice_get rows i ≡ Some r → r.school ≡ None → slice_get e.list r.rejections ≡ Some w → IsMirror m rows seat old → seat.code ≡ w.school → (length (tenants_with old e.child (is_tenant e w.school)) + length (guests_with old e.child w.key (is_tenant e w.school)) ≡ held_at (set rows i (held_by r w.school)) w.school) × SameBag (guests_of m.entrants (set rows i (held_by r w.school)) w.school) (guests_with old e.child w.key (is_tenant e w.school))
 came_here m rows i e r w seat old d ei ri free next mirror code =
     let s = w.school in
-    let v = kept_by r s in
+    let v = held_by r s in
     let now = set rows i v in
-    let more : kept_at now s ≡ kept_at rows s + 1 = kept_set_more rows i r v s ri (none_has r.school s free) (has_true v.school s refl) in
-    let count : length old.tenants + length old.guests ≡ kept_at rows s = mirror.count ∙ ap (kept_at rows) code in
+    let more : held_at now s ≡ held_at rows s + 1 = held_set_more rows i r v s ri (none_has r.school s free) (has_true v.school s refl) in
+    let count : length old.tenants + length old.guests ≡ held_at rows s = mirror.count ∙ ap (held_at rows) code in
     let bag : SameBag (guests_of m.entrants rows s) old.guests = λ p. ap (λ (c : Code). count_by p (guests_of m.entrants rows c)) (sym code) ∙ mirror.guests p in
     let before : entry_of e r s ≡ [] = entry_none e r s (ap (λ b. b && not (is_tenant e s)) (none_has r.school s free)) in
     let moved : SameBag (entry_of e v s ++ guests_of m.entrants rows s) (guests_of m.entrants now s)
@@ -66,13 +66,13 @@ came_here m rows i e r w seat old d ei ri free next mirror code =
     elim (cases_Bool (is_tenant e s)) [
       | inl tenant ↦
           let after : entry_of e v s ≡ [] = entry_none e v s ((λ k. has v.school s && not (tenant k)) ∙ ap (λ b. b && false) (has_true v.school s refl)) in (
-            subst (λ b. length (tenants_with old e.child b) + length (guests_with old e.child w.key b) ≡ kept_at now s) (sym tenant) (omega (arith, more, count, length_more old.tenants e.child)),
+            subst (λ b. length (tenants_with old e.child b) + length (guests_with old e.child w.key b) ≡ held_at now s) (sym tenant) (omega (arith, more, count, length_more old.tenants e.child)),
             λ p. sym (moved p) ∙ ((λ k. count_by p (after k ++ guests_of m.entrants rows s)) ∙ (bag p ∙ (λ k. count_by p (guests_with old e.child w.key (sym tenant k))))),
           )
       | inr guest ↦
           let g : Guest = record { key = w.key; child = e.child } in
-          let after : entry_of e v s ≡ (g ∷ []) = entry_is e v s w.key refl guest (d.key_of i e r.refusals w ei next) in (
-            subst (λ b. length (tenants_with old e.child b) + length (guests_with old e.child w.key b) ≡ kept_at now s) (sym guest) (omega (arith, more, count)),
+          let after : entry_of e v s ≡ (g ∷ []) = entry_is e v s w.key refl guest (d.key_of i e r.rejections w ei next) in (
+            subst (λ b. length (tenants_with old e.child b) + length (guests_with old e.child w.key b) ≡ held_at now s) (sym guest) (omega (arith, more, count)),
             λ p. sym (moved p) ∙ ((λ k. count_by p (after k ++ guests_of m.entrants rows s)) ∙ (one_more p g (guests_of m.entrants rows s) old.guests (bag p) ∙ (λ k. count_by p (guests_with old e.child w.key (sym guest k))))),
           )
     ]
@@ -84,28 +84,28 @@ came_here m rows i e r w seat old d ei ri free next mirror code =
     one_more : (p : Guest → Bool) (g : Guest) (xs ys : List Guest) → count_by p xs ≡ count_by p ys → count_by p (g ∷ xs) ≡ count_by p (g ∷ ys)
     one_more p g xs ys h = omega (arith, h, sum_by-cons (λ x. cond (p x) 1 0) g xs, sum_by-cons (λ x. cond (p x) 1 0) g ys)
 
--- the mirror of a school at another place than the one written
-other_mirror : (m : Market) (rows : List Standing) (i : ℕ) (e : Candidate) (r v : Standing) (seat : Seats) (kept : Keeping) → slice_get m.entrants i ≡ Some e → slice_get rows i ≡ Some r → has r.school seat.code ≡ false → has v.school seat.code ≡ false → IsMirror m rows seat kept → IsMirror m (set rows i v) seat kept
-other_mirror m rows i e r v seat kept ei ri was is h = record {
+-- the mirror of a school at another index than the one written
+other_mirror : (m : Market) (rows : List Progress) (i : ℕ) (e : Candidate) (r v : Progress) (seat : Seats) (held : Holding) → slice_get m.entrants i ≡ Some e → slice_get rows i ≡ Some r → has r.school seat.code ≡ false → has v.school seat.code ≡ false → IsMirror m rows seat held → IsMirror m (set rows i v) seat held
+other_mirror m rows i e r v seat held ei ri was is h = record {
   quota = h.quota;
-  count = h.count ∙ sym (kept_set_other rows i r v seat.code ri was is);
+  count = h.count ∙ sym (held_set_other rows i r v seat.code ri was is);
   guests = λ p. bag_other m.entrants rows seat.code i e r v ei ri was is p ∙ h.guests p;
 }
 
--- one school's keeping is written
-mirrored_set : (m : Market) (rows now : List Standing) (schools : List Keeping) (at : ℕ) (seat : Seats) (new : Keeping) → Mirrored m rows schools → slice_get m.seats at ≡ Some seat → IsMirror m now seat new → ((j : ℕ) (other : Seats) (kept : Keeping) → j ≢ at → slice_get m.seats j ≡ Some other → IsMirror m rows other kept → IsMirror m now other kept) → Mirrored m now (set schools at new)
+-- one school's holding is written
+mirrored_set : (m : Market) (rows now : List Progress) (schools : List Holding) (at : ℕ) (seat : Seats) (new : Holding) → Mirrored m rows schools → slice_get m.seats at ≡ Some seat → IsMirror m now seat new → ((j : ℕ) (other : Seats) (held : Holding) → j ≢ at → slice_get m.seats j ≡ Some other → IsMirror m rows other held → IsMirror m now other held) → Mirrored m now (set schools at new)
 mirrored_set m rows now schools at seat new h here mine rest = record {
   same = length-set schools at new ∙ h.same;
-  each = λ j other kept jo jk. elim (after_set schools at j new kept jk) [
+  each = λ j other held jo jk. elim (after_set schools at j new held jk) [
     | inl is ↦
         let seat_is : seat ≡ other = same_Some seat other (sym here ∙ (ap (slice_get m.seats) (sym is.0) ∙ jo)) in
-        subst (λ (k : Keeping). IsMirror m now other k) is.1 (subst (λ (x : Seats). IsMirror m now x new) seat_is mine)
-    | inr is ↦ rest j other kept is.0 jo (h.each j other kept jo is.1)
+        subst (λ (k : Holding). IsMirror m now other k) is.1 (subst (λ (x : Seats). IsMirror m now x new) seat_is mine)
+    | inr is ↦ rest j other held is.0 jo (h.each j other held jo is.1)
   ];
 }
 
--- the school that an entrant comes to, and its keeping
-pub record Coming (m : Market) (rows : List Standing) (schools : List Keeping) (i at : ℕ) (e : Candidate) (r : Standing) (w : Wish) (seat : Seats) (old : Keeping) : Type 0 where
+-- the school that an entrant comes to, and its holding
+pub record Coming (m : Market) (rows : List Progress) (schools : List Holding) (i at : ℕ) (e : Candidate) (r : Progress) (w : Wish) (seat : Seats) (old : Holding) : Type 0 where
   pub distinct : Distinct m
   pub seated : Seated m
   pub sound : Sound m rows
@@ -113,156 +113,156 @@ pub record Coming (m : Market) (rows : List Standing) (schools : List Keeping) (
   pub entrant : slice_get m.entrants i ≡ Some e
   pub row : slice_get rows i ≡ Some r
   pub free : r.school ≡ None
-  pub less : r.refusals < length e.list
-  pub next : slice_get e.list r.refusals ≡ Some w
+  pub less : r.rejections < length e.list
+  pub next : slice_get e.list r.rejections ≡ Some w
   pub seat_at : slice_get m.seats at ≡ Some seat
   pub code : seat.code ≡ w.school
-  pub kept_at : slice_get schools at ≡ Some old
+  pub held_at : slice_get schools at ≡ Some old
 
 -- who is free after the entrant at i has come to a school
-free_after_coming : (es : List Candidate) (rows : List Standing) (i : ℕ) (r : Standing) (s : Code) (k : ℕ) → IsFree es (set rows i (kept_by r s)) k → (k ≢ i) × IsFree es rows k
-free_after_coming es rows i r s k f = elim (after_set rows i k (kept_by r s) f.1 f.3) [
-  | inl is ↦ absurd (none-some s (sym f.4 ∙ ap (λ (x : Standing). x.school) (sym is.1)))
+free_after_coming : (es : List Candidate) (rows : List Progress) (i : ℕ) (r : Progress) (s : Code) (k : ℕ) → IsFree es (set rows i (held_by r s)) k → (k ≢ i) × IsFree es rows k
+free_after_coming es rows i r s k f = elim (after_set rows i k (held_by r s) f.1 f.3) [
+  | inl is ↦ absurd (none-some s (sym f.4 ∙ ap (λ (x : Progress). x.school) (sym is.1)))
   | inr is ↦ (is.0, (f.0, f.1, f.2, is.1, f.4, f.5))
 ]
 
-free_after_leaving : (es : List Candidate) (rows : List Standing) (k : ℕ) (q : Standing) (l : ℕ) → IsFree es (set rows k (released q)) l → (l ≡ k) ⊎ IsFree es rows l
-free_after_leaving es rows k q l f = elim (after_set rows k l (released q) f.1 f.3) [
+free_after_leaving : (es : List Candidate) (rows : List Progress) (k : ℕ) (q : Progress) (l : ℕ) → IsFree es (set rows k (with_rejection q)) l → (l ≡ k) ⊎ IsFree es rows l
+free_after_leaving es rows k q l f = elim (after_set rows k l (with_rejection q) f.1 f.3) [
   | inl is ↦ inl is.0
   | inr is ↦ inr (f.0, f.1, f.2, is.1, f.4, f.5)
 ]
 
-empty_bag : (es : List Candidate) (rows : List Standing) (s : Code) (gs : List Guest) (m : Market) → m.entrants ≡ es → Distinct m → Shaped m rows → SameBag (guests_of es rows s) gs → gs ≡ [] → NoGuest es rows s
+empty_bag : (es : List Candidate) (rows : List Progress) (s : Code) (gs : List Guest) (m : Market) → m.entrants ≡ es → Distinct m → Shaped m rows → SameBag (guests_of es rows s) gs → gs ≡ [] → NoGuest es rows s
 empty_bag es rows s gs m es_is d shaped bag none k e g =
     let ek : slice_get m.entrants k ≡ Some e = ap (λ (x : List Candidate). slice_get x k) es_is ∙ g.0 in
-    let z = kept_wish e g.1.0 s (shaped.keeps k e g.1.0 ek g.1.1) g.1.2 in
-    let key : key_at e.list s ≡ Some z.0.key = subst (λ (t : Code). key_at e.list t ≡ Some z.0.key) z.2 (d.key_of k e g.1.0.refusals z.0 ek z.1) in
+    let z = held_wish e g.1.0 s (shaped.holds k e g.1.0 ek g.1.1) g.1.2 in
+    let key : key_at e.list s ≡ Some z.0.key = subst (λ (t : Code). key_at e.list t ≡ Some z.0.key) z.2 (d.key_of k e g.1.0.rejections z.0 ek z.1) in
     let there = bag_contains (guests_of es rows s) gs _ bag (entry_behind es rows s k e z.0.key g key) in
     omega (arith, there.1, ap length none)
 
--- nobody is sent back
-pub turn_keeps : (m : Market) (rows now : List Standing) (schools : List Keeping) (i at : ℕ) (e : Candidate) (r : Standing) (w : Wish) (seat : Seats) (old new : Keeping) → Coming m rows schools i at e r w seat old → now ≡ set rows i (kept_by r w.school) → Takes old new e.child w.key (is_tenant e w.school) None → Turned m rows now (set schools at new) i None
-turn_keeps m rows now schools i at e r w seat old new c now_is takes =
-    subst (λ (x : List Standing). Turned m rows x (set schools at new) i None) (sym now_is) (
+-- nobody is rejected
+pub turn_holds : (m : Market) (rows now : List Progress) (schools : List Holding) (i at : ℕ) (e : Candidate) (r : Progress) (w : Wish) (seat : Seats) (old new : Holding) → Coming m rows schools i at e r w seat old → now ≡ set rows i (held_by r w.school) → Considers old new e.child w.key (is_tenant e w.school) None → Turned m rows now (set schools at new) i None
+turn_holds m rows now schools i at e r w seat old new c now_is considers =
+    subst (λ (x : List Progress). Turned m rows x (set schools at new) i None) (sym now_is) (
     let s = w.school in
-    let mid = set rows i (kept_by r s) in
+    let mid = set rows i (held_by r s) in
     let here = came m rows mid i w (e, r, c.entrant, c.row, c.free, c.less) c.sound c.next refl in
-    let mine = came_here m rows i e r w seat old c.distinct c.entrant c.row c.free c.next (c.mirrored.each at seat old c.seat_at c.kept_at) c.code in
-    let quota : quota_of m.seats s ≡ old.quota = ap (quota_of m.seats) (sym c.code) ∙ (quota_at m at seat c.seated c.seat_at ∙ sym (c.mirrored.each at seat old c.seat_at c.kept_at).quota) in
-    let keeps : KeepsAll old new e.child w.key (is_tenant e s) = takes.guests in
-    let calm : (kept_at mid s ≤ quota_of m.seats s) ⊎ NoGuest m.entrants mid s = elim keeps.calm [
+    let mine = came_here m rows i e r w seat old c.distinct c.entrant c.row c.free c.next (c.mirrored.each at seat old c.seat_at c.held_at) c.code in
+    let quota : quota_of m.seats s ≡ old.quota = ap (quota_of m.seats) (sym c.code) ∙ (quota_at m at seat c.seated c.seat_at ∙ sym (c.mirrored.each at seat old c.seat_at c.held_at).quota) in
+    let holds : HoldsAll old new e.child w.key (is_tenant e s) = considers.guests in
+    let may_stay : (held_at mid s ≤ quota_of m.seats s) ⊎ NoGuest m.entrants mid s = elim holds.may_stay [
       | inl room ↦ inl (omega (arith, room, mine.0, quota))
       | inr none ↦ inr (empty_bag m.entrants mid s (guests_with old e.child w.key (is_tenant e s)) m refl c.distinct here.0.shaped mine.1 none)
     ] in
     record {
-      sound = stay m mid i s here.0 calm;
+      sound = stay m mid i s here.0 may_stay;
       mirrored = mirrored_set m rows mid schools at seat new c.mirrored c.seat_at (record {
-        quota = takes.quota ∙ (c.mirrored.each at seat old c.seat_at c.kept_at).quota;
-        count = omega (arith, mine.0, ap length takes.tenants, length_permutation _ _ keeps.guests, ap (kept_at mid) c.code);
-        guests = λ p. ap (λ (t : Code). count_by p (guests_of m.entrants mid t)) c.code ∙ (mine.1 p ∙ bag_of _ _ keeps.guests p);
-      }) (λ j other kept apart jo was.
+        quota = considers.quota ∙ (c.mirrored.each at seat old c.seat_at c.held_at).quota;
+        count = omega (arith, mine.0, ap length considers.tenants, length_permutation _ _ holds.guests, ap (held_at mid) c.code);
+        guests = λ p. ap (λ (t : Code). count_by p (guests_of m.entrants mid t)) c.code ∙ (mine.1 p ∙ bag_of _ _ holds.guests p);
+      }) (λ j other held apart jo was.
           let not_here : other.code ≢ s = λ same. codes_apart m.seats j at other seat c.seated.once jo c.seat_at apart (same ∙ sym c.code) in
-          other_mirror m rows i e r (kept_by r s) other kept c.entrant c.row (none_has r.school other.code c.free) (other_has (Some s) s other.code refl not_here) was);
+          other_mirror m rows i e r (held_by r s) other held c.entrant c.row (none_has r.school other.code c.free) (other_has (Some s) s other.code refl not_here) was);
       falls = omega (arith, here.1);
       free = λ k f. inl (free_after_coming m.entrants rows i r s k f);
       within = tt;
     })
 
--- the guest that ranks last is sent back, and stands at the place that the directory has for it
-pub record Leaving (m : Market) (mid : List Standing) (s : Code) (k : ℕ) (guest : Guest) : Type 0 where
+-- the guest that ranks last is rejected, and stands at the index that the directory has for it
+pub record Leaving (m : Market) (mid : List Progress) (s : Code) (k : ℕ) (guest : Guest) : Type 0 where
   pub last : IsLast m.entrants mid s k
   pub child : last.0.child ≡ guest.child
   pub key : key_at last.0.list s ≡ Some guest.key
 
-pub leaving : (m : Market) (rows mid : List Standing) (schools : List Keeping) (i at : ℕ) (e : Candidate) (r : Standing) (w : Wish) (seat : Seats) (old new : Keeping) (out place : ℕ) → Coming m rows schools i at e r w seat old → mid ≡ set rows i (kept_by r w.school) → (takes : Takes old new e.child w.key (is_tenant e w.school) (Some out)) → StandsAt m.entrants out place → Leaving m mid w.school place takes.guests.last.guest
-leaving m rows mid schools i at e r w seat old new out place c mid_is takes stands =
+pub leaving : (m : Market) (rows mid : List Progress) (schools : List Holding) (i at : ℕ) (e : Candidate) (r : Progress) (w : Wish) (seat : Seats) (old new : Holding) (out out_at : ℕ) → Coming m rows schools i at e r w seat old → mid ≡ set rows i (held_by r w.school) → (considers : Considers old new e.child w.key (is_tenant e w.school) (Some out)) → StandsAt m.entrants out out_at → Leaving m mid w.school out_at considers.guests.last.guest
+leaving m rows mid schools i at e r w seat old new out out_at c mid_is considers stands =
     let s = w.school in
     let here = came m rows mid i w (e, r, c.entrant, c.row, c.free, c.less) c.sound c.next mid_is in
-    let mine = came_here m rows i e r w seat old c.distinct c.entrant c.row c.free c.next (c.mirrored.each at seat old c.seat_at c.kept_at) c.code in
-    let bag : SameBag (guests_of m.entrants mid s) (guests_with old e.child w.key (is_tenant e s)) = λ p. ap (λ (x : List Standing). count_by p (guests_of m.entrants x s)) mid_is ∙ mine.1 p in
-    let gone : SendsBack old new e.child w.key (is_tenant e s) out = takes.guests in
+    let mine = came_here m rows i e r w seat old c.distinct c.entrant c.row c.free c.next (c.mirrored.each at seat old c.seat_at c.held_at) c.code in
+    let bag : SameBag (guests_of m.entrants mid s) (guests_with old e.child w.key (is_tenant e s)) = λ p. ap (λ (x : List Progress). count_by p (guests_of m.entrants x s)) mid_is ∙ mine.1 p in
+    let gone : Rejects old new e.child w.key (is_tenant e s) out = considers.guests in
     let last = last_from_heap m mid s (guests_with old e.child w.key (is_tenant e s)) new.guests out c.distinct here.0.shaped bag gone.last in
-    let same : last.0 ≡ place = one_place m.entrants c.distinct.children last.0 place last.1.0 stands.0 last.1.1.0 stands.1 (last.2 ∙ sym stands.2) in
+    let same : last.0 ≡ out_at = one_index m.entrants c.distinct.children last.0 out_at last.1.0 stands.0 last.1.1.0 stands.1 (last.2 ∙ sym stands.2) in
     subst (λ k. Leaving m mid s k gone.last.guest) same (record { last = last.1; child = last.2 ∙ sym gone.last.is_child; key = last.3 })
   where
-    one_place : (es : List Candidate) → ChildrenOnce es → (i j : ℕ) (a b : Candidate) → slice_get es i ≡ Some a → slice_get es j ≡ Some b → a.child ≡ b.child → i ≡ j
-    one_place es d i j a b ia jb same = elim (cases_order i j) [
+    one_index : (es : List Candidate) → ChildrenOnce es → (i j : ℕ) (a b : Candidate) → slice_get es i ≡ Some a → slice_get es j ≡ Some b → a.child ≡ b.child → i ≡ j
+    one_index es d i j a b ia jb same = elim (cases_order i j) [
       | inl is ↦ is
       | inr other ↦ elim other [ inl less ↦ absurd (d i j a b ia jb less same) | inr more ↦ absurd (d j i b a jb ia more (sym same)) ]
     ]
 
-pub turn_sends : (m : Market) (rows mid now : List Standing) (schools : List Keeping) (i at : ℕ) (e : Candidate) (r : Standing) (w : Wish) (seat : Seats) (old new : Keeping) (out k : ℕ) → Coming m rows schools i at e r w seat old → mid ≡ set rows i (kept_by r w.school) → (takes : Takes old new e.child w.key (is_tenant e w.school) (Some out)) → (gone : Leaving m mid w.school k takes.guests.last.guest) → now ≡ set mid k (released gone.last.1.1.0) → Turned m rows now (set schools at new) i (Some k)
-turn_sends m rows mid now schools i at e r w seat old new out k c mid_is takes gone now_is =
+pub turn_rejects : (m : Market) (rows mid now : List Progress) (schools : List Holding) (i at : ℕ) (e : Candidate) (r : Progress) (w : Wish) (seat : Seats) (old new : Holding) (out k : ℕ) → Coming m rows schools i at e r w seat old → mid ≡ set rows i (held_by r w.school) → (considers : Considers old new e.child w.key (is_tenant e w.school) (Some out)) → (gone : Leaving m mid w.school k considers.guests.last.guest) → now ≡ set mid k (with_rejection gone.last.1.1.0) → Turned m rows now (set schools at new) i (Some k)
+turn_rejects m rows mid now schools i at e r w seat old new out k c mid_is considers gone now_is =
     let s = w.school in
     let here = came m rows mid i w (e, r, c.entrant, c.row, c.free, c.less) c.sound c.next mid_is in
-    let mine = came_here m rows i e r w seat old c.distinct c.entrant c.row c.free c.next (c.mirrored.each at seat old c.seat_at c.kept_at) c.code in
-    let mirror = c.mirrored.each at seat old c.seat_at c.kept_at in
+    let mine = came_here m rows i e r w seat old c.distinct c.entrant c.row c.free c.next (c.mirrored.each at seat old c.seat_at c.held_at) c.code in
+    let mirror = c.mirrored.each at seat old c.seat_at c.held_at in
     let quota : quota_of m.seats s ≡ old.quota = ap (quota_of m.seats) (sym c.code) ∙ (quota_at m at seat c.seated c.seat_at ∙ sym mirror.quota) in
-    let sends : SendsBack old new e.child w.key (is_tenant e s) out = takes.guests in
-    let guest = sends.last.guest in
+    let rejects : Rejects old new e.child w.key (is_tenant e s) out = considers.guests in
+    let guest = rejects.last.guest in
     let all = guests_with old e.child w.key (is_tenant e s) in
-    let count : length (tenants_with old e.child (is_tenant e s)) + length all ≡ kept_at mid s = mine.0 ∙ ap (λ (x : List Standing). kept_at x s) (sym mid_is) in
-    let bag : SameBag (guests_of m.entrants mid s) all = λ p. ap (λ (x : List Standing). count_by p (guests_of m.entrants x s)) mid_is ∙ mine.1 p in
+    let count : length (tenants_with old e.child (is_tenant e s)) + length all ≡ held_at mid s = mine.0 ∙ ap (λ (x : List Progress). held_at x s) (sym mid_is) in
+    let bag : SameBag (guests_of m.entrants mid s) all = λ p. ap (λ (x : List Progress). count_by p (guests_of m.entrants x s)) mid_is ∙ mine.1 p in
     let d = gone.last.0 in
     let g = gone.last.1 in
     let q = g.1.0 in
-    let v = released q in
+    let v = with_rejection q in
     let after = set mid k v in
-    let over : quota_of m.seats s < kept_at mid s = omega (arith, sends.over, count, quota) in
-    let less : kept_at after s + 1 ≡ kept_at mid s = kept_set_less mid k q v s g.1.1 (has_true q.school s g.1.2) refl in
+    let over : quota_of m.seats s < held_at mid s = omega (arith, rejects.over, count, quota) in
+    let less : held_at after s + 1 ≡ held_at mid s = held_set_less mid k q v s g.1.1 (has_true q.school s g.1.2) refl in
     let was_entry : entry_of d q s ≡ (guest ∷ []) = entry_is d q s guest.key g.1.2 g.2 gone.key ∙ (λ l. record { key = guest.key; child = gone.child l } ∷ []) in
     let no_entry : entry_of d v s ≡ [] = entry_none d v s refl in
     let split : SameBag (guests_of m.entrants mid s) (guest ∷ guests_of m.entrants after s)
     = λ p. (λ l. count_by p (sym no_entry l ++ guests_of m.entrants mid s)) ∙ (bag_of _ _ (guests_set m.entrants mid s k d q v g.0 g.1.1) p ∙ (λ l. count_by p (was_entry l ++ guests_of m.entrants after s))) in
     let left_bag : SameBag (guests_of m.entrants after s) new.guests
-    = bag_rest guest (guests_of m.entrants after s) new.guests (λ p. sym (split p) ∙ (bag p ∙ bag_of all (guest ∷ new.guests) sends.last.others p)) in
-    subst (λ (x : List Standing). Turned m rows x (set schools at new) i (Some k)) (sym now_is) (record {
+    = bag_rest guest (guests_of m.entrants after s) new.guests (λ p. sym (split p) ∙ (bag p ∙ bag_of all (guest ∷ new.guests) rejects.last.others p)) in
+    subst (λ (x : List Progress). Turned m rows x (set schools at new) i (Some k)) (sym now_is) (record {
       sound = leave m mid i s k d q c.distinct.well here.0 g.0 g.1.1 g.1.2 g.2 over gone.last.2;
       mirrored = mirrored_set m rows after schools at seat new c.mirrored c.seat_at (record {
-        quota = takes.quota ∙ mirror.quota;
-        count = omega (arith, count, less, ap length takes.tenants, length_permutation _ _ sends.last.others, ap (kept_at after) c.code);
+        quota = considers.quota ∙ mirror.quota;
+        count = omega (arith, count, less, ap length considers.tenants, length_permutation _ _ rejects.last.others, ap (held_at after) c.code);
         guests = λ p. ap (λ (t : Code). count_by p (guests_of m.entrants after t)) c.code ∙ left_bag p;
-      }) (λ j other kept apart jo was.
+      }) (λ j other held apart jo was.
           let not_here : other.code ≢ s = λ same. codes_apart m.seats j at other seat c.seated.once jo c.seat_at apart (same ∙ sym c.code) in
-          let came_other : IsMirror m mid other kept = subst (λ (x : List Standing). IsMirror m x other kept) (sym mid_is)
-          (other_mirror m rows i e r (kept_by r s) other kept c.entrant c.row (none_has r.school other.code c.free) (other_has (Some s) s other.code refl not_here) was) in
-          other_mirror m mid k d q v other kept g.0 g.1.1 (other_has q.school s other.code g.1.2 not_here) refl came_other);
-      falls = omega (arith, here.1, left_leave m mid k q s g.1.1 g.1.2);
+          let came_other : IsMirror m mid other held = subst (λ (x : List Progress). IsMirror m x other held) (sym mid_is)
+          (other_mirror m rows i e r (held_by r s) other held c.entrant c.row (none_has r.school other.code c.free) (other_has (Some s) s other.code refl not_here) was) in
+          other_mirror m mid k d q v other held g.0 g.1.1 (other_has q.school s other.code g.1.2 not_here) refl came_other);
+      falls = omega (arith, here.1, turns_left_leave m mid k q s g.1.1 g.1.2);
       free = λ l f. elim (free_after_leaving m.entrants mid k q l f) [
         | inl is ↦ inr (ap Some (sym is))
-        | inr still ↦ inl (free_after_coming m.entrants rows i r s l (subst (λ (x : List Standing). IsFree m.entrants x l) mid_is still))
+        | inr still ↦ inl (free_after_coming m.entrants rows i r s l (subst (λ (x : List Progress). IsFree m.entrants x l) mid_is still))
       ];
       within = omega (arith, length-set mid k v, slice_get_within mid k q g.1.1);
     })
 
 -- what the code reads of the entrant that it takes on
-pub record Ahead (m : Market) (rows : List Standing) (i : ℕ) (e : Candidate) (r : Standing) (w : Wish) : Type 0 where
+pub record Ahead (m : Market) (rows : List Progress) (i : ℕ) (e : Candidate) (r : Progress) (w : Wish) : Type 0 where
   pub entrant : slice_get m.entrants i ≡ Some e
   pub row : slice_get rows i ≡ Some r
   pub free : r.school ≡ None
-  pub less : r.refusals < length e.list
-  pub next : slice_get e.list r.refusals ≡ Some w
+  pub less : r.rejections < length e.list
+  pub next : slice_get e.list r.rejections ≡ Some w
   pub seat : (j : ℕ) × SeatedAt m.seats w.school j
 
-pub ahead_of : (m : Market) (rows : List Standing) (i : ℕ) (e : Candidate) (items : List Wish) (r : Standing) (w : Wish) (free : IsFree m.entrants rows i) → Seated m → e ≡ get_or m.entrants i e → items ≡ e.list → r ≡ get_or rows i r → w ≡ get_or items (get_or rows i r).refusals w → Ahead m rows i e r w
+pub ahead_of : (m : Market) (rows : List Progress) (i : ℕ) (e : Candidate) (items : List Wish) (r : Progress) (w : Wish) (free : IsFree m.entrants rows i) → Seated m → e ≡ get_or m.entrants i e → items ≡ e.list → r ≡ get_or rows i r → w ≡ get_or items (get_or rows i r).rejections w → Ahead m rows i e r w
 ahead_of m rows i e items r w free seated e_is items_is r_is w_is =
     let e_same : e ≡ free.0 = e_is ∙ get_or_from_slice_get m.entrants i free.0 e free.2 in
     let r_same : r ≡ free.1 = r_is ∙ get_or_from_slice_get rows i free.1 r free.3 in
     let ei : slice_get m.entrants i ≡ Some e = free.2 ∙ ap Some (sym e_same) in
-    let less : r.refusals < length e.list = omega (arith, free.5, ap (λ (x : Standing). x.refusals) r_same, ap (λ (x : Candidate). length x.list) e_same) in
-    let read : w ≡ get_or e.list r.refusals w = w_is ∙ (λ j. get_or (items_is j) (sym r_is j).refusals w) in
-    let next : slice_get e.list r.refusals ≡ Some w = slice_get_read e.list (length e.list) r.refusals w refl less read in
-    let one = list_any_gives (λ (seat : Seats). bytes_eq seat.code w.school) m.seats (seated.known i e r.refusals w ei next) in
+    let less : r.rejections < length e.list = omega (arith, free.5, ap (λ (x : Progress). x.rejections) r_same, ap (λ (x : Candidate). length x.list) e_same) in
+    let read : w ≡ get_or e.list r.rejections w = w_is ∙ (λ j. get_or (items_is j) (sym r_is j).rejections w) in
+    let next : slice_get e.list r.rejections ≡ Some w = slice_get_read e.list (length e.list) r.rejections w refl less read in
+    let one = list_any_gives (λ (seat : Seats). bytes_eq seat.code w.school) m.seats (seated.known i e r.rejections w ei next) in
     record {
       entrant = ei;
       row = free.3 ∙ ap Some (sym r_same);
-      free = ap (λ (x : Standing). x.school) r_same ∙ free.4;
+      free = ap (λ (x : Progress). x.school) r_same ∙ free.4;
       less = less;
       next = next;
       seat = (one.0, (one.1, one.2, (bytes_eq-Decides one.1.code w.school).0 one.3));
     }
 
-pub coming_of : (m : Market) (rows : List Standing) (schools : List Keeping) (i at : ℕ) (e : Candidate) (r : Standing) (w : Wish) (old : Keeping) → Ahead m rows i e r w → Distinct m → Seated m → Sound m rows → Mirrored m rows schools → (seat : SeatedAt m.seats w.school at) → slice_get schools at ≡ Some old → Coming m rows schools i at e r w seat.0 old
+pub coming_of : (m : Market) (rows : List Progress) (schools : List Holding) (i at : ℕ) (e : Candidate) (r : Progress) (w : Wish) (old : Holding) → Ahead m rows i e r w → Distinct m → Seated m → Sound m rows → Mirrored m rows schools → (seat : SeatedAt m.seats w.school at) → slice_get schools at ≡ Some old → Coming m rows schools i at e r w seat.0 old
 coming_of m rows schools i at e r w old a distinct seated sound mirrored seat there = record {
   distinct = distinct;
   seated = seated;
@@ -275,26 +275,26 @@ coming_of m rows schools i at e r w old a distinct seated sound mirrored seat th
   next = a.next;
   seat_at = seat.1;
   code = seat.2;
-  kept_at = there;
+  held_at = there;
 }
 
-pub takes_as : (old new : Keeping) (child child' : ℕ) (key : RankKey) (tenant tenant' : Bool) (out out' : Option ℕ) → child ≡ child' → tenant ≡ tenant' → out ≡ out' → Takes old new child key tenant out → Takes old new child' key tenant' out'
-takes_as old new child child' key tenant tenant' out out' c t o h =
-    subst (λ (x : ℕ). Takes old new x key tenant' out') c (subst (λ (b : Bool). Takes old new child key b out') t (subst (λ (x : Option ℕ). Takes old new child key tenant x) o h))
+pub considers_as : (old new : Holding) (child child' : ℕ) (key : RankKey) (tenant tenant' : Bool) (out out' : Option ℕ) → child ≡ child' → tenant ≡ tenant' → out ≡ out' → Considers old new child key tenant out → Considers old new child' key tenant' out'
+considers_as old new child child' key tenant tenant' out out' c t o h =
+    subst (λ (x : ℕ). Considers old new x key tenant' out') c (subst (λ (b : Bool). Considers old new child key b out') t (subst (λ (x : Option ℕ). Considers old new child key tenant x) o h))
 
--- the one who is sent back stands among the entrants
-pub sent_stands : (m : Market) (rows mid : List Standing) (schools : List Keeping) (i at : ℕ) (e : Candidate) (r : Standing) (w : Wish) (seat : Seats) (old new : Keeping) (out : ℕ) → Coming m rows schools i at e r w seat old → mid ≡ set rows i (kept_by r w.school) → (takes : Takes old new e.child w.key (is_tenant e w.school) (Some out)) → (k : ℕ) × StandsAt m.entrants out k
-sent_stands m rows mid schools i at e r w seat old new out c mid_is takes =
+-- the one who is rejected stands among the entrants
+pub rejected_stands : (m : Market) (rows mid : List Progress) (schools : List Holding) (i at : ℕ) (e : Candidate) (r : Progress) (w : Wish) (seat : Seats) (old new : Holding) (out : ℕ) → Coming m rows schools i at e r w seat old → mid ≡ set rows i (held_by r w.school) → (considers : Considers old new e.child w.key (is_tenant e w.school) (Some out)) → (k : ℕ) × StandsAt m.entrants out k
+rejected_stands m rows mid schools i at e r w seat old new out c mid_is considers =
     let s = w.school in
     let here = came m rows mid i w (e, r, c.entrant, c.row, c.free, c.less) c.sound c.next mid_is in
-    let mine = came_here m rows i e r w seat old c.distinct c.entrant c.row c.free c.next (c.mirrored.each at seat old c.seat_at c.kept_at) c.code in
-    let bag : SameBag (guests_of m.entrants mid s) (guests_with old e.child w.key (is_tenant e s)) = λ p. ap (λ (x : List Standing). count_by p (guests_of m.entrants x s)) mid_is ∙ mine.1 p in
-    let gone : SendsBack old new e.child w.key (is_tenant e s) out = takes.guests in
+    let mine = came_here m rows i e r w seat old c.distinct c.entrant c.row c.free c.next (c.mirrored.each at seat old c.seat_at c.held_at) c.code in
+    let bag : SameBag (guests_of m.entrants mid s) (guests_with old e.child w.key (is_tenant e s)) = λ p. ap (λ (x : List Progress). count_by p (guests_of m.entrants x s)) mid_is ∙ mine.1 p in
+    let gone : Rejects old new e.child w.key (is_tenant e s) out = considers.guests in
     let last = last_from_heap m mid s (guests_with old e.child w.key (is_tenant e s)) new.guests out c.distinct here.0.shaped bag gone.last in
     (last.0, (last.1.0, last.1.1.0, last.2))
 
--- the row of the one who is sent back has a school left to go on from
-pub row_listed : (m : Market) (rows mid : List Standing) (schools : List Keeping) (i at : ℕ) (e : Candidate) (r : Standing) (w : Wish) (seat : Seats) (old : Keeping) (k : ℕ) → Coming m rows schools i at e r w seat old → mid ≡ set rows i (kept_by r w.school) → (last : IsLast m.entrants mid w.school k) → (d : Candidate) → d ≡ get_or m.entrants k d → (row : Standing) → slice_get mid k ≡ Some row → row.refusals < length d.list
+-- the row of the one who is rejected has a school left to go on from
+pub row_listed : (m : Market) (rows mid : List Progress) (schools : List Holding) (i at : ℕ) (e : Candidate) (r : Progress) (w : Wish) (seat : Seats) (old : Holding) (k : ℕ) → Coming m rows schools i at e r w seat old → mid ≡ set rows i (held_by r w.school) → (last : IsLast m.entrants mid w.school k) → (d : Candidate) → d ≡ get_or m.entrants k d → (row : Progress) → slice_get mid k ≡ Some row → row.rejections < length d.list
 row_listed m rows mid schools i at e r w seat old k c mid_is last d d_is row rk =
     let here = came m rows mid i w (e, r, c.entrant, c.row, c.free, c.less) c.sound c.next mid_is in
     last_listed m mid w.school k last here.0.shaped d row d_is rk

@@ -4,6 +4,6 @@ pub mod Turns
 pub mod Distinct
 pub mod Blocks
 pub mod Relisting
-pub mod Keeping
+pub mod Holding
 pub mod Queue
 pub mod Claims

@@ -32,14 +32,15 @@ abbrev pub has : Option Code → Code → Bool
 has None school = false
 has (Some other) school = bytes_eq other school
 
--- the place of a school on a list, from 0; the list's length where it is not on it
-abbrev pub place : List Wish → Code → ℕ
-place list school = position_or_len (λ wish. bytes_eq wish.school school) list
+-- The rank of a school among a child's preferences: its index on the list, from 0; the list's length where it is not on
+-- it. The smaller rank is the more wanted.
+abbrev pub preference_rank : List Wish → Code → ℕ
+preference_rank list school = position_or_len (λ wish. bytes_eq wish.school school) list
 
--- the place on a list of what a child has: none comes after every school
-abbrev pub place_of : List Wish → Option Code → ℕ
-place_of list None = length list
-place_of list (Some school) = place list school
+-- the rank among a child's preferences of what it is assigned: none comes after every school
+abbrev pub assigned_rank : List Wish → Option Code → ℕ
+assigned_rank list None = length list
+assigned_rank list (Some school) = preference_rank list school
 
 -- whether the entrant is a tenant of the school (this profile)
 abbrev pub is_tenant : Candidate → Code → Bool
@@ -97,7 +98,7 @@ repeats_child m = some_pair same_child m.entrants
 
 abbrev pub is_not_last : List Wish → Option Code → Bool
 is_not_last list None = false
-is_not_last list (Some school) = not (place list school + 1 == length list)
+is_not_last list (Some school) = not (preference_rank list school + 1 == length list)
 
 -- a tenant whose school is not the last of its list
 abbrev pub has_tenant_not_last : Market → Bool

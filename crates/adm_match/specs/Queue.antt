@@ -1,67 +1,67 @@
--- What holds between two turns of the queue: the rows, the schools' keepings, the directory and the queue.
+-- What holds between two turns of the queue: the rows, the schools' holdings, the directory and the queue.
 use Rattle.std.specs.Prelude.{◌≡◌, ◌≢◌, ◌⊎◌, ℕ, ◌+◌, ◌<◌, ◌==◌, true, List, length, Option, Some, IfSome, All, slice_get}
 use Rattle.std.specs.List.{list_any}
 use Rattle.std.specs.Ordering.{nat_cmp}
 use Rattle.std.specs.Cmp.Lexicographic.{slice_cmp}
 use Rattle.std.specs.BTreeMap.{BTreeMap, get}
 use Rattle.adm_match.specs.declared.problem.Seats.{Seats}
-use Rattle.adm_match.specs.declared.standings.Standing.{Standing}
+use Rattle.adm_match.specs.declared.progress.Progress.{Progress}
 use Rattle.adm_match.specs.declared.directory.Directory.{Directory}
 use Rattle.adm_match.specs.Market.{Code, Candidate, Market}
-use Rattle.adm_match.specs.Turns.{kept_at, IsFree, Sound, left}
-use Rattle.adm_match.specs.Keeping.{Keeping, SameBag, guests_of}
+use Rattle.adm_match.specs.Turns.{held_at, IsFree, Sound, turns_left}
+use Rattle.adm_match.specs.Holding.{Holding, SameBag, guests_of}
 
--- each child is found at its place among the entrants
+-- each child is found at its index among the entrants
 abbrev pub FindsChildren : List Candidate → BTreeMap ℕ ℕ → Type 0
 FindsChildren entrants children = (k : ℕ) (e : Candidate) → slice_get entrants k ≡ Some e → get nat_cmp children e.child ≡ Some k
 
--- each school is found at its place among the seats
+-- each school is found at its index among the seats
 abbrev pub FindsSchools : List Seats → BTreeMap Code ℕ → Type 0
 FindsSchools seats schools = (j : ℕ) (seat : Seats) → slice_get seats j ≡ Some seat → get (slice_cmp nat_cmp) schools seat.code ≡ Some j
 
--- the child stands at that place among the entrants
+-- the child stands at that index among the entrants
 abbrev pub StandsAt : List Candidate → ℕ → ℕ → Type 0
 StandsAt entrants child k = (e : Candidate) × (slice_get entrants k ≡ Some e) × (e.child ≡ child)
 
--- the school's seats stand at that place
+-- the school's seats stand at that index
 abbrev pub SeatedAt : List Seats → Code → ℕ → Type 0
 SeatedAt seats school j = (seat : Seats) × (slice_get seats j ≡ Some seat) × (seat.code ≡ school)
 
-pub record Directs (m : Market) (directory : Directory) : Type 0 where
+pub record IsDirectory (m : Market) (directory : Directory) : Type 0 where
   pub children : FindsChildren m.entrants directory.children
   pub schools : FindsSchools m.seats directory.schools
 
--- a school keeps whom the rows say, with its quota
-pub record IsMirror (m : Market) (rows : List Standing) (seat : Seats) (kept : Keeping) : Type 0 where
-  pub quota : kept.quota ≡ seat.quota
-  pub count : length kept.tenants + length kept.guests ≡ kept_at rows seat.code
-  pub guests : SameBag (guests_of m.entrants rows seat.code) kept.guests
+-- a school holds whom the rows say, with its quota
+pub record IsMirror (m : Market) (rows : List Progress) (seat : Seats) (held : Holding) : Type 0 where
+  pub quota : held.quota ≡ seat.quota
+  pub count : length held.tenants + length held.guests ≡ held_at rows seat.code
+  pub guests : SameBag (guests_of m.entrants rows seat.code) held.guests
 
--- the schools stand in the order of the seats, and each keeps whom the rows say
-pub record Mirrored (m : Market) (rows : List Standing) (schools : List Keeping) : Type 0 where
+-- the schools stand in the order of the seats, and each holds whom the rows say
+pub record Mirrored (m : Market) (rows : List Progress) (schools : List Holding) : Type 0 where
   pub same : length schools ≡ length m.seats
-  pub each : (j : ℕ) (seat : Seats) (kept : Keeping) → slice_get m.seats j ≡ Some seat → slice_get schools j ≡ Some kept → IsMirror m rows seat kept
+  pub each : (j : ℕ) (seat : Seats) (held : Holding) → slice_get m.seats j ≡ Some seat → slice_get schools j ≡ Some held → IsMirror m rows seat held
 
--- who is free after a turn of the entrant at i was free before and is another one, or is the one sent back
-abbrev pub FreeAfter : List Candidate → List Standing → List Standing → ℕ → Option ℕ → Type 0
+-- who is free after a turn of the entrant at i was free before and is another one, or is the one rejected
+abbrev pub FreeAfter : List Candidate → List Progress → List Progress → ℕ → Option ℕ → Type 0
 FreeAfter entrants old new i out = (k : ℕ) → IsFree entrants new k → ((k ≢ i) × IsFree entrants old k) ⊎ (out ≡ Some k)
 
--- what a turn does of the entrant at i, after which the one at the place `out`, if any, is sent back
-pub record Turned (m : Market) (old new : List Standing) (schools : List Keeping) (i : ℕ) (out : Option ℕ) : Type 0 where
+-- what a turn does of the entrant at i, after which the one at the index `out`, if any, is rejected
+pub record Turned (m : Market) (old new : List Progress) (schools : List Holding) (i : ℕ) (out : Option ℕ) : Type 0 where
   pub sound : Sound m new
   pub mirrored : Mirrored m new schools
-  pub falls : left m.entrants new < left m.entrants old
+  pub falls : turns_left m.entrants new < turns_left m.entrants old
   pub free : FreeAfter m.entrants old new i out
   pub within : IfSome out (λ k. k < length new)
 
--- each free entrant stands in the queue, and the queue holds places of entrants
-pub record Queued (entrants : List Candidate) (rows : List Standing) (queue : List ℕ) : Type 0 where
+-- each free entrant stands in the queue, and the queue has indices of entrants
+pub record Queued (entrants : List Candidate) (rows : List Progress) (queue : List ℕ) : Type 0 where
   pub waiting : (k : ℕ) → IsFree entrants rows k → list_any (λ q. q == k) queue ≡ true
   pub within : All (λ q. q < length entrants) queue
 
 -- what holds between two turns
-pub record Afoot (m : Market) (directory : Directory) (rows : List Standing) (schools : List Keeping) (queue : List ℕ) : Type 0 where
-  pub directs : Directs m directory
+pub record BetweenTurns (m : Market) (directory : Directory) (rows : List Progress) (schools : List Holding) (queue : List ℕ) : Type 0 where
+  pub directs : IsDirectory m directory
   pub sound : Sound m rows
   pub mirrored : Mirrored m rows schools
   pub queued : Queued m.entrants rows queue

@@ -3,9 +3,9 @@ use Rattle.std.specs.Prelude.{◌≡◌, ℕ, ◌≤◌, Bool, true, not, ◌&&�
 use Rattle.std.specs.List.{filter_map, list_any, list_all}
 use Rattle.std.specs.Option.{option_to_list}
 use Rattle.adm_match.specs.declared.problem.Wish.{Wish}
-use Rattle.adm_match.specs.Market.{Code, Candidate, Market, place_of, is_tenant, some_pair, first_fault}
-use Rattle.adm_match.specs.declared.advice.WhatIfFault.{WhatIfFault}
-use Rattle.adm_match.specs.declared.advice.WhatIfFault.TheVariants.{UnknownChild, NotItsSchools}
+use Rattle.adm_match.specs.Market.{Code, Candidate, Market, assigned_rank, is_tenant, some_pair, first_fault}
+use Rattle.adm_match.specs.declared.what_ifs.WhatIfFault.{WhatIfFault}
+use Rattle.adm_match.specs.declared.what_ifs.WhatIfFault.TheVariants.{UnknownChild, NotItsSchools}
 use Rattle.adm_match.specs.Stability.{Allocation, IsStable, IsBest}
 
 -- the wishes of a list for these schools, in the schools' order
@@ -30,7 +30,7 @@ abbrev pub NoGain : Type 0
 NoGain =
     (m : Market) (child : ℕ) (schools : List Code) (best other : Allocation)
     → first_fault m ≡ None → IsBest m best → IsBest (relisted m child schools) other
-    → All (λ entrant. entrant.child ≡ child → place_of entrant.list (best child) ≤ place_of entrant.list (other child)) m.entrants
+    → All (λ entrant. entrant.child ≡ child → assigned_rank entrant.list (best child) ≤ assigned_rank entrant.list (other child)) m.entrants
 
 -- All stable allocations of a problem place the same children.
 abbrev pub SamePlaced : Type 0
@@ -70,4 +70,4 @@ IsWhatIf m child schools school = (other : Allocation) × IsBest (relisted m chi
 abbrev pub IsNoGain : Market → ℕ → Option Code → Type 0
 IsNoGain m child school =
     (best : Allocation) → IsBest m best
-    → All (λ entrant. entrant.child ≡ child → place_of entrant.list (best child) ≤ place_of entrant.list school) m.entrants
+    → All (λ entrant. entrant.child ≡ child → assigned_rank entrant.list (best child) ≤ assigned_rank entrant.list school) m.entrants

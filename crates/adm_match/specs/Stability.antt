@@ -1,9 +1,10 @@
--- Allocations of a problem: which fit, which pairs block, which are stable, and which is best (Gale and Shapley 1962).
+-- Allocations of a problem: which are feasible, which pairs block, which are stable, and which is child-optimal (Gale and
+-- Shapley 1962).
 -- The cases of a free place, of a child without a place and of a tenant are this profile's.
 use Rattle.std.specs.Prelude.{◌≡◌, ℕ, ◌+◌, ◌<◌, ◌≤◌, Bool, true, false, not, ◌||◌, ◌&&◌, ◌==◌, nat_lt, List, length, Option, None, Some, unwrap_or, option_map, IfSome, All, Any, count_by, sum_by, find}
 use Rattle.std.specs.List.{list_any}
 use Rattle.adm_match.specs.declared.problem.Wish.{Wish}
-use Rattle.adm_match.specs.Market.{Code, Candidate, Market, has, place, place_of, is_tenant, ranks_before, quota_of}
+use Rattle.adm_match.specs.Market.{Code, Candidate, Market, has, preference_rank, assigned_rank, is_tenant, ranks_before, quota_of}
 
 -- which school each child has, or none (Gale and Shapley 1962: an assignment)
 abbrev pub Allocation : Type 0
@@ -17,17 +18,18 @@ count_at m a school = count_by (λ entrant. has (a entrant.child) school) m.entr
 abbrev pub is_guest : Allocation → Code → Candidate → Bool
 is_guest a school entrant = has (a entrant.child) school && not (is_tenant entrant school)
 
--- each entrant has a school of its list, or none
-abbrev pub Allocates : Market → Allocation → Type 0
-Allocates m a = All (λ entrant. IfSome (a entrant.child) (λ school. place entrant.list school < length entrant.list)) m.entrants
+-- acceptable to each child: each entrant has a school of its list, or none (the field: individually rational)
+abbrev pub IsAcceptable : Market → Allocation → Type 0
+IsAcceptable m a = All (λ entrant. IfSome (a entrant.child) (λ school. preference_rank entrant.list school < length entrant.list)) m.entrants
 
--- where some child at a school is no tenant of it, at most the quota are there (this profile: tenants alone may be more)
-abbrev pub Fits : Market → Allocation → Type 0
-Fits m a = (school : Code) → list_any (is_guest a school) m.entrants ≡ true → count_at m a school ≤ quota_of m.seats school
+-- feasible: where some child at a school is no tenant of it, at most the quota are there (this profile: tenants alone
+-- may be more)
+abbrev pub IsFeasible : Market → Allocation → Type 0
+IsFeasible m a = (school : Code) → list_any (is_guest a school) m.entrants ≡ true → count_at m a school ≤ quota_of m.seats school
 
 -- whether the school is on the entrant's list, and before what it has
 abbrev pub prefers : Allocation → Candidate → Code → Bool
-prefers a entrant school = nat_lt (place entrant.list school) (place_of entrant.list (a entrant.child))
+prefers a entrant school = nat_lt (preference_rank entrant.list school) (assigned_rank entrant.list (a entrant.child))
 
 -- whether the other one is at the school, is no tenant of it, and ranks after the entrant
 abbrev pub ranks_after : Allocation → Code → Candidate → Candidate → Bool
@@ -46,24 +48,25 @@ blocks m a entrant school =
 abbrev pub IsContent : Market → Allocation → Candidate → Type 0
 IsContent m a entrant = (school : Code) → blocks m a entrant school ≡ false
 
--- it fits, and no pair blocks (Gale and Shapley 1962)
+-- it is acceptable to each child and feasible, and no pair blocks (Gale and Shapley 1962)
 pub record IsStable (m : Market) (a : Allocation) : Type 0 where
-  pub allocates : Allocates m a
-  pub fits : Fits m a
+  pub acceptable : IsAcceptable m a
+  pub feasible : IsFeasible m a
   pub unblocked : All (IsContent m a) m.entrants
 
--- It is stable, and in every stable allocation each child has the same school, or one later on its list, or none
+-- The child-optimal stable allocation: it is stable, and in every stable allocation each child has the same school, or
+-- one later on its list, or none
 -- (Gale and Shapley 1962: every applicant is at least as well off under it as under any other stable assignment).
 pub record IsBest (m : Market) (best : Allocation) : Type 0 where
   pub stable : IsStable m best
   pub none_better :
       (a : Allocation) → IsStable m a
-      → All (λ entrant. place_of entrant.list (best entrant.child) ≤ place_of entrant.list (a entrant.child)) m.entrants
+      → All (λ entrant. assigned_rank entrant.list (best entrant.child) ≤ assigned_rank entrant.list (a entrant.child)) m.entrants
 
 -- the entrant and the school block, and no school earlier on its list blocks with it
 pub record IsFirstOfList (m : Market) (a : Allocation) (entrant : Candidate) (school : Code) : Type 0 where
   pub blocking : blocks m a entrant school ≡ true
-  pub first : (other : Code) → place entrant.list other < place entrant.list school → blocks m a entrant other ≡ false
+  pub first : (other : Code) → preference_rank entrant.list other < preference_rank entrant.list school → blocks m a entrant other ≡ false
 
 -- the blocking pair with the smallest child number, of that child the first on its list (this profile)
 pub record IsFirstBlock (m : Market) (a : Allocation) (pair : ℕ × Code) : Type 0 where
@@ -82,7 +85,7 @@ school_of allotment child = unwrap_or (option_map (λ row. row.1) (find (λ row.
 -- the list entries up to what a child has, or all of them where it has none (this profile)
 abbrev pub gone_through : List Wish → Option Code → ℕ
 gone_through list None = length list
-gone_through list (Some school) = place list school + 1
+gone_through list (Some school) = preference_rank list school + 1
 
 -- the list entries gone through, of all entrants
 abbrev pub proposals_of : Market → Allocation → ℕ

@@ -1,97 +1,100 @@
 -- Where the entrants stand between two turns of deferred acceptance.
 use Rattle.std.specs.Prelude.{◌≡◌, ℕ, ◌<◌, ◌≤◌, ◌⊎◌, ◌+◌, ◌-◌, ◌≢◌, true, false, List, length, None, Some, is_none, is_some, if◌then◌else◌, slice_get, count_by, sum_by, unwrap_or, option_map, find, ◌==◌}
 use Rattle.adm_match.specs.declared.problem.Wish.{Wish}
-use Rattle.adm_match.specs.declared.standings.Standing.{Standing}
-use Rattle.adm_match.specs.Market.{Code, Candidate, Market, has, place, place_of, is_tenant, ranks_before, quota_of}
+use Rattle.adm_match.specs.declared.progress.Progress.{Progress}
+use Rattle.adm_match.specs.Market.{Code, Candidate, Market, has, preference_rank, assigned_rank, is_tenant, ranks_before, quota_of}
 use Rattle.adm_match.specs.Stability.{Allocation, IsStable}
 
--- how many of the entrants a school keeps
-abbrev pub kept_at : List Standing → Code → ℕ
-kept_at rows s = count_by (λ row. has row.school s) rows
+-- how many of the entrants a school holds, tentatively
+abbrev pub held_at : List Progress → Code → ℕ
+held_at rows s = count_by (λ row. has row.school s) rows
 
--- each school of a list stands at its place: no school comes twice
+-- each school of a list has the rank at which it stands: no school comes twice
 pub record WellListed (m : Market) : Type 0 where
-  pub places : (k : ℕ) (e : Candidate) (j : ℕ) (w : Wish) → slice_get m.entrants k ≡ Some e → slice_get e.list j ≡ Some w → place e.list w.school ≡ j
+  pub own_rank : (k : ℕ) (e : Candidate) (j : ℕ) (w : Wish) → slice_get m.entrants k ≡ Some e → slice_get e.list j ≡ Some w → preference_rank e.list w.school ≡ j
 
--- an entrant is kept by nobody, or by the school after those that sent it back
-abbrev pub Keeps : Candidate → Standing → Type 0
-Keeps e r = (r.school ≡ None) ⊎ ((w : Wish) × (slice_get e.list r.refusals ≡ Some w) × (r.school ≡ Some w.school))
+-- an entrant is held by nobody, or by the school after those that rejected it
+abbrev pub IsHeldByNext : Candidate → Progress → Type 0
+IsHeldByNext e r = (r.school ≡ None) ⊎ ((w : Wish) × (slice_get e.list r.rejections ≡ Some w) × (r.school ≡ Some w.school))
 
 -- the rows are those of the entrants
-pub record Shaped (m : Market) (rows : List Standing) : Type 0 where
+pub record Shaped (m : Market) (rows : List Progress) : Type 0 where
   pub same : length rows ≡ length m.entrants
-  pub children : (k : ℕ) (e : Candidate) (r : Standing) → slice_get m.entrants k ≡ Some e → slice_get rows k ≡ Some r → r.child ≡ e.child
-  pub keeps : (k : ℕ) (e : Candidate) (r : Standing) → slice_get m.entrants k ≡ Some e → slice_get rows k ≡ Some r → Keeps e r
-  pub within : (k : ℕ) (e : Candidate) (r : Standing) → slice_get m.entrants k ≡ Some e → slice_get rows k ≡ Some r → r.refusals ≤ length e.list
+  pub children : (k : ℕ) (e : Candidate) (r : Progress) → slice_get m.entrants k ≡ Some e → slice_get rows k ≡ Some r → r.child ≡ e.child
+  pub holds : (k : ℕ) (e : Candidate) (r : Progress) → slice_get m.entrants k ≡ Some e → slice_get rows k ≡ Some r → IsHeldByNext e r
+  pub within : (k : ℕ) (e : Candidate) (r : Progress) → slice_get m.entrants k ≡ Some e → slice_get rows k ≡ Some r → r.rejections ≤ length e.list
 
--- no stable allocation gives an entrant a school that sent it back
-abbrev pub NoneLost : Market → List Standing → Type 0
-NoneLost m rows = (a : Allocation) → IsStable m a → (k : ℕ) (e : Candidate) (r : Standing) → slice_get m.entrants k ≡ Some e → slice_get rows k ≡ Some r → r.refusals ≤ place_of e.list (a e.child)
+-- no stable allocation gives an entrant a school that rejected it
+abbrev pub NoneLost : Market → List Progress → Type 0
+NoneLost m rows = (a : Allocation) → IsStable m a → (k : ℕ) (e : Candidate) (r : Progress) → slice_get m.entrants k ≡ Some e → slice_get rows k ≡ Some r → r.rejections ≤ assigned_rank e.list (a e.child)
 
--- the school keeps this entrant, which is no tenant of it
-abbrev pub Guest : List Candidate → List Standing → Code → ℕ → Candidate → Type 0
-Guest entrants rows s k e = (slice_get entrants k ≡ Some e) × ((r : Standing) × (slice_get rows k ≡ Some r) × (r.school ≡ Some s)) × (is_tenant e s ≡ false)
+-- the school holds this entrant, which is no tenant of it
+abbrev pub IsGuestAt : List Candidate → List Progress → Code → ℕ → Candidate → Type 0
+IsGuestAt entrants rows s k e = (slice_get entrants k ≡ Some e) × ((r : Progress) × (slice_get rows k ≡ Some r) × (r.school ≡ Some s)) × (is_tenant e s ≡ false)
 
--- a school that sent the entrant back is full, and each guest there ranks before it
-pub record Refused (m : Market) (rows : List Standing) (e : Candidate) (s : Code) : Type 0 where
+-- a school that rejected the entrant is full, and each guest there ranks before it
+pub record IsRejected (m : Market) (rows : List Progress) (e : Candidate) (s : Code) : Type 0 where
   pub guest : is_tenant e s ≡ false
-  pub full : quota_of m.seats s ≤ kept_at rows s
-  pub outranked : (k : ℕ) (d : Candidate) → Guest m.entrants rows s k d → ranks_before s d e ≡ true
+  pub full : quota_of m.seats s ≤ held_at rows s
+  pub outranked : (k : ℕ) (d : Candidate) → IsGuestAt m.entrants rows s k d → ranks_before s d e ≡ true
 
 -- what holds between two turns
-pub record Sound (m : Market) (rows : List Standing) : Type 0 where
+pub record Sound (m : Market) (rows : List Progress) : Type 0 where
   pub shaped : Shaped m rows
-  pub fitting : (s : Code) (k : ℕ) (e : Candidate) → Guest m.entrants rows s k e → kept_at rows s ≤ quota_of m.seats s
-  pub refused : (k : ℕ) (e : Candidate) (r : Standing) (j : ℕ) (w : Wish) → slice_get m.entrants k ≡ Some e → slice_get rows k ≡ Some r → j < r.refusals → slice_get e.list j ≡ Some w → Refused m rows e w.school
+  pub within_quota : (s : Code) (k : ℕ) (e : Candidate) → IsGuestAt m.entrants rows s k e → held_at rows s ≤ quota_of m.seats s
+  pub rejected :
+      (k : ℕ) (e : Candidate) (r : Progress) (j : ℕ) (w : Wish)
+      → slice_get m.entrants k ≡ Some e → slice_get rows k ≡ Some r → j < r.rejections → slice_get e.list j ≡ Some w
+      → IsRejected m rows e w.school
   pub none_lost : NoneLost m rows
 
--- each entrant that nobody keeps was sent back by its whole list
-abbrev pub AllDone : List Candidate → List Standing → Type 0
-AllDone entrants rows = (k : ℕ) (e : Candidate) (r : Standing) → slice_get entrants k ≡ Some e → slice_get rows k ≡ Some r → r.school ≡ None → length e.list ≤ r.refusals
+-- each entrant that nobody holds was rejected by its whole list
+abbrev pub AllDone : List Candidate → List Progress → Type 0
+AllDone entrants rows = (k : ℕ) (e : Candidate) (r : Progress) → slice_get entrants k ≡ Some e → slice_get rows k ≡ Some r → r.school ≡ None → length e.list ≤ r.rejections
 
--- the allocation gives each entrant the school that keeps it
-abbrev pub Gives : Market → List Standing → Allocation → Type 0
-Gives m rows b = (k : ℕ) (e : Candidate) (r : Standing) → slice_get m.entrants k ≡ Some e → slice_get rows k ≡ Some r → b e.child ≡ r.school
+-- the allocation gives each entrant the school that holds it
+abbrev pub Gives : Market → List Progress → Allocation → Type 0
+Gives m rows b = (k : ℕ) (e : Candidate) (r : Progress) → slice_get m.entrants k ≡ Some e → slice_get rows k ≡ Some r → b e.child ≡ r.school
 
--- the entrant at the place is kept by nobody, and has a school left on its list
-abbrev pub IsFree : List Candidate → List Standing → ℕ → Type 0
+-- the entrant at the index is held by nobody, and has a school left on its list
+abbrev pub IsFree : List Candidate → List Progress → ℕ → Type 0
 IsFree entrants rows k =
-    (e : Candidate) × (r : Standing) × (slice_get entrants k ≡ Some e) × (slice_get rows k ≡ Some r) × (r.school ≡ None) × (r.refusals < length e.list)
+    (e : Candidate) × (r : Progress) × (slice_get entrants k ≡ Some e) × (slice_get rows k ≡ Some r) × (r.school ≡ None) × (r.rejections < length e.list)
 
--- the guest of the school at the place ranks after each other one
-abbrev pub IsLast : List Candidate → List Standing → Code → ℕ → Type 0
+-- the guest of the school at the index ranks after each other one
+abbrev pub IsLast : List Candidate → List Progress → Code → ℕ → Type 0
 IsLast entrants rows s k =
-    (d : Candidate) × Guest entrants rows s k d × ((l : ℕ) (c : Candidate) → l ≢ k → Guest entrants rows s l c → ranks_before s c d ≡ true)
+    (d : Candidate) × IsGuestAt entrants rows s k d × ((l : ℕ) (c : Candidate) → l ≢ k → IsGuestAt entrants rows s l c → ranks_before s c d ≡ true)
 
 -- the school has no guest
-abbrev pub NoGuest : List Candidate → List Standing → Code → Type 0
-NoGuest entrants rows s = (k : ℕ) (e : Candidate) → Guest entrants rows s k e → ⊥
+abbrev pub NoGuest : List Candidate → List Progress → Code → Type 0
+NoGuest entrants rows s = (k : ℕ) (e : Candidate) → IsGuestAt entrants rows s k e → ⊥
 
 -- of two guests of the school the one ranks before the other
-abbrev pub AreRanked : List Candidate → List Standing → Code → Type 0
+abbrev pub AreRanked : List Candidate → List Progress → Code → Type 0
 AreRanked entrants rows s =
-    (k l : ℕ) (d c : Candidate) → k ≢ l → Guest entrants rows s k d → Guest entrants rows s l c → ranks_before s d c ≡ false → ranks_before s c d ≡ true
+    (k l : ℕ) (d c : Candidate) → k ≢ l → IsGuestAt entrants rows s k d → IsGuestAt entrants rows s l c → ranks_before s d c ≡ false → ranks_before s c d ≡ true
 
--- what is left to do: each turn takes one from it
-abbrev pub left : List Candidate → List Standing → ℕ
-left entrants rows =
-    (sum_by (λ e. length e.list) entrants + count_by (λ r. is_none r.school) rows) - sum_by (λ r. r.refusals) rows
+-- what is left to do: each turn takes one from it, so the turns end
+abbrev pub turns_left : List Candidate → List Progress → ℕ
+turns_left entrants rows =
+    (sum_by (λ e. length e.list) entrants + count_by (λ r. is_none r.school) rows) - sum_by (λ r. r.rejections) rows
 
 -- an entrant before the first turn
-abbrev pub start_of : Candidate → Standing
-start_of e = record { child = e.child; school = None; refusals = 0 }
+abbrev pub start_of : Candidate → Progress
+start_of e = record { child = e.child; school = None; rejections = 0 }
 
--- the row of an entrant that a school keeps, and of one that its school sends back
-abbrev pub kept_by : Standing → Code → Standing
-kept_by row school = record row { school = Some school }
+-- the row of an entrant that a school holds, and of one that its school rejects
+abbrev pub held_by : Progress → Code → Progress
+held_by row school = record row { school = Some school }
 
-abbrev pub released : Standing → Standing
-released row = record row { school = None; refusals = row.refusals + 1 }
+abbrev pub with_rejection : Progress → Progress
+with_rejection row = record row { school = None; rejections = row.rejections + 1 }
 
--- the list entries that an entrant has gone through: those that sent it back, and the one that keeps it
-abbrev pub reached : Standing → ℕ
-reached row = row.refusals + (if is_some row.school then 1 else 0)
+-- the list entries that an entrant has gone through: those that rejected it, and the one that holds it
+abbrev pub reached : Progress → ℕ
+reached row = row.rejections + (if is_some row.school then 1 else 0)
 
--- the school that keeps a child, by its first row
-abbrev pub found_in : List Standing → Allocation
+-- the school that holds a child, by its first row
+abbrev pub found_in : List Progress → Allocation
 found_in rows child = unwrap_or (option_map (λ row. row.school) (find (λ row. row.child == child) rows)) None

@@ -6,28 +6,28 @@ ghost use Rattle.adm_match.specs.Stability.{IsBest, school_of, is_entrant, propo
 ghost use Rattle.adm_match.specs.Market.{market_of};
 ghost use Rattle.adm_match.specs.Turns.{IsFree, AllDone, Sound};
 ghost use Rattle.adm_match.specs.Distinct.{Distinct, Seated};
-ghost use Rattle.adm_match.specs.Keeping.{nobody_kept};
-ghost use Rattle.adm_match.specs.Queue.{Directs, Mirrored, Turned, Queued};
+ghost use Rattle.adm_match.specs.Holding.{nobody_held};
+ghost use Rattle.adm_match.specs.Queue.{IsDirectory, Mirrored, Turned, Queued};
 
 use crate::allotment::{Offers, offers_of};
-use crate::directory::{Directory, directory_of, place_of_child, place_of_school};
-use crate::kept::{Kept, take_at};
+use crate::directory::{Directory, directory_of, index_of_child, index_of_school};
+use crate::held::{Held, consider_at};
 use crate::problem::{Entrant, Problem, Seats};
-use crate::standings::{Standing, keep, release, start};
+use crate::progress::{Progress, hold, reject, start};
 use std::alloc::{AllocError, Global};
 use std::collections::VecDeque;
 
-/// Each school of the problem, keeping nobody, in the order of the seats.
-fn schools_of(alloc: Global, seats: &[Seats]) -> Result<Vec<Kept>, AllocError>
-    ensures { IfOk result (λ schools. schools.items ≡ map nobody_kept seats.now) }
+/// Each school of the problem, holding nobody, in the order of the seats.
+fn schools_of(alloc: Global, seats: &[Seats]) -> Result<Vec<Held>, AllocError>
+    ensures { IfOk result (λ schools. schools.items ≡ map nobody_held seats.now) }
 {
     seats
         .iter()
-        .map(|seat| Kept::new(alloc, seat.quota))
+        .map(|seat| Held::new(alloc, seat.quota))
         .collect(alloc)
 }
 
-/// The place of every entrant, in their order.
+/// The index of every entrant, in their order.
 fn queue_of(alloc: Global, entrants: &[Entrant]) -> Result<VecDeque<usize>, AllocError>
     ensures waiting { IfOk result (λ queue. (k : ℕ) → k < length entrants.now → list_any (λ q. q == k) queue.items ≡ true) }
     ensures within { IfOk result (λ queue. All (λ q. q < length entrants.now) queue.items) }
@@ -39,61 +39,61 @@ fn queue_of(alloc: Global, entrants: &[Entrant]) -> Result<VecDeque<usize>, Allo
     Ok(queue)
 }
 
-/// Puts the place of the one who was sent back, if any, at the queue's end.
+/// Puts the index of the one who was rejected, if any, at the queue's end.
 fn line_up(queue: &mut VecDeque<usize>, out: Option<usize>) -> Result<(), AllocError>
     ensures { IfOk result (λ _. queue.new.items ≡ queue.old.items ++ option_to_list out) }
 {
     match out {
-        Some(place) => {
-            queue.push_back(place)?;
+        Some(rejected) => {
+            queue.push_back(rejected)?;
             Ok(())
         }
         None => Ok(()),
     }
 }
 
-/// Whether no school keeps the entrant, and it has a school left on its list.
-fn is_free(entrant: &Entrant, row: Standing) -> bool
-    ensures { result ≡ (is_none row.school && nat_lt row.refusals (length entrant.now.list)) }
+/// Whether no school holds the entrant, and it has a school left on its list.
+fn is_free(entrant: &Entrant, row: Progress) -> bool
+    ensures { result ≡ (is_none row.school && nat_lt row.rejections (length entrant.now.list)) }
 {
     let length = entrant.list.len();
-    row.school.is_none() && row.refusals < length
+    row.school.is_none() && row.rejections < length
 }
 
-/// Takes the free entrant at the index to the next school of its list. The answer is the place of
-/// the entrant whom that school sends back, if any.
-fn take(
+/// The free entrant at the index proposes to the next school of its list. The answer is the index
+/// of the entrant whom that school rejects, if any.
+fn propose(
     entrants: &[Entrant],
     seats: &[Seats],
     directory: &Directory,
-    rows: &mut [Standing],
-    schools: &mut [Kept],
+    rows: &mut [Progress],
+    schools: &mut [Held],
     index: usize,
 ) -> Result<Option<usize>, AllocError>
     requires distinct { Distinct (market_of entrants.now seats.now) }
     requires seated { Seated (market_of entrants.now seats.now) }
-    requires directs { Directs (market_of entrants.now seats.now) directory.now }
+    requires directs { IsDirectory (market_of entrants.now seats.now) directory.now }
     requires sound { Sound (market_of entrants.now seats.now) rows.old }
     requires mirrored { Mirrored (market_of entrants.now seats.now) rows.old schools.old }
     requires free { IsFree entrants.now rows.old index }
     ensures { IfOk result (Turned (market_of entrants.now seats.now) rows.old rows.new schools.new index) }
 {
     let entrant = &entrants[index];
-    let wish = entrant.list[rows[index].refusals];
-    let at = place_of_school(directory, seats, wish.school);
+    let wish = entrant.list[rows[index].rejections];
+    let at = index_of_school(directory, seats, wish.school);
     let tenant = entrant.is_tenant_of(wish.school);
-    let out = take_at(schools, at, entrant.child, wish.key, tenant)?;
-    keep(rows, index, wish.school);
+    let out = consider_at(schools, at, entrant.child, wish.key, tenant)?;
+    hold(rows, index, wish.school);
     let Some(child) = out else {
         return Ok(None);
     };
-    let place = place_of_child(directory, entrants, child);
-    release(&entrants[place], rows, place);
-    Ok(Some(place))
+    let rejected = index_of_child(directory, entrants, child);
+    reject(&entrants[rejected], rows, rejected);
+    Ok(Some(rejected))
 }
 
 /// Where the entrants stand when no turn is left.
-fn settle(alloc: Global, entrants: &[Entrant], seats: &[Seats]) -> Result<Vec<Standing>, AllocError>
+fn settle(alloc: Global, entrants: &[Entrant], seats: &[Seats]) -> Result<Vec<Progress>, AllocError>
     requires distinct { Distinct (market_of entrants.now seats.now) }
     requires seated { Seated (market_of entrants.now seats.now) }
     ensures sound { IfOk result (λ rows. Sound (market_of entrants.now seats.now) rows.items) }
@@ -108,7 +108,7 @@ fn settle(alloc: Global, entrants: &[Entrant], seats: &[Seats]) -> Result<Vec<St
         if !is_free(entrant, rows[index]) {
             continue;
         }
-        let out = take(entrants, seats, &directory, &mut rows, &mut schools, index)?;
+        let out = propose(entrants, seats, &directory, &mut rows, &mut schools, index)?;
         line_up(&mut queue, out)?;
     }
     Ok(rows)

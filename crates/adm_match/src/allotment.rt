@@ -5,7 +5,7 @@ ghost use Rattle.std.specs.BTreeMap.{get};
 ghost use Rattle.adm_match.specs.Stability.{school_of};
 ghost use Rattle.adm_match.specs.Turns.{found_in, reached};
 
-use crate::standings::{Standing, proposals};
+use crate::progress::{Progress, proposals};
 use adm_types::{ChildNo, SchoolCode};
 use std::alloc::{AllocError, Global};
 use std::collections::BTreeMap;
@@ -50,7 +50,7 @@ impl Offers {
 /// that the first row of a child stays.
 fn given(
     alloc: Global,
-    rows: &[Standing],
+    rows: &[Progress],
 ) -> Result<BTreeMap<ChildNo, Option<SchoolCode>>, AllocError>
     ensures { IfOk result (λ given. (child : ℕ) → get nat_cmp given child ≡ option_map (λ row. row.school) (find (λ row. row.child == child) rows.now)) }
 {
@@ -62,8 +62,8 @@ fn given(
     Ok(given)
 }
 
-/// What the rows give: for each child of a row the school that keeps it, or none.
-pub(crate) fn offers_of(alloc: Global, rows: &[Standing]) -> Result<Offers, AllocError>
+/// What the rows give: for each child of a row the school that holds it, or none.
+pub(crate) fn offers_of(alloc: Global, rows: &[Progress]) -> Result<Offers, AllocError>
     ensures given { IfOk result (λ offers. (child : ℕ) → school_of offers child ≡ found_in rows.now child) }
     ensures proposals { IfOk result (λ offers. offers.proposals ≡ sum_by reached rows.now) }
 {

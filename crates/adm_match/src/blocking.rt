@@ -56,7 +56,7 @@ fn some_ranks_after(
 fn prefers(offers: &Offers, entrant: &Entrant, school: SchoolCode) -> bool
     ensures { result ≡ prefers (school_of offers.now) entrant.now school }
 {
-    entrant.place(school) < entrant.place_of(offers.of(entrant.child))
+    entrant.preference_rank(school) < entrant.assigned_rank(offers.of(entrant.child))
 }
 
 /// Whether the entrant and the school block.

@@ -130,7 +130,7 @@ fn tenancy_is_not_last(entrant: &Entrant) -> bool
     match entrant.tenant {
         Some(school) => {
             let length = entrant.list.len();
-            length == 0 || entrant.place(school) != length - 1
+            length == 0 || entrant.preference_rank(school) != length - 1
         }
         None => false,
     }

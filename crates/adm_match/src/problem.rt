@@ -35,7 +35,7 @@ impl Model for Entrant {
 }
 
 impl Entrant {
-    ghost use Rattle.adm_match.specs.Market.{place, place_of, is_tenant, key_at, ranks_before};
+    ghost use Rattle.adm_match.specs.Market.{preference_rank, assigned_rank, is_tenant, key_at, ranks_before};
 
     fn position(&self, school: SchoolCode) -> Option<usize>
         ensures { result ≡ position (λ wish. bytes_eq wish.school school) self.now.list }
@@ -43,19 +43,21 @@ impl Entrant {
         self.list.iter().position(|wish| wish.school == school)
     }
 
-    /// The place of the school on the list, from 0, or the list's length.
-    pub(crate) fn place(&self, school: SchoolCode) -> usize
-        ensures { result ≡ place self.now.list school }
+    /// The rank of the school among the child's preferences: its index on the list, or the list's
+    /// length where it is not on it.
+    pub(crate) fn preference_rank(&self, school: SchoolCode) -> usize
+        ensures { result ≡ preference_rank self.now.list school }
     {
         self.position(school).unwrap_or(self.list.len())
     }
 
-    /// The place on the list of what the child has: none comes after every school.
-    pub(crate) fn place_of(&self, school: Option<SchoolCode>) -> usize
-        ensures { result ≡ place_of self.now.list school }
+    /// The rank among the child's preferences of what it is assigned: none comes after every
+    /// school.
+    pub(crate) fn assigned_rank(&self, school: Option<SchoolCode>) -> usize
+        ensures { result ≡ assigned_rank self.now.list school }
     {
         match school {
-            Some(school) => self.place(school),
+            Some(school) => self.preference_rank(school),
             None => self.list.len(),
         }
     }

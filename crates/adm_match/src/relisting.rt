@@ -38,7 +38,7 @@ fn add_wishes(
     Ok(())
 }
 
-/// Adds the list's wish for the child's own place, where it has one.
+/// Adds the list's wish for the school of which the child is a tenant, if any.
 fn add_own(
     wishes: &mut Vec<Wish>,
     list: &[Wish],
@@ -52,7 +52,8 @@ fn add_own(
     }
 }
 
-/// The wishes of the list for the schools, and then for the child's own place, where it has one.
+/// The wishes of the list for the schools, and then for the school of which the child is a tenant,
+/// if any.
 fn new_list(
     alloc: Global,
     list: &[Wish],
@@ -95,8 +96,8 @@ fn relist(
     })
 }
 
-/// The entrants, of whom the child has these schools for its list, and then its own place, where
-/// it has one.
+/// The entrants, of whom the child has these schools for its list, and then the school of which
+/// it is a tenant, if any.
 pub(crate) fn relisted(
     alloc: Global,
     entrants: &[Entrant],

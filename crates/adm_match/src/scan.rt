@@ -2,30 +2,30 @@
 ghost use Rattle.std.specs.Prelude.{◌≡◌, ◌<◌, ◌≤◌, ◌⊎◌, IfSome, IfNone, IfOk, length, None, not, ◌&&◌, ℕ, false};
 ghost use Rattle.adm_match.specs.Stability.{IsBest, school_of, is_entrant, proposals_of};
 ghost use Rattle.adm_match.specs.Market.{market_of, has, is_tenant, first_fault, quota_of};
-ghost use Rattle.adm_match.specs.Turns.{kept_at, IsFree, AllDone, IsLast, NoGuest, AreRanked, Sound, left};
+ghost use Rattle.adm_match.specs.Turns.{held_at, IsFree, AllDone, IsLast, NoGuest, AreRanked, Sound, turns_left};
 
 use crate::allotment::{Offers, offers_of};
 use crate::problem::{Entrant, Problem, Seats, quota_of};
-use crate::standings::{Standing, keep, release, start};
+use crate::progress::{Progress, hold, reject, start};
 use adm_types::SchoolCode;
 use std::alloc::{AllocError, Global};
 
-/// How many entrants the school keeps.
-fn kept_at(rows: &[Standing], school: SchoolCode) -> usize
-    ensures { result ≡ kept_at rows.now school }
+/// How many entrants the school holds.
+fn held_at(rows: &[Progress], school: SchoolCode) -> usize
+    ensures { result ≡ held_at rows.now school }
 {
     rows.iter().filter(|row| row.is_at(school)).count()
 }
 
-/// Whether the school keeps the entrant, which is no tenant of it.
-fn is_guest(entrant: &Entrant, row: Standing, school: SchoolCode) -> bool
+/// Whether the school holds the entrant, which is no tenant of it.
+fn is_guest(entrant: &Entrant, row: Progress, school: SchoolCode) -> bool
     ensures { result ≡ (has row.school school && not (is_tenant entrant.now school)) }
 {
     row.is_at(school) && !entrant.is_tenant_of(school)
 }
 
-/// The first entrant that no school keeps and that has a school left on its list.
-fn next_free(entrants: &[Entrant], rows: &[Standing]) -> Option<usize>
+/// The first entrant that no school holds and that has a school left on its list.
+fn next_free(entrants: &[Entrant], rows: &[Progress]) -> Option<usize>
     requires { length rows.now ≡ length entrants.now }
     ensures free { IfSome result (λ k. IsFree entrants.now rows.now k) }
     ensures done { IfNone result (AllDone entrants.now rows.now) }
@@ -33,15 +33,15 @@ fn next_free(entrants: &[Entrant], rows: &[Standing]) -> Option<usize>
     for index in 0..rows.len() {
         let entrant = &entrants[index];
         let row = rows[index];
-        if row.school.is_none() && row.refusals < entrant.list.len() {
+        if row.school.is_none() && row.rejections < entrant.list.len() {
             return Some(index);
         }
     }
     None
 }
 
-/// Of the entrants that the school keeps and that are no tenants of it, the one that ranks last.
-fn last_guest(entrants: &[Entrant], rows: &[Standing], school: SchoolCode) -> Option<usize>
+/// Of the entrants that the school holds and that are no tenants of it, the one that ranks last.
+fn last_guest(entrants: &[Entrant], rows: &[Progress], school: SchoolCode) -> Option<usize>
     requires same { length rows.now ≡ length entrants.now }
     requires ranked { AreRanked entrants.now rows.now school }
     ensures last { IfSome result (λ k. IsLast entrants.now rows.now school k) }
@@ -53,7 +53,7 @@ fn last_guest(entrants: &[Entrant], rows: &[Standing], school: SchoolCode) -> Op
         let row = rows[index];
         if is_guest(entrant, row, school) {
             last = match last {
-                Some(place) if !entrants[place].ranks_before(entrant, school) => Some(place),
+                Some(found) if !entrants[found].ranks_before(entrant, school) => Some(found),
                 _ => Some(index),
             };
         }
@@ -61,58 +61,58 @@ fn last_guest(entrants: &[Entrant], rows: &[Standing], school: SchoolCode) -> Op
     last
 }
 
-/// The entrant that the school sends back, where it keeps more than its quota and some of them is
+/// The entrant that the school rejects, where it holds more than its quota and some of them is
 /// no tenant.
-fn sent_back(
+fn rejected_by(
     entrants: &[Entrant],
     seats: &[Seats],
-    rows: &[Standing],
+    rows: &[Progress],
     school: SchoolCode,
 ) -> Option<usize>
     requires same { length rows.now ≡ length entrants.now }
     requires ranked { AreRanked entrants.now rows.now school }
-    ensures over { IfSome result (λ _. quota_of seats.now school < kept_at rows.now school) }
+    ensures over { IfSome result (λ _. quota_of seats.now school < held_at rows.now school) }
     ensures last { IfSome result (λ k. IsLast entrants.now rows.now school k) }
-    ensures none { IfNone result ((kept_at rows.now school ≤ quota_of seats.now school) ⊎ NoGuest entrants.now rows.now school) }
+    ensures none { IfNone result ((held_at rows.now school ≤ quota_of seats.now school) ⊎ NoGuest entrants.now rows.now school) }
 {
-    if kept_at(rows, school) <= quota_of(seats, school) as usize {
+    if held_at(rows, school) <= quota_of(seats, school) as usize {
         return None;
     }
     last_guest(entrants, rows, school)
 }
 
-/// Takes the entrant at the index to the next school of its list. The school keeps it, and may
-/// send one back.
-fn take(entrants: &[Entrant], seats: &[Seats], rows: &mut [Standing], index: usize)
+/// The entrant at the index proposes to the next school of its list. The school holds it, and may
+/// reject one.
+fn propose(entrants: &[Entrant], seats: &[Seats], rows: &mut [Progress], index: usize)
     requires posed { first_fault (market_of entrants.now seats.now) ≡ None }
     requires sound { Sound (market_of entrants.now seats.now) rows.old }
     requires free { IsFree entrants.now rows.old index }
     ensures sound { Sound (market_of entrants.now seats.now) rows.new }
-    ensures falls { left entrants.now rows.new < left entrants.now rows.old }
+    ensures falls { turns_left entrants.now rows.new < turns_left entrants.now rows.old }
 {
     let entrant = &entrants[index];
-    let school = entrant.list[rows[index].refusals].school;
-    keep(rows, index, school);
-    if let Some(last) = sent_back(entrants, seats, rows, school) {
-        release(&entrants[last], rows, last);
+    let school = entrant.list[rows[index].rejections].school;
+    hold(rows, index, school);
+    if let Some(last) = rejected_by(entrants, seats, rows, school) {
+        reject(&entrants[last], rows, last);
     }
 }
 
 /// Where the entrants stand when no turn is left.
-fn settle(alloc: Global, entrants: &[Entrant], seats: &[Seats]) -> Result<Vec<Standing>, AllocError>
+fn settle(alloc: Global, entrants: &[Entrant], seats: &[Seats]) -> Result<Vec<Progress>, AllocError>
     requires { first_fault (market_of entrants.now seats.now) ≡ None }
     ensures sound { IfOk result (λ rows. Sound (market_of entrants.now seats.now) rows.items) }
     ensures done { IfOk result (λ rows. AllDone entrants.now rows.items) }
 {
     let mut rows = start(alloc, entrants)?;
     while let Some(index) = next_free(entrants, &rows) {
-        take(entrants, seats, &mut rows, index);
+        propose(entrants, seats, &mut rows, index);
     }
     Ok(rows)
 }
 
 /// The best stable allocation of the problem, as `offers` gives it, by a plain scan: in each turn it
-/// looks for an entrant that has no school and still has one on its list, and takes it there.
+/// looks for an entrant that has no school and still has one on its list, which then proposes to it.
 pub fn offers_by_scan(alloc: Global, problem: &Problem) -> Result<Offers, AllocError>
     // It is stable, and in every stable allocation each entrant has the same school, or one later
     // on its list, or none.

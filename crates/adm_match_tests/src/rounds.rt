@@ -1,6 +1,6 @@
 // Rounds: who gets which school.
 use crate::problems::{Table, allot, child, code, has, has_none, problem};
-use adm_match::{Kept, first_block, offers};
+use adm_match::{Held, first_block, offers};
 use adm_rank::RankKey;
 use std::test::Fail;
 
@@ -19,7 +19,7 @@ pub const THREE: Table = Table {
 };
 
 #[test]
-fn sends_back_the_farther_child(rt: HostRuntime) -> Result<(), Fail> {
+fn rejects_the_farther_child(rt: HostRuntime) -> Result<(), Fail> {
     let given = allot(rt.alloc(), THREE)?;
     assert!(rt; has(&given, 2, "A")?);
     assert!(rt; has(&given, 1, "B")?);
@@ -137,7 +137,7 @@ fn finds_a_block_of_the_offers_of_another_problem(rt: HostRuntime) -> Result<(),
 }
 
 #[test]
-fn a_full_school_sends_back_the_one_that_ranks_last(rt: HostRuntime) -> Result<(), Fail> {
+fn a_full_school_rejects_the_one_that_ranks_last(rt: HostRuntime) -> Result<(), Fail> {
     let near = RankKey {
         class: 1,
         distance: 5,
@@ -148,9 +148,9 @@ fn a_full_school_sends_back_the_one_that_ranks_last(rt: HostRuntime) -> Result<(
         distance: 5,
         lot: 2,
     };
-    let mut kept = Kept::new(rt.alloc(), 1);
-    assert!(rt; kept.take(child(1)?, far, false)?.is_none());
-    assert!(rt; kept.take(child(2)?, near, false)? == Some(child(1)?));
-    assert!(rt; kept.take(child(3)?, far, true)? == Some(child(2)?));
+    let mut held = Held::new(rt.alloc(), 1);
+    assert!(rt; held.consider(child(1)?, far, false)?.is_none());
+    assert!(rt; held.consider(child(2)?, near, false)? == Some(child(1)?));
+    assert!(rt; held.consider(child(3)?, far, true)? == Some(child(2)?));
     Ok(())
 }

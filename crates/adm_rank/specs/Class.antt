@@ -15,7 +15,7 @@ meets school child Sibling = is_listed child.siblings school.code
 meets school child (Within metres) = nat_le (distance_of school.at child.home) metres
 meets school child (Flag flag) = has_flag child.flags flag
 
--- 0 for a child looked after now or before; else 1 plus the place, from 0, of the first criterion that it meets;
+-- 0 for a child looked after now or before; else 1 plus the index, from 0, of the first criterion that it meets;
 -- else 1 plus the number of criteria
 unfoldable pub class_of : School → Child → ℕ
 class_of school child = if child.looked_after then 0 else (1 + position_or_len (meets school child) school.criteria)

@@ -31,7 +31,7 @@ fn meets(school: &School, child: &Child, criterion: Criterion) -> bool
     }
 }
 
-/// The place, from 0, of the first criterion that the child meets, or the number of criteria.
+/// The index, from 0, of the first criterion that the child meets, or the number of criteria.
 fn first_met(school: &School, child: &Child, criteria: &[Criterion]) -> usize
     requires school { IsTrue (is_on_map school.now.at) }
     requires child { IsTrue (is_on_map child.now.home) }
@@ -46,7 +46,7 @@ fn first_met(school: &School, child: &Child, criteria: &[Criterion]) -> usize
     }
 }
 
-/// The class of the child at the school: 0 where it is or was looked after; else 1 plus the place,
+/// The class of the child at the school: 0 where it is or was looked after; else 1 plus the index,
 /// from 0, of the first criterion that it meets; else 1 plus the number of criteria. It takes no
 /// memory.
 #[tactic(auto, unfolding(crate::specs::Class::class_of))]

@@ -28,8 +28,8 @@ fn checksum(given: &Offers, size: Size) -> u64 {
     sum
 }
 
-fn number(rt: &HostRuntime, place: usize) -> io::Result<Option<u32>> {
-    match env::args(rt)?.nth(place) {
+fn number(rt: &HostRuntime, index: usize) -> io::Result<Option<u32>> {
+    match env::args(rt)?.nth(index) {
         Some(word) => Ok(word.as_str().parse::<u32>().ok()),
         None => Ok(None),
     }

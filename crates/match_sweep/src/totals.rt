@@ -49,13 +49,13 @@ fn number_of_side(side: Side) -> u64 {
     }
 }
 
-/// The place on the list of a choice of the school of a number, or of none.
-fn place(option: u32, number: u64) -> u32 {
-    let mut place = 0;
+/// The rank on the list of a choice of the school of a number; none ranks last.
+fn preference_rank(option: u32, number: u64) -> u32 {
+    let mut rank = 0;
     for choice in listed(option) {
         match choice {
-            Some(side) if number_of_side(side) == number => return place,
-            Some(_) => place = 1,
+            Some(side) if number_of_side(side) == number => return rank,
+            Some(_) => rank = 1,
             None => {}
         }
     }
@@ -99,7 +99,7 @@ impl Totals {
 
     /// Counts what the child would have, by the numbers of the schools.
     pub fn count_answer(&mut self, option: u32, own: u64, school: u64) {
-        let gains = place(option, school) < place(option, own);
+        let gains = preference_rank(option, school) < preference_rank(option, own);
         self.lists = self.lists.wrapping_add(1);
         self.answers = mixed(self.answers, school);
         self.gains = self.gains.wrapping_add(u64::from(gains));

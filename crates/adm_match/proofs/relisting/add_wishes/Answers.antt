@@ -1,4 +1,4 @@
-use Rattle.adm_match.proofs.Advised.{wishes_more}
+use Rattle.adm_match.proofs.WhatIfs.{wishes_more}
 use Rattle.adm_match.proofs.relisting.add_wishes.Goals as goal
 
 pub loop-index-preserved : goal.loop-index-preserved

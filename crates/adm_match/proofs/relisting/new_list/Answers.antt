@@ -2,7 +2,7 @@ use Rattle.std.proofs.Common.{◌∙◌, List, ◌++◌, ap, sym}
 use Rattle.std.specs.Option.{option_to_list}
 use Rattle.adm_match.specs.declared.problem.Wish.{Wish}
 use Rattle.adm_match.specs.Relisting.{wishes_for}
-use Rattle.adm_match.proofs.Advised.{wishes_append}
+use Rattle.adm_match.proofs.WhatIfs.{wishes_append}
 use Rattle.adm_match.proofs.relisting.new_list.Goals as goal
 
 pub returns : goal.returns

@@ -1,0 +1,15 @@
+use Rattle.std.proofs.Common.{◌∙◌}
+use Rattle.std.proofs.lemmas.Option.{slice_get_within}
+use Rattle.adm_match.proofs.Looking.{some_copied, child_found, child_stands}
+use Rattle.adm_match.proofs.directory.index_of_child.Goals as goal
+
+pub unwrap-requires : goal.unwrap-requires
+unwrap-requires c = some_copied c.get.result c.requires.there.0 (c.get.ensures.value ∙ child_found c.args.entrants.now c.args.directory.now.children c.args.child c.requires.finds c.requires.there)
+
+pub returns-clause-at : goal.returns-clause-at
+returns-clause-at c = child_stands c.args.entrants.now c.args.directory.now.children c.args.child c.requires.finds c.requires.there c.get.result c.unwrap.result c.get.ensures.value c.unwrap.ensures
+
+pub returns-clause-within : goal.returns-clause-within
+returns-clause-within c =
+    let stands = child_stands c.args.entrants.now c.args.directory.now.children c.args.child c.requires.finds c.requires.there c.get.result c.unwrap.result c.get.ensures.value c.unwrap.ensures in
+    slice_get_within c.args.entrants.now c.unwrap.result.now stands.0 stands.1

@@ -1,5 +1,0 @@
-use Rattle.adm_match.proofs.Looking.{ChildrenBelow}
-use Rattle.adm_match.proofs.directory.places_of_children.Given as goal
-
-abbrev pub invariant-loop-index : goal.invariant-loop-index
-invariant-loop-index l = ChildrenBelow l.entrants l.places l.index

@@ -1,5 +1,0 @@
-use Rattle.adm_match.proofs.Looking.{SchoolsBelow}
-use Rattle.adm_match.proofs.directory.places_of_schools.Given as goal
-
-abbrev pub invariant-loop-index : goal.invariant-loop-index
-invariant-loop-index l = SchoolsBelow l.seats l.places l.index

@@ -1,0 +1,81 @@
+-- Whom a school tentatively holds, and how it considers one more proposal (Gale and Shapley 1962; tenants are this profile's).
+use Rattle.std.specs.Prelude.{◌≡◌, ℕ, ◌+◌, ◌<◌, ◌≤◌, Bool, false, if◌then◌else◌, List, [], ◌∷◌, ◌++◌, length, Option, None, Some, All, ◌⊎◌, IsPermutation, not, ◌&&◌, option_map, count_by}
+use Rattle.std.specs.Ordering.{nat_cmp, ordering_then}
+use Rattle.std.specs.Option.{option_to_list}
+use Rattle.std.specs.declared.cmp.Ordering.{Ordering}
+use Rattle.adm_rank.specs.declared.keys.RankKey.{RankKey}
+use Rattle.adm_match.specs.declared.held.Guest.{Guest}
+use Rattle.adm_match.specs.declared.problem.Seats.{Seats}
+use Rattle.adm_match.specs.declared.progress.Progress.{Progress}
+use Rattle.adm_match.specs.Market.{Code, Candidate, has, is_tenant, key_at}
+use Rattle.adm_rank.specs.Ranking.{precedes}
+
+-- The quota, the tenants, and the guests. The order of the guests says nothing.
+pub record Holding : Type 0 where
+  pub quota : ℕ
+  pub tenants : List ℕ
+  pub guests : List Guest
+
+abbrev pub holding_of : ℕ → List ℕ → List Guest → Holding
+holding_of quota tenants guests = record { quota = quota; tenants = tenants; guests = guests }
+
+-- the order of the heap: the class, the distance, the lot, and then the child
+abbrev pub guest_cmp : Guest → Guest → Ordering
+guest_cmp a b =
+    ordering_then
+    (ordering_then (nat_cmp a.key.class b.key.class) (ordering_then (nat_cmp a.key.distance b.key.distance) (nat_cmp a.key.lot b.key.lot)))
+    (nat_cmp a.child b.child)
+
+-- with one more tenant, or one more guest
+abbrev pub tenants_with : Holding → ℕ → Bool → List ℕ
+tenants_with held child tenant = if tenant then held.tenants ++ child ∷ [] else held.tenants
+
+abbrev pub guests_with : Holding → ℕ → RankKey → Bool → List Guest
+guests_with held child key tenant = if tenant then held.guests else record { key = key; child = child } ∷ held.guests
+
+-- the guest is one of these, the others are left, and none of them ranks after it
+pub record RanksLast (guests : List Guest) (left : List Guest) (child : ℕ) : Type 0 where
+  pub guest : Guest
+  pub is_child : guest.child ≡ child
+  pub others : IsPermutation guests (guest ∷ left)
+  pub last : All (λ other. precedes guest.key other.key ≡ false) left
+
+-- Nobody is rejected: there is room, or there are tenants alone.
+pub record HoldsAll (old new : Holding) (child : ℕ) (key : RankKey) (tenant : Bool) : Type 0 where
+  pub guests : IsPermutation (guests_with old child key tenant) new.guests
+  pub may_stay : (length (tenants_with old child tenant) + length (guests_with old child key tenant) ≤ old.quota) ⊎ (guests_with old child key tenant ≡ [])
+
+-- More than the quota are held, and the guest that ranks last is rejected.
+pub record Rejects (old new : Holding) (child : ℕ) (key : RankKey) (tenant : Bool) (out : ℕ) : Type 0 where
+  pub over : old.quota < length (tenants_with old child tenant) + length (guests_with old child key tenant)
+  pub last : RanksLast (guests_with old child key tenant) new.guests out
+
+abbrev pub GuestsAfter : Holding → Holding → ℕ → RankKey → Bool → Option ℕ → Type 0
+GuestsAfter old new child key tenant None = HoldsAll old new child key tenant
+GuestsAfter old new child key tenant (Some out) = Rejects old new child key tenant out
+
+-- What a school does when one more child proposes: it holds the child, and where that is one too many it rejects the
+-- guest that ranks last (Gale and Shapley 1962).
+pub record Considers (old new : Holding) (child : ℕ) (key : RankKey) (tenant : Bool) (out : Option ℕ) : Type 0 where
+  pub quota : new.quota ≡ old.quota
+  pub tenants : new.tenants ≡ tenants_with old child tenant
+  pub guests : GuestsAfter old new child key tenant out
+
+-- the guest's entry at a school that holds it and of which it is no tenant, or nothing
+abbrev pub entry_of : Candidate → Progress → Code → List Guest
+entry_of e r s =
+    if has r.school s && not (is_tenant e s) then option_to_list (option_map (λ key. record { key = key; child = e.child }) (key_at e.list s)) else []
+
+-- the guests of a school, in the order of the entrants
+abbrev pub guests_of : List Candidate → List Progress → Code → List Guest
+guests_of [] rows s = []
+guests_of (e ∷ es) [] s = []
+guests_of (e ∷ es) (r ∷ rows) s = entry_of e r s ++ guests_of es rows s
+
+-- the same guests, as often: every test passes as often on the one side as on the other
+abbrev pub SameBag : List Guest → List Guest → Type 0
+SameBag xs ys = (p : Guest → Bool) → count_by p xs ≡ count_by p ys
+
+-- what a school holds before anybody comes
+abbrev pub nobody_held : Seats → Holding
+nobody_held seat = holding_of seat.quota [] []
