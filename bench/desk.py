@@ -1,15 +1,49 @@
-"""Runs of the program `admissions do`, timed: for the scripts of bench/."""
+"""Runs of the program `admissions do`, timed, and the same rows written by Python's sqlite3: for the scripts of bench/.
+
+Each figure is the middle one of three runs. The file lies once on the disk that holds the program and once on a memory file system,
+where there is one, so that what the program itself costs is told apart from what the disk costs.
+"""
 import json
 import os
+import resource
 import sqlite3
+import statistics
 import subprocess
+import tempfile
 import time
 
 DONE = b'{"done":true}\n'
+RUNS = 3
+MEMORY = "/dev/shm"
+# what a run may cost, as a multiple of the baseline, and what a command may cost in a large register, as a multiple of one in a small one
+MOST_ON_DISK = 1.5
+MOST_IN_MEMORY = 2.5
+MOST_GROWTH = 1.3
 
 
-def line(command):
-    return json.dumps(command).encode() + b"\n"
+def type_of(folder):
+    """The type of the file system that holds a folder, as /proc/mounts has it."""
+    found = ("", "unknown")
+    with open("/proc/mounts") as mounts:
+        for mount in mounts:
+            _, point, kind = mount.split()[:3]
+            within = folder == point or folder.startswith(point.rstrip("/") + "/")
+            if within and len(point) >= len(found[0]):
+                found = (point, kind)
+    return found[1]
+
+
+def file_systems(program):
+    """The file systems to measure on: the words for each, a folder of it, and the most that a run may cost there."""
+    beside = os.path.dirname(program)
+    found = [(f"disk ({type_of(beside)})", beside, MOST_ON_DISK)]
+    if type_of(MEMORY) == "tmpfs" and os.access(MEMORY, os.W_OK):
+        found.append(("memory (tmpfs)", MEMORY, MOST_IN_MEMORY))
+    return found
+
+
+def lines(commands):
+    return b"".join(json.dumps(it).encode() + b"\n" for it in commands)
 
 
 def new_register(program, room, name):
@@ -19,45 +53,97 @@ def new_register(program, room, name):
 
 
 def whole(program, file, commands):
-    """Seconds for one run over these commands, from its start to its end. Each must be done."""
-    given = b"".join(line(it) for it in commands)
+    """Seconds for one run over these commands, from its start to its end, and of its processor time. Each must be done."""
+    given = lines(commands)
+    before = resource.getrusage(resource.RUSAGE_CHILDREN)
     start = time.perf_counter()
     ran = subprocess.run([program, "do", file], input=given, stdout=subprocess.PIPE, check=True)
     seconds = time.perf_counter() - start
+    after = resource.getrusage(resource.RUSAGE_CHILDREN)
     assert ran.stdout == DONE * len(commands)
-    return seconds
-
-
-def each(program, file, commands):
-    """Seconds for each command, told from the line's writing to its answer's reading. Each must be done."""
-    desk = subprocess.Popen([program, "do", file], stdin=subprocess.PIPE, stdout=subprocess.PIPE, bufsize=0)
-    seconds = []
-    for command in commands:
-        text = line(command)
-        start = time.perf_counter()
-        desk.stdin.write(text)
-        answer = b""
-        while not answer.endswith(b"\n"):
-            answer += desk.stdout.read(1)
-        seconds.append(time.perf_counter() - start)
-        assert answer == DONE, answer
-    desk.stdin.close()
-    assert desk.wait() == 0
-    return seconds
+    return seconds, after.ru_utime + after.ru_stime - before.ru_utime - before.ru_stime
 
 
 def baseline(room, tables, writes):
-    """Seconds in which Python's sqlite3 runs these statements on new tables, each in a transaction of its own, in WAL mode with synchronous=FULL."""
+    """Seconds in which Python's sqlite3 runs these statements on new tables, and of its processor time: each in a transaction of its own, in WAL
+    mode with synchronous=FULL."""
     conn = sqlite3.connect(os.path.join(room, "baseline.db"), isolation_level=None)
     conn.execute("PRAGMA journal_mode=WAL")
     conn.execute("PRAGMA synchronous=FULL")
     for table in tables:
         conn.execute(table)
-    start = time.perf_counter()
+    start, used = time.perf_counter(), time.process_time()
     for text, row in writes:
         conn.execute("BEGIN")
         conn.execute(text, row)
         conn.execute("COMMIT")
-    seconds = time.perf_counter() - start
+    seconds, used = time.perf_counter() - start, time.process_time() - used
     conn.close()
-    return seconds
+    return seconds, used
+
+
+class Desk:
+    """A run of the program, to which commands go some at a time."""
+
+    def __init__(self, program, file):
+        self.process = subprocess.Popen([program, "do", file], stdin=subprocess.PIPE, stdout=subprocess.PIPE, bufsize=0)
+
+    def __enter__(self):
+        return self
+
+    def __exit__(self, *_):
+        self.process.stdin.close()
+        assert self.process.wait() == 0
+
+    def take(self, commands):
+        """Hands these commands in and waits for their answers. Each must be done."""
+        self.process.stdin.write(lines(commands))
+        wanted = DONE * len(commands)
+        answers = b""
+        while len(answers) < len(wanted):
+            answers += self.process.stdout.read(len(wanted) - len(answers))
+        assert answers == wanted, answers
+
+    def spent(self):
+        """Seconds of processor time that the run has used so far."""
+        with open(f"/proc/{self.process.pid}/schedstat") as it:
+            return int(it.read().split()[0]) / 1e9
+
+    def cost(self, commands):
+        """Seconds of processor time for one of these commands, on the average."""
+        before = self.spent()
+        self.take(commands)
+        return (self.spent() - before) / len(commands)
+
+
+def compare(program, words, tables, before, commands, writes):
+    """Prints what these commands cost in a register that has seen the commands `before`, as a multiple of what the writes cost the baseline."""
+    for where, folder, most in file_systems(program):
+        ours, theirs = [], []
+        for _ in range(RUNS):
+            with tempfile.TemporaryDirectory(dir=folder) as room:
+                theirs.append(baseline(room, tables, writes))
+                file = new_register(program, room, "whole.db")
+                if before:
+                    whole(program, file, before)
+                ours.append(whole(program, file, commands))
+        run, used = (statistics.median(it) for it in zip(*ours))
+        least, least_used = (statistics.median(it) for it in zip(*theirs))
+        print(
+            f"| {words}, {where} | {run / least:.2f} | at most {most} | {used / least_used:.2f} "
+            f"| {len(commands) / run:.0f} and {len(writes) / least:.0f} a second |",
+            flush=True,
+        )
+
+
+def growth(words, small, large):
+    """Prints how a command's processor time grows, from its seconds in small and in large registers."""
+    few, many = statistics.median(small), statistics.median(large)
+    print(
+        f"| {words} | | at most {MOST_GROWTH} | {many / few:.2f} | {many * 1e6:.0f} and {few * 1e6:.0f} microseconds |",
+        flush=True,
+    )
+
+
+def head(what, last):
+    print(f"| {what} | Ratio of the times | Target | Ratio of the processor times | {last} |\n|---|---|---|---|---|", flush=True)
