@@ -1,15 +1,7 @@
-// Worked examples that cross crates: what no clause says, with values from the calendar, the formats and the rules.
+// What no command of the program shows: the days of a season, a list's items, and places at a school that is not there.
 #![tactic(auto)]
 
 #[cfg(test)]
-mod children;
-#[cfg(test)]
-mod fields;
-#[cfg(test)]
-mod row_lists;
-#[cfg(test)]
-mod rows;
-#[cfg(test)]
-mod schools;
-#[cfg(test)]
 mod seasons;
+#[cfg(test)]
+mod vacancies;

@@ -1,5 +1,5 @@
 // The days of a season.
-use adm_types::{Day, Phase, Season, SeasonFault, Seq};
+use adm_types::{Day, Phase, Season, Seq};
 use std::alloc::{AllocError, Global};
 use std::test::Fail;
 
@@ -38,39 +38,10 @@ fn primary_2022_at_easter(rt: HostRuntime) -> Result<(), Fail> {
 fn secondary_of_a_leap_year(rt: HostRuntime) -> Result<(), Fail> {
     // 1 March 2024 is a Friday, and the day after 29 February.
     let season = Season::new(rt.alloc(), Phase::Secondary, 2024, &[])?;
-    assert_eq!(rt; Some(season.offer_day()), Day::parse("2024-03-01"));
-    assert_eq!(rt;
-        Day::parse("2024-02-29").map(|day| day.number()),
-        Some(19782)
-    );
-    assert_eq!(rt;
-        Day::parse("2024-03-01").map(|day| day.number()),
-        Some(19783)
-    );
-    Ok(())
-}
-
-fn refused(alloc: Global, year: u32, holidays: &[Day]) -> Option<SeasonFault> {
-    Season::new(alloc, Phase::Primary, year, holidays).err()
-}
-
-#[test]
-fn years_and_holidays_at_their_limits(rt: HostRuntime) -> Result<(), Fail> {
-    let day = Day::parse("2025-03-03").ok_or("a day")?;
-    let many = [day; 41];
-    assert_eq!(rt;
-        refused(rt.alloc(), 1999, &many),
-        Some(SeasonFault::YearRange)
-    );
-    assert_eq!(rt;
-        refused(rt.alloc(), 2101, &[]),
-        Some(SeasonFault::YearRange)
-    );
-    assert_eq!(rt;
-        refused(rt.alloc(), 2000, &many),
-        Some(SeasonFault::TooManyHolidays)
-    );
-    assert_eq!(rt; refused(rt.alloc(), 2100, &many[..40]), None);
+    assert_eq!(rt; Some(season.offer_day()), Day::from_number(19783));
+    let leap_day = Day::from_number(19782).ok_or("a day")?;
+    let text = format!(in rt.alloc(); "{leap_day}")?;
+    assert_eq!(rt; text.as_str(), "2024-02-29");
     Ok(())
 }
 
