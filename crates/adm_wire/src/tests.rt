@@ -1,5 +1,3 @@
 // What no clause says: worked examples, and streams that are interrupted or fail.
-mod children;
-mod commands;
 mod streams;
 mod texts;
