@@ -1,12 +1,12 @@
 -- What a CREATE TABLE leaves.
-use Rattle.std.proofs.Common.{◌≡◌, ℕ, zero, suc, ◌+◌, List, [], ◌∷◌, ◌++◌, Ok, Some, None, slice_get, false, sym, ap, ◌∙◌, subst, subst₂, IsTrue}
+use Rattle.std.proofs.Common.{◌≡◌, ℕ, zero, suc, ◌+◌, List, [], ◌∷◌, ◌++◌, Ok, Some, None, slice_get, false, sym, ap, ◌∙◌, subst, subst₂}
 use Rattle.std.specs.List.{AllByRecursion}
 use Rattle.sqlite.specs.Schema.{Schema}
 use Rattle.sqlite.specs.Table.{Table}
 use Rattle.sqlite.specs.Command.TheVariants.{CreateTable}
 use Rattle.sqlite.specs.Change.{created, next_tree, KeepsRows}
 use Rattle.sqlite.specs.Does.{Tally, lacks_sequence}
-use Rattle.sqlite.specs.Effect.{Database}
+use Rattle.sqlite.specs.Effect.{Database, IsDatabase}
 use Rattle.sqlite.specs.State.{Writes, State, ExecutesInside}
 use Rattle.sqlite.specs.Tree.{Trees}
 use Rattle.sqlite.proofs.Callers.{runs_as}
@@ -17,7 +17,7 @@ use Rattle.adm_schema.proofs.Statements.{went, same_value, unless}
 use Rattle.adm_schema.proofs.Creates.{creates_meta, creates_school, creates_child, creates_application, creates_place, creates_left_list, creates_draw, creates_offer, creates_lot, creates_imported}
 
 creates : {before after : Schema} {table : Table} {sql : List ℕ} → IsCreation before sql table after → (old new : State) (count : ℕ) → old.now.schema ≡ before → ExecutesInside 0 sql [] old new (Ok count)
-    → (new.now.schema ≡ after) × (new.now.trees (next_tree before) ≡ []) × KeepsRows before.tables old.now.trees new.now.trees × IsTrue new.is_open
+    → (new.now.schema ≡ after) × (new.now.trees (next_tree before) ≡ []) × KeepsRows before.tables old.now.trees new.now.trees × IsDatabase new.now
 creates {before} {after} {table} {sql} made old new count has h =
     let w = subst (λ t. Writes old new None CreateTable t [] count) made.text (runs_as sql [] old new before has CreateTable made.command made.plain count h.0) in
     let all = went w.changed in
@@ -32,7 +32,7 @@ creates {before} {after} {table} {sql} made old new count has h =
       ap (λ (d : Database). d.schema) now ∙ schema,
       ap (λ (t : Trees). t (next_tree before)) trees ∙ subst (λ s. first.0.trees (next_tree s) ≡ []) has it.empty,
       subst₂ (λ (s : Schema) (t : Trees). KeepsRows s.tables old.now.trees t) has (sym trees) it.others,
-      h.1.is_open,
+      w.sound,
     )
 
 all_push : {X : Type 0} (P : X → Type 0) (xs : List X) (x : X) → AllByRecursion P xs → P x → AllByRecursion P (xs ++ x ∷ [])
@@ -50,6 +50,7 @@ makes_next before after table sql made old new count sees h =
     let next : Table = record table { tree = next_tree before } in
     record {
       schema_is = it.0;
+      sound = it.3;
       empty = subst (λ (s : Schema). AllByRecursion (λ t. new.now.trees t.tree ≡ []) s.tables) made.makes
           (all_push (λ (t : Table). new.now.trees t.tree ≡ []) before.tables next (all_kept before.tables old.now.trees new.now.trees it.2 sees.empty) it.1);
     }

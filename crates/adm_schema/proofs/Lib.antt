@@ -9,3 +9,4 @@ pub mod Texts
 pub mod RowTexts
 pub mod OneTest
 pub mod OneRow
+pub mod Listed

@@ -27,3 +27,7 @@ puts_place = (refl, (refl, refl))
 pub cuts_application : (command_of (understood register_schema text.cut_application) ≡ Delete 3 (program_of (query_of 4 text.has_key (col 1 0 ∷ []) []))) × IsPlain (understood register_schema text.cut_application)
 unfolding understood everything
 cuts_application = (refl, (refl, refl))
+
+pub cuts_place : (command_of (understood register_schema text.cut_place) ≡ Delete 4 (program_of (query_of 5 text.has_key (col 1 0 ∷ []) []))) × IsPlain (understood register_schema text.cut_place)
+unfolding understood everything
+cuts_place = (refl, (refl, refl))

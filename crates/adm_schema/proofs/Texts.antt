@@ -1,7 +1,6 @@
 -- What each fixed text means under the register's schema.
 use Rattle.std.proofs.Common.{◌≡◌, refl}
-use Rattle.std.specs.Prelude.{[], ◌∷◌}
-use Rattle.sqlite.specs.Term.{col}
+use Rattle.std.specs.Prelude.{[]}
 use Rattle.sqlite.specs.Command.TheVariants.{Insert}
 use Rattle.sqlite.specs.Source.TheVariants.{Values}
 use Rattle.sqlite.specs.Listing.{understood}
@@ -18,10 +17,6 @@ inserts_meta = (refl, (refl, refl))
 pub inserts_school : (command_of (understood register_schema text.insert_school) ≡ Insert 1 (Values text.school_terms 7)) × IsPlain (understood register_schema text.insert_school)
 unfolding understood everything
 inserts_school = (refl, (refl, refl))
-
-pub asks_version : Asks register_schema text.select_version 0 text.version_column []
-unfolding understood everything
-asks_version = record { names = _; command = refl; unlisted = refl; plain = (refl, refl) }
 
 pub asks_meta : Asks register_schema text.select_meta 0 text.meta_columns []
 unfolding understood everything
@@ -43,22 +38,22 @@ pub asks_places : Asks register_schema text.select_places 5 text.place_columns t
 unfolding understood everything
 asks_places = record { names = _; command = refl; unlisted = refl; plain = (refl, refl) }
 
-pub looks_into_left_list : Asks register_schema text.look_into_left_list 6 (col 1 1 ∷ []) []
+pub asks_left_list : Asks register_schema text.select_left_list 6 text.left_list_columns []
 unfolding understood everything
-looks_into_left_list = record { names = _; command = refl; unlisted = refl; plain = (refl, refl) }
+asks_left_list = record { names = _; command = refl; unlisted = refl; plain = (refl, refl) }
 
-pub looks_into_draw : Asks register_schema text.look_into_draw 8 (col 1 0 ∷ []) []
+pub asks_draws : Asks register_schema text.select_draws 8 text.draw_columns []
 unfolding understood everything
-looks_into_draw = record { names = _; command = refl; unlisted = refl; plain = (refl, refl) }
+asks_draws = record { names = _; command = refl; unlisted = refl; plain = (refl, refl) }
 
-pub looks_into_offer : Asks register_schema text.look_into_offer 9 (col 1 1 ∷ []) []
+pub asks_offers : Asks register_schema text.select_offers 9 text.offer_columns []
 unfolding understood everything
-looks_into_offer = record { names = _; command = refl; unlisted = refl; plain = (refl, refl) }
+asks_offers = record { names = _; command = refl; unlisted = refl; plain = (refl, refl) }
 
-pub looks_into_lot : Asks register_schema text.look_into_lot 11 (col 1 1 ∷ []) []
+pub asks_lots : Asks register_schema text.select_lots 11 text.lot_columns []
 unfolding understood everything
-looks_into_lot = record { names = _; command = refl; unlisted = refl; plain = (refl, refl) }
+asks_lots = record { names = _; command = refl; unlisted = refl; plain = (refl, refl) }
 
-pub looks_into_imported : Asks register_schema text.look_into_imported 14 (col 1 0 ∷ []) []
+pub asks_imported : Asks register_schema text.select_imported 14 text.imported_columns []
 unfolding understood everything
-looks_into_imported = record { names = _; command = refl; unlisted = refl; plain = (refl, refl) }
+asks_imported = record { names = _; command = refl; unlisted = refl; plain = (refl, refl) }

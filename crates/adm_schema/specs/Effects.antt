@@ -1,10 +1,10 @@
 -- What a statement inside a transaction leaves.
-use Rattle.std.specs.Prelude.{◌≡◌, ◌≢◌, ◌⊎◌, ◌<◌, ℕ, ℤ, List, ◌∷◌, ◌++◌, [], fold, IsTrue, IsPermutation}
+use Rattle.std.specs.Prelude.{◌≡◌, ◌≢◌, ◌⊎◌, ◌<◌, ℕ, ℤ, List, ◌∷◌, [], fold, IsTrue, IsPermutation}
 use Rattle.std.specs.List.{AllByRecursion}
 use Rattle.sqlite.specs.Order.{Row}
 use Rattle.sqlite.specs.Table.{Table}
 use Rattle.sqlite.specs.Tree.{rowid, without_rowid}
-use Rattle.sqlite.specs.Edit.{id_in, have_rowids, without_all}
+use Rattle.sqlite.specs.Edit.{id_in, have_rowids}
 use Rattle.sqlite.specs.Effect.{IsDatabase}
 use Rattle.sqlite.specs.Schema.{Schema}
 use Rattle.sqlite.specs.State.{State, HasCleanDisk}
@@ -19,10 +19,15 @@ Sees schema s = HasCleanDisk s → IsTrue s.is_open → s.now.schema ≡ schema
 abbrev pub SeesDatabase : State → Type 0
 SeesDatabase s = HasCleanDisk s → IsTrue s.is_open → IsDatabase s.now
 
--- it sees these tables, and none has a row
+-- it sees a database of these tables, and none has a row
 pub record SeesNoRows (schema : Schema) (s : State) : Type 0 where
   pub schema_is : s.now.schema ≡ schema
+  pub sound : IsDatabase s.now
   pub empty : AllByRecursion (λ t. s.now.trees t.tree ≡ []) schema.tables
+
+-- the same, while it is open
+abbrev pub SeesNone : Schema → State → Type 0
+SeesNone schema s = IsTrue s.is_open → SeesNoRows schema s
 
 -- the transaction goes on with the same tables, and each other table keeps its rows
 pub record WritesOnly (table : Table) (old new : State) : Type 0 where
@@ -36,11 +41,6 @@ pub record WritesOnly (table : Table) (old new : State) : Type 0 where
 pub record AddsRow (table : Table) (row : Row) (old new : State) : Type 0 where
   pub only : WritesOnly table old new
   pub adds : IsPermutation (row ∷ rows_of table old.now.trees) (rows_of table new.now.trees)
-
--- this table has these rows too
-pub record AddsRows (table : Table) (rows : List Row) (old new : State) : Type 0 where
-  pub only : WritesOnly table old new
-  pub adds : IsPermutation (rows_of table old.now.trees ++ rows) (rows_of table new.now.trees)
 
 -- after this many writes, or where it was open before, the transaction is open
 abbrev pub GoesOn : ℕ → State → State → Type 0
@@ -70,12 +70,6 @@ pub record Turns (table : Table) (change : List Row → List Row) (old new : Sta
 abbrev pub PutsRow : Table → Row → State → State → Type 0
 PutsRow table row = Turns table (put_in row)
 
-abbrev pub PutsRows : Table → List Row → State → State → Type 0
-PutsRows table news = Turns table (λ rows. put_each rows news)
-
 -- this table has no row of this key
 abbrev pub CutsRow : Table → ℤ → State → State → Type 0
 CutsRow table key = Turns table (without_rowid key)
-
-abbrev pub CutsRows : Table → List ℤ → State → State → Type 0
-CutsRows table keys = Turns table (λ rows. without_all rows keys)

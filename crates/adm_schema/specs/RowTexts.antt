@@ -28,6 +28,9 @@ place_terms = col 0 0 ∷ lit Null ∷ col 0 1 ∷ col 0 2 ∷ col 0 3 ∷ col 0
 abbrev pub cut_application : List ℕ
 cut_application = codes "DELETE FROM application WHERE child = ?1"
 
+abbrev pub cut_place : List ℕ
+cut_place = codes "DELETE FROM place WHERE child = ?1"
+
 -- the rowid is the parameter
 abbrev pub has_key : List Term
 has_key = op2 (Compare Eq Binary) (col 1 0) (col 0 0) ∷ []

@@ -18,12 +18,6 @@ insert_school = codes "INSERT INTO school (code, name, pan, east, north, criteri
 abbrev pub school_terms : List Term
 school_terms = lit Null ∷ col 0 0 ∷ col 0 1 ∷ col 0 2 ∷ col 0 3 ∷ col 0 4 ∷ col 0 5 ∷ []
 
-abbrev pub select_version : List ℕ
-select_version = codes "SELECT version FROM meta"
-
-abbrev pub version_column : List Term
-version_column = col 1 2 ∷ []
-
 abbrev pub select_meta : List ℕ
 select_meta = codes "SELECT one, version, phase, year, holidays, draws FROM meta"
 
@@ -61,21 +55,34 @@ place_columns = col 1 0 ∷ col 1 2 ∷ col 1 3 ∷ col 1 4 ∷ col 1 5 ∷ []
 abbrev pub by_child : List (Term × Key)
 by_child = (col 1 0, record { collation = Binary; descending = false }) ∷ []
 
-abbrev pub look_into_left_list : List ℕ
-look_into_left_list = codes "SELECT child FROM left_list"
+-- ---- the tables to which no command writes yet
 
-abbrev pub look_into_draw : List ℕ
-look_into_draw = codes "SELECT draw FROM draw"
+abbrev pub select_left_list : List ℕ
+select_left_list = codes "SELECT child, school FROM left_list"
 
-abbrev pub look_into_offer : List ℕ
-look_into_offer = codes "SELECT draw FROM offer"
+abbrev pub left_list_columns : List Term
+left_list_columns = col 1 1 ∷ col 1 2 ∷ []
 
-abbrev pub look_into_lot : List ℕ
-look_into_lot = codes "SELECT draw FROM lot"
+abbrev pub select_draws : List ℕ
+select_draws = codes "SELECT draw, round, school, day FROM draw"
 
-abbrev pub look_into_imported : List ℕ
-look_into_imported = codes "SELECT child FROM imported"
+abbrev pub draw_columns : List Term
+draw_columns = col 1 0 ∷ col 1 2 ∷ col 1 3 ∷ col 1 4 ∷ []
 
--- the texts that show whether each other table has a row
-abbrev pub looks : List (List ℕ)
-looks = look_into_left_list ∷ look_into_draw ∷ look_into_offer ∷ look_into_lot ∷ look_into_imported ∷ []
+abbrev pub select_offers : List ℕ
+select_offers = codes "SELECT draw, child, school, fresh FROM offer"
+
+abbrev pub offer_columns : List Term
+offer_columns = col 1 1 ∷ col 1 2 ∷ col 1 3 ∷ col 1 4 ∷ []
+
+abbrev pub select_lots : List ℕ
+select_lots = codes "SELECT draw, school, child, lot FROM lot"
+
+abbrev pub lot_columns : List Term
+lot_columns = col 1 1 ∷ col 1 2 ∷ col 1 3 ∷ col 1 4 ∷ []
+
+abbrev pub select_imported : List ℕ
+select_imported = codes "SELECT child, name, east, north, looked_after, flags, siblings, day, preferences FROM imported"
+
+abbrev pub imported_columns : List Term
+imported_columns = col 1 0 ∷ col 1 2 ∷ col 1 3 ∷ col 1 4 ∷ col 1 5 ∷ col 1 6 ∷ col 1 7 ∷ col 1 8 ∷ col 1 9 ∷ []

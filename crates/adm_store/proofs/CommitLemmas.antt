@@ -1,11 +1,11 @@
 -- What a transaction of the store leaves.
-use Rattle.std.proofs.Common.{◌≡◌, ◌≤◌, ◌<◌, ◌+◌, ℕ, Bool, pos, length, inl, inr, List, [], ◌∷◌, ◌++◌, map, not, refl, sym, ap, ◌∙◌, subst, IsTrue, true, false, Ok, Err, Result, Some, None, Option, OnOk, IfOk, IfErr, arith}
-use Rattle.std.specs.Prelude.{is_some, if◌then◌else◌}
+use Rattle.std.proofs.Common.{◌≡◌, ◌≤◌, ◌<◌, ◌+◌, ℕ, pos, length, inl, inr, List, [], ◌∷◌, ◌++◌, map, not, refl, sym, ap, ◌∙◌, subst, IsTrue, true, false, Ok, Err, Result, Some, None, Option, OnOk, arith}
+use Rattle.std.specs.Prelude.{is_some}
 use Rattle.std.specs.Ordering.{nat_cmp}
 use Rattle.std.specs.Cmp.{nat_cmp_total}
 use Rattle.std.proofs.lemmas.List.{map-append, length-map}
 use Rattle.std.specs.List.Sorted.{IsPermutation}
-use Rattle.std.proofs.lemmas.List.Sorted.{IsPermutation-refl, IsPermutation-map, IsPermutation-trans, IsPermutation-append_left, IsPermutation-sym}
+use Rattle.std.proofs.lemmas.List.Sorted.{length_permutation, IsPermutation-refl, IsPermutation-map, IsPermutation-trans, IsPermutation-append_left, IsPermutation-sym}
 use Rattle.std.specs.FinMap.{FinMap, get, values, contains_key, nat_cmp-IsAntisymmetric}
 use Rattle.adm_types.specs.declared.rows.Child.{Child}
 use Rattle.adm_types.specs.declared.rows.Application.{Application}
@@ -14,13 +14,15 @@ use Rattle.adm_types.specs.contracts.rows.Child.{the_row as child_code}
 use Rattle.adm_types.specs.contracts.rows.Application.{the_row as application_code}
 use Rattle.adm_types.specs.contracts.rows.PlaceRow.{the_row as place_code}
 use Rattle.adm_register.specs.State.{State as Register}
+use Rattle.adm_types.specs.Seasons.{SeasonFacts}
 use Rattle.adm_register.specs.WellFormed.{WellFormed}
+use Rattle.adm_register.specs.Rows.{rows_of as rows_of_register}
 use Rattle.adm_register.specs.Difference.{ended}
 use Rattle.sqlite.specs.Order.{Row}
 use Rattle.sqlite.specs.Table.{Table}
 use Rattle.sqlite.specs.Tree.{Trees}
 use Rattle.sqlite.specs.Edit.{have_rowids, without_all}
-use Rattle.sqlite.specs.Effect.{Database, IsDatabase}
+use Rattle.sqlite.specs.Effect.{Database}
 use Rattle.sqlite.specs.State.{State, HasCleanDisk, IsLive, Shows, Survives}
 use Rattle.sqlite.proofs.StateLemmas.{survives_then}
 use Rattle.sqlite.specs.Held.{Held, state}
@@ -32,17 +34,17 @@ use Rattle.sqlite_catalog.proofs.ReadLemmas.{lists_once}
 use Rattle.sqlite_rules.specs.Lists.{Has}
 use Rattle.sqlite_rules.proofs.ListLemmas.{has_filtered, has_kept}
 use Rattle.sqlite.proofs.Callers.{one_permutation}
-use Rattle.adm_schema.specs.Rows.{columns_of, rows_of}
+use Rattle.adm_schema.specs.Rows.{rows_of}
 use Rattle.adm_schema.specs.Effects.{key_of, put_each}
-use Rattle.adm_schema.specs.Schema.{meta, school, child, application, place, left_list, draw, offer, lot, imported, register_schema}
+use Rattle.adm_schema.specs.Schema.{left_list, draw, offer, lot, imported, register_schema}
 use Rattle.adm_schema.proofs.Lists.{has_source, has_mapped}
 use Rattle.adm_store.specs.Forms.{season_row, school_row, child_row, application_row, place_row}
-use Rattle.adm_store.specs.StandsFor.{StandsFor, HoldsRegister, HoldNothing, LeavesOnly, LeavesEither}
+use Rattle.adm_store.specs.StandsFor.{StandsFor, HasRows, HoldsRegister, LeavesOnly, LeavesEither, written_in, written_tables}
 use Rattle.adm_store.specs.Changes.{IsStep, written_school, written_child, written_application}
 use Rattle.adm_store.specs.Writes.{Write, Leaves, Writes, after, are_keyed, count_of, key_row, writes_of}
 use Rattle.adm_store.specs.declared.rows.Changes.{Changes}
-use Rattle.adm_store.proofs.LogLemmas.{after_none}
-use Rattle.adm_store.proofs.ReadingLemmas.{none_of}
+use Rattle.adm_store.proofs.LogLemmas.{after_none, keyed_none, no_rows}
+use Rattle.adm_store.proofs.RegisterRows.{each_table}
 use Rattle.adm_store.proofs.MapLemmas.{old_and_new, coded_stable, table_new, less_each, other_key, gone_key, still_none, has_value}
 
 -- outside a transaction, what a connection sees of a file that stands for a register
@@ -87,16 +89,22 @@ place_rows old new changes step formed was now held turns =
     (λ k v there. (formed.places k v there).own_number) (λ k v there. (step.formed.places k v there).own_number) step.changes_are.differs.places
     (still_there old.places new.places step.extends.places) (λ q v there. refl) (ap (map place_row) step.changes_are.places) held turns
 
+-- the keys of rows that are keys alone
+keys_are : (keys : List ℕ) → map key_of (map key_row keys) ≡ map pos keys
+keys_are [] = refl
+keys_are (key ∷ keys) = ap (λ ks. pos key ∷ ks) (keys_are keys)
+
 abbrev child_of : Application → ℕ
 child_of a = a.child
 
 application_rows : (old new : Register) (changes : Changes) → IsStep old new changes → WellFormed old → (was now : List Row) → IsPermutation (map application_row (values old.applications)) was
-    → (IsTrue (have_rowids was) → IsPermutation (put_each (without_all was (map pos changes.ended)) (map written_application changes.applications)) now) → IsPermutation (map application_row (values new.applications)) now
+    → (IsTrue (have_rowids was) → IsPermutation (put_each (without_all was (map key_of (map key_row changes.ended))) (map written_application changes.applications)) now) → IsPermutation (map application_row (values new.applications)) now
 application_rows old new changes step formed was now held turns =
     table_new child_of application_row (λ _. refl) (coded_stable application_code.coded) old.applications new.applications changes.ended step.changes_are.difference.applications (map written_application changes.applications) was now
     own (λ k v there. (step.formed.base.applications_fit k v there).own_number) step.changes_are.differs.applications
     (λ q none. gone q none (get old.applications q) refl)
-    (λ q v there. other_key child_of application_row (λ _. refl) changes.ended old.applications q (λ h. stays q v there h)) step.changes_are.applications held turns
+    (λ q v there. other_key child_of application_row (λ _. refl) changes.ended old.applications q (λ h. stays q v there h)) step.changes_are.applications held
+    (λ keyed. subst (λ keys. IsPermutation (put_each (without_all was keys) (map written_application changes.applications)) now) (keys_are changes.ended) (turns keyed))
   where
     own : (k : ℕ) (a : Application) → get old.applications k ≡ Some a → a.child ≡ k
     own k a there = (formed.base.applications_fit k a there).own_number
@@ -120,55 +128,51 @@ application_rows old new changes step formed was now held turns =
         let wrong : true ≡ false = sym lacks ∙ here in
         cc
 
--- the keys of rows that are keys alone
-keys_are : (keys : List ℕ) → map key_of (map key_row keys) ≡ map pos keys
-keys_are [] = refl
-keys_are (key ∷ keys) = ap (λ ks. pos key ∷ ks) (keys_are keys)
-
--- a table to which no writer writes
-still_empty : (t : Table) (was now : Trees) → was t.tree ≡ [] → (IsTrue (are_keyed t (rows_of t was)) → IsPermutation (rows_of t was) (rows_of t now)) → now t.tree ≡ []
+-- a table in which nothing is written, before and after
+still_empty : (t : Table) (was now : List Row) → IsPermutation [] was → (IsTrue (are_keyed t was) → IsPermutation was now) → IsPermutation [] now
 still_empty t was now none moved =
-    let rows : rows_of t was ≡ [] = ap (map (columns_of t)) none in
-    none_of (columns_of t) (now t.tree) (rows_of t was) (IsPermutation-sym _ _ (moved (subst (λ xs. IsTrue (are_keyed t xs)) (sym rows) (go (is_some t.key))))) (ap length rows)
-  where
-    go : (b : Bool) → IsTrue (if b then have_rowids [] else true)
-    go true = refl
-    go false = refl
+    let empty : was ≡ [] = no_rows was (length_permutation _ _ none) in
+    IsPermutation-trans _ _ _ none (moved (subst (λ rows. IsTrue (are_keyed t rows)) (sym empty) (keyed_none t)))
+
+-- the row of the season stays
+season_rows : (old new : SeasonFacts) → new ≡ old → (was now : List Row) → IsPermutation (season_row old ∷ []) was → (IsTrue (have_rowids was) → IsPermutation was now) → IsPermutation (season_row new ∷ []) now
+season_rows old new same was now held moved =
+    let one = one_permutation (season_row old) was held in
+    subst (λ season. IsPermutation (season_row season ∷ []) now) (sym same) (IsPermutation-trans _ _ _ held (moved (subst (λ rows. IsTrue (have_rowids rows)) (sym one) refl)))
 
 -- each table has the rows of the old one after these writes
 abbrev Moves : List Write → Trees → Trees → Type 0
 Moves writes was now = (t : Table) → Has register_schema.tables t → IsTrue (are_keyed t (rows_of t was)) → IsPermutation (after t writes (rows_of t was)) (rows_of t now)
 
-same_other : (was now : Trees) (changes : Changes) → Moves (writes_of changes) was now → HoldNothing was → HoldNothing now
-same_other was now changes moves h = (
-  still_empty left_list was now h.0 (moves left_list (inr (inr (inr (inr (inr (inl refl))))))),
-  (
-    still_empty draw was now h.1.0 (moves draw (inr (inr (inr (inr (inr (inr (inl refl)))))))),
-    (
-      still_empty offer was now h.1.1.0 (moves offer (inr (inr (inr (inr (inr (inr (inr (inl refl))))))))),
-      (
-        still_empty lot was now h.1.1.1.0 (moves lot (inr (inr (inr (inr (inr (inr (inr (inr (inl refl)))))))))),
-        (still_empty imported was now h.1.1.1.1.0 (moves imported (inr (inr (inr (inr (inr (inr (inr (inr (inr (inl refl))))))))))), tt),
-      ),
-    ),
-  ),
-)
+-- from what the old register has of a table, and what the writes leave of it, comes what the new one has
+abbrev Becomes : Trees → Trees → Register → Register → Changes → Table → Type 0
+Becomes was now old new changes t =
+    HasRows t (written_in (written_tables (rows_of_register old)) t) was → (IsTrue (are_keyed t (rows_of t was)) → IsPermutation (after t (writes_of changes) (rows_of t was)) (rows_of t now))
+    → HasRows t (written_in (written_tables (rows_of_register new)) t) now
 
 -- trees that come of those of the old register by these changes
 new_trees : (was now : Trees) (old new : Register) (changes : Changes) → IsStep old new changes → HoldsRegister was old → IsSound register_schema now → Moves (writes_of changes) was now → StandsFor now new
 new_trees was now old new changes step held sound moves = record {
   sound = sound;
   holds = record {
-    season =
-        let moved = moves meta (inl refl) (subst (λ rows. IsTrue (are_keyed meta rows)) (sym held.season) refl) in
-        one_permutation (season_row old.season) (rows_of meta now) (subst (λ rows. IsPermutation rows (rows_of meta now)) held.season moved) ∙ ap (λ s. season_row s ∷ []) (sym step.extends.season);
-    schools = school_rows old new changes step (rows_of school was) (rows_of school now) held.schools (moves school (inr (inl refl)) refl);
-    children = child_rows old new changes step held.formed (rows_of child was) (rows_of child now) held.children (moves child (inr (inr (inl refl))));
-    applications =
-        let moved = subst (λ keys. IsTrue (have_rowids (rows_of application was)) → IsPermutation (put_each (without_all (rows_of application was) keys) (map written_application changes.applications)) (rows_of application now)) (keys_are changes.ended) (moves application (inr (inr (inr (inl refl))))) in
-        application_rows old new changes step held.formed (rows_of application was) (rows_of application now) held.applications moved;
-    places = place_rows old new changes step held.formed (rows_of place was) (rows_of place now) held.places (moves place (inr (inr (inr (inr (inl refl))))));
-    others = same_other was now changes moves held.others;
+    rows = record {
+      each = λ t listed. each_table (Becomes was now old new changes) (
+        λ had turn. season_rows old.season new.season step.extends.season _ _ had turn,
+        (
+          λ had turn. school_rows old new changes step _ _ had (turn refl),
+          (
+            λ had turn. child_rows old new changes step held.formed _ _ had turn,
+            (
+              λ had turn. application_rows old new changes step held.formed _ _ had turn,
+              (
+                λ had turn. place_rows old new changes step held.formed _ _ had turn,
+                (still_empty left_list _ _, (still_empty draw _ _, (still_empty offer _ _, (still_empty lot _ _, (still_empty imported _ _, tt))))),
+              ),
+            ),
+          ),
+        ),
+      ) t listed (held.rows.each t listed) (moves t listed);
+    };
     formed = step.formed;
   };
 }
@@ -186,10 +190,6 @@ survives_commit start last end P before file commit =
 pub on_ok : {X E : Type 0} (r : Result X E) (P Q : Type 0) → (P → Q) → OnOk r P → OnOk r Q
 on_ok (Ok x) P Q f h = f h
 on_ok (Err e) P Q f h = tt
-
-pub on_err : {X E : Type 0} (r : Result X E) (P Q : E → Type 0) → ((e : E) → P e → Q e) → IfErr r P → IfErr r Q
-on_err (Ok x) P Q f h = tt
-on_err (Err e) P Q f h = f e h
 
 -- what the transaction wrote stands for the new register
 pub wrote : {S : Type 0} (g : store.Ghosts S) (start begun : Held S) (last : State) (old new : Register) (changes : Changes) → begun ≡ record start { in_transaction = true }
@@ -219,13 +219,3 @@ either start end old new survives before clean db may = elim (survives.crash cle
 
 pub commits_file : (last end : State) (P : Trees → Type 0) → P last.now.trees → Shows last end last.now last.now false → IsTrue end.is_open × P end.committed.trees
 commits_file last end P file shown = (shown.is_open, subst (λ (d : Database). P d.trees) (sym shown.committed_is) file)
-
-pub if_ok : {X E : Type 0} (r : Result X E) (P Q : X → Type 0) → ((x : X) → P x → Q x) → IfOk r P → IfOk r Q
-if_ok (Ok x) P Q f h = f x h
-if_ok (Err e) P Q f h = tt
-
--- what a connection at rest sees is what a crash may leave
-pub stands_at_rest : (s : State) (db : Trees) (r : Register) → s.now.schema ≡ register_schema → HoldsRegister s.now.trees r → db ≡ s.committed.trees → s.now ≡ s.committed → IsDatabase s.now → StandsFor db r
-stands_at_rest s db r has held is settled now =
-    let trees : s.now.trees ≡ db = ap (λ (d : Database). d.trees) settled ∙ sym is in
-    subst (λ (t : Trees). StandsFor t r) trees (record { sound = subst (λ k. IsSound k s.now.trees) has now; holds = held })

@@ -10,7 +10,8 @@ use Rattle.std.proofs.lemmas.List.Sums.{fold-append, sum_by-append}
 use Rattle.sqlite.specs.Order.{Row}
 use Rattle.sqlite.specs.Schema.{Schema}
 use Rattle.sqlite.specs.Table.{Table}
-use Rattle.sqlite.specs.Tree.{without_rowid}
+use Rattle.sqlite.specs.Tree.{rowid, without_rowid}
+use Rattle.sqlite.specs.View.{is_int}
 use Rattle.sqlite.specs.Edit.{have_rowids, without_all}
 use Rattle.sqlite.specs.State.{State, HasCleanDisk, Survives}
 use Rattle.sqlite_trees.specs.View.{doubt}
@@ -20,6 +21,7 @@ use Rattle.adm_schema.specs.Rows.{columns_of, rows_of}
 use Rattle.adm_schema.specs.Effects.{Sees, SeesDatabase, GoesOn, WritesOnly, AddsRow, PutsRow, CutsRow, key_of, put_in}
 use Rattle.adm_schema.specs.Schema.{register_schema}
 use Rattle.adm_schema.proofs.Inside.{puts_moved, cuts_moved, goes_none, survives_on}
+use Rattle.adm_store.proofs.MapLemmas.{keyed_moved}
 use Rattle.adm_store.specs.Writes.{Kind, Adds, Puts, Cuts, Write, changed, turn, after, count_of, are_keyed, Leaves, Writes, write_of, key_row}
 
 -- ---- tables by their trees
@@ -220,6 +222,20 @@ module _ (table : Table) (listed : Has register_schema.tables table) (old new : 
             (IsPermutation-trans _ _ _ (IsPermutation-append_comm (rows_of table old.now.trees) (row ∷ [])) p.adds, subst (λ b. IsTrue (if b then have_rowids (rows_of table new.now.trees) else true)) (sym no_key) refl)),
       )
 
+  -- a row that is added to a table with such a key
+  pub add_keyed : is_some table.key ≡ true → (row : Row) → is_int (rowid row) ≡ true → (HasCleanDisk new → Sees register_schema old → AddsRow table row old new) → Writes (record { kind = Adds; table = table; rows = row ∷ [] } ∷ []) old new
+  add_keyed has_key row int adds clean sees sound =
+      let p = adds clean sees in
+      let early : HasCleanDisk old = omega (arith, monotone, clean) in (
+        λ _. p.only.is_open,
+        λ _. one_write _ old new listed (sees early p.only.was_open) p.only (λ keyed.
+            let own : have_rowids (rows_of table old.now.trees) ≡ true = subst (λ b. IsTrue (if b then have_rowids (rows_of table old.now.trees) else true)) has_key keyed in
+            let both : have_rowids (row ∷ rows_of table old.now.trees) ≡ true = λ k. int k && own k in (
+              IsPermutation-trans _ _ _ (IsPermutation-append_comm (rows_of table old.now.trees) (row ∷ [])) p.adds,
+              subst (λ b. IsTrue (if b then have_rowids (rows_of table new.now.trees) else true)) (sym has_key) (keyed_moved _ _ p.adds both),
+            )),
+      )
+
 -- ---- the writers of a commit
 
 pub record Ran (writes : List Write) (old new : State) : Type 0 where
@@ -229,16 +245,23 @@ pub record Ran (writes : List Write) (old new : State) : Type 0 where
 pub ran_then : {p q : List Write} {a b c : State} → Ran p a b → Ran q b c → Ran (p ++ q) a c
 ran_then {p} {q} {a} {b} {c} x y = record { survives = survives_on a b c x.survives y.survives; leaves = writes_then p q a b c x.survives y.survives x.leaves y.leaves }
 
-no_items : {X : Type 0} (xs : List X) → length xs ≡ 0 → xs ≡ []
-no_items [] e = refl
-no_items (x ∷ xs) e = absurd (omega (arith, e))
+pub no_rows : {X : Type 0} (xs : List X) → length xs ≡ 0 → xs ≡ []
+no_rows [] e = refl
+no_rows (x ∷ xs) e = absurd (omega (arith, e))
+
+pub keyed_none : (t : Table) → IsTrue (are_keyed t [])
+keyed_none t = go (is_some t.key)
+  where
+    go : (b : Bool) → IsTrue (if b then have_rowids [] else true)
+    go true = refl
+    go false = refl
 
 -- where no row is written, nothing changes
 pub after_none : (t : Table) (writes : List Write) (rows : List Row) → count_of writes ≡ 0 → after t writes rows ≡ rows
 after_none t [] rows none = refl
 after_none t (w ∷ writes) rows none =
     let parts = count_more (w ∷ []) writes in
-    let own : w.rows ≡ [] = no_items w.rows (omega (arith, parts, none)) in
+    let own : w.rows ≡ [] = no_rows w.rows (omega (arith, parts, none)) in
     let rest : count_of writes ≡ 0 = omega (arith, parts, none) in
     ap (λ xs. after t writes xs) (go own (t.tree == w.table.tree)) ∙ after_none t writes rows rest
   where

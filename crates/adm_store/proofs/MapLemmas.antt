@@ -213,7 +213,7 @@ both_none : {X : Type 0} (b : Bool) → ◌≡◌ {A = Option X} (cond b None No
 both_none true = refl
 both_none false = refl
 
-keyed_moved : (xs ys : List Row) → IsPermutation xs ys → have_rowids xs ≡ true → have_rowids ys ≡ true
+pub keyed_moved : (xs ys : List Row) → IsPermutation xs ys → have_rowids xs ≡ true → have_rowids ys ≡ true
 keyed_moved xs ys same all = test_from (λ (r : Row). is_int (rowid r)) ys (λ r h. test_has (λ (r : Row). is_int (rowid r)) xs r all (has_contained xs r (Contains-permutation ys xs r (IsPermutation-sym xs ys same) (contains_had ys r h))))
 
 -- the rows of a table by the key of each value

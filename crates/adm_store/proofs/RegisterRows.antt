@@ -1,5 +1,5 @@
 -- The rows of a register are such as are read.
-use Rattle.std.proofs.Common.{refl, ◌≡◌, ◌∙◌, ℕ, true, List, [], ◌∷◌, map, sym, ap, subst}
+use Rattle.std.proofs.Common.{refl, ◌≡◌, ℕ, true, List, [], ◌∷◌, map, sym, subst}
 use Rattle.std.specs.Prelude.{◌&&◌}
 use Rattle.std.specs.List.{AllByRecursion, list_all}
 use Rattle.std.specs.List.Sorted.{IsPermutation}
@@ -15,20 +15,24 @@ use Rattle.adm_types.specs.declared.rows.PlaceRow.{PlaceRow}
 use Rattle.adm_register.specs.State.{code_cmp}
 use Rattle.adm_register.specs.State.{State as Register}
 use Rattle.adm_register.specs.WellFormed.{WellFormed, AllRows, SchoolFits, are_schools}
-use Rattle.adm_schema.specs.Rows.{rows_of}
-use Rattle.adm_schema.specs.Schema.{meta}
+use Rattle.adm_schema.specs.Schema.{meta, school, child, application, place, register_schema}
+use Rattle.adm_schema.proofs.Listed.{has_meta, has_school, has_child, has_application, has_place}
+use Rattle.sqlite.specs.Table.{Table}
+use Rattle.sqlite_rules.specs.Lists.{Has}
+use Rattle.std.specs.declared.convert.Infallible.{Infallible}
+use Rattle.adm_store.specs.Unused.{no_row}
 use Rattle.sqlite.specs.Order.{Row}
 use Rattle.sqlite.specs.Tree.{Trees}
 use Rattle.sqlite.proofs.Callers.{one_permutation}
 use Rattle.std.proofs.lemmas.List.Sorted.{IsPermutation-sym, IsPermutation-map, IsPermutation-trans}
 use Rattle.adm_store.specs.Forms.{season_row, school_row, child_row, application_row, place_row}
-use Rattle.adm_store.specs.StandsFor.{HoldsRegister}
-use Rattle.adm_store.specs.Reads.{HoldsRows, AreReadBack}
+use Rattle.adm_store.specs.StandsFor.{HasRows, HoldsRows, HoldsRegister, written_in, written_tables}
+use Rattle.adm_store.specs.Reads.{Holds, AreReadBack}
 use Rattle.adm_register.specs.declared.all_rows.Rows.{Rows}
-use Rattle.adm_register.specs.Rows.{AreRowsOf}
+use Rattle.adm_register.specs.Rows.{AreRowsOf, rows_of as rows_of_register}
 use Rattle.adm_store.specs.Faults.{IsSchool, IsReadAgain, IsChild, IsApplication, IsPlanRow, AreReadAgain}
 use Rattle.adm_store.proofs.SeasonRows.{same_season}
-use Rattle.adm_store.proofs.RowLemmas.{values_back}
+use Rattle.adm_store.proofs.RowLemmas.{values_back, recursion_had}
 use Rattle.adm_store.proofs.SchoolRows.{school_from, from_row, reads_again}
 use Rattle.adm_store.proofs.ChildRows.{child_from, child_back, application_from, application_back, place_from, place_back}
 use Rattle.adm_store.proofs.CodeLemmas.{codes_again}
@@ -85,17 +89,32 @@ places_fit r formed = each_value nat_cmp_total nat_cmp-IsAntisymmetric IsPlanRow
 
 -- ---- the rows of a file, and the register that it holds
 
+-- table by table
+pub each_table : (P : Table → Type 0) → AllByRecursion P register_schema.tables → (t : Table) → Has register_schema.tables t → P t
+each_table P all t listed = recursion_had P register_schema.tables t all listed
+
+-- a table in which nothing is written
+pub none_read : (t : Table) (none : List Infallible) (db : Trees) → Holds t no_row none db → HasRows t [] db
+none_read t [] db held = held
+none_read t (x ∷ more) db held = elim x [ ]
+
 moved : {X : Type 0} (row_of : X → Row) (read values : List X) (rows : List Row) → IsPermutation read values → IsPermutation (map row_of read) rows → IsPermutation (map row_of values) rows
 moved row_of read values rows same held = IsPermutation-trans _ _ _ (IsPermutation-map row_of _ _ (IsPermutation-sym _ _ same)) held
 
-pub holds_register : (db : Trees) (r : Register) (first : List Row) (season : SeasonFacts) (rows : Rows) → IsPermutation (rows_of meta db) first → first ≡ season_row season ∷ [] → rows.season ≡ season → HoldsRows db rows → AreRowsOf rows r → WellFormed r → HoldsRegister db r
-holds_register db r first season rows one is same held are formed = record {
-  season = one_permutation (season_row season) (rows_of meta db) (IsPermutation-sym _ _ (subst (IsPermutation (rows_of meta db)) is one)) ∙ ap (λ s. season_row s ∷ []) (sym same ∙ are.season);
-  schools = moved school_row _ _ _ are.schools held.schools;
-  children = moved child_row _ _ _ are.children held.children;
-  applications = moved application_row _ _ _ are.applications held.applications;
-  places = moved place_row _ _ _ are.places held.places;
-  others = held.others;
+pub holds_register : (db : Trees) (r : Register) (rows : Rows) → HoldsRows db rows → AreRowsOf rows r → WellFormed r → HoldsRegister db r
+holds_register db r rows held are formed = record {
+  rows = record {
+    each = λ t listed. each_table (λ t. HasRows t (written_in (written_tables rows) t) db → HasRows t (written_in (written_tables (rows_of_register r)) t) db) (
+      λ h. subst (λ season. HasRows meta (season_row season ∷ []) db) are.season h,
+      (
+        λ h. moved school_row _ _ _ are.schools h,
+        (
+          λ h. moved child_row _ _ _ are.children h,
+          (λ h. moved application_row _ _ _ are.applications h, (λ h. moved place_row _ _ _ are.places h, (λ h. h, (λ h. h, (λ h. h, (λ h. h, (λ h. h, tt))))))),
+        ),
+      ),
+    ) t listed (held.each t listed);
+  };
   formed = formed;
 }
 
@@ -106,18 +125,19 @@ no_condition (x ∷ xs) = (tt, no_condition xs)
 pub rows_held : (db : Trees) (r : Register) (rows : Rows) → HoldsRegister db r → HoldsRows db rows → AreReadBack rows → rows.season ≡ r.season → AreRowsOf rows r
 rows_held db r rows file held again season = record {
   season = season;
-  schools = values_back school_row school_from IsReadAgain IsSchool from_row reads_again _ _ _ again.schools (schools_fit r file.formed) held.schools file.schools;
-  children = values_back child_row child_from (λ x. AreReadAgain x.siblings) IsChild child_back (λ x fits. codes_again x.siblings fits.codes) _ _ _ again.children (children_fit r file.formed) held.children file.children;
-  applications = values_back application_row application_from (λ x. AreReadAgain x.list) (IsApplication (lists_end r.season)) application_back (λ x fits. codes_again x.list fits.codes) _ _ _ again.applications (applications_fit r (lists_end r.season) file.formed refl) held.applications file.applications;
-  places = values_back place_row place_from (λ _. Unit {0}) IsPlanRow (λ x _. place_back x) (λ _ _. tt) _ _ _ (no_condition rows.places) (places_fit r file.formed) held.places file.places;
+  schools = values_back school_row school_from IsReadAgain IsSchool from_row reads_again _ _ _ again.schools (schools_fit r file.formed) (held.each school has_school) (file.rows.each school has_school);
+  children = values_back child_row child_from (λ x. AreReadAgain x.siblings) IsChild child_back (λ x fits. codes_again x.siblings fits.codes) _ _ _ again.children (children_fit r file.formed) (held.each child has_child) (file.rows.each child has_child);
+  applications = values_back application_row application_from (λ x. AreReadAgain x.list) (IsApplication (lists_end r.season)) application_back (λ x fits. codes_again x.list fits.codes) _ _ _ again.applications (applications_fit r (lists_end r.season) file.formed refl) (held.each application has_application) (file.rows.each application has_application);
+  places = values_back place_row place_from (λ _. Unit {0}) IsPlanRow (λ x _. place_back x) (λ _ _. tt) _ _ _ (no_condition rows.places) (places_fit r file.formed) (held.each place has_place) (file.rows.each place has_place);
 }
-
-pub season_held : (db : Trees) (r : Register) (first : List Row) → IsPermutation (rows_of meta db) first → HoldsRegister db r → first ≡ season_row r.season ∷ []
-season_held db r first one held = one_permutation (season_row r.season) first (subst (λ xs. IsPermutation xs first) held.season one)
 
 first_row : (a b : Row) → a ∷ [] ≡ b ∷ [] → a ≡ b
 first_row a b e = cc
 
+one_row : (a b : Row) → IsPermutation (a ∷ []) (b ∷ []) → a ≡ b
+one_row a b same = first_row a b (sym (one_permutation a (b ∷ []) same))
+
 -- the season that was read is that of the register
-pub season_back : (db : Trees) (r : Register) (first : List Row) (season : SeasonFacts) → IsPermutation (rows_of meta db) first → first ≡ season_row season ∷ [] → IsSeason season → HoldsRegister db r → r.season ≡ season
-season_back db r first season one is formed held = same_season r.season season held.formed.base.season_is formed (first_row _ _ (sym (season_held db r first one held) ∙ is))
+pub season_back : (db : Trees) (r : Register) (season : SeasonFacts) → HasRows meta (season_row season ∷ []) db → IsSeason season → HoldsRegister db r → r.season ≡ season
+season_back db r season one formed held =
+    same_season r.season season held.formed.base.season_is formed (one_row _ _ (IsPermutation-trans _ _ _ (held.rows.each meta has_meta) (IsPermutation-sym _ _ one)))

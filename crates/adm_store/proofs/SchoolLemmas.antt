@@ -1,5 +1,5 @@
 -- What the statement on the table `school` does.
-use Rattle.std.proofs.Common.{◌≡◌, ℕ, pos, List, ◌∷◌, [], ◌≤◌, inl, inr, arith, Ok, refl, ap}
+use Rattle.std.proofs.Common.{◌≡◌, ℕ, pos, List, ◌∷◌, [], ◌≤◌, arith, Ok, refl, ap}
 use Rattle.sqlite.specs.declared.types.Value.TheVariants.{Null, Int}
 use Rattle.sqlite.specs.Order.{Row}
 use Rattle.sqlite.specs.Edit.{next_rowid, with_rowid}
@@ -10,6 +10,7 @@ use Rattle.adm_schema.specs.Rows.{columns_of}
 use Rattle.sqlite_trees.specs.View.{doubt}
 use Rattle.adm_schema.specs.Schema.{school, register_schema}
 use Rattle.adm_schema.specs.Texts.{insert_school, school_terms}
+use Rattle.adm_schema.proofs.Listed.{has_school}
 use Rattle.adm_schema.proofs.Casts.{cast_null, cast_int}
 use Rattle.adm_schema.proofs.Statements.{inserted, adds}
 use Rattle.adm_schema.proofs.Texts.{inserts_school}
@@ -22,7 +23,7 @@ stored_school : (it : SchoolRow) (rows : List Row) → with_rowid Chosen rows (c
 stored_school it rows = rw (cast_null, cast_int (pos it.pan), cast_int (pos it.east), cast_int (pos it.north))
 
 pub adds_school : (old new : State) (count : ℕ) (it : SchoolRow) → doubt old.is_clean ≤ doubt new.is_clean → (HasCleanDisk new → ExecutesInside 0 insert_school (written_school it) old new (Ok count)) → Writes (write_of Adds school written_school (it ∷ []) ∷ []) old new
-adds_school old new count it later ran = add_one school (inr (inl refl)) old new later refl (written_school it) (λ clean sees.
+adds_school old new count it later ran = add_one school has_school old new later refl (written_school it) (λ clean sees.
     let early : HasCleanDisk old = omega (arith, later, clean) in
     let h = ran clean in
     adds register_schema school 1 refl refl refl (λ _ _. refl) old new (Null ∷ written_school it) (written_school it) (λ rows. ap (columns_of school) (stored_school it rows))

@@ -1,5 +1,5 @@
 -- What the statements do on the tables whose rows are written by their keys.
-use Rattle.std.proofs.Common.{◌≡◌, ℕ, pos, Bool, true, false, ◌∷◌, [], Ok, refl, ap, ◌∙◌, ◌≤◌, inl, inr, arith}
+use Rattle.std.proofs.Common.{◌≡◌, ℕ, pos, Bool, true, false, ◌∷◌, [], Ok, refl, ap, ◌∙◌, ◌≤◌, arith}
 use Rattle.std.specs.Prelude.{Option, Some, None, if◌then◌else◌}
 use Rattle.sqlite.specs.declared.types.Value.TheVariants.{Null, Int, Text}
 use Rattle.sqlite.specs.Cast.{cast_row}
@@ -16,6 +16,7 @@ use Rattle.adm_types.specs.declared.rows.PlaceState.TheVariants.{Offered, Accept
 use Rattle.sqlite_trees.specs.View.{doubt}
 use Rattle.adm_schema.specs.Schema.{child, application, place, register_schema}
 use Rattle.adm_schema.specs.RowTexts as text
+use Rattle.adm_schema.proofs.Listed.{has_child, has_application, has_place}
 use Rattle.adm_schema.proofs.Casts.{cast_null, cast_int}
 use Rattle.adm_schema.proofs.OneRow.{puts_row, cuts_row}
 use Rattle.adm_schema.proofs.RowTexts.{puts_child, puts_application, puts_place, cuts_application}
@@ -45,7 +46,7 @@ stored_child : (it : ChildRow) → cast_row child (stored (written_child it)) �
 stored_child it = rw (cast_null, cast_int (pos it.child), cast_int (pos it.east), cast_int (pos it.north), cast_int (pos (truth_code it.looked_after)), cast_int (pos it.flags))
 
 pub writes_child : (old new : State) (count : ℕ) (it : ChildRow) → doubt old.is_clean ≤ doubt new.is_clean → (HasCleanDisk new → ExecutesInside 0 text.put_child (written_child it) old new (Ok count)) → Writes (write_of Puts child written_child (it ∷ []) ∷ []) old new
-writes_child old new count it later ran = put_one child (inr (inr (inl refl))) old new later refl (written_child it) (λ clean sees.
+writes_child old new count it later ran = put_one child has_child old new later refl (written_child it) (λ clean sees.
     let early : HasCleanDisk old = omega (arith, later, clean) in
     let h = ran clean in
     puts_row register_schema child 2 refl refl refl (λ _ _. refl) (λ _. refl) text.child_terms 8 text.put_child (written_child it) (stored (written_child it)) (written_child it) (pos it.child) old new count (λ _ _. refl)
@@ -55,14 +56,14 @@ stored_application : (it : ApplicationRow) → cast_row application (stored (wri
 stored_application it = rw (cast_null, cast_int (pos it.child), cast_int (pos it.day))
 
 pub writes_application : (old new : State) (count : ℕ) (it : ApplicationRow) → doubt old.is_clean ≤ doubt new.is_clean → (HasCleanDisk new → ExecutesInside 0 text.put_application (written_application it) old new (Ok count)) → Writes (write_of Puts application written_application (it ∷ []) ∷ []) old new
-writes_application old new count it later ran = put_one application (inr (inr (inr (inl refl)))) old new later refl (written_application it) (λ clean sees.
+writes_application old new count it later ran = put_one application has_application old new later refl (written_application it) (λ clean sees.
     let early : HasCleanDisk old = omega (arith, later, clean) in
     let h = ran clean in
     puts_row register_schema application 3 refl refl refl (λ _ _. refl) (λ _. refl) text.application_terms 4 text.put_application (written_application it) (stored (written_application it)) (written_application it) (pos it.child) old new count (λ _ _. refl)
     puts_application.0 puts_application.1 refl (stored_application it) (stored_application it) refl refl (sees early h.1.was_open) h)
 
 pub cuts_out : (old new : State) (count : ℕ) (number : ℕ) → doubt old.is_clean ≤ doubt new.is_clean → (HasCleanDisk new → ExecutesInside 0 text.cut_application (key_row number) old new (Ok count)) → Writes (write_of Cuts application key_row (number ∷ []) ∷ []) old new
-cuts_out old new count number later ran = cut_one application (inr (inr (inr (inl refl)))) old new later refl number (λ clean sees.
+cuts_out old new count number later ran = cut_one application has_application old new later refl number (λ clean sees.
     let early : HasCleanDisk old = omega (arith, later, clean) in
     let h = ran clean in
     cuts_row register_schema application 3 refl refl refl (λ _ _. refl) (λ _. refl) text.cut_application (pos number) old new count cuts_application.0 cuts_application.1 refl (sees early h.1.was_open) h)
@@ -104,7 +105,7 @@ shown_place it = go it.place.state
     go Plan = refl
 
 pub writes_place : (old new : State) (count : ℕ) (it : PlaceRow) → doubt old.is_clean ≤ doubt new.is_clean → (HasCleanDisk new → ExecutesInside 0 text.put_place (place_row it) old new (Ok count)) → Writes (write_of Puts place place_row (it ∷ []) ∷ []) old new
-writes_place old new count it later ran = put_one place (inr (inr (inr (inr (inl refl))))) old new later refl (place_row it) (λ clean sees.
+writes_place old new count it later ran = put_one place has_place old new later refl (place_row it) (λ clean sees.
     let early : HasCleanDisk old = omega (arith, later, clean) in
     let h = ran clean in
     puts_row register_schema place 4 refl refl refl (λ _ _. refl) (λ _. refl) text.place_terms 6 text.put_place (place_row it) (stored (place_row it)) (place_row it) (pos it.child) old new count (λ _ _. refl)

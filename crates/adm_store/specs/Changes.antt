@@ -1,5 +1,7 @@
 -- The rows by which one register differs from another, as they are written.
 use Rattle.std.specs.Prelude.{◌≡◌, pos, [], ◌∷◌, map}
+use Rattle.adm_types.specs.Seasons.{SeasonFacts, IsSeason}
+use Rattle.adm_register.specs.State.{only_season}
 use Rattle.adm_register.specs.State.{State as Register}
 use Rattle.adm_register.specs.WellFormed.{WellFormed}
 use Rattle.adm_register.specs.Extends.{Extends}
@@ -8,14 +10,19 @@ use Rattle.adm_register.specs.declared.difference.Difference.{Difference}
 use Rattle.sqlite.specs.declared.types.Value.TheVariants.{Int, Text}
 use Rattle.sqlite.specs.Order.{Row}
 use Rattle.sqlite.specs.State.{State}
+use Rattle.adm_store.specs.declared.rows.SeasonRow.{SeasonRow}
 use Rattle.adm_store.specs.declared.rows.SchoolRow.{SchoolRow}
 use Rattle.adm_store.specs.declared.rows.ChildRow.{ChildRow}
 use Rattle.adm_store.specs.declared.rows.ApplicationRow.{ApplicationRow}
 use Rattle.adm_store.specs.declared.rows.Changes.{Changes}
-use Rattle.adm_store.specs.Forms.{school_row, child_row, application_row, truth_code}
-use Rattle.adm_store.specs.StandsFor.{LeavesOnly, LeavesEither}
+use Rattle.adm_store.specs.Forms.{phase_code, season_row, school_row, child_row, application_row, truth_code}
+use Rattle.sqlite.specs.Tree.{Trees}
+use Rattle.adm_store.specs.StandsFor.{StandsFor, LeavesOnly, LeavesEither}
 
 -- the rows as they are written
+abbrev pub written_season : SeasonRow → Row
+written_season r = Int (pos 1) ∷ Int (pos 1) ∷ Int (pos (phase_code r.phase)) ∷ Int (pos r.year) ∷ Text r.holidays ∷ Int (pos 0) ∷ []
+
 abbrev pub written_school : SchoolRow → Row
 written_school r = Text r.code ∷ Text r.name ∷ Int (pos r.pan) ∷ Int (pos r.east) ∷ Int (pos r.north) ∷ Text r.criteria ∷ []
 
@@ -24,6 +31,15 @@ written_child r = Int (pos r.child) ∷ Text r.name ∷ Int (pos r.east) ∷ Int
 
 abbrev pub written_application : ApplicationRow → Row
 written_application r = Int (pos r.child) ∷ Int (pos r.day) ∷ Text r.preferences ∷ []
+
+-- the row is that of this season
+pub record IsRowOf (season : SeasonFacts) (row : SeasonRow) : Type 0 where
+  pub season_is : IsSeason season
+  pub written : written_season row ≡ season_row season
+
+-- the trees stand for the season of this row, and no other row
+abbrev pub StandsForNew : SeasonRow → Trees → Type 0
+StandsForNew row db = (season : SeasonFacts) → IsRowOf season row → StandsFor db (only_season season)
 
 -- the changes are just the rows of the new register that the old one has not, and the keys of the old one that the new one has not
 pub record IsChanges (old new : Register) (changes : Changes) : Type 0 where
@@ -41,9 +57,13 @@ pub record IsStep (old new : Register) (changes : Changes) : Type 0 where
   pub extends : Extends old new
   pub formed : WellFormed new
 
+-- where all that a crash could leave stood for a register, this is so of each one to which these changes are the step
+abbrev pub AtNext : Changes → State → (Register → Type 0) → Type 0
+AtNext changes before P = (old new : Register) → IsStep old new changes → LeavesOnly old before → P new
+
 -- where all that a crash could leave stood for the old register, all that it may leave now stands for the new one
 abbrev pub Commits : Changes → State → State → Type 0
-Commits changes before after = (old new : Register) → IsStep old new changes → LeavesOnly old before → LeavesOnly new after
+Commits changes before after = AtNext changes before (λ new. LeavesOnly new after)
 
 -- then each thing that it may leave stands for the old or the new one
 abbrev pub CommitsOrNot : Changes → State → State → Type 0

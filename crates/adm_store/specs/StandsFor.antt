@@ -1,44 +1,51 @@
 -- When the trees of a file stand for a register, and what a crash may leave.
-use Rattle.std.specs.Prelude.{◌≡◌, ◌⊎◌, List, [], ◌∷◌, map, IsPermutation, IsTrue}
-use Rattle.std.specs.List.{AllByRecursion}
-use Rattle.std.specs.FinMap.{values}
+use Rattle.std.specs.Prelude.{◌==◌, ◌⊎◌, List, [], ◌∷◌, map, if◌then◌else◌, IsPermutation, IsTrue}
 use Rattle.adm_types.specs.Seasons.{SeasonFacts}
 use Rattle.adm_register.specs.State.{only_season}
 use Rattle.adm_register.specs.State.{State as Register}
+use Rattle.adm_register.specs.Rows.{rows_of as rows_of_register}
 use Rattle.adm_register.specs.WellFormed.{WellFormed}
+use Rattle.adm_register.specs.declared.all_rows.Rows.{Rows}
 use Rattle.sqlite.specs.Table.{Table}
 use Rattle.sqlite.specs.Order.{Row}
 use Rattle.sqlite.specs.Tree.{Trees}
 use Rattle.sqlite.specs.State.{State, HasCleanDisk}
 use Rattle.sqlite_catalog.specs.Listing.{IsSound}
+use Rattle.sqlite_rules.specs.Lists.{Has}
 use Rattle.adm_schema.specs.Rows.{rows_of}
-use Rattle.adm_schema.specs.Schema.{meta, school, child, application, place, left_list, draw, offer, lot, imported, register_schema}
+use Rattle.adm_schema.specs.Schema.{meta, school, child, application, place, register_schema}
 use Rattle.adm_store.specs.Forms.{season_row, school_row, child_row, application_row, place_row}
 
 -- as after a start: on a clean disk the connection is open
 abbrev pub IsStarted : State → Type 0
 IsStarted s = HasCleanDisk s → IsTrue s.is_open
 
--- the tables to which no command writes yet
-abbrev pub other_tables : List Table
-other_tables = left_list ∷ draw ∷ offer ∷ lot ∷ imported ∷ []
+-- the table has these rows, in some order, and no other row
+abbrev pub HasRows : Table → List Row → Trees → Type 0
+HasRows table rows db = IsPermutation rows (rows_of table db)
 
--- none of them has a row
-abbrev pub HoldNothing : Trees → Type 0
-HoldNothing db = AllByRecursion (λ t. db t.tree ≡ []) other_tables
+-- the tables in use, and what is written in each
+abbrev pub written_tables : Rows → List (Table × List Row)
+written_tables rows =
+    (meta, season_row rows.season ∷ [])
+    ∷ (school, map school_row rows.schools)
+    ∷ (child, map child_row rows.children)
+    ∷ (application, map application_row rows.applications)
+    ∷ (place, map place_row rows.places)
+    ∷ []
 
--- the table holds the rows of these values, in some order, and no other row
-abbrev pub Holds : {X : Type 0} → Table → (X → Row) → List X → Trees → Type 0
-Holds table row_of items db = IsPermutation (map row_of items) (rows_of table db)
+-- what is written in a table: nothing where it is not in use
+abbrev pub written_in : List (Table × List Row) → Table → List Row
+written_in [] t = []
+written_in (it ∷ more) t = if t.tree == it.0.tree then it.1 else written_in more t
+
+-- each table of the register has the rows that are written in it, and no other row
+pub record HoldsRows (db : Trees) (rows : Rows) : Type 0 where
+  pub each : (t : Table) → Has register_schema.tables t → HasRows t (written_in (written_tables rows) t) db
 
 -- the tables hold the rows of the register, and no other row
 pub record HoldsRegister (db : Trees) (r : Register) : Type 0 where
-  pub season : rows_of meta db ≡ season_row r.season ∷ []
-  pub schools : Holds school school_row (values r.schools) db
-  pub children : Holds child child_row (values r.children) db
-  pub applications : Holds application application_row (values r.applications) db
-  pub places : Holds place place_row (values r.places) db
-  pub others : HoldNothing db
+  pub rows : HoldsRows db (rows_of_register r)
   pub formed : WellFormed r
 
 -- the trees are a database of the register's tables, which hold its rows
@@ -58,6 +65,10 @@ LeavesEither old new s = HasCleanDisk s → (db : Trees) → s.may_leave db → 
 abbrev pub LeavesOldOrNew : SeasonFacts → State → State → Type 0
 LeavesOldOrNew season old new = HasCleanDisk new → (db : Trees) → new.may_leave db → old.may_leave db ⊎ StandsFor db (only_season season)
 
+-- the trees stand for no register
+abbrev pub StandsForNone : Trees → Type 0
+StandsForNone db = (r : Register) → StandsFor db r → ⊥
+
 -- nothing that a crash may leave stands for a register
 abbrev pub LeavesNone : State → Type 0
-LeavesNone s = HasCleanDisk s → (db : Trees) → s.may_leave db → (r : Register) → StandsFor db r → ⊥
+LeavesNone s = HasCleanDisk s → (db : Trees) → s.may_leave db → StandsForNone db

@@ -2,18 +2,16 @@
 ghost use Rattle.std.specs.Prelude.{◌≡◌, ◌<◌, ◌↔◌, false, OnOk, IsTrue, Some, slice_get};
 ghost use Rattle.sqlite.specs.Held.{state};
 ghost use Rattle.sqlite.specs.State.{HasCleanDisk, Survives};
-ghost use Rattle.adm_schema.specs.Effects.{SeesNoRows};
+ghost use Rattle.adm_schema.specs.Effects.{SeesNoRows, SeesNone};
 ghost use Rattle.adm_schema.specs.Schema.{no_schema, register_schema};
 ghost use Rattle.adm_schema.specs.Creations.{IsCreation, creations};
 ghost use Rattle.sqlite.specs.Schema.{Schema as Tables};
 ghost use Rattle.sqlite.specs.Table.{Table};
-ghost use Rattle.adm_register.specs.State.{only_season};
-ghost use Rattle.adm_types.specs.Seasons.{IsSeason};
-ghost use Rattle.adm_store.specs.Forms.{days_text};
-ghost use Rattle.adm_store.specs.StandsFor.{StandsFor};
+ghost use Rattle.adm_store.specs.Changes.{StandsForNew};
 
-use crate::season;
-use adm_types::Season;
+use crate::rows::SeasonRow;
+use crate::season::AddSeason;
+use crate::statement::Statement;
 use sqlite::{Alter, Connection, Error, Transaction};
 use sqlite_schema::schema::Schema;
 
@@ -57,7 +55,7 @@ fn creation(at: usize) -> &'static str
 
 fn create_table<S: Alter>(tx: &mut Transaction<'_, S>, text: &str) -> Result<(), Error>
     ensures same_reference { tx.new.conn.ghost_name ≡ tx.old.conn.ghost_name }
-    ensures made { HasCleanDisk (state S.Store tx.new.conn.now) → OnOk result ((before after : Tables) (table : Table) → IsCreation before text.now table after → (IsTrue (state S.Store tx.old.conn.now).is_open → SeesNoRows before (state S.Store tx.old.conn.now)) → SeesNoRows after (state S.Store tx.new.conn.now)) }
+    ensures made { HasCleanDisk (state S.Store tx.new.conn.now) → OnOk result ((before after : Tables) (table : Table) → IsCreation before text.now table after → SeesNone before (state S.Store tx.old.conn.now) → SeesNoRows after (state S.Store tx.new.conn.now)) }
     ensures survives { Survives (state S.Store tx.old.conn.now) (state S.Store tx.new.conn.now) (λ _. ⊥) }
 {
     tx.execute(text, &[])?;
@@ -67,7 +65,7 @@ fn create_table<S: Alter>(tx: &mut Transaction<'_, S>, text: &str) -> Result<(),
 /// Makes the ten tables.
 fn create_tables<S: Alter>(tx: &mut Transaction<'_, S>) -> Result<(), Error>
     ensures same_reference { tx.new.conn.ghost_name ≡ tx.old.conn.ghost_name }
-    ensures made { HasCleanDisk (state S.Store tx.new.conn.now) → (IsTrue (state S.Store tx.old.conn.now).is_open → SeesNoRows no_schema (state S.Store tx.old.conn.now)) → OnOk result (IsTrue (state S.Store tx.new.conn.now).is_open → SeesNoRows register_schema (state S.Store tx.new.conn.now)) }
+    ensures made { HasCleanDisk (state S.Store tx.new.conn.now) → SeesNone no_schema (state S.Store tx.old.conn.now) → OnOk result (SeesNone register_schema (state S.Store tx.new.conn.now)) }
     ensures survives { Survives (state S.Store tx.old.conn.now) (state S.Store tx.new.conn.now) (λ _. ⊥) }
 {
     'tables: for at in 0..10 {
@@ -76,22 +74,18 @@ fn create_tables<S: Alter>(tx: &mut Transaction<'_, S>) -> Result<(), Error>
     Ok(())
 }
 
-/// Makes the tables and the row of the season, whose holidays are this text, in one transaction.
-pub(crate) fn build<S: Alter>(
-    conn: &mut Connection<S>,
-    season: &Season,
-    holidays: &str,
-) -> Result<(), Error>
+/// Makes the tables and the row of a season, in one transaction.
+pub(crate) fn build<S: Alter>(conn: &mut Connection<S>, row: &SeasonRow) -> Result<(), Error>
     requires ended { conn.old.in_transaction ≡ false }
     requires empty { conn.old.schema ≡ no_schema }
-    requires season { IsSeason season.now }
-    requires text { holidays.now ≡ days_text season.now.holidays }
     ensures ended { conn.new.in_transaction ≡ false }
-    ensures committed { HasCleanDisk (state S.Store conn.new) → OnOk result (IsTrue (state S.Store conn.new).is_open × StandsFor (state S.Store conn.new).committed.trees (only_season season.now)) }
-    ensures survives { Survives (state S.Store conn.old) (state S.Store conn.new) (λ db. StandsFor db (only_season season.now)) }
+    ensures committed { HasCleanDisk (state S.Store conn.new) → OnOk result (IsTrue (state S.Store conn.new).is_open × StandsForNew row.now (state S.Store conn.new).committed.trees) }
+    ensures survives { Survives (state S.Store conn.old) (state S.Store conn.new) (StandsForNew row.now) }
 {
+    // that the connection sees a database, a call of it says
+    let _tables = conn.schema();
     let mut tx = conn.transaction();
     create_tables(&mut tx)?;
-    season::insert(&mut tx, season, holidays)?;
+    AddSeason::run(&mut tx, row)?;
     tx.commit()
 }

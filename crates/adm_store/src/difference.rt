@@ -3,37 +3,55 @@ ghost use Rattle.std.specs.Prelude.{◌≡◌, map, IfOk};
 ghost use Rattle.adm_register.specs.State.{State as Facts};
 ghost use Rattle.adm_register.specs.Tables.{TouchesOnly};
 ghost use Rattle.adm_register.specs.Difference.{IsDifference};
-ghost use Rattle.adm_store.specs.Changes.{written_school, written_child, written_application, IsChanges};
-ghost use Rattle.adm_store.specs.Forms.{school_row, child_row, application_row};
+ghost use Rattle.adm_store.specs.Changes.{written_season, written_school, written_child, written_application, IsChanges};
+ghost use Rattle.adm_store.specs.Forms.{season_row, school_row, child_row, application_row};
 
 use crate::lists;
-use crate::rows::{ApplicationRow, Changes, ChildRow, SchoolRow};
+use crate::rows::{ApplicationRow, Changes, ChildRow, SchoolRow, SeasonRow};
 use adm_register::{Difference, Register, Shared, Touched, difference_of};
-use adm_types::{Application, Child, School, Seq, Text};
+use adm_types::{Application, Child, School, Season, Seq, Text};
 use std::alloc::{AllocError, Global};
 
-/// A value of a register with a row as it is written.
-trait Lined {
-    ghost use Rattle.sqlite.specs.Order.{Row};
+/// A value of a register, which is written as a row of a table.
+pub(crate) trait ToRow {
+    ghost use Rattle.sqlite.specs.Order.{Row as Columns};
 
-    type Line: Drop;
+    /// The row as a statement takes it.
+    type Row: Drop;
 
-    ghost line: { Self.Line → Row };
+    ghost columns: { Self.Row → Columns };
 
-    ghost row_of: { Self → Row };
+    ghost row_of: { Self → Columns };
 
-    fn written(&self, alloc: Global) -> Result<Self::Line, AllocError>
-        ensures { IfOk result (λ row. line row ≡ row_of self.now) };
+    fn to_row(&self, alloc: Global) -> Result<Self::Row, AllocError>
+        ensures { IfOk result (λ row. columns row ≡ row_of self.now) };
 }
 
-impl Lined for School {
-    type Line = SchoolRow;
+impl ToRow for Season {
+    type Row = SeasonRow;
 
-    ghost line = { written_school };
+    ghost columns = { written_season };
+
+    ghost row_of = { season_row };
+
+    fn to_row(&self, alloc: Global) -> Result<SeasonRow, AllocError> {
+        let holidays = lists::days_text(alloc, self.holidays())?;
+        Ok(SeasonRow {
+            phase: self.phase(),
+            year: self.year(),
+            holidays: Text::from_string(holidays),
+        })
+    }
+}
+
+impl ToRow for School {
+    type Row = SchoolRow;
+
+    ghost columns = { written_school };
 
     ghost row_of = { school_row };
 
-    fn written(&self, alloc: Global) -> Result<SchoolRow, AllocError> {
+    fn to_row(&self, alloc: Global) -> Result<SchoolRow, AllocError> {
         let criteria = lists::criteria_text(alloc, self.criteria.as_slice())?;
         Ok(SchoolRow {
             code: self.code,
@@ -46,14 +64,14 @@ impl Lined for School {
     }
 }
 
-impl Lined for Child {
-    type Line = ChildRow;
+impl ToRow for Child {
+    type Row = ChildRow;
 
-    ghost line = { written_child };
+    ghost columns = { written_child };
 
     ghost row_of = { child_row };
 
-    fn written(&self, alloc: Global) -> Result<ChildRow, AllocError> {
+    fn to_row(&self, alloc: Global) -> Result<ChildRow, AllocError> {
         let siblings = lists::codes_text(alloc, self.siblings.as_slice())?;
         Ok(ChildRow {
             child: self.no,
@@ -67,14 +85,14 @@ impl Lined for Child {
     }
 }
 
-impl Lined for Application {
-    type Line = ApplicationRow;
+impl ToRow for Application {
+    type Row = ApplicationRow;
 
-    ghost line = { written_application };
+    ghost columns = { written_application };
 
     ghost row_of = { application_row };
 
-    fn written(&self, alloc: Global) -> Result<ApplicationRow, AllocError> {
+    fn to_row(&self, alloc: Global) -> Result<ApplicationRow, AllocError> {
         let preferences = lists::codes_text(alloc, self.list.as_slice())?;
         Ok(ApplicationRow {
             child: self.child,
@@ -84,12 +102,12 @@ impl Lined for Application {
     }
 }
 
-fn rows_of<T: Lined>(alloc: Global, values: &[Shared<T>]) -> Result<Vec<T::Line>, AllocError>
-    ensures { IfOk result (λ rows. map T.line rows.items ≡ map T.row_of values.now) }
+fn to_rows<T: ToRow>(alloc: Global, values: &[Shared<T>]) -> Result<Vec<T::Row>, AllocError>
+    ensures { IfOk result (λ rows. map T.columns rows.items ≡ map T.row_of values.now) }
 {
     let mut rows = Vec::new(alloc);
     'values: for value in values {
-        rows.push(value.as_ref().written(alloc)?)?;
+        rows.push(value.as_ref().to_row(alloc)?)?;
     }
     Ok(rows)
 }
@@ -112,9 +130,9 @@ pub fn changes(
 pub fn written(alloc: Global, difference: Difference) -> Result<Changes, AllocError>
     ensures { IfOk result (λ changes. (old new : Facts) → IsDifference old new difference → IsChanges old new changes) }
 {
-    let schools = rows_of(alloc, difference.schools.as_slice())?;
-    let children = rows_of(alloc, difference.children.as_slice())?;
-    let applications = rows_of(alloc, difference.applications.as_slice())?;
+    let schools = to_rows(alloc, difference.schools.as_slice())?;
+    let children = to_rows(alloc, difference.children.as_slice())?;
+    let applications = to_rows(alloc, difference.applications.as_slice())?;
     Ok(Changes {
         schools: Seq::from_vec(schools),
         children: Seq::from_vec(children),

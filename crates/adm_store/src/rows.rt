@@ -1,13 +1,22 @@
 // The rows that a commit writes, table by table.
 ghost use Rattle.std.specs.Prelude.{◌≡◌, ◌+◌, length};
 
-use adm_types::{ChildNo, Day, PlaceRow, SchoolCode, Seq, Text};
+use adm_types::{ChildNo, Day, Phase, PlaceRow, SchoolCode, Seq, Text};
 
 /// The number of a day, as it is written.
 pub(crate) fn number_of(day: Day) -> u32
     ensures { result ≡ day }
 {
     day.number() as u32
+}
+
+/// The row of the table `meta`, as it is written, less its key, its version and the count of draws.
+#[derive(Drop)]
+pub(crate) struct SeasonRow {
+    pub(crate) phase: Phase,
+    pub(crate) year: u32,
+    /// Day numbers counted from 1970-01-01, joined by `;`.
+    pub(crate) holidays: Text,
 }
 
 /// A row of the table `school`, as it is written.

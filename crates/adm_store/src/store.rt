@@ -4,20 +4,21 @@ ghost use Rattle.sqlite.specs.Held.{state};
 ghost use Rattle.sqlite.specs.State.{HasCleanDisk, Survives};
 ghost use Rattle.adm_schema.specs.Schema.{no_schema};
 ghost use Rattle.sqlite.specs.Tree.{Trees};
-ghost use Rattle.adm_register.specs.State.{only_season, State as Facts};
-ghost use Rattle.adm_store.specs.Changes.{IsStep, Commits, CommitsOrNot};
-ghost use Rattle.adm_store.specs.StandsFor.{IsStarted, StandsFor, LeavesOnly, LeavesOldOrNew, LeavesNone};
+ghost use Rattle.adm_register.specs.State.{only_season};
+ghost use Rattle.adm_store.specs.Changes.{AtNext, Commits, CommitsOrNot};
+ghost use Rattle.adm_store.specs.StandsFor.{IsStarted, StandsFor, StandsForNone, LeavesOnly, LeavesOldOrNew, LeavesNone};
 ghost use Rattle.adm_store.specs.Faults.{IsNoRegister};
 ghost use Rattle.adm_store.specs.FirstFault.{IsFirstFault};
 ghost use Rattle.adm_store.specs.Writes.{count_of, writes_of, Writes};
 
 use crate::applications::{CutApplication, PutApplication};
 use crate::children::PutChild;
+use crate::difference::ToRow;
 use crate::places::PutPlace;
 use crate::rows::Changes;
 use crate::schools::AddSchool;
 use crate::statement::run_each;
-use crate::{CreateFault, Failed, OpenFault, creation, lists, reading};
+use crate::{CreateFault, Failed, OpenFault, creation, reading};
 use adm_register::Register;
 use adm_schema::is_register_schema;
 use adm_types::Season;
@@ -52,10 +53,12 @@ pub fn create<S: Alter>(
     if !creation::is_empty(conn.schema()) {
         return Err(CreateFault::InUse);
     }
-    let Ok(holidays) = lists::days_text(alloc, season.holidays()) else {
+    // that it is a season, a call of it says
+    let _days = season.holidays();
+    let Ok(row) = season.to_row(alloc) else {
         return Err(CreateFault::Memory);
     };
-    match creation::build(conn, season, &holidays) {
+    match creation::build(conn, &row) {
         Ok(()) => Ok(()),
         Err(error) => Err(fault_of(error)),
     }
@@ -66,19 +69,19 @@ fn read<S: Alter>(alloc: Global, conn: &mut Connection<S>) -> Result<Register, O
     requires { conn.old.in_transaction ≡ false }
     ensures ended { conn.new.in_transaction ≡ false }
     ensures ok { HasCleanDisk (state S.Store conn.new) → IsTrue (state S.Store conn.old).is_open → IfOk result (λ r. (db : Trees) → (state S.Store conn.old).may_leave db → StandsFor db r) }
-    ensures bad { HasCleanDisk (state S.Store conn.new) → IsTrue (state S.Store conn.old).is_open → IfErr result (λ e. IsNoRegister e → (db : Trees) → (state S.Store conn.old).may_leave db → (r : Facts) → StandsFor db r → ⊥) }
+    ensures bad { HasCleanDisk (state S.Store conn.new) → IsTrue (state S.Store conn.old).is_open → IfErr result (λ e. IsNoRegister e → (db : Trees) → (state S.Store conn.old).may_leave db → StandsForNone db) }
     ensures first { HasCleanDisk (state S.Store conn.new) → IfErr result (λ e. IsNoRegister e → IsFirstFault (state S.Store conn.old).now e) }
     ensures survives { Survives (state S.Store conn.old) (state S.Store conn.new) (λ _. ⊥) }
 {
     let at_rest = conn.is_autocommit();
     prove!(at_rest);
-    let made = is_register_schema(conn.schema());
+    let has_tables = is_register_schema(conn.schema());
     let mut tx = conn.transaction();
     let register = reading::register_in(alloc, &mut tx);
     tx.rollback();
     match register {
         Ok(register) => {
-            if made {
+            if has_tables {
                 Ok(register)
             } else {
                 Err(OpenFault::BadRow)
@@ -176,11 +179,12 @@ fn write<S: Alter>(conn: &mut Connection<S>, changes: &Changes) -> Result<(), Er
     requires ended { conn.old.in_transaction ≡ false }
     requires some { 0 < count_of (writes_of changes.now) }
     ensures ended { conn.new.in_transaction ≡ false }
-    ensures committed { HasCleanDisk (state S.Store conn.new) → OnOk result (IsTrue (state S.Store conn.new).is_open × ((old new : Facts) → IsStep old new changes.now → LeavesOnly old (state S.Store conn.old) → StandsFor (state S.Store conn.new).committed.trees new)) }
-    ensures survives { (old new : Facts) → IsStep old new changes.now → LeavesOnly old (state S.Store conn.old) → Survives (state S.Store conn.old) (state S.Store conn.new) (λ db. StandsFor db new) }
+    ensures committed { HasCleanDisk (state S.Store conn.new) → OnOk result (IsTrue (state S.Store conn.new).is_open × AtNext changes.now (state S.Store conn.old) (StandsFor (state S.Store conn.new).committed.trees)) }
+    ensures survives { AtNext changes.now (state S.Store conn.old) (λ new. Survives (state S.Store conn.old) (state S.Store conn.new) (λ db. StandsFor db new)) }
 {
     let at_rest = conn.is_autocommit();
     prove!(at_rest);
+    // that the connection sees a database, a call of it says
     let _tables = conn.schema();
     let mut tx = conn.transaction();
     write_rows(&mut tx, changes)?;

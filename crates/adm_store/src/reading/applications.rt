@@ -20,7 +20,7 @@ pub(super) struct ApplicationReader {
 impl Reader for ApplicationReader {
     type Item = Application;
 
-    ghost table = { application };
+    ghost table = { λ _. application };
 
     ghost row_of = { application_row };
 
@@ -28,7 +28,7 @@ impl Reader for ApplicationReader {
 
     ghost IsRead = { λ x. AreReadAgain x.list };
 
-    fn select() -> &'static str {
+    fn select(&self) -> &'static str {
         "SELECT child, day, preferences FROM application ORDER BY child"
     }
 

@@ -11,12 +11,13 @@ use adm_types::{Child, Point};
 use sqlite::Row;
 use std::alloc::Global;
 
+#[derive(Drop)]
 pub(super) struct ChildReader;
 
 impl Reader for ChildReader {
     type Item = Child;
 
-    ghost table = { child };
+    ghost table = { λ _. child };
 
     ghost row_of = { child_row };
 
@@ -24,7 +25,7 @@ impl Reader for ChildReader {
 
     ghost IsRead = { λ x. AreReadAgain x.siblings };
 
-    fn select() -> &'static str {
+    fn select(&self) -> &'static str {
         "SELECT child, name, east, north, looked_after, flags, siblings FROM child ORDER BY child"
     }
 

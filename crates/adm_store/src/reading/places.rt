@@ -71,12 +71,13 @@ fn state_of(kind: u32, day: Option<Day>, reminded: Option<Day>) -> Option<PlaceS
     }
 }
 
+#[derive(Drop)]
 pub(super) struct PlaceReader;
 
 impl Reader for PlaceReader {
     type Item = PlaceRow;
 
-    ghost table = { place };
+    ghost table = { λ _. place };
 
     ghost row_of = { place_row };
 
@@ -84,7 +85,7 @@ impl Reader for PlaceReader {
 
     ghost IsRead = { λ _. Unit {0} };
 
-    fn select() -> &'static str {
+    fn select(&self) -> &'static str {
         "SELECT child, school, kind, day, reminded FROM place ORDER BY child"
     }
 

@@ -99,12 +99,13 @@ fn school_columns(row: &Row) -> Result<SchoolColumns, OpenFault>
     })
 }
 
+#[derive(Drop)]
 pub(super) struct SchoolReader;
 
 impl Reader for SchoolReader {
     type Item = School;
 
-    ghost table = { school };
+    ghost table = { λ _. school };
 
     ghost row_of = { school_row };
 
@@ -112,7 +113,7 @@ impl Reader for SchoolReader {
 
     ghost IsRead = { IsReadAgain };
 
-    fn select() -> &'static str {
+    fn select(&self) -> &'static str {
         "SELECT code, name, pan, east, north, criteria FROM school ORDER BY code"
     }
 

@@ -4,14 +4,20 @@ ghost use Rattle.sqlite.specs.declared.types.Value.TheVariants.{Int, Text as Tex
 ghost use Rattle.std.specs.Prelude.{ℕ, List};
 ghost use Rattle.adm_types.specs.Seasons.{SeasonFacts, IsSeason, IsRising};
 ghost use Rattle.adm_store.specs.Forms.{phase_code, days_text, days_of, season_row};
+ghost use Rattle.sqlite.specs.Held.{state};
 ghost use Rattle.sqlite.specs.Order.{column};
-ghost use Rattle.adm_store.specs.FirstFault.{is_one, first_fault};
+ghost use Rattle.sqlite.specs.State.{HasCleanDisk, Survives};
+ghost use Rattle.adm_schema.specs.Schema.{meta};
+ghost use Rattle.adm_store.specs.StandsFor.{HasRows};
+ghost use Rattle.adm_store.specs.Reads.{Finds, SeesTheSame};
+ghost use Rattle.adm_store.specs.FirstFault.{is_one, first_fault, IsFirstFault};
 ghost use Rattle.adm_store.specs.Faults.{IsNoRegister, HasSeasonColumns};
 
 use crate::reading::columns::value_at;
+use crate::reading::queries::query;
 use crate::{OpenFault, lists};
 use adm_types::{Day, Phase, Season, SeasonFault};
-use sqlite::Row;
+use sqlite::{Alter, Row, Transaction};
 use std::alloc::Global;
 
 fn phase_of(number: u32) -> Option<Phase>
@@ -166,7 +172,7 @@ fn season_in(alloc: Global, row: &Row) -> Result<Season, OpenFault>
 }
 
 /// The season of the one row that there may be.
-pub(super) fn season_of(alloc: Global, rows: &[Row]) -> Result<Season, OpenFault>
+fn season_of(alloc: Global, rows: &[Row]) -> Result<Season, OpenFault>
     ensures ok { IfOk result (λ season. rows.now ≡ season_row season ∷ []) }
     ensures season { IfOk result IsSeason }
     ensures bad { IfErr result (λ e. IsNoRegister e → (season : SeasonFacts) → IsSeason season → rows.now ≡ season_row season ∷ [] → ⊥) }
@@ -177,4 +183,24 @@ pub(super) fn season_of(alloc: Global, rows: &[Row]) -> Result<Season, OpenFault
         [row] => season_in(alloc, row),
         _ => Err(OpenFault::BadRow),
     }
+}
+
+/// The season that the table `meta` holds.
+pub(super) fn read_season<S: Alter>(
+    alloc: Global,
+    tx: &mut Transaction<'_, S>,
+) -> Result<Season, OpenFault>
+    ensures same_reference { tx.new.conn.ghost_name ≡ tx.old.conn.ghost_name }
+    ensures ok { IfOk result (λ season. Finds (HasRows meta (season_row season ∷ [])) (state S.Store tx.old.conn.now) (state S.Store tx.new.conn.now)) }
+    ensures season { IfOk result IsSeason }
+    ensures same { OnOk result (SeesTheSame (state S.Store tx.old.conn.now) (state S.Store tx.new.conn.now)) }
+    ensures bad { IfErr result (λ e. IsNoRegister e → (s : SeasonFacts) → IsSeason s → Finds (λ db. ¬ HasRows meta (season_row s ∷ []) db) (state S.Store tx.old.conn.now) (state S.Store tx.new.conn.now)) }
+    ensures version { HasCleanDisk (state S.Store tx.new.conn.now) → OnOk result (IsFirstFault (state S.Store tx.old.conn.now).now OpenFault.BadRow) }
+    ensures first { HasCleanDisk (state S.Store tx.new.conn.now) → IfErr result (λ e. IsNoRegister e → IsFirstFault (state S.Store tx.old.conn.now).now e) }
+    ensures survives { Survives (state S.Store tx.old.conn.now) (state S.Store tx.new.conn.now) (λ _. ⊥) }
+{
+    let text = "SELECT one, version, phase, year, holidays, draws FROM meta";
+    let rows = query(tx, text, OpenFault::NotOurs)?;
+    let season = season_of(alloc, rows.as_slice())?;
+    Ok(season)
 }

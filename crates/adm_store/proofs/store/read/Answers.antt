@@ -7,12 +7,12 @@ use Rattle.adm_store.specs.FirstFault.{IsFirstFault}
 use Rattle.adm_store.proofs.FaultLemmas.{stands_now}
 use Rattle.adm_store.proofs.store.read.Goals as goal
 
-pub returns-else-made-clause-bad : goal.returns-else-made-clause-bad
-returns-else-made-clause-bad g c clean live structural db may r file =
+pub returns-else-has_tables-clause-bad : goal.returns-else-has_tables-clause-bad
+returns-else-has_tables-clause-bad g c clean live structural db may r file =
     let start = c.args.conn.now in
     let it = stands_now (state g.S.Store start) db r file (g.met.S.Store.settled start.store db live may) (c.if-prove.ensures.settled refl live) (c.schema.ensures.live live).0 in
-    let same = c.is_register_schema-made.ensures.1 (c.schema.ensures.value ∙ it.0) in
-    let wrong : true ≡ false = sym same ∙ c.if-made.false in
+    let same = c.is_register_schema-has_tables.ensures.1 (c.schema.ensures.value ∙ it.0) in
+    let wrong : true ≡ false = sym same ∙ c.if-has_tables.false in
     cc
 
 pub returns-in-Err-clause-bad : goal.returns-in-Err-clause-bad
@@ -23,10 +23,10 @@ returns-in-Err-clause-bad g c clean live structural db may r file =
     let late : HasCleanDisk (state g.S.Store c.rollback.new.self.0) = search rules in
     let early : HasCleanDisk mid = omega (arith, c.rollback.ensures.survives.clean) in
     let it = stands_now (state g.S.Store start) db r file (g.met.S.Store.settled start.store db live may) (c.if-prove.ensures.settled refl live) (c.schema.ensures.live live).0 in
-    c.in-Err.ensures.bad early structural (ap (λ (h : Held _). h.schema) begun ∙ it.0) r (subst (λ (h : Held _). HoldsRegister (state g.S.Store h).now.trees r) (sym begun) it.1)
+    c.in-Err.ensures.bad structural r early (ap (λ (h : Held _). h.schema) begun ∙ it.0) (subst (λ (h : Held _). HoldsRegister (state g.S.Store h).now.trees r) (sym begun) it.1)
 
-pub returns-else-made-clause-first : goal.returns-else-made-clause-first
-returns-else-made-clause-first g c clean structural =
+pub returns-else-has_tables-clause-first : goal.returns-else-has_tables-clause-first
+returns-else-has_tables-clause-first g c clean structural =
     let mid = state g.S.Store c.register_in-register.new.tx.conn.now in
     let late : HasCleanDisk (state g.S.Store c.rollback.new.self.0) = search rules in
     let early : HasCleanDisk mid = omega (arith, c.rollback.ensures.survives.clean) in

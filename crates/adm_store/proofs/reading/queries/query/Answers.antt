@@ -1,19 +1,21 @@
 use Rattle.sqlite.specs.Held.{state}
 use Rattle.adm_schema.proofs.Queries.{shows_all, shows_unchanged, never_refused}
 use Rattle.adm_store.proofs.FirstFaultLemmas.{answered, not_asked}
-use Rattle.adm_store.proofs.ReadingLemmas.{few_trees}
-use Rattle.adm_store.proofs.reading.queries.rows_of.Goals as goal
+use Rattle.adm_store.proofs.ReadingLemmas.{few_trees, table_shown}
+use Rattle.adm_store.proofs.reading.queries.query.Goals as goal
 
 pub returns-in-Ok-clause-ok : goal.returns-in-Ok-clause-ok
-returns-in-Ok-clause-ok g c clean has tree project order asks low = shows_all asks (state g.S.Store c.args.tx.now.conn.now) (state g.S.Store c.query_all.new.self.conn.now) c.in-Ok.rows.items (few_trees tree low) has (c.in-Ok.ensures.ok clean)
+returns-in-Ok-clause-ok g c t asks clean has =
+    let old = state g.S.Store c.args.tx.now.conn.now in
+    table_shown t c.args.text.now asks old.now.trees c.in-Ok.rows.items (shows_all asks.asks old (state g.S.Store c.query_all.new.self.conn.now) c.in-Ok.rows.items (few_trees t.tree asks.few) has (c.in-Ok.ensures.ok clean))
 
 pub returns-in-Ok-clause-same : goal.returns-in-Ok-clause-same
-returns-in-Ok-clause-same g c clean has tree project order asks = (shows_unchanged asks (state g.S.Store c.args.tx.now.conn.now) (state g.S.Store c.query_all.new.self.conn.now) c.in-Ok.rows.items has (c.in-Ok.ensures.ok clean)).0.now_is
+returns-in-Ok-clause-same g c t asks clean has = (shows_unchanged asks.asks (state g.S.Store c.args.tx.now.conn.now) (state g.S.Store c.query_all.new.self.conn.now) c.in-Ok.rows.items has (c.in-Ok.ensures.ok clean)).0.now_is
 
 pub returns-in-Err-clause-bad : goal.returns-in-Err-clause-bad
-returns-in-Err-clause-bad g c clean structural has tree project order asks =
+returns-in-Err-clause-bad g c structural t asks clean has =
     let text = (c.fault_of.ensures structural).1 in
-    never_refused asks (state g.S.Store c.args.tx.now.conn.now) (state g.S.Store c.query_all.new.self.conn.now) c.in-Err.error text.0 has text.1 (c.in-Err.ensures.err clean)
+    never_refused asks.asks (state g.S.Store c.args.tx.now.conn.now) (state g.S.Store c.query_all.new.self.conn.now) c.in-Err.error text.0 has text.1 (c.in-Err.ensures.err clean)
 
 pub returns-in-Ok-clause-answered : goal.returns-in-Ok-clause-answered
 returns-in-Ok-clause-answered g c clean = answered c.args.text.now (state g.S.Store c.args.tx.now.conn.now) (state g.S.Store c.query_all.new.self.conn.now) c.in-Ok.rows.items (c.in-Ok.ensures.ok clean)

@@ -1,8 +1,0 @@
-use Rattle.std.proofs.Common.{◌≡◌, ◌∙◌, ap, [], ◌∷◌, ◌++◌, rules}
-use Rattle.adm_store.proofs.LoopLemmas.{written_more}
-use Rattle.adm_store.proofs.difference.rows_of.Goals as goal
-
-pub values-preserved : goal.values-preserved
-values-preserved g c =
-    let items : c.push.new.self.items ≡ c.values.rows.items ++ c.in_ok-written.field-0 ∷ [] = search rules in
-    written_more g.T.Lined.line g.T.Lined.row_of c.args.values.now c.values.value-index c.value-item.result _ _ _ c.values-test.true c.value-item.is c.values.invariant items (c.in_ok-written.ensures ∙ ap g.T.Lined.row_of c.as_ref.ensures)

@@ -1,0 +1,53 @@
+use Rattle.std.proofs.Common.{◌∙◌, refl, sym, ap, subst, arith}
+use Rattle.std.proofs.lemmas.List.Sorted.{IsPermutation-sym, IsPermutation-trans}
+use Rattle.std.proofs.lemmas.Result.{err_from_is_err_and}
+use Rattle.sqlite.specs.Held.{state}
+use Rattle.sqlite.proofs.Callers.{one_permutation}
+use Rattle.adm_schema.specs.Schema.{meta}
+use Rattle.adm_schema.specs.Texts.{select_meta}
+use Rattle.adm_schema.proofs.Texts.{asks_meta}
+use Rattle.adm_store.specs.declared.fault.OpenFault.TheVariants.{BadRow}
+use Rattle.adm_store.specs.Forms.{season_row}
+use Rattle.adm_store.specs.FirstFault.{first_fault}
+use Rattle.adm_store.specs.Reads.{AsksAll}
+use Rattle.adm_store.specs.StandsFor.{HasRows}
+use Rattle.adm_store.proofs.FirstFaultLemmas.{first_by_rows, first_refused}
+use Rattle.adm_store.proofs.reading.season.read_season.Goals as goal
+
+asks : AsksAll meta select_meta
+asks = record { project = _; order = _; asks = asks_meta; columns = λ _. refl; few = omega arith }
+
+pub returns-clause-ok : goal.returns-clause-ok
+returns-clause-ok g c clean has = subst (λ rows. HasRows meta rows (state g.S.Store c.args.tx.now.conn.now).now.trees) (sym c.as_slice.ensures.value ∙ c.in_ok-season.ensures.ok) (c.in_ok-rows.ensures.ok meta asks clean has)
+
+pub returns-clause-same : goal.returns-clause-same
+returns-clause-same g c = c.in_ok-rows.ensures.same meta asks
+
+pub returns-in_err-rows-clause-bad : goal.returns-in_err-rows-clause-bad
+returns-in_err-rows-clause-bad g c =
+    let p = err_from_is_err_and c.from_residual.result c.from_residual.ensures.1 in
+    rw (p.1, p.2) (λ structural s is clean has held. c.in_err-rows.ensures.bad structural meta asks clean has)
+
+pub returns-in_err-season-clause-bad : goal.returns-in_err-season-clause-bad
+returns-in_err-season-clause-bad g c =
+    let p = err_from_is_err_and c.from_residual-in_err-season.result c.from_residual-in_err-season.ensures.1 in
+    rw (p.1, p.2) (λ structural s is clean has held.
+    let one = one_permutation (season_row s) c.in_ok-rows.rows.items (IsPermutation-trans _ _ _ held (IsPermutation-sym _ _ (c.in_ok-rows.ensures.ok meta asks clean has))) in
+    c.in_err-season.ensures.bad structural s is (c.as_slice.ensures.value ∙ one))
+
+pub returns-in_err-rows-clause-first : goal.returns-in_err-rows-clause-first
+returns-in_err-rows-clause-first g c clean =
+    let p = err_from_is_err_and c.from_residual.result c.from_residual.ensures.1 in
+    rw (p.1, p.2) (λ structural.
+    let refused = c.in_err-rows.ensures.refused clean structural in
+    first_refused _ _ refused.1 (λ has. c.in_err-rows.ensures.bad structural meta asks clean has) refused.0)
+
+pub returns-in_err-season-clause-first : goal.returns-in_err-season-clause-first
+returns-in_err-season-clause-first g c clean =
+    let p = err_from_is_err_and c.from_residual-in_err-season.result c.from_residual-in_err-season.ensures.1 in
+    rw (p.1, p.2) (λ structural. first_by_rows _ c.in_ok-rows.rows.items _ (c.in_ok-rows.ensures.answered clean) (λ has. IsPermutation-sym _ _ (c.in_ok-rows.ensures.ok meta asks clean has)) (c.in_err-season.ensures.first structural ∙ ap first_fault c.as_slice.ensures.value))
+
+pub returns-clause-version : goal.returns-clause-version
+returns-clause-version g c clean =
+    let row = sym c.as_slice.ensures.value ∙ c.in_ok-season.ensures.ok in
+    first_by_rows _ c.in_ok-rows.rows.items BadRow (c.in_ok-rows.ensures.answered clean) (λ has. IsPermutation-sym _ _ (c.in_ok-rows.ensures.ok meta asks clean has)) (sym (ap first_fault row))
