@@ -5,4 +5,4 @@ pub mod Schema
 pub mod Creations
 pub mod Texts
 pub mod RowTexts
-pub mod Made
+pub mod Expected

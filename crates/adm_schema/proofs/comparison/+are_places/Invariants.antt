@@ -1,5 +1,5 @@
 use Rattle.std.proofs.Common.{length}
-use Rattle.adm_schema.proofs.made.+are_places.Given as goal
+use Rattle.adm_schema.proofs.comparison.+are_places.Given as goal
 
 abbrev pub decreases-are_places : goal.decreases-are_places
 decreases-are_places l = length l.lists.now

@@ -1,5 +1,5 @@
 use Rattle.std.proofs.Common.{length}
-use Rattle.adm_schema.proofs.made.+are_columns.Given as goal
+use Rattle.adm_schema.proofs.comparison.+are_columns.Given as goal
 
 abbrev pub decreases-are_columns : goal.decreases-are_columns
 decreases-are_columns l = length l.columns.now

@@ -1,5 +1,5 @@
 use Rattle.std.proofs.Common.{length}
-use Rattle.adm_schema.proofs.made.+are_ascending.Given as goal
+use Rattle.adm_schema.proofs.comparison.+are_ascending.Given as goal
 
 abbrev pub decreases-are_ascending : goal.decreases-are_ascending
 decreases-are_ascending l = length l.orders.now
