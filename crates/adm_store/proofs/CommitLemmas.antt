@@ -1,12 +1,9 @@
 -- What a transaction of the store leaves.
-use Rattle.std.proofs.Common.{◌≡◌, ◌≤◌, ◌<◌, ◌+◌, ℕ, pos, length, inl, inr, List, [], ◌∷◌, ◌++◌, map, not, refl, sym, ap, ◌∙◌, subst, IsTrue, true, false, Ok, Err, Result, Some, None, Option, OnOk, arith}
-use Rattle.std.specs.Prelude.{is_some}
-use Rattle.std.specs.Ordering.{nat_cmp}
-use Rattle.std.specs.Cmp.{nat_cmp_total}
+use Rattle.std.proofs.Common.{◌≡◌, ◌≤◌, ◌<◌, ◌+◌, length, inl, inr, List, [], ◌∷◌, ◌++◌, map, refl, sym, ap, ◌∙◌, subst, IsTrue, true, false, Ok, Err, Result, OnOk, arith}
 use Rattle.std.proofs.lemmas.List.{map-append, length-map}
 use Rattle.std.specs.List.Sorted.{IsPermutation}
 use Rattle.std.proofs.lemmas.List.Sorted.{length_permutation, IsPermutation-refl, IsPermutation-map, IsPermutation-trans, IsPermutation-append_left, IsPermutation-sym}
-use Rattle.std.specs.FinMap.{FinMap, get, values, contains_key, nat_cmp-IsAntisymmetric}
+use Rattle.std.specs.FinMap.{values}
 use Rattle.adm_types.specs.declared.rows.Child.{Child}
 use Rattle.adm_types.specs.declared.rows.Application.{Application}
 use Rattle.adm_types.specs.declared.rows.PlaceRow.{PlaceRow}
@@ -15,13 +12,11 @@ use Rattle.adm_types.specs.contracts.rows.Application.{the_row as application_co
 use Rattle.adm_types.specs.contracts.rows.PlaceRow.{the_row as place_code}
 use Rattle.adm_register.specs.State.{State as Register}
 use Rattle.adm_types.specs.Seasons.{SeasonFacts}
-use Rattle.adm_register.specs.WellFormed.{WellFormed}
 use Rattle.adm_register.specs.Rows.{rows_of as rows_of_register}
-use Rattle.adm_register.specs.Difference.{ended}
 use Rattle.sqlite.specs.Order.{Row}
 use Rattle.sqlite.specs.Table.{Table}
 use Rattle.sqlite.specs.Tree.{Trees}
-use Rattle.sqlite.specs.Edit.{have_rowids, without_all}
+use Rattle.sqlite.specs.Edit.{have_rowids}
 use Rattle.sqlite.specs.Effect.{Database}
 use Rattle.sqlite.specs.State.{State, HasCleanDisk, IsLive, Shows, Survives}
 use Rattle.sqlite.proofs.StateLemmas.{survives_then}
@@ -32,12 +27,9 @@ use Rattle.sqlite_trees.specs.Objects.{catalog_tree}
 use Rattle.sqlite_catalog.specs.Listing.{IsSound, Lists}
 use Rattle.sqlite_catalog.proofs.ReadLemmas.{lists_once}
 use Rattle.sqlite_rules.specs.Lists.{Has}
-use Rattle.sqlite_rules.proofs.ListLemmas.{has_filtered, has_kept}
 use Rattle.sqlite.proofs.Callers.{one_permutation}
 use Rattle.adm_schema.specs.Rows.{rows_of}
-use Rattle.adm_schema.specs.Effects.{key_of, put_each}
 use Rattle.adm_schema.specs.Schema.{left_list, draw, offer, lot, imported, register_schema}
-use Rattle.adm_schema.proofs.Lists.{has_source, has_mapped}
 use Rattle.adm_store.specs.Forms.{season_row, school_row, child_row, application_row, place_row}
 use Rattle.adm_store.specs.StandsFor.{StandsFor, HasRows, HoldsRegister, LeavesOnly, LeavesEither, written_in, written_tables}
 use Rattle.adm_store.specs.Changes.{IsStep, written_school, written_child, written_application}
@@ -45,7 +37,9 @@ use Rattle.adm_store.specs.Writes.{Write, Leaves, Writes, after, are_keyed, coun
 use Rattle.adm_store.specs.declared.rows.Changes.{Changes}
 use Rattle.adm_store.proofs.LogLemmas.{after_none, keyed_none, no_rows}
 use Rattle.adm_store.proofs.RegisterRows.{each_table}
-use Rattle.adm_store.proofs.MapLemmas.{old_and_new, coded_stable, table_new, less_each, other_key, gone_key, still_none, has_value}
+use Rattle.adm_store.proofs.MapLemmas.{coded_stable}
+use Rattle.adm_store.proofs.SchoolMaps.{old_and_new}
+use Rattle.adm_store.proofs.TurnLemmas.{put_over, cut_and_put}
 
 -- outside a transaction, what a connection sees of a file that stands for a register
 pub holds_now : (s : State) (r : Register) → LeavesOnly r s → (IsTrue s.is_open → s.may_leave s.committed.trees) → (IsTrue s.is_open → s.now ≡ s.committed) → IsLive s
@@ -61,72 +55,11 @@ school_rows : (old new : Register) (changes : Changes) → IsStep old new change
     → IsPermutation (was ++ map written_school changes.schools) now → IsPermutation (map school_row (values new.schools)) now
 school_rows old new changes step was now held adds =
     let news = step.changes_are.difference.schools in
-    let more = IsPermutation-map school_row _ _ (IsPermutation-sym _ _ (old_and_new old new news step.formed step.extends step.changes_are.differs.schools)) in
+    let more = IsPermutation-map school_row _ _ (IsPermutation-sym _ _ (old_and_new old new news step.formed step.schools step.changes_are.differs.schools)) in
     let parts = map-append school_row (values old.schools) news in
     let each = subst (λ xs. IsPermutation (map school_row (values new.schools)) xs) parts more in
     let put = subst (λ xs. IsPermutation (map school_row (values new.schools)) (map school_row (values old.schools) ++ xs)) (sym step.changes_are.schools) each in
     IsPermutation-trans _ _ _ put (IsPermutation-trans _ _ _ (IsPermutation-append_left (map written_school changes.schools) _ _ held) adds)
-
--- where every key stays, none is gone
-still_there : {V : Type 0} (old new : FinMap nat_cmp V) → ((q : ℕ) → IsTrue (contains_key old q) → IsTrue (contains_key new q)) → (q : ℕ) → get new q ≡ None → get old q ≡ None
-still_there old new stay q none = go (get old q) refl
-  where
-    go : (o : Option _) → get old q ≡ o → o ≡ None
-    go None is = refl
-    go (Some v) is = absurd (let wrong : true ≡ false = sym (stay q (ap is_some is)) ∙ ap is_some none in cc)
-
-child_rows : (old new : Register) (changes : Changes) → IsStep old new changes → WellFormed old → (was now : List Row) → IsPermutation (map child_row (values old.children)) was
-    → (IsTrue (have_rowids was) → IsPermutation (put_each was (map written_child changes.children)) now) → IsPermutation (map child_row (values new.children)) now
-child_rows old new changes step formed was now held turns =
-    table_new (λ (c : Child). c.no) child_row (λ _. refl) (coded_stable child_code.coded) old.children new.children [] step.changes_are.difference.children (map written_child changes.children) was now
-    (λ k v there. (formed.base.children_fit k v there).own_number) (λ k v there. (step.formed.base.children_fit k v there).own_number) step.changes_are.differs.children
-    (still_there old.children new.children step.extends.children) (λ q v there. refl) step.changes_are.children held turns
-
-place_rows : (old new : Register) (changes : Changes) → IsStep old new changes → WellFormed old → (was now : List Row) → IsPermutation (map place_row (values old.places)) was
-    → (IsTrue (have_rowids was) → IsPermutation (put_each was (map place_row changes.places)) now) → IsPermutation (map place_row (values new.places)) now
-place_rows old new changes step formed was now held turns =
-    table_new (λ (p : PlaceRow). p.child) place_row (λ _. refl) (coded_stable place_code.coded) old.places new.places [] step.changes_are.difference.places (map place_row changes.places) was now
-    (λ k v there. (formed.places k v there).own_number) (λ k v there. (step.formed.places k v there).own_number) step.changes_are.differs.places
-    (still_there old.places new.places step.extends.places) (λ q v there. refl) (ap (map place_row) step.changes_are.places) held turns
-
--- the keys of rows that are keys alone
-keys_are : (keys : List ℕ) → map key_of (map key_row keys) ≡ map pos keys
-keys_are [] = refl
-keys_are (key ∷ keys) = ap (λ ks. pos key ∷ ks) (keys_are keys)
-
-abbrev child_of : Application → ℕ
-child_of a = a.child
-
-application_rows : (old new : Register) (changes : Changes) → IsStep old new changes → WellFormed old → (was now : List Row) → IsPermutation (map application_row (values old.applications)) was
-    → (IsTrue (have_rowids was) → IsPermutation (put_each (without_all was (map key_of (map key_row changes.ended))) (map written_application changes.applications)) now) → IsPermutation (map application_row (values new.applications)) now
-application_rows old new changes step formed was now held turns =
-    table_new child_of application_row (λ _. refl) (coded_stable application_code.coded) old.applications new.applications changes.ended step.changes_are.difference.applications (map written_application changes.applications) was now
-    own (λ k v there. (step.formed.base.applications_fit k v there).own_number) step.changes_are.differs.applications
-    (λ q none. gone q none (get old.applications q) refl)
-    (λ q v there. other_key child_of application_row (λ _. refl) changes.ended old.applications q (λ h. stays q v there h)) step.changes_are.applications held
-    (λ keyed. subst (λ keys. IsPermutation (put_each (without_all was keys) (map written_application changes.applications)) now) (keys_are changes.ended) (turns keyed))
-  where
-    own : (k : ℕ) (a : Application) → get old.applications k ≡ Some a → a.child ≡ k
-    own k a there = (formed.base.applications_fit k a there).own_number
-
-    keys : changes.ended ≡ map child_of (ended old new)
-    keys = step.changes_are.ended ∙ step.changes_are.differs.ended
-
-    gone : (q : ℕ) → get new.applications q ≡ None → (o : Option Application) → get old.applications q ≡ o → get (less_each child_of application_row (λ _. refl) old.applications changes.ended) q ≡ None
-    gone q none None was = still_none child_of application_row (λ _. refl) changes.ended old.applications q was
-    gone q none (Some a) was =
-        let at : a.child ≡ q = own q a was in
-        let lacks : not (contains_key new.applications a.child) ≡ true = ap (λ k. not (contains_key new.applications k)) at ∙ ap (λ o. not (is_some o)) none in
-        let is_ended = has_kept (λ (x : Application). not (contains_key new.applications x.child)) (values old.applications) a (has_value nat_cmp_total nat_cmp-IsAntisymmetric old.applications q a was) lacks in
-        gone_key child_of application_row (λ _. refl) changes.ended old.applications q (subst (λ ks. Has ks q) (sym keys) (subst (Has (map child_of (ended old new))) at (has_mapped child_of (ended old new) a is_ended)))
-
-    stays : (q : ℕ) (v : Application) → get new.applications q ≡ Some v → Has changes.ended q → ⊥
-    stays q v there h =
-        let it = has_source child_of (ended old new) q (subst (λ ks. Has ks q) keys h) in
-        let lacks = (has_filtered (λ (x : Application). not (contains_key new.applications x.child)) (values old.applications) it.0 it.1).1 in
-        let here : not (contains_key new.applications it.0.child) ≡ false = ap (λ k. not (contains_key new.applications k)) (sym it.2) ∙ ap (λ o. not (is_some o)) there in
-        let wrong : true ≡ false = sym lacks ∙ here in
-        cc
 
 -- a table in which nothing is written, before and after
 still_empty : (t : Table) (was now : List Row) → IsPermutation [] was → (IsTrue (are_keyed t was) → IsPermutation was now) → IsPermutation [] now
@@ -152,7 +85,7 @@ Becomes was now old new changes t =
 
 -- trees that come of those of the old register by these changes
 new_trees : (was now : Trees) (old new : Register) (changes : Changes) → IsStep old new changes → HoldsRegister was old → IsSound register_schema now → Moves (writes_of changes) was now → StandsFor now new
-new_trees was now old new changes step held sound moves = record {
+new_trees was now old new changes step held sound moves = let are = step.changes_are in let differs = are.differs in record {
   sound = sound;
   holds = record {
     rows = record {
@@ -161,11 +94,11 @@ new_trees was now old new changes step held sound moves = record {
         (
           λ had turn. school_rows old new changes step _ _ had (turn refl),
           (
-            λ had turn. child_rows old new changes step held.formed _ _ had turn,
+            λ had turn. put_over (λ (c : Child). c.no) child_row (λ _. refl) (coded_stable child_code.coded) old.children new.children (λ k v is. (held.formed.base.children_fit k v is).own_number) (λ k v is. (step.formed.base.children_fit k v is).own_number) _ differs.children _ _ _ are.children had step.extends.children turn,
             (
-              λ had turn. application_rows old new changes step held.formed _ _ had turn,
+              λ had turn. cut_and_put (λ (a : Application). a.child) application_row (λ _. refl) (coded_stable application_code.coded) old.applications new.applications (λ k v is. (held.formed.base.applications_fit k v is).own_number) (λ k v is. (step.formed.base.applications_fit k v is).own_number) _ differs.applications _ _ _ are.applications had changes.ended (are.ended ∙ differs.ended) turn,
               (
-                λ had turn. place_rows old new changes step held.formed _ _ had turn,
+                λ had turn. cut_and_put (λ (p : PlaceRow). p.child) place_row (λ _. refl) (coded_stable place_code.coded) old.places new.places (λ k v is. (held.formed.places k v is).own_number) (λ k v is. (step.formed.places k v is).own_number) _ differs.places _ _ _ (ap (map place_row) are.places) had changes.vacated (are.vacated ∙ differs.vacated) turn,
                 (still_empty left_list _ _, (still_empty draw _ _, (still_empty offer _ _, (still_empty lot _ _, (still_empty imported _ _, tt))))),
               ),
             ),
@@ -206,8 +139,8 @@ wrote g start begun last old new changes is stays settled live step before clean
     stands (state g begun) last old new changes step (holds early written.was_open) written
 
 -- the rows and keys of a commit, counted
-pub count_is : (c : Changes) → count_of (writes_of c) ≡ (length c.schools + length c.children + length c.applications + length c.places) + length c.ended
-count_is c = omega (arith, length-map c.schools written_school, length-map c.children written_child, length-map c.applications written_application, length-map c.places place_row, length-map c.ended key_row)
+pub count_is : (c : Changes) → count_of (writes_of c) ≡ (length c.schools + length c.children + length c.applications + length c.places) + (length c.ended + length c.vacated)
+count_is c = omega (arith, length-map c.schools written_school, length-map c.children written_child, length-map c.applications written_application, length-map c.places place_row, length-map c.ended key_row, length-map c.vacated key_row)
 
 -- a file that stands for the old register stands for the new one, where nothing changed
 pub no_change : (old new : Register) (changes : Changes) → IsStep old new changes → count_of (writes_of changes) ≡ 0 → (db : Trees) → StandsFor db old → StandsFor db new

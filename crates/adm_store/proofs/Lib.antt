@@ -1,6 +1,9 @@
 pub mod SeasonLemmas
 pub mod SchoolLemmas
+pub mod Entries
 pub mod MapLemmas
+pub mod SchoolMaps
+pub mod TurnLemmas
 pub mod LoopLemmas
 pub mod LogLemmas
 pub mod WriteLemmas

@@ -1,20 +1,19 @@
--- Maps of rows, and the rows of a table that hold them.
-use Rattle.std.proofs.Common.{◌≡◌, ◌∙◌, ◌⊎◌, inl, inr, pos, Bool, true, false, not, cond, List, [], ◌∷◌, ◌++◌, map, filter, ℕ, Some, None, Option, refl, sym, ap, subst, arith}
+-- Maps by numbers, and the rows of a table that hold them.
+use Rattle.std.proofs.Common.{◌≡◌, ◌∙◌, ◌⊎◌, inl, inr, pos, Bool, true, false, not, cond, List, [], ◌∷◌, map, ℕ, Some, None, Option, refl, sym, ap, subst, arith}
 use base.Stored.{Gv, gnil, gnum, gcons}
 use Rattle.std.specs.Coded.{Coded}
 use Rattle.std.proofs.lemmas.Bool.{and_parts}
-use Rattle.std.specs.Prelude.{T, ◌&&◌, nat_eq, is_some, IsTrue}
+use Rattle.std.specs.Prelude.{T, ◌&&◌, nat_eq, IsTrue}
 use Rattle.std.specs.List.Sorted.{IsPermutation}
-use Rattle.std.proofs.lemmas.List.Sorted.{IsPermutation-refl, IsPermutation-sym, IsPermutation-trans, IsPermutation-cons, IsPermutation-map, IsPermutation-append_left, IsPermutation-append_comm, IsPermutation-filter_both, Contains-permutation}
+use Rattle.std.proofs.lemmas.List.Sorted.{IsPermutation-refl, IsPermutation-sym, IsPermutation-trans, IsPermutation-cons, IsPermutation-map, IsPermutation-append_left, IsPermutation-append_comm, Contains-permutation}
 use Rattle.std.proofs.lemmas.Int.{ints}
 use Rattle.std.proofs.lemmas.Bool.Decides.{nat_tests}
 use Rattle.std.specs.declared.cmp.Ordering.{Ordering}
 use Rattle.std.specs.declared.cmp.Ordering.TheVariants.{Less, Equal, Greater}
-use Rattle.std.specs.Ordering.{is_eq, is_lt, eq_by_cmp, nat_cmp}
+use Rattle.std.specs.Ordering.{is_eq, eq_by_cmp, nat_cmp}
 use Rattle.std.specs.Cmp.{IsTotalOrder, tied_itself, eq_by_cmp_equiv, nat_cmp_total}
-use Rattle.std.specs.Cmp.Lexicographic.{nat_list_cmp_total}
-use Rattle.std.specs.FinMap.Entries.{where_key, put, by_order, below_all, is_sorted-where_key, find-where_key, same_entries}
-use Rattle.std.specs.FinMap.{FinMap, find, is_sorted, get, values, insert, remove, entries, entries_sorted, entries-insert, get-entries, get-insert, get-remove, same_map, contains_key, IsAntisymmetric, slice_cmp-IsAntisymmetric, nat_cmp-IsAntisymmetric}
+use Rattle.std.specs.FinMap.Entries.{where_key, put, by_order, is_sorted-where_key, find-where_key, same_entries}
+use Rattle.std.specs.FinMap.{FinMap, is_sorted, get, values, insert, remove, entries, entries_sorted, entries-insert, get-entries, get-insert, get-remove, same_map, nat_cmp-IsAntisymmetric}
 use Rattle.sqlite.specs.declared.types.Value.TheVariants.{Int}
 use Rattle.sqlite.specs.Order.{Row, value_cmp}
 use Rattle.sqlite.specs.Tree.{rowid, has_rowid, without_rowid}
@@ -23,88 +22,10 @@ use Rattle.sqlite.specs.View.{is_int}
 use Rattle.sqlite_value.proofs.OrderLemmas.{value_cmp-Int}
 use Rattle.sqlite_rules.specs.Lists.{Has}
 use Rattle.sqlite_rules.proofs.ListLemmas.{has_filtered, has_kept, has_contained, contains_had, test_has, test_from}
-use Rattle.adm_types.specs.declared.rows.School.{School}
-use Rattle.adm_register.specs.State.{State as Register, code_cmp}
-use Rattle.adm_register.specs.WellFormed.{WellFormed}
 use Rattle.adm_register.specs.Difference.{AreNew}
-use Rattle.adm_register.specs.Extends.{Extends}
 use Rattle.adm_schema.specs.Effects.{put_in, put_each}
-use Rattle.adm_schema.proofs.Lists.{has_source}
 use Rattle.adm_schema.proofs.Inside.{put_moved, without_moved}
-
-is_less : (o : Ordering) → T (is_lt o) → o ≡ Less
-is_less Less h = refl
-is_less Equal h = absurd h
-is_less Greater h = absurd h
-
-is_tie : (o : Ordering) → is_eq o ≡ true → o ≡ Equal
-is_tie Less h = absurd (cc)
-is_tie Equal h = refl
-is_tie Greater h = absurd (cc)
-
-both_hold : (a b : Bool) → T (a && b) → T a × T b
-both_hold true b h = (tt, h)
-both_hold false b h = absurd h
-
-same_Some : {A : Type 0} (x y : A) → Some x ≡ Some y → x ≡ y
-same_Some x y e = cc
-
-not_Some : {A : Type 0} (x : A) → None ≡ Some x → ⊥
-not_Some x e = cc
-
--- ---- the entries of a map
-
-module _ {K V : Type 0} {R : K → K → Ordering} (total : IsTotalOrder R) (same : IsAntisymmetric R) where
-  pub below : (k : K) (es : List (K × V)) (e : K × V) → T (below_all R k es) → Has es e → R k e.0 ≡ Less
-  below k [] e all h = absurd h
-  below k (x ∷ es) e all (inl is) = ap (λ (y : K × V). R k y.0) is ∙ is_less _ (both_hold _ _ all).0
-  below k (x ∷ es) e all (inr h) = below k es e (both_hold _ _ all).1 h
-
-  -- each entry is found at its key
-  pub found : (es : List (K × V)) → T (is_sorted R es) → (e : K × V) → Has es e → find R e.0 es ≡ Some e.1
-  found [] sorted e h = absurd h
-  found (x ∷ es) sorted e (inl is) =
-      subst (λ (y : K × V). find R y.0 (x ∷ es) ≡ Some y.1) (sym is) (ap (λ o. cond (is_eq o) (Some x.1) (find R x.0 es)) (tied_itself total x.0))
-  found (x ∷ es) sorted e (inr h) =
-      let parts = both_hold _ _ sorted in
-      go (eq_by_cmp R e.0 x.0) refl (below x.0 es e parts.0 h) (found es parts.1 e h)
-    where
-      go : (b : Bool) → eq_by_cmp R e.0 x.0 ≡ b → R x.0 e.0 ≡ Less → find R e.0 es ≡ Some e.1 → cond b (Some x.1) (find R e.0 es) ≡ Some e.1
-      go true tie less there = absurd (
-          let is : e.0 ≡ x.0 = same e.0 x.0 (is_tie _ tie) in
-          let wrong : Less ≡ Equal = sym less ∙ ap (λ k. R x.0 k) is ∙ tied_itself total x.0 in
-          cc
-          )
-      go false tie less there = there
-
-  -- what is found is an entry
-  had : (q : K) (es : List (K × V)) (v : V) → find R q es ≡ Some v → Has (map (λ e. e.1) es) v
-  had q [] v there = absurd (not_Some v there)
-  had q (e ∷ es) v there = go (eq_by_cmp R q e.0) there (had q es v)
-    where
-      go : (b : Bool) → cond b (Some e.1) (find R q es) ≡ Some v → (find R q es ≡ Some v → Has (map (λ x. x.1) es) v) → Has (map (λ x. x.1) (e ∷ es)) v
-      go true here later = inl (sym (same_Some _ _ here))
-      go false there later = inr (later there)
-
-  pub has_value : (m : FinMap R V) (q : K) (v : V) → get m q ≡ Some v → Has (values m) v
-  has_value m q v there = had q (entries m) v (sym (get-entries m q) ∙ there)
-
-  module _ (key : V → K) where
-    abbrev pub OwnKeys : FinMap R V → Type 0
-    OwnKeys m = (k : K) (v : V) → get m k ≡ Some v → key v ≡ k
-
-    pub own_entry : (m : FinMap R V) → OwnKeys m → (e : K × V) → Has (entries m) e → key e.1 ≡ e.0
-    own_entry m own e h = own e.0 e.1 (get-entries m e.0 ∙ found (entries m) (entries_sorted m) e h)
-
-    -- each row stands at its own key
-    pub value_at : (m : FinMap R V) → OwnKeys m → (v : V) → Has (values m) v → get m (key v) ≡ Some v
-    value_at m own v h =
-        let it = has_source (λ (e : K × V). e.1) (entries m) v h in
-        let there : get m it.0.0 ≡ Some it.0.1 = get-entries m it.0.0 ∙ found (entries m) (entries_sorted m) it.0 it.1 in
-        let at : key it.0.1 ≡ it.0.0 = own it.0.0 it.0.1 there in
-        ap (λ w. get m (key w)) it.2 ∙ ap (get m) at ∙ there ∙ ap Some (sym it.2)
-
--- ---- a map by numbers, and the rows of a table that hold it
+use Rattle.adm_store.proofs.Entries.{is_tie, both_hold, same_Some, not_Some, below, has_value, own_entry, value_at}
 
 less_both : (k a b : ℕ) → nat_cmp k a ≡ Less → nat_cmp a b ≡ Less → nat_cmp k b ≡ Less
 less_both k a b p q = grind (arith, nat_tests)
@@ -363,56 +284,3 @@ module _ {V : Type 0} (key : V → ℕ) (row_of : V → Row) (own_rowid : (v : V
       let keyed = keyed_moved (map row_of (values old)) was held (rows_keyed (values old)) in
       let holds = holds_new stable old new keys news was own_old own_new differ gone stays held in
       IsPermutation-trans _ _ _ (subst (λ xs. IsPermutation (map row_of (values new)) (put_each (without_all was (map pos keys)) xs)) (sym same) holds) (turns keyed)
-
--- ---- the schools, of which none changes
-
-code_same : IsAntisymmetric code_cmp
-code_same = slice_cmp-IsAntisymmetric nat_cmp-IsAntisymmetric
-
-abbrev code_of : School → List ℕ
-code_of s = s.code
-
-abbrev Entry : Type 0
-Entry = List ℕ × School
-
-filter_values : (p : List ℕ → Bool) (es : List Entry) → ((e : Entry) → Has es e → e.1.code ≡ e.0) → filter (λ (s : School). p s.code) (map (λ e. e.1) es) ≡ map (λ e. e.1) (where_key code_cmp p es)
-filter_values p [] own = refl
-filter_values p (e ∷ es) own = go (p e.0) (p e.1.code) (ap p (own e (inl refl))) (filter_values p es (λ x h. own x (inr h)))
-  where
-    go : (a b : Bool) → b ≡ a → filter (λ (s : School). p s.code) (map (λ e. e.1) es) ≡ map (λ e. e.1) (where_key code_cmp p es)
-        → cond b (e.1 ∷ filter (λ (s : School). p s.code) (map (λ e. e.1) es)) (filter (λ (s : School). p s.code) (map (λ e. e.1) es)) ≡ map (λ e. e.1) (cond a (e ∷ where_key code_cmp p es) (where_key code_cmp p es))
-    go true true same rest = ap (λ xs. e.1 ∷ xs) rest
-    go true false same rest = absurd (cc)
-    go false true same rest = absurd (cc)
-    go false false same rest = rest
-
--- the entries of the new register at the codes of the old one are the old one's
-old_entries : (old new : Register) → Extends old new → where_key code_cmp (contains_key old.schools) (entries new.schools) ≡ entries old.schools
-old_entries old new extends =
-    let p = contains_key old.schools in
-    let es = entries new.schools in
-    same_entries code_cmp nat_list_cmp_total code_same (where_key code_cmp p es) (entries old.schools) (is_sorted-where_key code_cmp p es (entries_sorted new.schools)) (entries_sorted old.schools)
-    (λ q. find-where_key code_cmp p q (λ x tie. ap p (sym (code_same q x tie))) es ∙ ap (λ o. cond (p q) o None) (sym (get-entries new.schools q)) ∙ go q (get old.schools q) refl ∙ get-entries old.schools q)
-  where
-    go : (q : List ℕ) (o : Option School) → get old.schools q ≡ o → cond (is_some (get old.schools q)) (get new.schools q) None ≡ get old.schools q
-    go q (Some s) is = ap (λ o. cond (is_some o) (get new.schools q) None) is ∙ extends.schools q s is ∙ sym is
-    go q None is = ap (λ o. cond (is_some o) (get new.schools q) None) is ∙ sym is
-
-same_where : {X : Type 0} (p q : X → Bool) (xs : List X) → ((x : X) → Has xs x → p x ≡ q x) → filter p xs ≡ filter q xs
-same_where p q [] same = refl
-same_where p q (x ∷ xs) same = λ i. cond (same x (inl refl) i) (x ∷ same_where p q xs (λ y h. same y (inr h)) i) (same_where p q xs (λ y h. same y (inr h)) i)
-
-pub old_and_new : (old new : Register) (news : List School) → WellFormed new → Extends old new → AreNew code_of old.schools new.schools news → IsPermutation (values old.schools ++ news) (values new.schools)
-old_and_new old new news formed extends differ =
-    let p = λ (s : School). contains_key old.schools s.code in
-    let own : (k : List ℕ) (s : School) → get new.schools k ≡ Some s → s.code ≡ k = λ k s there. (formed.base.schools_fit k s there).own_code in
-    let both = IsPermutation-sym _ _ (IsPermutation-filter_both p (λ s. not (p s)) (λ s. refl) (values new.schools)) in
-    let was = filter_values (contains_key old.schools) (entries new.schools) (own_entry nat_list_cmp_total code_same code_of new.schools own) ∙ ap (map (λ (e : Entry). e.1)) (old_entries old new extends) in
-    let added : news ≡ filter (λ s. not (p s)) (values new.schools) =
-    differ.rows_are ∙ same_where differ.is_new (λ s. not (p s)) (values new.schools) (λ s h. let there = value_at nat_list_cmp_total code_same code_of new.schools own s h in new_where s there (differ.is_new s) refl (get old.schools s.code) refl) in
-    subst (λ xs. IsPermutation (values old.schools ++ xs) (values new.schools)) (sym added) (subst (λ xs. IsPermutation (xs ++ filter (λ s. not (p s)) (values new.schools)) (values new.schools)) was both)
-  where
-    new_where : (s : School) → get new.schools s.code ≡ Some s → (b : Bool) → differ.is_new s ≡ b → (o : Option School) → get old.schools s.code ≡ o → differ.is_new s ≡ not (is_some (get old.schools s.code))
-    new_where s there b is None none = (differ.decides s there).1 (λ e. not_Some s (sym none ∙ e)) ∙ sym (ap (λ o. not (is_some o)) none)
-    new_where s there true is (Some w) was = absurd ((differ.decides s there).0 is (was ∙ ap Some (same_Some w s (sym (extends.schools s.code w was) ∙ there))))
-    new_where s there false is (Some w) was = is ∙ sym (ap (λ o. not (is_some o)) was)

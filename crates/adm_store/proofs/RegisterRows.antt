@@ -8,7 +8,7 @@ use Rattle.std.specs.Cmp.Lexicographic.{nat_list_cmp_total}
 use Rattle.std.specs.FinMap.{FinMap, values, contains_key, IsAntisymmetric, slice_cmp-IsAntisymmetric, nat_cmp-IsAntisymmetric}
 use Rattle.std.proofs.lemmas.Bool.{and_parts}
 use Rattle.adm_types.specs.Code.{is_code}
-use Rattle.adm_types.specs.Limits.{is_from}
+use Rattle.adm_types.specs.Limits.{is_from, is_child_number, first_day}
 use Rattle.adm_types.specs.Seasons.{SeasonFacts, IsSeason, lists_end}
 use Rattle.adm_types.specs.declared.rows.School.{School}
 use Rattle.adm_types.specs.declared.rows.PlaceRow.{PlaceRow}
@@ -58,11 +58,11 @@ codes_there schools fit (code ∷ codes) there =
     let parts = and_parts (contains_key schools code) (list_all (contains_key schools) codes) there in
     λ k. (code_there schools fit code parts.0 k) && (codes_there schools fit codes parts.1 k)
 
-number_there : (r : Register) → WellFormed r → (number : ℕ) → contains_key r.children number ≡ true → is_from 1 9999999 number ≡ true
+number_there : (r : Register) → WellFormed r → (number : ℕ) → contains_key r.children number ≡ true → is_child_number number ≡ true
 number_there r formed number there =
     let row = row_there r.children number there in
     let fits = formed.base.children_fit number row.0 row.1 in
-    subst (λ n. is_from 1 9999999 n ≡ true) fits.own_number fits.number_form
+    subst (λ n. is_child_number n ≡ true) fits.own_number fits.number_form
 
 pub children_fit : (r : Register) → WellFormed r → AllByRecursion IsChild (values r.children)
 children_fit r formed = each_value nat_cmp_total nat_cmp-IsAntisymmetric IsChild r.children (λ number child is. let fits = formed.base.children_fit number child is in record {
@@ -76,7 +76,7 @@ children_fit r formed = each_value nat_cmp_total nat_cmp-IsAntisymmetric IsChild
 pub applications_fit : (r : Register) (last : ℕ) → WellFormed r → last ≡ lists_end r.season → AllByRecursion (IsApplication last) (values r.applications)
 applications_fit r last formed same = each_value nat_cmp_total nat_cmp-IsAntisymmetric (IsApplication last) r.applications (λ number application is. let fits = formed.base.applications_fit number application is in record {
   number_form = number_there r formed application.child fits.child;
-  day = subst (λ d. is_from 7305 d application.day ≡ true) (sym same) fits.day;
+  day = subst (λ d. is_from first_day d application.day ≡ true) (sym same) fits.day;
   codes = codes_there r.schools formed.base.schools_fit application.list fits.known;
 })
 

@@ -19,7 +19,7 @@ use Rattle.adm_schema.specs.RowTexts as text
 use Rattle.adm_schema.proofs.Listed.{has_child, has_application, has_place}
 use Rattle.adm_schema.proofs.Casts.{cast_null, cast_int}
 use Rattle.adm_schema.proofs.OneRow.{puts_row, cuts_row}
-use Rattle.adm_schema.proofs.RowTexts.{puts_child, puts_application, puts_place, cuts_application}
+use Rattle.adm_schema.proofs.RowTexts.{puts_child, puts_application, puts_place, cuts_application, cuts_place}
 use Rattle.adm_store.specs.declared.rows.ChildRow.{ChildRow}
 use Rattle.adm_store.specs.declared.rows.ApplicationRow.{ApplicationRow}
 use Rattle.adm_store.specs.Changes.{written_child, written_application}
@@ -62,8 +62,8 @@ writes_application old new count it later ran = put_one application has_applicat
     puts_row register_schema application 3 refl refl refl (λ _ _. refl) (λ _. refl) text.application_terms 4 text.put_application (written_application it) (stored (written_application it)) (written_application it) (pos it.child) old new count (λ _ _. refl)
     puts_application.0 puts_application.1 refl (stored_application it) (stored_application it) refl refl (sees early h.1.was_open) h)
 
-pub cuts_out : (old new : State) (count : ℕ) (number : ℕ) → doubt old.is_clean ≤ doubt new.is_clean → (HasCleanDisk new → ExecutesInside 0 text.cut_application (key_row number) old new (Ok count)) → Writes (write_of Cuts application key_row (number ∷ []) ∷ []) old new
-cuts_out old new count number later ran = cut_one application has_application old new later refl number (λ clean sees.
+pub cuts_application_out : (old new : State) (count : ℕ) (number : ℕ) → doubt old.is_clean ≤ doubt new.is_clean → (HasCleanDisk new → ExecutesInside 0 text.cut_application (key_row number) old new (Ok count)) → Writes (write_of Cuts application key_row (number ∷ []) ∷ []) old new
+cuts_application_out old new count number later ran = cut_one application has_application old new later refl number (λ clean sees.
     let early : HasCleanDisk old = omega (arith, later, clean) in
     let h = ran clean in
     cuts_row register_schema application 3 refl refl refl (λ _ _. refl) (λ _. refl) text.cut_application (pos number) old new count cuts_application.0 cuts_application.1 refl (sees early h.1.was_open) h)
@@ -110,3 +110,9 @@ writes_place old new count it later ran = put_one place has_place old new later 
     let h = ran clean in
     puts_row register_schema place 4 refl refl refl (λ _ _. refl) (λ _. refl) text.place_terms 6 text.put_place (place_row it) (stored (place_row it)) (place_row it) (pos it.child) old new count (λ _ _. refl)
     puts_place.0 puts_place.1 (given_place it) (ap (cast_row place) (mended_place it) ∙ stored_place it) (stored_place it) refl (shown_place it) (sees early h.1.was_open) h)
+
+pub cuts_place_out : (old new : State) (count : ℕ) (number : ℕ) → doubt old.is_clean ≤ doubt new.is_clean → (HasCleanDisk new → ExecutesInside 0 text.cut_place (key_row number) old new (Ok count)) → Writes (write_of Cuts place key_row (number ∷ []) ∷ []) old new
+cuts_place_out old new count number later ran = cut_one place has_place old new later refl number (λ clean sees.
+    let early : HasCleanDisk old = omega (arith, later, clean) in
+    let h = ran clean in
+    cuts_row register_schema place 4 refl refl refl (λ _ _. refl) (λ _. refl) text.cut_place (pos number) old new count cuts_place.0 cuts_place.1 refl (sees early h.1.was_open) h)

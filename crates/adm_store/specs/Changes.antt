@@ -4,7 +4,7 @@ use Rattle.adm_types.specs.Seasons.{SeasonFacts, IsSeason}
 use Rattle.adm_register.specs.State.{only_season}
 use Rattle.adm_register.specs.State.{State as Register}
 use Rattle.adm_register.specs.WellFormed.{WellFormed}
-use Rattle.adm_register.specs.Extends.{Extends}
+use Rattle.adm_register.specs.Extends.{Extends, KeepsSchools}
 use Rattle.adm_register.specs.Difference.{IsDifference}
 use Rattle.adm_register.specs.declared.difference.Difference.{Difference}
 use Rattle.sqlite.specs.declared.types.Value.TheVariants.{Int, Text}
@@ -50,11 +50,13 @@ pub record IsChanges (old new : Register) (changes : Changes) : Type 0 where
   pub applications : map written_application changes.applications ≡ map application_row difference.applications
   pub places : changes.places ≡ difference.places
   pub ended : changes.ended ≡ difference.ended
+  pub vacated : changes.vacated ≡ difference.vacated
 
--- the step from the old register to the new one is the change, and the new one is a register
+-- the step from the old register to the new one is the change, it changes no school, and the new one is a register
 pub record IsStep (old new : Register) (changes : Changes) : Type 0 where
   pub changes_are : IsChanges old new changes
   pub extends : Extends old new
+  pub schools : KeepsSchools old new
   pub formed : WellFormed new
 
 -- where all that a crash could leave stood for a register, this is so of each one to which these changes are the step

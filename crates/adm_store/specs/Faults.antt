@@ -4,7 +4,7 @@ use Rattle.std.specs.List.{list_all}
 use Rattle.std.specs.Str.{IsUtf8, is_utf8}
 use Rattle.adm_types.specs.Code.{is_code}
 use Rattle.adm_types.specs.Joined.{codes_of}
-use Rattle.adm_types.specs.Limits.{is_from, is_school_in_range, is_child_in_range}
+use Rattle.adm_types.specs.Limits.{is_from, is_child_number, first_day, is_school_in_range, is_child_in_range}
 use Rattle.adm_types.specs.declared.seasons.Phase.{Phase}
 use Rattle.adm_types.specs.declared.rows.School.{School}
 use Rattle.adm_types.specs.declared.rows.Child.{Child}
@@ -57,7 +57,7 @@ AreReadAgain codes = codes_of (codes_text codes) ≡ Some codes
 
 -- a child with a number, a name that is a text, numbers in their limits, 16 flags, and codes for its siblings' schools
 pub record IsChild (child : Child) : Type 0 where
-  pub number_form : IsTrue (is_from 1 9999999 child.no)
+  pub number_form : IsTrue (is_child_number child.no)
   pub text : IsTrue (is_utf8 child.name)
   pub in_range : IsTrue (is_child_in_range child)
   pub flags : IsTrue (nat_lt child.flags 65536)
@@ -65,12 +65,12 @@ pub record IsChild (child : Child) : Type 0 where
 
 -- an application with a child's number, a day that is not after the last one, and codes
 pub record IsApplication (last : ℕ) (application : Application) : Type 0 where
-  pub number_form : IsTrue (is_from 1 9999999 application.child)
-  pub day : IsTrue (is_from 7305 last application.day)
+  pub number_form : IsTrue (is_child_number application.child)
+  pub day : IsTrue (is_from first_day last application.day)
   pub codes : IsTrue (list_all is_code application.list)
 
 -- the place of a plan, with a child's number and a code
 pub record IsPlanRow (row : PlaceRow) : Type 0 where
-  pub number_form : IsTrue (is_from 1 9999999 row.child)
+  pub number_form : IsTrue (is_child_number row.child)
   pub code_form : IsTrue (is_code row.place.school)
   pub plan : IsTrue (is_plan row.place.state)

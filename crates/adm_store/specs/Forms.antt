@@ -3,7 +3,7 @@ use Rattle.std.specs.Prelude.{ℕ, pos, Bool, true, false, List, [], ◌∷◌, 
 use Rattle.std.specs.Fmt.{decimal}
 use Rattle.adm_types.specs.Seasons.{SeasonFacts}
 use Rattle.adm_types.specs.Fields.{plain_of, criterion_of, criterion_text}
-use Rattle.adm_types.specs.Limits.{is_from}
+use Rattle.adm_types.specs.Numbers.{is_from, first_day, last_day}
 use Rattle.adm_types.specs.Joined.{joined, items_of}
 use Rattle.adm_types.specs.declared.seasons.Phase.{Phase}
 use Rattle.adm_types.specs.declared.seasons.Phase.TheVariants.{Primary, Secondary}
@@ -69,7 +69,7 @@ place_row p = Int (pos p.child) ∷ Text p.place.school ∷ state_columns p.plac
 
 -- the number of a day from 1990-01-01 to 2110-12-31
 abbrev pub day_of : List ℕ → Option ℕ
-day_of text = option_and_then (λ n. if is_from 7305 51498 n then Some n else None) (plain_of text)
+day_of text = option_and_then (λ n. if is_from first_day last_day n then Some n else None) (plain_of text)
 
 abbrev pub days_of : List ℕ → Option (List ℕ)
 days_of = items_of day_of

@@ -70,4 +70,10 @@ write_of kind table row_of items = record { kind = kind; table = table; rows = m
 -- the writes of a commit, in their order
 abbrev pub writes_of : Changes → List Write
 writes_of c =
-    write_of Adds school written_school c.schools ∷ write_of Puts child written_child c.children ∷ write_of Cuts application key_row c.ended ∷ write_of Puts application written_application c.applications ∷ write_of Puts place place_row c.places ∷ []
+    write_of Adds school written_school c.schools
+    ∷ write_of Puts child written_child c.children
+    ∷ write_of Cuts application key_row c.ended
+    ∷ write_of Puts application written_application c.applications
+    ∷ write_of Cuts place key_row c.vacated
+    ∷ write_of Puts place place_row c.places
+    ∷ []

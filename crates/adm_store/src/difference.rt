@@ -1,14 +1,13 @@
 // The rows by which a new register differs from the one before, as they are written.
 ghost use Rattle.std.specs.Prelude.{◌≡◌, map, IfOk};
 ghost use Rattle.adm_register.specs.State.{State as Facts};
-ghost use Rattle.adm_register.specs.Tables.{TouchesOnly};
 ghost use Rattle.adm_register.specs.Difference.{IsDifference};
 ghost use Rattle.adm_store.specs.Changes.{written_season, written_school, written_child, written_application, IsChanges};
 ghost use Rattle.adm_store.specs.Forms.{season_row, school_row, child_row, application_row};
 
 use crate::lists;
 use crate::rows::{ApplicationRow, Changes, ChildRow, SchoolRow, SeasonRow};
-use adm_register::{Difference, Register, Shared, Touched, difference_of};
+use adm_register::{Difference, Shared};
 use adm_types::{Application, Child, School, Season, Seq, Text};
 use std::alloc::{AllocError, Global};
 
@@ -112,22 +111,8 @@ fn to_rows<T: ToRow>(alloc: Global, values: &[Shared<T>]) -> Result<Vec<T::Row>,
     Ok(rows)
 }
 
-/// The rows of the new register that the old one has not, and the applications that ended, where
-/// no other tables than these were touched. What it costs grows with the rows of those tables.
-pub fn changes(
-    alloc: Global,
-    old: &Register,
-    new: &Register,
-    touched: Touched,
-) -> Result<Changes, AllocError>
-    requires { TouchesOnly touched old.now new.now }
-    ensures { IfOk result (IsChanges old.now new.now) }
-{
-    written(alloc, difference_of(alloc, old, new, touched)?)
-}
-
 /// The rows of this difference, as they are written. What it costs grows with them.
-pub fn written(alloc: Global, difference: Difference) -> Result<Changes, AllocError>
+pub fn changes(alloc: Global, difference: Difference) -> Result<Changes, AllocError>
     ensures { IfOk result (λ changes. (old new : Facts) → IsDifference old new difference → IsChanges old new changes) }
 {
     let schools = to_rows(alloc, difference.schools.as_slice())?;
@@ -139,5 +124,6 @@ pub fn written(alloc: Global, difference: Difference) -> Result<Changes, AllocEr
         applications: Seq::from_vec(applications),
         places: difference.places,
         ended: difference.ended,
+        vacated: difference.vacated,
     })
 }

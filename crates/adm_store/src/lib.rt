@@ -15,7 +15,7 @@ mod season;
 mod statement;
 mod store;
 
-pub use difference::{changes, written};
+pub use difference::changes;
 pub use fault::{CreateFault, Failed, OpenFault};
 pub use rows::{ApplicationRow, Changes, ChildRow, SchoolRow};
 pub use store::{Store, create, open};

@@ -1,14 +1,14 @@
-// The table `place`. A row that changed is written over the one of the same child; none is taken out.
+// The table `place`. A row that changed is written over the one of the same child, and one that ended is taken out.
 ghost use Rattle.std.specs.Prelude.{◌≡◌, [], ◌∷◌, pos};
 ghost use Rattle.sqlite.specs.declared.types.Value.TheVariants.{Int};
 ghost use Rattle.sqlite.specs.Values.{or_null};
 ghost use Rattle.adm_schema.specs.Schema.{place};
 ghost use Rattle.adm_store.specs.Forms.{place_row, state_columns};
-ghost use Rattle.adm_store.specs.Writes.{Puts};
+ghost use Rattle.adm_store.specs.Writes.{Puts, Cuts, key_row};
 
 use crate::rows::number_of;
 use crate::statement::Statement;
-use adm_types::{Day, PlaceRow, PlaceState};
+use adm_types::{ChildNo, Day, PlaceRow, PlaceState};
 use sqlite::{Alter, Error, Transaction, params};
 
 fn number_in(day: &Option<Day>) -> Option<u32>
@@ -50,6 +50,24 @@ impl Statement for PutPlace {
             "INSERT OR REPLACE INTO place (child, school, kind, day, reminded) VALUES (?1, ?2, ?3, ?4, ?5)",
             params![child, school, kind, day, reminded],
         )?;
+        Ok(())
+    }
+}
+
+pub(crate) struct CutPlace;
+
+impl Statement for CutPlace {
+    type Item = ChildNo;
+
+    ghost kind = { Cuts };
+
+    ghost table = { place };
+
+    ghost row_of = { key_row };
+
+    fn run<S: Alter>(tx: &mut Transaction<'_, S>, child: &ChildNo) -> Result<(), Error> {
+        let number = child.get();
+        tx.execute("DELETE FROM place WHERE child = ?1", params![number])?;
         Ok(())
     }
 }

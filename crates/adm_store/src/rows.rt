@@ -69,6 +69,8 @@ pub struct Changes {
     pub places: Seq<PlaceRow>,
     /// The children whose applications ended.
     pub ended: Seq<ChildNo>,
+    /// The children whose places ended.
+    pub vacated: Seq<ChildNo>,
 }
 
 impl Changes {
@@ -85,8 +87,10 @@ impl Changes {
 
     /// How many keys are deleted. It takes no memory.
     pub fn cut(&self) -> u64
-        ensures { result ≡ length self.now.ended }
+        ensures { result ≡ length self.now.ended + length self.now.vacated }
     {
-        self.ended.len() as u64
+        let ended = self.ended.as_slice();
+        let vacated = self.vacated.as_slice();
+        (ended.len() + vacated.len()) as u64
     }
 }

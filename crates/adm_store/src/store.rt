@@ -14,7 +14,7 @@ ghost use Rattle.adm_store.specs.Writes.{count_of, writes_of, Writes};
 use crate::applications::{CutApplication, PutApplication};
 use crate::children::PutChild;
 use crate::difference::ToRow;
-use crate::places::PutPlace;
+use crate::places::{CutPlace, PutPlace};
 use crate::rows::Changes;
 use crate::schools::AddSchool;
 use crate::statement::run_each;
@@ -161,7 +161,7 @@ impl<S: Alter> Store<S> {
     }
 }
 
-/// Writes the rows of each table, and takes out the applications that ended.
+/// Writes the rows of each table, and takes out the applications and the places that ended.
 fn write_rows<S: Alter>(tx: &mut Transaction<'_, S>, changes: &Changes) -> Result<(), Error>
     ensures same_reference { tx.new.conn.ghost_name ≡ tx.old.conn.ghost_name }
     ensures writes { OnOk result (Writes (writes_of changes.now) (state S.Store tx.old.conn.now) (state S.Store tx.new.conn.now)) }
@@ -171,6 +171,7 @@ fn write_rows<S: Alter>(tx: &mut Transaction<'_, S>, changes: &Changes) -> Resul
     run_each::<PutChild, S>(tx, changes.children.as_slice())?;
     run_each::<CutApplication, S>(tx, changes.ended.as_slice())?;
     run_each::<PutApplication, S>(tx, changes.applications.as_slice())?;
+    run_each::<CutPlace, S>(tx, changes.vacated.as_slice())?;
     run_each::<PutPlace, S>(tx, changes.places.as_slice())?;
     Ok(())
 }

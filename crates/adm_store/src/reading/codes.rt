@@ -21,10 +21,7 @@ pub(super) fn code_at(row: &Row, at: usize) -> Result<SchoolCode, OpenFault>
     ensures bad { IfErr result (λ e. IsNoRegister e → (code : List ℕ) → is_code code ≡ true → column row.now at ≡ TextValue code → ⊥) }
     ensures first { IfErr result (λ e. IsNoRegister e → e ≡ OpenFault.BadRow) }
 {
-    let text: String = match value_at(row, at) {
-        Ok(text) => text,
-        Err(fault) => return Err(fault),
-    };
+    let text: String = value_at(row, at)?;
     let Some(code) = SchoolCode::new(&text) else {
         return Err(OpenFault::BadRow);
     };
@@ -87,10 +84,7 @@ pub(super) fn codes_at(alloc: Global, row: &Row, at: usize) -> Result<Seq<School
     ensures bad { IfErr result (λ e. IsNoRegister e → (list : List (List ℕ)) → list_all is_code list ≡ true → column row.now at ≡ TextValue (codes_text list) → ⊥) }
     ensures first { IfErr result (λ e. IsNoRegister e → e ≡ OpenFault.BadRow) }
 {
-    let text: String = match value_at(row, at) {
-        Ok(text) => text,
-        Err(fault) => return Err(fault),
-    };
+    let text: String = value_at(row, at)?;
     match codes_in(alloc, &text) {
         Ok(list) => Ok(list),
         Err(fault) => Err(fault),

@@ -3,7 +3,7 @@ ghost use Rattle.std.specs.Prelude.{◌≡◌, ◌⊎◌, ◌<◌, ◌^◌, ℕ,
 ghost use Rattle.std.specs.Str.{is_utf8};
 ghost use Rattle.sqlite.specs.declared.types.Value.TheVariants.{Null, Int, Text as TextValue};
 ghost use Rattle.sqlite.specs.Order.{column};
-ghost use Rattle.adm_types.specs.Limits.{is_from};
+ghost use Rattle.adm_types.specs.Limits.{is_from, is_child_number, first_day};
 ghost use Rattle.adm_store.specs.Forms.{truth_code, day_value};
 ghost use Rattle.adm_store.specs.Faults.{IsNoRegister};
 
@@ -52,13 +52,10 @@ pub(super) fn number_at(row: &Row, at: usize) -> Result<u32, OpenFault>
 pub(super) fn child_at(row: &Row, at: usize) -> Result<ChildNo, OpenFault>
     requires { at < length row.now }
     ensures ok { IfOk result (λ child. column row.now at ≡ Int (pos child)) }
-    ensures bad { IfErr result (λ e. IsNoRegister e → (n : ℕ) → is_from 1 9999999 n ≡ true → column row.now at ≡ Int (pos n) → ⊥) }
+    ensures bad { IfErr result (λ e. IsNoRegister e → (n : ℕ) → is_child_number n ≡ true → column row.now at ≡ Int (pos n) → ⊥) }
     ensures first { IfErr result (λ e. IsNoRegister e → e ≡ OpenFault.BadRow) }
 {
-    let number = match number_at(row, at) {
-        Ok(number) => number,
-        Err(fault) => return Err(fault),
-    };
+    let number = number_at(row, at)?;
     let Some(child) = ChildNo::new(number) else {
         return Err(OpenFault::BadRow);
     };
@@ -72,10 +69,7 @@ pub(super) fn truth_at(row: &Row, at: usize) -> Result<bool, OpenFault>
     ensures bad { IfErr result (λ e. IsNoRegister e → (truth : Bool) → column row.now at ≡ Int (pos (truth_code truth)) → ⊥) }
     ensures first { IfErr result (λ e. IsNoRegister e → e ≡ OpenFault.BadRow) }
 {
-    let number = match number_at(row, at) {
-        Ok(number) => number,
-        Err(fault) => return Err(fault),
-    };
+    let number = number_at(row, at)?;
     match number {
         0 => Ok(false),
         1 => Ok(true),
@@ -90,10 +84,7 @@ pub(super) fn flags_at(row: &Row, at: usize) -> Result<u16, OpenFault>
     ensures bad { IfErr result (λ e. IsNoRegister e → (flags : ℕ) → flags < 65536 → column row.now at ≡ Int (pos flags) → ⊥) }
     ensures first { IfErr result (λ e. IsNoRegister e → e ≡ OpenFault.BadRow) }
 {
-    let number = match number_at(row, at) {
-        Ok(number) => number,
-        Err(fault) => return Err(fault),
-    };
+    let number = number_at(row, at)?;
     if number > 65535 {
         return Err(OpenFault::BadRow);
     }
@@ -104,13 +95,10 @@ pub(super) fn flags_at(row: &Row, at: usize) -> Result<u16, OpenFault>
 pub(super) fn day_at(row: &Row, at: usize, last: Day) -> Result<Day, OpenFault>
     requires { at < length row.now }
     ensures ok { IfOk result (λ day. column row.now at ≡ Int (pos day)) }
-    ensures bad { IfErr result (λ e. IsNoRegister e → (day : ℕ) → is_from 7305 last day ≡ true → column row.now at ≡ Int (pos day) → ⊥) }
+    ensures bad { IfErr result (λ e. IsNoRegister e → (day : ℕ) → is_from first_day last day ≡ true → column row.now at ≡ Int (pos day) → ⊥) }
     ensures first { IfErr result (λ e. IsNoRegister e → e ≡ OpenFault.BadRow) }
 {
-    let number = match number_at(row, at) {
-        Ok(number) => i64::from(number),
-        Err(fault) => return Err(fault),
-    };
+    let number = i64::from(number_at(row, at)?);
     if number > last.number() {
         return Err(OpenFault::BadRow);
     }
@@ -127,10 +115,7 @@ pub(super) fn day_or_null_at(row: &Row, at: usize) -> Result<Option<Day>, OpenFa
     ensures bad { IfErr result (λ e. IsNoRegister e → column row.now at ≡ Null → ⊥) }
     ensures first { IfErr result (λ e. IsNoRegister e → e ≡ OpenFault.BadRow) }
 {
-    let value: Option<u32> = match value_at(row, at) {
-        Ok(value) => value,
-        Err(fault) => return Err(fault),
-    };
+    let value: Option<u32> = value_at(row, at)?;
     let Some(number) = value else {
         return Ok(None);
     };

@@ -7,5 +7,6 @@ returns-clause-writes g c =
     let children : Ran _ _ _ = record { survives = c.run_each-2.ensures.survives; leaves = rw c.as_slice-2.ensures at c.in_ok-run_each-2.ensures.writes } in
     let ended : Ran _ _ _ = record { survives = c.run_each-3.ensures.survives; leaves = rw c.as_slice-3.ensures at c.in_ok-run_each-3.ensures.writes } in
     let applications : Ran _ _ _ = record { survives = c.run_each-4.ensures.survives; leaves = rw c.as_slice-4.ensures at c.in_ok-run_each-4.ensures.writes } in
-    let places : Ran _ _ _ = record { survives = c.run_each-5.ensures.survives; leaves = rw c.as_slice-5.ensures at c.in_ok-run_each-5.ensures.writes } in
-    (ran_then (ran_then (ran_then (ran_then schools children) ended) applications) places).leaves
+    let vacated : Ran _ _ _ = record { survives = c.run_each-5.ensures.survives; leaves = rw c.as_slice-5.ensures at c.in_ok-run_each-5.ensures.writes } in
+    let places : Ran _ _ _ = record { survives = c.run_each-6.ensures.survives; leaves = rw c.as_slice-6.ensures at c.in_ok-run_each-6.ensures.writes } in
+    (ran_then (ran_then (ran_then (ran_then (ran_then schools children) ended) applications) vacated) places).leaves
