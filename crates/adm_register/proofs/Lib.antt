@@ -1,5 +1,8 @@
 pub mod TableMaps
 pub mod TableCopies
+pub mod Runs
+pub mod PieceRuns
+pub mod PieceRows
 pub mod Maps
 pub mod Puts
 pub mod Fits

@@ -1,4 +1,5 @@
 pub mod TableRows
+pub mod Pieces
 pub mod State
 pub mod WellFormed
 pub mod Plans

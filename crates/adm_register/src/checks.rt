@@ -1,22 +1,20 @@
 // Whether rows are a register's.
 ghost use Rattle.std.specs.Prelude.{◌≡◌, ◌≤◌, ◌↔◌, IsTrue};
 ghost use Rattle.std.specs.List.{list_all};
-ghost use Rattle.std.specs.List.Sorted.{IsStrictlySortedBy};
-ghost use Rattle.std.specs.Map.{keys_of};
-ghost use Rattle.std.specs.Ordering.{nat_cmp};
 ghost use Rattle.std.specs.FinMap.{len};
 ghost use Rattle.adm_types.specs.Limits.{most_schools, most_children};
 ghost use Rattle.adm_types.specs.Seasons.{lists_end};
-ghost use Rattle.adm_register.specs.State.{code_cmp, is_plan};
+ghost use Rattle.adm_register.specs.Pieces.{rows_of_pieces};
+ghost use Rattle.adm_register.specs.State.{is_plan};
 ghost use Rattle.adm_register.specs.WellFormed.{AllRows, SchoolFits, ChildFits, ApplicationFits, PlaceFits, WellFormed};
 ghost use Rattle.adm_register.specs.WellFormed.{fits_school, is_school, fits_child, is_child, fits_application, is_application, fits_place, is_place};
 
+use crate::pieces::Piece;
 use crate::shared::Shared;
 use crate::tables::Tables;
 use adm_types::limits::{MOST_CHILDREN, MOST_SCHOOLS};
 use adm_types::limits::{is_child_in_range, is_name, is_school_in_range, is_without_repeat};
 use adm_types::{Application, Child, ChildNo, PlaceRow, PlaceState, School, SchoolCode};
-use std::collections::BTreeMap;
 
 /// Whether the rows are a register's.
 pub(crate) fn is_well_formed(tables: &Tables) -> bool
@@ -41,17 +39,20 @@ fn are_few(tables: &Tables) -> bool
 fn schools_fit(tables: &Tables) -> bool
     ensures { IsTrue result ↔ AllRows SchoolFits tables.now.schools }
 {
-    match tables.schools() {
-        None => true,
-        Some(schools) => all_schools_fit(schools),
-    }
+    all_schools_fit(tables.schools())
 }
 
-fn all_schools_fit(schools: &BTreeMap<SchoolCode, Shared<School>>) -> bool
-    ensures all { result ≡ list_all (λ entry. fits_school entry.0 entry.1) schools.now.entries }
-    ensures ordered { IsStrictlySortedBy code_cmp (keys_of schools.now.entries) }
+fn all_schools_fit(pieces: &[Piece<SchoolCode, Shared<School>>]) -> bool
+    ensures { result ≡ list_all (λ piece. list_all (λ entry. fits_school entry.0 entry.1) piece.rows.value.entries) pieces.now }
+{
+    pieces.iter().all(|piece| schools_of_piece_fit(piece))
+}
+
+fn schools_of_piece_fit(schools: &Piece<SchoolCode, Shared<School>>) -> bool
+    ensures { result ≡ list_all (λ entry. fits_school entry.0 entry.1) schools.now.rows.value.entries }
 {
     schools
+        .rows()
         .iter()
         .all(|(code, school)| fits_school(code, school.as_ref()))
 }
@@ -75,17 +76,19 @@ fn is_school(school: &School) -> bool
 fn children_fit(tables: &Tables) -> bool
     ensures { IsTrue result ↔ AllRows (ChildFits tables.now.schools) tables.now.children }
 {
-    match tables.children() {
-        None => true,
-        Some(children) => all_children_fit(tables, children),
-    }
+    all_children_fit(tables, tables.children())
 }
 
-fn all_children_fit(tables: &Tables, children: &BTreeMap<ChildNo, Shared<Child>>) -> bool
-    ensures all { result ≡ list_all (λ entry. fits_child tables.now.schools entry.0 entry.1) children.now.entries }
-    ensures ordered { IsStrictlySortedBy nat_cmp (keys_of children.now.entries) }
+fn all_children_fit(tables: &Tables, pieces: &[Piece<ChildNo, Shared<Child>>]) -> bool
+    ensures { result ≡ list_all (λ piece. list_all (λ entry. fits_child tables.now.schools entry.0 entry.1) piece.rows.value.entries) pieces.now }
 {
-    children.iter().all(|(number, child)| fits_child(tables, number, child.as_ref()))
+    pieces.iter().all(|piece| children_of_piece_fit(tables, piece))
+}
+
+fn children_of_piece_fit(tables: &Tables, children: &Piece<ChildNo, Shared<Child>>) -> bool
+    ensures { result ≡ list_all (λ entry. fits_child tables.now.schools entry.0 entry.1) children.now.rows.value.entries }
+{
+    children.rows().iter().all(|(number, child)| fits_child(tables, number, child.as_ref()))
 }
 
 fn fits_child(tables: &Tables, number: &ChildNo, child: &Child) -> bool
@@ -110,20 +113,22 @@ fn is_child(tables: &Tables, child: &Child) -> bool
 fn applications_fit(tables: &Tables) -> bool
     ensures { IsTrue result ↔ AllRows (ApplicationFits (lists_end tables.now.season) tables.now.schools tables.now.children) tables.now.applications }
 {
-    match tables.applications() {
-        None => true,
-        Some(applications) => all_applications_fit(tables, applications),
-    }
+    all_applications_fit(tables, tables.applications())
 }
 
-fn all_applications_fit(
-    tables: &Tables,
-    applications: &BTreeMap<ChildNo, Shared<Application>>,
-) -> bool
-    ensures all { result ≡ list_all (λ entry. fits_application (lists_end tables.now.season) tables.now.schools tables.now.children entry.0 entry.1) applications.now.entries }
-    ensures ordered { IsStrictlySortedBy nat_cmp (keys_of applications.now.entries) }
+fn all_applications_fit(tables: &Tables, pieces: &[Piece<ChildNo, Shared<Application>>]) -> bool
+    ensures { result ≡ list_all (λ piece. list_all (λ entry. fits_application (lists_end tables.now.season) tables.now.schools tables.now.children entry.0 entry.1) piece.rows.value.entries) pieces.now }
 {
-    applications.iter().all(|(number, application)| fits_application(
+    pieces.iter().all(|piece| applications_of_piece_fit(tables, piece))
+}
+
+fn applications_of_piece_fit(
+    tables: &Tables,
+    applications: &Piece<ChildNo, Shared<Application>>,
+) -> bool
+    ensures { result ≡ list_all (λ entry. fits_application (lists_end tables.now.season) tables.now.schools tables.now.children entry.0 entry.1) applications.now.rows.value.entries }
+{
+    applications.rows().iter().all(|(number, application)| fits_application(
         tables,
         number,
         application.as_ref(),
@@ -155,17 +160,20 @@ fn is_application(tables: &Tables, application: &Application) -> bool
 fn places_fit(tables: &Tables) -> bool
     ensures { IsTrue result ↔ AllRows (PlaceFits tables.now.schools tables.now.children tables.now.applications) tables.now.places }
 {
-    match tables.places() {
-        None => true,
-        Some(places) => all_places_fit(tables, places),
-    }
+    all_places_fit(tables, tables.places())
 }
 
-fn all_places_fit(tables: &Tables, places: &BTreeMap<ChildNo, PlaceRow>) -> bool
-    ensures all { result ≡ list_all (λ entry. fits_place tables.now.schools tables.now.children tables.now.applications entry.0 entry.1) places.now.entries }
-    ensures ordered { IsStrictlySortedBy nat_cmp (keys_of places.now.entries) }
+fn all_places_fit(tables: &Tables, pieces: &[Piece<ChildNo, PlaceRow>]) -> bool
+    ensures { result ≡ list_all (λ piece. list_all (λ entry. fits_place tables.now.schools tables.now.children tables.now.applications entry.0 entry.1) piece.rows.value.entries) pieces.now }
+{
+    pieces.iter().all(|piece| places_of_piece_fit(tables, piece))
+}
+
+fn places_of_piece_fit(tables: &Tables, places: &Piece<ChildNo, PlaceRow>) -> bool
+    ensures { result ≡ list_all (λ entry. fits_place tables.now.schools tables.now.children tables.now.applications entry.0 entry.1) places.now.rows.value.entries }
 {
     places
+        .rows()
         .iter()
         .all(|(number, row)| fits_place(tables, number, row))
 }

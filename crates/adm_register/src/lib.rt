@@ -15,6 +15,7 @@ mod failing;
 mod laws;
 mod name_plan;
 mod not_done;
+mod pieces;
 mod registers;
 mod rows_fault;
 mod rows_in;

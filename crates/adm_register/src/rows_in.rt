@@ -65,7 +65,7 @@ impl Tables {
 }
 
 /// The table of these rows by their keys; `None` where two rows have one key.
-fn shared_table<K: Ord + Drop, V: Keyed<K> + Drop>(
+fn shared_table<K: Ord + Exact, V: Keyed<K> + Drop>(
     alloc: Global,
     rows: Seq<V>,
 ) -> Result<Option<Table<K, Shared<V>>>, AllocError>

@@ -1,12 +1,14 @@
 // Tables of rows by their keys. A changed table is a new one, and the old one stays as it was.
-ghost use Rattle.std.specs.Prelude.{◌≡◌, [], length, map, is_some, IfOk, IfSome, IfNone, OnOk, option_copied};
+ghost use Rattle.std.specs.Prelude.{◌≡◌, ◌++◌, [], length, map, is_some, IfOk, IfSome, IfNone, OnOk, option_copied};
 ghost use Rattle.std.specs.Map.{keys_of, values_of};
 ghost use Rattle.std.specs.List.{IsDistinct, filter};
 ghost use Rattle.std.specs.List.Sorted.{IsStrictlySortedBy, IsPermutation};
 ghost use Rattle.std.specs.Ordering.{eq_by_cmp};
-ghost use Rattle.adm_register.specs.TableRows.{row_at, rows_in, put_at, cut_at};
+ghost use Rattle.adm_register.specs.Pieces.{rows_of_pieces};
+ghost use Rattle.adm_register.specs.TableRows.{row_at, put_at, cut_at};
 ghost use Rattle.adm_register.specs.Same.{is_other};
 
+use crate::pieces::{Piece, Pieces};
 use crate::same::Same;
 use adm_types::{Exact, Seq};
 use std::alloc::{AllocError, Global};
@@ -26,7 +28,7 @@ pub(crate) trait Keyed<K> {
 /// Rows by their keys.
 #[derive(Drop)]
 pub(crate) struct Table<K: Ord, V> {
-    rows: Option<Rc<BTreeMap<K, V>>>,
+    rows: Option<Rc<Pieces<K, V>>>,
 }
 
 impl<K: Ord, V> Model for Table<K, V> {
@@ -59,13 +61,14 @@ impl<K: Ord, V> Table<K, V> {
         }
     }
 
-    /// The rows as a map; `None` where there are none.
-    pub(crate) fn map(&self) -> Option<&BTreeMap<K, V>>
-        ensures { rows_in result ≡ self.now }
+    /// The rows in their pieces. They are in the order of their keys.
+    pub(crate) fn pieces(&self) -> &[Piece<K, V>]
+        ensures rows { rows_of_pieces result.now ≡ self.now }
+        ensures ordered { IsStrictlySortedBy K.cmp (keys_of self.now) }
     {
         match &self.rows {
-            Some(rows) => Some(&**rows),
-            None => None,
+            Some(rows) => rows.as_slice(),
+            None => &[],
         }
     }
 
@@ -101,80 +104,88 @@ impl<K: Ord + Exact, V: Exact> Table<K, V> {
         ensures rows { IfOk result (λ rows. rows.items ≡ values_of self.now) }
         ensures ordered { IsStrictlySortedBy K.cmp (keys_of self.now) }
     {
-        match &self.rows {
-            Some(rows) => copies_of(alloc, rows),
-            None => Ok(Vec::new(alloc)),
+        let mut copies = Vec::new(alloc);
+        for piece in self.pieces() {
+            push_copies(&mut copies, piece.rows())?;
         }
+        Ok(copies)
     }
 
-    /// A table of its own with the same rows.
-    fn own(&self, alloc: Global) -> Result<BTreeMap<K, V>, AllocError>
-        ensures { IfOk result (λ rows. rows.entries ≡ self.now) }
+    /// The same rows, whose pieces can be changed.
+    fn own(&self, alloc: Global) -> Result<Pieces<K, V>, AllocError>
+        ensures { IfOk result (λ rows. rows ≡ self.now) }
     {
         match &self.rows {
-            Some(rows) => (**rows).clone(),
-            None => Ok(BTreeMap::new(alloc)),
+            Some(rows) => rows.share(alloc),
+            None => Ok(Pieces::new(alloc)),
         }
     }
 }
 
 impl<K: Ord + Exact, V: Keyed<K> + Exact> Table<K, V> {
     /// The table without the rows of the keys in `cut`, and then with the rows in `put`, each at
-    /// its own key. The pointers to the rows are copied once; where both are empty, the two tables
-    /// share them.
+    /// its own key. A piece in which rows change is copied once, and the two tables share the
+    /// others.
     pub(crate) fn with_all(&self, alloc: Global, cut: &[K], put: &[V]) -> Result<Self, AllocError>
         ensures { IfOk result (λ table. (q : K) → row_at K.cmp table q ≡ put_at K.cmp V.key put.now q (cut_at K.cmp cut.now q (row_at K.cmp self.now q))) }
     {
         if cut.is_empty() && put.is_empty() {
             return self.share();
         }
-        let mut rows = self.own(alloc)?;
-        cut_all(&mut rows, cut);
-        put_all(&mut rows, put)?;
+        let rows = cut_all(alloc, self.own(alloc)?, cut)?;
+        let rows = put_all(alloc, rows, put)?;
         Ok(Table {
             rows: Some(Rc::new(alloc, rows)?),
         })
     }
 }
 
-/// Takes the rows of these keys out of the map.
-fn cut_all<K: Ord + Drop, V: Drop>(rows: &mut BTreeMap<K, V>, cut: &[K])
-    ensures { (q : K) → row_at K.cmp rows.new.entries q ≡ cut_at K.cmp cut.now q (row_at K.cmp rows.old.entries q) }
+/// The rows without those of these keys.
+fn cut_all<K: Ord + Exact, V: Exact>(
+    alloc: Global,
+    rows: Pieces<K, V>,
+    cut: &[K],
+) -> Result<Pieces<K, V>, AllocError>
+    ensures { IfOk result (λ left. (q : K) → row_at K.cmp left q ≡ cut_at K.cmp cut.now q (row_at K.cmp rows q)) }
 {
+    let mut left = rows;
     for key in cut {
-        rows.remove(key);
+        left = left.cut(alloc, key)?;
     }
+    Ok(left)
 }
 
-/// Puts these rows into the map, each at its own key.
-fn put_all<K: Ord + Drop, V: Keyed<K> + Exact>(
-    rows: &mut BTreeMap<K, V>,
+/// The rows with these, each at its own key.
+fn put_all<K: Ord + Exact, V: Keyed<K> + Exact>(
+    alloc: Global,
+    rows: Pieces<K, V>,
     put: &[V],
-) -> Result<(), AllocError>
-    ensures { OnOk result ((q : K) → row_at K.cmp rows.new.entries q ≡ put_at K.cmp V.key put.now q (row_at K.cmp rows.old.entries q)) }
+) -> Result<Pieces<K, V>, AllocError>
+    ensures { IfOk result (λ all. (q : K) → row_at K.cmp all q ≡ put_at K.cmp V.key put.now q (row_at K.cmp rows q)) }
 {
+    let mut all = rows;
     for row in put {
-        rows.insert(row.key(), row.clone()?)?;
+        all = all.put(alloc, row.key(), row.clone()?)?;
     }
-    Ok(())
+    Ok(all)
 }
 
-impl<K: Ord + Drop, V: Keyed<K> + Drop> Table<K, V> {
+impl<K: Ord + Exact, V: Keyed<K> + Exact> Table<K, V> {
     /// The table of these rows by their keys; `None` where two rows have one key.
     pub(crate) fn of_rows(alloc: Global, rows: Vec<V>) -> Result<Option<Self>, AllocError>
         ensures made { IfOk result (λ made. IfSome made (λ table. IsPermutation rows.items (values_of table) × (map V.key (values_of table) ≡ keys_of table) × IsStrictlySortedBy K.cmp (keys_of table))) }
         ensures repeated { IfOk result (λ made. IfNone made (IsDistinct (eq_by_cmp K.cmp) (map V.key rows.items) → ⊥)) }
     {
-        let mut map = BTreeMap::new(alloc);
+        let mut all = Pieces::new(alloc);
         for row in rows {
             let key = row.key();
-            if map.contains_key(&key) {
+            if all.contains_key(&key) {
                 return Ok(None);
             }
-            map.insert(key, row)?;
+            all = all.put(alloc, key, row)?;
         }
         Ok(Some(Table {
-            rows: Some(Rc::new(alloc, map)?),
+            rows: Some(Rc::new(alloc, all)?),
         }))
     }
 }
@@ -219,14 +230,15 @@ impl<K: Ord + Drop, V> Table<K, V> {
     }
 }
 
-/// The values of a map, in the order of its keys.
-fn copies_of<K: Ord, V: Exact>(alloc: Global, map: &BTreeMap<K, V>) -> Result<Vec<V>, AllocError>
-    ensures values { IfOk result (λ copies. copies.items ≡ values_of map.now.entries) }
-    ensures ordered { IsStrictlySortedBy K.cmp (keys_of map.now.entries) }
+/// Copies of the rows of a map come to the others, in the order of its keys.
+fn push_copies<K: Ord, V: Exact>(
+    copies: &mut Vec<V>,
+    rows: &BTreeMap<K, V>,
+) -> Result<(), AllocError>
+    ensures { OnOk result (copies.new.items ≡ copies.old.items ++ values_of rows.now.entries) }
 {
-    let mut copies = Vec::new(alloc);
-    for value in map.values() {
-        copies.push(value.clone()?)?;
+    for row in rows.values() {
+        copies.push(row.clone()?)?;
     }
-    Ok(copies)
+    Ok(())
 }

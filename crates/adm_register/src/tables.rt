@@ -7,17 +7,17 @@ ghost use Rattle.std.specs.Ordering.{nat_cmp};
 ghost use Rattle.std.specs.Cmp.Lexicographic.{pointwise};
 ghost use Rattle.adm_register.specs.Plans.{has_plan};
 ghost use Rattle.adm_register.specs.Rows.{place_of, places_at, vacancies};
-ghost use Rattle.adm_register.specs.State.{only_season};
-ghost use Rattle.adm_register.specs.TableRows.{rows_in};
+ghost use Rattle.adm_register.specs.State.{code_cmp, only_season};
+ghost use Rattle.adm_register.specs.Pieces.{rows_of_pieces};
 ghost use Rattle.adm_register.specs.WellFormed.{are_schools};
 
+use crate::pieces::Piece;
 use crate::shared::Shared;
 use crate::table::{Keyed, Table};
 use adm_types::{
     Application, Child, ChildNo, Place, PlaceRow, PlaceState, School, SchoolCode, Season,
 };
 use std::alloc::AllocError;
-use std::collections::BTreeMap;
 use std::marker::Model;
 
 impl Keyed<SchoolCode> for School {
@@ -195,42 +195,48 @@ impl Tables {
         self.children.len()
     }
 
-    /// The schools as a map; `None` where there are none.
-    pub(crate) fn schools(&self) -> Option<&BTreeMap<SchoolCode, Shared<School>>>
-        ensures { map.from_entries (rows_in result) ≡ self.now.schools }
+    /// The schools in their pieces, in order.
+    pub(crate) fn schools(&self) -> &[Piece<SchoolCode, Shared<School>>]
+        ensures rows { map.from_entries (rows_of_pieces result.now) ≡ self.now.schools }
+        ensures ordered { IsStrictlySortedBy code_cmp (keys_of (rows_of_pieces result.now)) }
     {
-        self.schools.map()
+        self.schools.pieces()
     }
 
-    /// The children as a map; `None` where there are none.
-    pub(crate) fn children(&self) -> Option<&BTreeMap<ChildNo, Shared<Child>>>
-        ensures { map.from_entries (rows_in result) ≡ self.now.children }
+    /// The children in their pieces, in order.
+    pub(crate) fn children(&self) -> &[Piece<ChildNo, Shared<Child>>]
+        ensures rows { map.from_entries (rows_of_pieces result.now) ≡ self.now.children }
+        ensures ordered { IsStrictlySortedBy nat_cmp (keys_of (rows_of_pieces result.now)) }
     {
-        self.children.map()
+        self.children.pieces()
     }
 
-    /// The applications as a map; `None` where there are none.
-    pub(crate) fn applications(&self) -> Option<&BTreeMap<ChildNo, Shared<Application>>>
-        ensures { map.from_entries (rows_in result) ≡ self.now.applications }
+    /// The applications in their pieces, in order.
+    pub(crate) fn applications(&self) -> &[Piece<ChildNo, Shared<Application>>]
+        ensures rows { map.from_entries (rows_of_pieces result.now) ≡ self.now.applications }
+        ensures ordered { IsStrictlySortedBy nat_cmp (keys_of (rows_of_pieces result.now)) }
     {
-        self.applications.map()
+        self.applications.pieces()
     }
 
-    /// The places as a map; `None` where there are none.
-    pub(crate) fn places(&self) -> Option<&BTreeMap<ChildNo, PlaceRow>>
-        ensures { map.from_entries (rows_in result) ≡ self.now.places }
+    /// The places in their pieces, in order.
+    pub(crate) fn places(&self) -> &[Piece<ChildNo, PlaceRow>]
+        ensures rows { map.from_entries (rows_of_pieces result.now) ≡ self.now.places }
+        ensures ordered { IsStrictlySortedBy nat_cmp (keys_of (rows_of_pieces result.now)) }
     {
-        self.places.map()
+        self.places.pieces()
     }
 
     /// How many places there are at the school.
     fn places_at(&self, code: SchoolCode) -> usize
         ensures { result ≡ places_at self.now code }
     {
-        match self.places() {
-            None => 0,
-            Some(places) => count_at(places, code),
+        let _all = self.places.len();
+        let mut count = 0;
+        for piece in self.places.pieces() {
+            count += count_at(piece, code);
         }
+        count
     }
 
     /// The school's admission number less all places there, not below 0.
@@ -247,12 +253,12 @@ impl Tables {
     }
 }
 
-/// How many of the places are at the school.
-fn count_at(places: &BTreeMap<ChildNo, PlaceRow>, code: SchoolCode) -> usize
-    ensures count { result ≡ count_by (λ row. pointwise nat_eq row.place.school code) (values_of places.now.entries) }
-    ensures ordered { IsStrictlySortedBy nat_cmp (keys_of places.now.entries) }
+/// How many of the places of a piece are at the school.
+fn count_at(places: &Piece<ChildNo, PlaceRow>, code: SchoolCode) -> usize
+    ensures { result ≡ count_by (λ row. pointwise nat_eq row.place.school code) (values_of places.now.rows.value.entries) }
 {
     places
+        .rows()
         .values()
         .filter(|row| row.place.school == code)
         .count()

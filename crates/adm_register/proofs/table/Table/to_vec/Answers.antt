@@ -1,7 +1,11 @@
-use Rattle.std.proofs.Common.{◌∙◌, ap, sym}
-use Rattle.adm_register.specs.TableRows.{rows_of}
-use Rattle.adm_register.proofs.TableCopies.{no_rows}
+use Rattle.std.proofs.Common.{◌≡◌, ◌∙◌, ap, sym, arith, ◌<◌, ◌++◌, length}
+use Rattle.std.specs.Map.{values_of}
+use Rattle.adm_register.proofs.PieceRows.{values-more}
 use Rattle.adm_register.proofs.table.Table.to_vec.Goals as goal
 
-pub returns-in-None-clause-ordered : goal.returns-in-None-clause-ordered
-returns-in-None-clause-ordered g c = no_rows g.K.Ord.cmp c.args.self.now (sym c.self.view_is ∙ ap rows_of c.in-None.is)
+pub loop-piece-preserved : goal.loop-piece-preserved
+loop-piece-preserved g c =
+    let pieces = c.pieces-piece-items.result.now in
+    let place = c.loop-piece.piece-index in
+    let within : place < length pieces = omega (arith, c.loop-piece-test.true) in
+    c.in_ok-push_copies.ensures ∙ (λ i. c.loop-piece.invariant i ++ values_of (c.rows.ensures i).entries) ∙ sym (values-more place pieces c.piece-item.result within c.piece-item.is)

@@ -1,0 +1,49 @@
+-- What is read off the rows of pieces, piece by piece.
+use Rattle.std.proofs.Common.{◌≡◌, ◌∙◌, ap, sym, refl, ℕ, ◌+◌, ◌<◌, ◌≤◌, Bool, true, false, cond, length, take, drop, get_or, map, arith, List, [], ◌∷◌, ◌++◌, append-nil}
+use Rattle.std.specs.Prelude.{◌&&◌, count_by}
+use Rattle.std.specs.List.{list_all}
+use Rattle.std.specs.Map.{keys_of, values_of}
+use Rattle.std.proofs.lemmas.List.{take_more, map-append, length-append, length-map}
+use Rattle.std.proofs.lemmas.List.Sums.{count_by-le-length, sum_by-append}
+use Rattle.adm_register.specs.declared.pieces.Piece.{Piece}
+use Rattle.adm_register.specs.Pieces.{rows_of_pieces}
+use Rattle.adm_register.proofs.PieceRuns.{rows-both, rows-at}
+
+both-assoc : (a b c : Bool) → ((a && b) && c) ≡ (a && (b && c))
+both-assoc true b c = refl
+both-assoc false b c = refl
+
+list_all-both : {A : Type 0} (p : A → Bool) (xs ys : List A) → list_all p (xs ++ ys) ≡ (list_all p xs && list_all p ys)
+list_all-both p [] ys = refl
+list_all-both p (x ∷ xs) ys = ap (λ b. p x && b) (list_all-both p xs ys) ∙ sym (both-assoc (p x) (list_all p xs) (list_all p ys))
+
+module _ {K V : Type 0} where
+  -- a test of all rows is one of the rows of each piece
+  pub list_all-pieces : (p : K × V → Bool) (pieces : List (Piece K V)) → list_all p (rows_of_pieces pieces) ≡ list_all (λ piece. list_all p piece.rows.value.entries) pieces
+  list_all-pieces p [] = refl
+  list_all-pieces p (piece ∷ pieces) =
+      list_all-both p piece.rows.value.entries (rows_of_pieces pieces) ∙ ap (λ b. list_all p piece.rows.value.entries && b) (list_all-pieces p pieces)
+
+  -- the values of the pieces before a place, and of one more
+  pub values-more : (place : ℕ) (pieces : List (Piece K V)) (piece : Piece K V) → place < length pieces → piece ≡ get_or pieces place piece
+      → values_of (rows_of_pieces (take (place + 1) pieces)) ≡ values_of (rows_of_pieces (take place pieces)) ++ values_of piece.rows.value.entries
+  values-more place pieces piece within at =
+      ap (λ ps. values_of (rows_of_pieces ps)) (take_more pieces place piece within ∙ ap (λ p. take place pieces ++ p ∷ []) (sym at))
+      ∙ ap values_of (rows-both (take place pieces) (piece ∷ []))
+      ∙ map-append (λ e. e.1) (rows_of_pieces (take place pieces)) (piece.rows.value.entries ++ [])
+      ∙ ap (λ es. values_of (rows_of_pieces (take place pieces)) ++ values_of es) (append-nil piece.rows.value.entries)
+
+  -- as many of the rows before a place pass a test as there are rows, at most
+  pub count-within : (p : V → Bool) (place : ℕ) (pieces : List (Piece K V)) → count_by p (values_of (rows_of_pieces (take place pieces))) ≤ length (rows_of_pieces pieces)
+  count-within p place pieces =
+      let before = rows_of_pieces (take place pieces) in
+      let few = count_by-le-length p (values_of before) in
+      let same = length-map before (λ (e : K × V). e.1) in
+      let whole = ap length (sym (rows-at place pieces)) ∙ length-append before (rows_of_pieces (drop place pieces)) in
+      omega arith
+
+  pub count-more : (p : V → Bool) (place : ℕ) (pieces : List (Piece K V)) (piece : Piece K V) → place < length pieces → piece ≡ get_or pieces place piece
+      → count_by p (values_of (rows_of_pieces (take (place + 1) pieces))) ≡ count_by p (values_of (rows_of_pieces (take place pieces))) + count_by p (values_of piece.rows.value.entries)
+  count-more p place pieces piece within at =
+      ap (count_by p) (values-more place pieces piece within at)
+      ∙ sum_by-append (λ v. cond (p v) 1 0) (values_of (rows_of_pieces (take place pieces))) (values_of piece.rows.value.entries)
