@@ -1,6 +1,5 @@
 -- Rows in pieces, before, in and after the piece that a key belongs to.
 use Rattle.std.proofs.Common.{◌≡◌, ◌∙◌, ap, sym, subst, refl, ℕ, zero, suc, ◌+◌, ◌<◌, ◌≤◌, length, take, drop, get_or, add-one, arith, List, [], ◌∷◌, ◌++◌, append_assoc, length-append, Some, None}
-use Rattle.std.specs.Prelude.{Option}
 use Rattle.std.specs.declared.cmp.Ordering.{Ordering}
 use Rattle.std.specs.declared.cmp.Ordering.TheVariants.{Less, Greater}
 use Rattle.std.specs.Cmp.{IsTotalOrder}
@@ -79,9 +78,11 @@ module _ {K V : Type 0} {R : K → K → Ordering} (total : IsTotalOrder R) (pla
   pub rows-above : R piece.first key ≡ Greater → AllByRecursion (λ other. R key other ≡ Less) (keys_of (rows_of_pieces (drop place pieces)))
   rows-above greater =
       let less = below total piece.first key greater in
-      subst (AllByRecursion (λ other. R key other ≡ Less)) (sym (keys-at place pieces piece within at are.starts).1)
-      (less, all-weaker (λ other. R piece.first other ≡ Less) (λ other. R key other ≡ Less) (λ other more. total.trans key piece.first other less more) _
-      (sorted-after R (keys_of (rows_of_pieces (take place pieces))) piece.first (keys-at place pieces piece within at are.starts).0 in_order))
+      subst (AllByRecursion (λ other. R key other ≡ Less)) (sym (keys-at place pieces piece within at are.starts).1) (
+        less,
+        all-weaker (λ other. R piece.first other ≡ Less) (λ other. R key other ≡ Less) (λ other more. total.trans key piece.first other less more) _
+            (sorted-after R (keys_of (rows_of_pieces (take place pieces))) piece.first (keys-at place pieces piece within at are.starts).0 in_order),
+      )
 
 -- where a search ends, no row is left between the place and the end
 pub rows-past : {K V : Type 0} (R : K → K → Ordering) (place end : ℕ) (pieces : List (Piece K V)) (key : K) → place ≤ end → end ≤ length pieces → (0 < length pieces → place < end) → end ≤ place + 1
@@ -116,10 +117,9 @@ module _ {K V : Type 0} where
       → (rows_of_pieces more ≡ rows_of_pieces (take (place + 1) pieces)) × AllByRecursion StartsRight more
   copied-more place pieces copies more piece copy within at starts first rows pushed so_far =
       let right : StartsRight piece = (subst (AllByRecursion StartsRight) (from-place place pieces piece within at) (starts-from place pieces starts)).0 in
-      let entries = ap (λ m. m.entries) rows in
-      (
+      let entries = ap (λ m. m.entries) rows in (
         ap rows_of_pieces pushed ∙ rows-both copies (copy ∷ []) ∙ (λ i. so_far.0 i ++ (entries i ++ [])) ∙ ap (λ p. rows_of_pieces (take place pieces) ++ rows_of_pieces (p ∷ [])) at
-        ∙ sym (rows-both (take place pieces) (get_or pieces place piece ∷ [])) ∙ ap rows_of_pieces (sym (take_more pieces place piece within)),
+            ∙ sym (rows-both (take place pieces) (get_or pieces place piece ∷ [])) ∙ ap rows_of_pieces (sym (take_more pieces place piece within)),
         subst (AllByRecursion StartsRight) (sym pushed) (all-both StartsRight copies (copy ∷ []) so_far.1 (same-first piece.first copy.first piece.rows.value.entries copy.rows.value.entries first entries right, tt)),
       )
 
@@ -143,7 +143,6 @@ module _ {K V : Type 0} {R : K → K → Ordering} (total : IsTotalOrder R) (pla
       ap (λ rows. rows_of_pieces (take place pieces) ++ rows) (sym (remove-before total key (first_rows (drop place pieces)) (rows_of_pieces (drop (place + 1) pieces)) higher))
       ∙ sym (remove-after total key (rows_of_pieces (take place pieces)) (first_rows (drop place pieces) ++ rows_of_pieces (drop (place + 1) pieces)) lower)
       ∙ ap (remove_entry (is_at (R key))) (sym (rows-around place pieces))
-
 
 lengths : {A : Type 0} (xs ys zs : List A) → length (xs ++ (ys ++ zs)) ≡ length xs + (length ys + length zs)
 lengths xs ys zs = length-append xs (ys ++ zs) ∙ ap (λ n. length xs + n) (length-append ys zs)

@@ -82,7 +82,9 @@ fn children_fit(tables: &Tables) -> bool
 fn all_children_fit(tables: &Tables, pieces: &[Piece<ChildNo, Shared<Child>>]) -> bool
     ensures { result ≡ list_all (λ piece. list_all (λ entry. fits_child tables.now.schools entry.0 entry.1) piece.rows.value.entries) pieces.now }
 {
-    pieces.iter().all(|piece| children_of_piece_fit(tables, piece))
+    pieces
+        .iter()
+        .all(|piece| children_of_piece_fit(tables, piece))
 }
 
 fn children_of_piece_fit(tables: &Tables, children: &Piece<ChildNo, Shared<Child>>) -> bool
@@ -119,7 +121,9 @@ fn applications_fit(tables: &Tables) -> bool
 fn all_applications_fit(tables: &Tables, pieces: &[Piece<ChildNo, Shared<Application>>]) -> bool
     ensures { result ≡ list_all (λ piece. list_all (λ entry. fits_application (lists_end tables.now.season) tables.now.schools tables.now.children entry.0 entry.1) piece.rows.value.entries) pieces.now }
 {
-    pieces.iter().all(|piece| applications_of_piece_fit(tables, piece))
+    pieces
+        .iter()
+        .all(|piece| applications_of_piece_fit(tables, piece))
 }
 
 fn applications_of_piece_fit(
@@ -166,7 +170,9 @@ fn places_fit(tables: &Tables) -> bool
 fn all_places_fit(tables: &Tables, pieces: &[Piece<ChildNo, PlaceRow>]) -> bool
     ensures { result ≡ list_all (λ piece. list_all (λ entry. fits_place tables.now.schools tables.now.children tables.now.applications entry.0 entry.1) piece.rows.value.entries) pieces.now }
 {
-    pieces.iter().all(|piece| places_of_piece_fit(tables, piece))
+    pieces
+        .iter()
+        .all(|piece| places_of_piece_fit(tables, piece))
 }
 
 fn places_of_piece_fit(tables: &Tables, places: &Piece<ChildNo, PlaceRow>) -> bool

@@ -238,10 +238,13 @@ fn put_piece<K: Ord + Exact, V: Drop>(
         None => return Ok(()),
         Some((key, _)) => key.clone()?,
     };
-    pieces.insert(place, Piece {
-        first,
-        rows: Rc::new(alloc, rows)?,
-    })?;
+    pieces.insert(
+        place,
+        Piece {
+            first,
+            rows: Rc::new(alloc, rows)?,
+        },
+    )?;
     Ok(())
 }
 

@@ -1,11 +1,7 @@
 use Rattle.std.specs.Prelude.{◌⊎◌}
-use Rattle.std.proofs.Common.{inl, inr, ◌≡◌, ◌∙◌, ap, sym, subst, ◌+◌, ◌<◌, ◌≤◌, length, take, drop, arith}
-use Rattle.std.specs.List.{AllByRecursion}
-use Rattle.std.specs.Map.{keys_of}
+use Rattle.std.proofs.Common.{inl, inr, ◌≡◌, ◌∙◌, ap, sym, arith}
 use Rattle.std.specs.declared.cmp.Ordering.{Ordering}
 use Rattle.std.specs.declared.cmp.Ordering.TheVariants.{Less, Equal, Greater}
-use Rattle.std.proofs.lemmas.List.{drop_all}
-use Rattle.adm_register.specs.Pieces.{rows_of_pieces}
 use Rattle.adm_register.proofs.PieceRuns.{rows-below, rows-above, rows-past}
 use Rattle.adm_register.proofs.pieces.place_of.Goals as goal
 

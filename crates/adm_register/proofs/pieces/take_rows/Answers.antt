@@ -1,4 +1,4 @@
-use Rattle.std.proofs.Common.{◌≡◌, ◌∙◌, ap, sym, inl, inr, arith, ◌<◌, length}
+use Rattle.std.proofs.Common.{◌∙◌, ap, sym, inl, inr, arith, ◌<◌, length}
 use Rattle.std.proofs.lemmas.Result.{MatchResult-weaker}
 use Rattle.adm_register.proofs.PieceRuns.{rows-read}
 use Rattle.adm_register.proofs.TableCopies.{same_entries}

@@ -1,4 +1,4 @@
-use Rattle.std.proofs.Common.{◌≡◌, ◌∙◌, ap, sym, cond, arith, ◌+◌, ◌<◌, ◌∷◌, drop, length, Some}
+use Rattle.std.proofs.Common.{◌∙◌, ap, sym, cond, arith, ◌+◌, ◌<◌, ◌∷◌, drop, length, Some}
 use Rattle.std.specs.BTreeMap.{is_at}
 use Rattle.std.proofs.lemmas.List.{drop_more}
 use Rattle.adm_register.specs.TableRows.{row_at, put_at}

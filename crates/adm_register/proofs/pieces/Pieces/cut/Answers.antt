@@ -2,7 +2,7 @@ use Rattle.std.proofs.Common.{◌≡◌, ◌∙◌, ap, sym, subst, cond, ◌+�
 use Rattle.std.specs.Prelude.{is_some}
 use Rattle.std.specs.List.Sorted.{IsStrictlySortedBy}
 use Rattle.std.specs.Map.{keys_of, lookup, remove_entry}
-use Rattle.std.specs.BTreeMap.{insert_entry, is_at}
+use Rattle.std.specs.BTreeMap.{is_at}
 use Rattle.std.specs.List.{AllByRecursion}
 use Rattle.std.specs.declared.cmp.Ordering.TheVariants.{Less}
 use Rattle.adm_register.specs.Pieces.{ArePieces, rows_of_pieces}
@@ -47,15 +47,17 @@ invariant_of-result g c =
     let kept = length c.remove.new.self.entries in
     let count = length-changed c.place_of-place.result c.self.inside.pieces.items _ _ _ _ (change g c) in
     let was = c.self.invariant.1 in
-    let removed = c.remove.ensures.len in
-    ((now g c).1, elim c.match-remove.branch [
-      | in-Some w ↦
-          let less = sym (ap (λ o. kept + cond (is_some o) 1 0) w.in-Some.is) ∙ removed in
-          omega (arith, count, was, less, w.len-is)
-      | in-None w ↦
-          let same = sym (ap (λ o. kept + cond (is_some o) 1 0) w.in-None.is) ∙ removed in
-          omega (arith, count, was, same, w.len-is)
-    ])
+    let removed = c.remove.ensures.len in (
+      (now g c).1,
+      elim c.match-remove.branch [
+        | in-Some w ↦
+            let less = sym (ap (λ o. kept + cond (is_some o) 1 0) w.in-Some.is) ∙ removed in
+            omega (arith, count, was, less, w.len-is)
+        | in-None w ↦
+            let same = sym (ap (λ o. kept + cond (is_some o) 1 0) w.in-None.is) ∙ removed in
+            omega (arith, count, was, same, w.len-is)
+      ],
+    )
 
 pub overflow_sub-len : goal.overflow_sub-len
 overflow_sub-len g c =

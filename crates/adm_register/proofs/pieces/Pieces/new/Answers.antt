@@ -1,7 +1,6 @@
-use Rattle.std.proofs.Common.{◌≡◌, sym, subst, refl, length, List, [], ◌∷◌}
+use Rattle.std.proofs.Common.{◌≡◌, sym, subst, refl, length, []}
 use Rattle.std.specs.declared.cmp.Ordering.{Ordering}
 use Rattle.std.specs.List.Sorted.{IsStrictlySortedBy}
-use Rattle.adm_register.specs.declared.pieces.Piece.{Piece}
 use Rattle.adm_register.specs.Pieces.{ArePieces, rows_of_pieces}
 use Rattle.adm_register.proofs.pieces.Pieces.new.Goals as goal
 

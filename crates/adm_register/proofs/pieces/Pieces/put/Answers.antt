@@ -1,4 +1,4 @@
-use Rattle.std.proofs.Common.{◌≡◌, ◌∙◌, ap, sym, subst, cond, ◌+◌, ◌≤◌, length, take, drop, arith}
+use Rattle.std.proofs.Common.{◌≡◌, ◌∙◌, ap, subst, cond, ◌+◌, ◌≤◌, length, take, drop, arith}
 use Rattle.std.specs.Prelude.{is_some}
 use Rattle.std.specs.Map.{keys_of, lookup}
 use Rattle.std.specs.BTreeMap.{insert_entry, is_at}
@@ -47,13 +47,15 @@ invariant_of-result g c =
     let taken = length c.in_ok-rows.rows.entries in
     let count = length-changed c.place_of-place.result c.self.inside.pieces.items _ _ _ _ (change g c) in
     let was = c.self.invariant.1 in
-    let added = c.in_ok-there.ensures.len in
-    ((now g c).1, elim c.match-there.branch [
-      | in-Some w ↦
-          let same = added ∙ ap (λ o. taken + cond (is_some o) 0 1) w.in-Some.is in
-          omega (arith, count, was, same, w.len-is)
-      | in-None+in_ok-len-in-None w ↦
-          let more = added ∙ ap (λ o. taken + cond (is_some o) 0 1) w.in-None.is in
-          let next : w.in_ok-len-in-None.len ≡ c.self.inside.len + 1 = grind (arith, w.in_ok-len-in-None.ensures.value, w.checked_add.ensures) in
-          omega (arith, count, was, more, next, w.len-is)
-    ])
+    let added = c.in_ok-there.ensures.len in (
+      (now g c).1,
+      elim c.match-there.branch [
+        | in-Some w ↦
+            let same = added ∙ ap (λ o. taken + cond (is_some o) 0 1) w.in-Some.is in
+            omega (arith, count, was, same, w.len-is)
+        | in-None+in_ok-len-in-None w ↦
+            let more = added ∙ ap (λ o. taken + cond (is_some o) 0 1) w.in-None.is in
+            let next : w.in_ok-len-in-None.len ≡ c.self.inside.len + 1 = grind (arith, w.in_ok-len-in-None.ensures.value, w.checked_add.ensures) in
+            omega (arith, count, was, more, next, w.len-is)
+      ],
+    )

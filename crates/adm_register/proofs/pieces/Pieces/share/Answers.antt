@@ -1,4 +1,4 @@
-use Rattle.std.proofs.Common.{◌≡◌, ◌∙◌, ap, arith, ◌<◌, length, get_or}
+use Rattle.std.proofs.Common.{◌∙◌, ap, arith, ◌<◌, length, get_or}
 use Rattle.adm_register.proofs.PieceRuns.{copied-more}
 use Rattle.adm_register.proofs.pieces.Pieces.share.Goals as goal
 

@@ -1,4 +1,4 @@
-use Rattle.std.proofs.Common.{◌≡◌, ◌∙◌, ap, sym, arith, ◌<◌, ◌++◌, length}
+use Rattle.std.proofs.Common.{◌∙◌, sym, arith, ◌<◌, ◌++◌, length}
 use Rattle.std.specs.Map.{values_of}
 use Rattle.adm_register.proofs.PieceRows.{values-more}
 use Rattle.adm_register.proofs.table.Table.to_vec.Goals as goal

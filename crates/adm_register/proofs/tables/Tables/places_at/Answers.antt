@@ -1,4 +1,4 @@
-use Rattle.std.proofs.Common.{rules, Fits, w64, ◌≡◌, ◌∙◌, ap, sym, arith, ◌+◌, ◌<◌, ◌≤◌, ◌++◌, length, take}
+use Rattle.std.proofs.Common.{rules, Fits, w64, ◌∙◌, ap, sym, arith, ◌+◌, ◌<◌, ◌≤◌, length}
 use Rattle.std.specs.Prelude.{count_by, nat_eq}
 use Rattle.std.specs.Cmp.Lexicographic.{pointwise}
 use Rattle.std.specs.Map.{values_of}
