@@ -49,20 +49,10 @@ fn rows_in<S: Alter>(
     ensures survives { Survives (state S.Store tx.old.conn.now) (state S.Store tx.new.conn.now) (λ _. ⊥) }
 {
     let last = season.lists_end();
-    let unused = (
-        Unused::LeftList,
-        (
-            Unused::Draw,
-            (Unused::Offer, (Unused::Lot, (Unused::Imported, ()))),
-        ),
-    );
-    let readers = (
-        SchoolReader,
-        (
-            ChildReader,
-            (ApplicationReader { last }, (PlaceReader, unused)),
-        ),
-    );
+    let unused = (Unused::Offer, (Unused::Lot, (Unused::Imported, ())));
+    let unused = (Unused::LeftList, (Unused::Draw, unused));
+    let readers = (ApplicationReader { last }, (PlaceReader, unused));
+    let readers = (SchoolReader, (ChildReader, readers));
     let (schools, (children, (applications, (places, _unused)))) = readers.read_all(alloc, tx)?;
     Ok(Rows {
         season,
