@@ -5,7 +5,8 @@ use crate::disks::Disks;
 use crate::lines::Lines;
 use crate::step::{Step, Which};
 use crate::stops::stops;
-use adm_register::Register;
+use adm_register::{Register, Rows};
+use adm_types::School;
 use std::alloc::Global;
 use std::io;
 
@@ -60,7 +61,8 @@ impl Bench {
             }
             Step::Run => self.run(rt),
             Step::Stop(disk, calls, act) => self.act(rt, act, Some((*disk, *calls))),
-            Step::Stops(act) => stops(rt, self.alloc, &self.disks, act),
+            Step::Stops(act) => stops(rt, self.alloc, &self.disks, act, act),
+            Step::Mistake(act, other) => stops(rt, self.alloc, &self.disks, act, other),
         }
     }
 
@@ -95,8 +97,7 @@ impl Bench {
     }
 
     fn show(&self, rt: &impl Print) -> io::Result<()> {
-        let (found, _) = found(self.alloc, self.disks.files(self.alloc, None)?);
-        match found {
+        match self.disks.register(self.alloc)? {
             Ok(register) => print_register(rt, self.alloc, &register),
             Err(fault) => println!(rt; "  {fault:?}"),
         }
@@ -120,23 +121,35 @@ impl Bench {
     }
 }
 
-/// Prints how many rows a register has, and its schools with the places that are left.
-fn print_register(rt: &impl Print, alloc: Global, register: &Register) -> io::Result<()> {
-    let rows = register.rows(alloc)?;
+fn print_counts(rt: &impl Print, rows: &Rows) -> io::Result<()> {
     println!(rt;
         "  {} schools, {} children, {} applications, {} places",
         rows.schools.len(),
         rows.children.len(),
         rows.applications.len(),
         rows.places.len()
-    )?;
-    for school in rows.schools.as_slice() {
-        println!(rt;
-            "  {} has {} of {} places left",
-            school.code.as_str(),
-            register.vacancies(school.code).unwrap_or(0),
-            school.pan
-        )?;
+    )
+}
+
+fn print_school(rt: &impl Print, register: &Register, school: &School) -> io::Result<()> {
+    println!(rt;
+        "  {} has {} of {} places left",
+        school.code.as_str(),
+        register.vacancies(school.code).unwrap_or(0),
+        school.pan
+    )
+}
+
+fn print_schools(rt: &impl Print, register: &Register, schools: &[School]) -> io::Result<()> {
+    for school in schools {
+        print_school(rt, register, school)?;
     }
     Ok(())
+}
+
+/// Prints how many rows a register has, and its schools with the places that are left.
+fn print_register(rt: &impl Print, alloc: Global, register: &Register) -> io::Result<()> {
+    let rows = register.rows(alloc)?;
+    print_counts(rt, &rows)?;
+    print_schools(rt, register, rows.schools.as_slice())
 }

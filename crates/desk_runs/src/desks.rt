@@ -6,7 +6,7 @@ ghost use Rattle.adm_store.specs.StandsFor.{IsStarted};
 
 use adm_desk::{Desk, Run, RunFault};
 use adm_register::Register;
-use adm_store::{OpenFault, open};
+use adm_store::{OpenFault, Store, open};
 use adm_wire::{Input, Output};
 use sqlite::{Alter, Connection, Error, FileStore, Files, Options};
 use sqlite_disk::Disk;
@@ -44,6 +44,11 @@ pub(crate) enum NotFound {
     Refused(OpenFault),
 }
 
+/// The connection of a store. No clause speaks of it.
+fn given_back<S: Alter>(store: Store<S>) -> Connection<S> {
+    store.into_connection()
+}
+
 fn register_in<S: Alter>(
     alloc: Global,
     conn: Connection<S>,
@@ -52,7 +57,7 @@ fn register_in<S: Alter>(
     requires started { IsStarted (state S.Store conn) }
 {
     match open(alloc, conn) {
-        Ok((store, register)) => (Ok(register), store.into_connection()),
+        Ok((store, register)) => (Ok(register), given_back(store)),
         Err((fault, conn)) => (Err(NotFound::Refused(fault)), conn),
     }
 }
@@ -71,6 +76,21 @@ pub(crate) fn found<D: Disk + Drop>(
     }
 }
 
+/// The register that an open finds, where the files are not wanted any more.
+pub(crate) fn register_of<D: Disk + Drop>(
+    alloc: Global,
+    files: Files<D>,
+) -> Result<Register, NotFound> {
+    let (register, _files) = found(alloc, files);
+    register
+}
+
+/// Runs a text. No clause speaks of what it leaves.
+fn ran_on<S: Alter>(mut conn: Connection<S>, sql: &str) -> (Result<(), Error>, Connection<S>) {
+    let ran = conn.execute_batch(sql);
+    (ran, conn)
+}
+
 /// Runs a text on the database. `None`: it was not opened.
 pub(crate) fn changed<D: Disk + Drop>(
     alloc: Global,
@@ -79,8 +99,8 @@ pub(crate) fn changed<D: Disk + Drop>(
 ) -> (Option<Result<(), Error>>, Files<D>) {
     match connected(alloc, files) {
         Err(files) => (None, files),
-        Ok(mut conn) => {
-            let ran = conn.execute_batch(sql);
+        Ok(conn) => {
+            let (ran, conn) = ran_on(conn, sql);
             (Some(ran), closed(conn))
         }
     }

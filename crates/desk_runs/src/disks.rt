@@ -1,7 +1,9 @@
 // Two disks in memory, a database's and its log's. Between steps they are kept as bytes.
+use crate::desks::{NotFound, register_of};
 use crate::step::Which;
+use adm_register::Register;
 use sqlite::Files;
-use sqlite_disk::{Disk, Fuse, Memory};
+use sqlite_disk::{Crash, Disk, Fuse, Memory};
 use std::alloc::{AllocError, Global};
 use std::io;
 
@@ -44,6 +46,23 @@ impl Disks {
         })
     }
 
+    /// What these files hold after a loss of power, which leaves what was synced.
+    fn after_loss(alloc: Global, mut files: Files<Fused>) -> Result<Disks, AllocError> {
+        files.log.crash();
+        files.db.crash();
+        Disks::of(alloc, &files)
+    }
+
+    /// What these files hold, and what they hold after a loss of power.
+    pub(crate) fn with_and_without_loss(
+        alloc: Global,
+        files: Files<Fused>,
+    ) -> Result<(Disks, Disks), AllocError> {
+        let written = Disks::of(alloc, &files)?;
+        let synced = Disks::after_loss(alloc, files)?;
+        Ok((written, synced))
+    }
+
     /// The same.
     pub(crate) fn copy(&self, alloc: Global) -> Result<Disks, AllocError> {
         Ok(Disks {
@@ -67,6 +86,11 @@ impl Disks {
             log: disk(alloc, &self.log, log)?,
             db: disk(alloc, &self.db, db)?,
         })
+    }
+
+    /// The register that an open finds on them.
+    pub(crate) fn register(&self, alloc: Global) -> io::Result<Result<Register, NotFound>> {
+        Ok(register_of(alloc, self.files(alloc, None)?))
     }
 
     /// Whether both disks hold the same.

@@ -45,17 +45,33 @@ pub(crate) enum Step<'a> {
     Stop(Which, u64, Act),
     /// `stops ACT`: the act, stopped at each call of each disk in turn. The disks stay as they are.
     Stops(Act),
+    /// `mistake ACT for OTHER`: the same, with the register after the other act for the one after it.
+    /// What it prints is to be a PROBLEM.
+    Mistake(Act, Act),
+}
+
+fn phase_of(text: &str) -> Option<Phase> {
+    match text {
+        "primary" => Some(Phase::Primary),
+        "secondary" => Some(Phase::Secondary),
+        _ => None,
+    }
+}
+
+fn year_of(text: &str) -> Option<u32> {
+    text.parse().ok()
+}
+
+fn without_holidays(alloc: Global, phase: Phase, year: u32) -> Option<Season> {
+    Season::new(alloc, phase, year, &[]).ok()
 }
 
 /// A season without holidays, as `secondary 2025`.
 fn season(alloc: Global, words: &str) -> Option<Season> {
-    let (phase, year) = words.split_once(' ')?;
-    let phase = match phase {
-        "primary" => Phase::Primary,
-        "secondary" => Phase::Secondary,
-        _ => return None,
-    };
-    Season::new(alloc, phase, year.parse().ok()?, &[]).ok()
+    let (phase_text, year_text) = words.split_once(' ')?;
+    let phase = phase_of(phase_text)?;
+    let year = year_of(year_text)?;
+    without_holidays(alloc, phase, year)
 }
 
 /// `create PHASE YEAR`, or a command as JSON.
@@ -64,6 +80,13 @@ fn act(alloc: Global, words: &str) -> Option<Act> {
         Some(words) => Some(Act::Create(season(alloc, words)?)),
         None => Some(Act::Handle(read_command(alloc, words.as_bytes()).ok()?)),
     }
+}
+
+fn mistake<'a>(alloc: Global, words: &str) -> Option<Step<'a>> {
+    let (done, other) = words.split_once(" for ")?;
+    let done = act(alloc, done)?;
+    let other = act(alloc, other)?;
+    Some(Step::Mistake(done, other))
 }
 
 fn limits(words: &str) -> Option<Limits> {
@@ -105,6 +128,7 @@ impl<'a> Step<'a> {
             "run" => Some(Step::Run),
             "stop" => stop(alloc, rest),
             "stops" => Some(Step::Stops(act(alloc, rest)?)),
+            "mistake" => mistake(alloc, rest),
             _ => None,
         }
     }
