@@ -25,11 +25,9 @@ impl Tables {
                 change.ended.as_slice(),
                 change.applications.as_slice(),
             )?,
-            places: self.places.with_all(
-                alloc,
-                change.vacated.as_slice(),
-                change.places.as_slice(),
-            )?,
+            places: self
+                .places
+                .with_all(alloc, change.vacated.as_slice(), change.places.as_slice())?,
         })
     }
 

@@ -12,8 +12,9 @@ ghost use Rattle.adm_register.specs.WellFormed.{fits_school, is_school, fits_chi
 use crate::pieces::Piece;
 use crate::shared::Shared;
 use crate::tables::Tables;
-use adm_types::limits::{MOST_CHILDREN, MOST_SCHOOLS};
-use adm_types::limits::{is_child_in_range, is_name, is_school_in_range, is_without_repeat};
+use adm_types::limits::{
+    MOST_CHILDREN, MOST_SCHOOLS, is_child_in_range, is_name, is_school_in_range, is_without_repeat,
+};
 use adm_types::{Application, Child, ChildNo, PlaceRow, PlaceState, School, SchoolCode};
 
 /// Whether the rows are a register's.

@@ -11,10 +11,7 @@ pub enum Command {
     /// Replaces a child's data.
     Amend(Child),
     /// Names a school in a child's plan: the child has its place there, and its application ends.
-    NamePlan {
-        child: ChildNo,
-        school: SchoolCode,
-    },
+    NamePlan { child: ChildNo, school: SchoolCode },
     /// Applies for a child on a day, with the schools in the order of its preference.
     Apply(Application),
 }
