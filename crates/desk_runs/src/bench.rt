@@ -1,6 +1,6 @@
 // The disks and the input as the steps before left them, and what each step does.
 use crate::acts::{Act, Came, done};
-use crate::desks::{Ran, changed, found};
+use crate::desks::{Ran, changed};
 use crate::disks::Disks;
 use crate::lines::Lines;
 use crate::step::{Step, Which};
@@ -69,13 +69,13 @@ impl Bench {
     /// Does an act, over disks of which one may stop.
     fn act(&mut self, rt: &impl Print, act: &Act, stop: Option<(Which, u64)>) -> io::Result<()> {
         let (came, files) = done(self.alloc, self.disks.files(self.alloc, stop)?, act);
-        self.disks = Disks::of(self.alloc, &files)?;
+        self.disks = Disks::of(self.alloc, files)?;
         println!(rt; "  {came:?}")
     }
 
     fn sql(&mut self, rt: &impl Print, text: &str) -> io::Result<()> {
         let (ran, files) = changed(self.alloc, self.disks.files(self.alloc, None)?, text);
-        self.disks = Disks::of(self.alloc, &files)?;
+        self.disks = Disks::of(self.alloc, files)?;
         match ran {
             Some(Ok(())) => Ok(()),
             Some(Err(error)) => println!(rt; "  {error}"),
@@ -85,15 +85,16 @@ impl Bench {
 
     /// Prints what an open answers. It leaves the disks as they are.
     fn open(&mut self, rt: &impl Print) -> io::Result<()> {
-        let (found, files) = found(self.alloc, self.disks.files(self.alloc, None)?);
-        match found {
-            Ok(_) => println!(rt; "  opened")?,
-            Err(fault) => println!(rt; "  {fault:?}")?,
+        let (fault, left) = self.disks.opened(self.alloc)?;
+        match fault {
+            None => println!(rt; "  opened")?,
+            Some(fault) => println!(rt; "  {fault:?}")?,
         }
-        if !self.disks.is_same(&Disks::of(self.alloc, &files)?) {
-            println!(rt; "  PROBLEM: the disks were changed")?;
+        if self.disks.is_same(&left) {
+            Ok(())
+        } else {
+            println!(rt; "  PROBLEM: the disks were changed")
         }
-        Ok(())
     }
 
     fn show(&self, rt: &impl Print) -> io::Result<()> {

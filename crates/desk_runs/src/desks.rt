@@ -63,10 +63,7 @@ fn register_in<S: Alter>(
 }
 
 /// The register that an open finds.
-pub(crate) fn found<D: Disk + Drop>(
-    alloc: Global,
-    files: Files<D>,
-) -> (Result<Register, NotFound>, Files<D>) {
+fn found<D: Disk + Drop>(alloc: Global, files: Files<D>) -> (Result<Register, NotFound>, Files<D>) {
     match connected(alloc, files) {
         Err(files) => (Err(NotFound::NoDatabase), files),
         Ok(conn) => {
@@ -83,6 +80,15 @@ pub(crate) fn register_of<D: Disk + Drop>(
 ) -> Result<Register, NotFound> {
     let (register, _files) = found(alloc, files);
     register
+}
+
+/// Why an open finds no register, if it finds none.
+pub(crate) fn not_found<D: Disk + Drop>(
+    alloc: Global,
+    files: Files<D>,
+) -> (Option<NotFound>, Files<D>) {
+    let (register, files) = found(alloc, files);
+    (register.err(), files)
 }
 
 /// Runs a text. No clause speaks of what it leaves.

@@ -1,5 +1,5 @@
 // Two disks in memory, a database's and its log's. Between steps they are kept as bytes.
-use crate::desks::{NotFound, register_of};
+use crate::desks::{NotFound, not_found, register_of};
 use crate::step::Which;
 use adm_register::Register;
 use sqlite::Files;
@@ -38,19 +38,23 @@ impl Disks {
         }
     }
 
-    /// What these files hold.
-    pub(crate) fn of(alloc: Global, files: &Files<Fused>) -> Result<Disks, AllocError> {
+    fn held_by(alloc: Global, files: &Files<Fused>) -> Result<Disks, AllocError> {
         Ok(Disks {
             log: Vec::from_slice(alloc, files.log.inner().bytes())?,
             db: Vec::from_slice(alloc, files.db.inner().bytes())?,
         })
     }
 
+    /// What these files hold.
+    pub(crate) fn of(alloc: Global, files: Files<Fused>) -> Result<Disks, AllocError> {
+        Disks::held_by(alloc, &files)
+    }
+
     /// What these files hold after a loss of power, which leaves what was synced.
     fn after_loss(alloc: Global, mut files: Files<Fused>) -> Result<Disks, AllocError> {
         files.log.crash();
         files.db.crash();
-        Disks::of(alloc, &files)
+        Disks::of(alloc, files)
     }
 
     /// What these files hold, and what they hold after a loss of power.
@@ -58,7 +62,7 @@ impl Disks {
         alloc: Global,
         files: Files<Fused>,
     ) -> Result<(Disks, Disks), AllocError> {
-        let written = Disks::of(alloc, &files)?;
+        let written = Disks::held_by(alloc, &files)?;
         let synced = Disks::after_loss(alloc, files)?;
         Ok((written, synced))
     }
@@ -91,6 +95,13 @@ impl Disks {
     /// The register that an open finds on them.
     pub(crate) fn register(&self, alloc: Global) -> io::Result<Result<Register, NotFound>> {
         Ok(register_of(alloc, self.files(alloc, None)?))
+    }
+
+    /// Why an open finds no register on them, if it finds none, and the disks after it.
+    pub(crate) fn opened(&self, alloc: Global) -> io::Result<(Option<NotFound>, Disks)> {
+        let (fault, files) = not_found(alloc, self.files(alloc, None)?);
+        let left = Disks::of(alloc, files)?;
+        Ok((fault, left))
     }
 
     /// Whether both disks hold the same.

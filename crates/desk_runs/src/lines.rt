@@ -42,7 +42,7 @@ impl Lines {
         });
         let files = disks.files(alloc, None)?;
         let (ran, files) = answered(alloc, files, &mut reader, &mut writer);
-        *disks = Disks::of(alloc, &files)?;
+        *disks = Disks::of(alloc, files)?;
         print_written(rt, writer.stream.stream)?;
         Ok(ran)
     }

@@ -14,22 +14,28 @@ mod stops;
 mod streams;
 
 use bench::Bench;
+use std::alloc::Global;
 use std::io::{self, BufRead, BufReader};
 use step::Step;
+
+/// Prints a line, and below it what the step that it is comes to.
+fn take(rt: &impl Print, alloc: Global, bench: &mut Bench, line: &str) -> io::Result<()> {
+    println!(rt; "{line}")?;
+    if line.is_empty() || line.starts_with('#') {
+        return Ok(());
+    }
+    match Step::read(alloc, line) {
+        Some(step) => bench.take(rt, &step),
+        None => println!(rt; "  NOT A STEP"),
+    }
+}
 
 fn main(rt: HostRuntime) -> io::Result<()> {
     let alloc = rt.alloc();
     let mut bench = Bench::new(alloc);
     for line in BufReader::new(alloc, rt.reader())?.lines(alloc) {
         let line = line?;
-        println!(rt; "{line}")?;
-        if line.is_empty() || line.starts_with('#') {
-            continue;
-        }
-        match Step::read(alloc, &line) {
-            Some(step) => bench.take(&rt, &step)?,
-            None => println!(rt; "  NOT A STEP")?,
-        }
+        take(&rt, alloc, &mut bench, &line)?;
     }
     Ok(())
 }
