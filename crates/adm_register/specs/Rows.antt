@@ -5,12 +5,12 @@ use Rattle.std.specs.Cmp.Lexicographic.{pointwise}
 use Rattle.std.specs.List.Sorted.{IsPermutation}
 use Rattle.std.specs.FinMap.{get, values}
 use Rattle.adm_types.specs.declared.rows.Place.{Place}
-use Rattle.adm_register.specs.declared.all_rows.Rows.{Rows}
+use Rattle.adm_register.specs.declared.register_rows.Rows.{Rows}
 use Rattle.adm_register.specs.State.{State}
 
 -- the rows of a state, each table's in the order of its key
-abbrev pub rows_of : State → Rows
-rows_of s = record {
+abbrev pub rows_in_order : State → Rows
+rows_in_order s = record {
   season = s.season;
   schools = values s.schools;
   children = values s.children;

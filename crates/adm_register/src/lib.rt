@@ -3,7 +3,6 @@
 
 mod add_child;
 mod add_school;
-mod all_rows;
 mod amend;
 mod apply;
 mod changed;
@@ -16,6 +15,7 @@ mod laws;
 mod name_plan;
 mod not_done;
 mod pieces;
+mod register_rows;
 mod registers;
 mod rows_fault;
 mod rows_in;
@@ -24,10 +24,10 @@ mod shared;
 mod table;
 mod tables;
 
-pub use all_rows::Rows;
 pub use difference::Difference;
 pub use laws::repeat_safe;
 pub use not_done::NotDone;
+pub use register_rows::Rows;
 pub use registers::{Proposal, Register};
 pub use rows_fault::RowsFault;
 pub use shared::Shared;

@@ -72,8 +72,8 @@ impl<K: Ord, V> Pieces<K, V> {
     pub(crate) fn get(&self, key: &K) -> Option<&V>
         ensures { option_copied result ≡ row_at K.cmp self.now key.now }
     {
-        let place = place_of(&self.pieces, key);
-        match self.pieces.get(place) {
+        let index = index_of(&self.pieces, key);
+        match self.pieces.get(index) {
             Some(piece) => piece.rows.get(key),
             None => None,
         }
@@ -125,14 +125,14 @@ impl<K: Ord + Exact, V: Exact> Pieces<K, V> {
         ensures ordered { IfOk result (λ rows. IsStrictlySortedBy K.cmp (keys_of rows)) }
     {
         let Pieces { mut pieces, len } = self;
-        let place = place_of(&pieces, &key);
-        let mut rows = take_rows(alloc, &mut pieces, place)?;
+        let index = index_of(&pieces, &key);
+        let mut rows = take_rows(alloc, &mut pieces, index)?;
         let there = rows.insert(key, row)?;
         let len = match there {
             Some(_old) => len,
             None => len.checked_add(1).ok_or(AllocError)?,
         };
-        put_rows(alloc, &mut pieces, place, rows)?;
+        put_rows(alloc, &mut pieces, index, rows)?;
         Ok(Pieces { pieces, len })
     }
 
@@ -142,13 +142,13 @@ impl<K: Ord + Exact, V: Exact> Pieces<K, V> {
         ensures at { IfOk result (λ rows. (q : K) → row_at K.cmp rows q ≡ (if is_at (K.cmp key.now) q then None else row_at K.cmp self q)) }
     {
         let Pieces { mut pieces, len } = self;
-        let place = place_of(&pieces, key);
-        let mut rows = take_rows(alloc, &mut pieces, place)?;
+        let index = index_of(&pieces, key);
+        let mut rows = take_rows(alloc, &mut pieces, index)?;
         let len = match rows.remove(key) {
             Some(_old) => len - 1,
             None => len,
         };
-        put_rows(alloc, &mut pieces, place, rows)?;
+        put_rows(alloc, &mut pieces, index, rows)?;
         Ok(Pieces { pieces, len })
     }
 }
@@ -165,73 +165,73 @@ impl<K: Ord + Exact, V: Drop> Piece<K, V> {
     }
 }
 
-/// The place of the piece that a row of this key belongs to: the last one that starts at the key
+/// The index of the piece that a row of this key belongs to: the last one that starts at the key
 /// or before it, or else the first one.
-fn place_of<K: Ord, V>(pieces: &[Piece<K, V>], key: &K) -> usize
+fn index_of<K: Ord, V>(pieces: &[Piece<K, V>], key: &K) -> usize
     requires { ArePieces K.cmp pieces.now }
     ensures room { result ≤ length pieces.now }
     ensures below { AllByRecursion (λ other. K.cmp other key.now ≡ Less) (keys_of (rows_of_pieces (take result pieces.now))) }
     ensures above { AllByRecursion (λ other. K.cmp key.now other ≡ Less) (keys_of (rows_of_pieces (drop (result + 1) pieces.now))) }
 {
-    let mut place = 0;
+    let mut index = 0;
     let mut end = pieces.len();
-    while end - place > 1 {
-        let middle = place + (end - place) / 2;
+    while end - index > 1 {
+        let middle = index + (end - index) / 2;
         match pieces[middle].first.cmp(key) {
             Ordering::Greater => end = middle,
-            Ordering::Less | Ordering::Equal => place = middle,
+            Ordering::Less | Ordering::Equal => index = middle,
         }
     }
-    place
+    index
 }
 
-/// Takes out the piece at a place, and gives its rows; none where there is no piece. They are
+/// Takes out the piece at a index, and gives its rows; none where there is no piece. They are
 /// copied if another table has them too.
 fn take_rows<K: Ord + Exact, V: Exact>(
     alloc: Global,
     pieces: &mut Vec<Piece<K, V>>,
-    place: usize,
+    index: usize,
 ) -> Result<BTreeMap<K, V>, AllocError>
-    requires { place ≤ vec_len pieces.old }
-    ensures pieces { OnOk result (pieces.new.items ≡ take place pieces.old.items ++ drop (place + 1) pieces.old.items) }
-    ensures rows { IfOk result (λ rows. rows.entries ≡ first_rows (drop place pieces.old.items)) }
+    requires { index ≤ vec_len pieces.old }
+    ensures pieces { OnOk result (pieces.new.items ≡ take index pieces.old.items ++ drop (index + 1) pieces.old.items) }
+    ensures rows { IfOk result (λ rows. rows.entries ≡ first_rows (drop index pieces.old.items)) }
 {
-    if place == pieces.len() {
+    if index == pieces.len() {
         return Ok(BTreeMap::new(alloc));
     }
-    let piece = pieces.remove(place);
+    let piece = pieces.remove(index);
     Rc::unwrap_or_clone(piece.rows)
 }
 
-/// Puts rows in at a place, in as many pieces as they need.
+/// Puts rows in at a index, in as many pieces as they need.
 fn put_rows<K: Ord + Exact, V: Drop>(
     alloc: Global,
     pieces: &mut Vec<Piece<K, V>>,
-    place: usize,
+    index: usize,
     rows: BTreeMap<K, V>,
 ) -> Result<(), AllocError>
-    requires { place ≤ vec_len pieces.old }
-    ensures before { OnOk result (take place pieces.new.items ≡ take place pieces.old.items) }
-    ensures after { OnOk result (rows_of_pieces (drop place pieces.new.items) ≡ rows.entries ++ rows_of_pieces (drop place pieces.old.items)) }
+    requires { index ≤ vec_len pieces.old }
+    ensures before { OnOk result (take index pieces.new.items ≡ take index pieces.old.items) }
+    ensures after { OnOk result (rows_of_pieces (drop index pieces.new.items) ≡ rows.entries ++ rows_of_pieces (drop index pieces.old.items)) }
     ensures starts { OnOk result (AllByRecursion StartsRight pieces.old.items → AllByRecursion StartsRight pieces.new.items) }
 {
     let mut rows = rows;
     let upper = split(alloc, &mut rows)?;
-    put_piece(alloc, pieces, place, upper)?;
-    put_piece(alloc, pieces, place, rows)
+    put_piece(alloc, pieces, index, upper)?;
+    put_piece(alloc, pieces, index, rows)
 }
 
-/// Puts rows in at a place as one piece; none where there are no rows.
+/// Puts rows in at a index as one piece; none where there are no rows.
 fn put_piece<K: Ord + Exact, V: Drop>(
     alloc: Global,
     pieces: &mut Vec<Piece<K, V>>,
-    place: usize,
+    index: usize,
     rows: BTreeMap<K, V>,
 ) -> Result<(), AllocError>
-    requires { place ≤ vec_len pieces.old }
-    ensures room { OnOk result (place ≤ vec_len pieces.new) }
-    ensures before { OnOk result (take place pieces.new.items ≡ take place pieces.old.items) }
-    ensures after { OnOk result (rows_of_pieces (drop place pieces.new.items) ≡ rows.entries ++ rows_of_pieces (drop place pieces.old.items)) }
+    requires { index ≤ vec_len pieces.old }
+    ensures room { OnOk result (index ≤ vec_len pieces.new) }
+    ensures before { OnOk result (take index pieces.new.items ≡ take index pieces.old.items) }
+    ensures after { OnOk result (rows_of_pieces (drop index pieces.new.items) ≡ rows.entries ++ rows_of_pieces (drop index pieces.old.items)) }
     ensures starts { OnOk result (AllByRecursion StartsRight pieces.old.items → AllByRecursion StartsRight pieces.new.items) }
 {
     let first = match rows.first_key_value() {
@@ -239,7 +239,7 @@ fn put_piece<K: Ord + Exact, V: Drop>(
         Some((key, _)) => key.clone()?,
     };
     pieces.insert(
-        place,
+        index,
         Piece {
             first,
             rows: Rc::new(alloc, rows)?,

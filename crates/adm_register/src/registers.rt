@@ -6,7 +6,7 @@ ghost use Rattle.adm_register.specs.WellFormed.{WellFormed};
 ghost use Rattle.adm_register.specs.Extends.{Extends, KeepsSchools};
 ghost use Rattle.adm_register.specs.Outcome.{Decides, decision};
 ghost use Rattle.adm_register.specs.Difference.{IsDifference};
-ghost use Rattle.adm_register.specs.Rows.{rows_of, AreRowsOf, place_of, vacancies};
+ghost use Rattle.adm_register.specs.Rows.{rows_in_order, AreRowsOf, place_of, vacancies};
 
 use crate::checks::is_well_formed;
 use crate::commands::{change_of, kept_by_types, refused};
@@ -110,7 +110,7 @@ impl Register {
 
     /// All rows, each table's in the order of its key. What it costs grows with the rows.
     pub fn rows(&self, alloc: Global) -> Result<Rows, AllocError>
-        ensures rows { IfOk result (λ rows. rows ≡ rows_of self.now) }
+        ensures rows { IfOk result (λ rows. rows ≡ rows_in_order self.now) }
         ensures well_formed { WellFormed self.now }
     {
         self.tables.rows(alloc)

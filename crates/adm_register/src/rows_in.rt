@@ -4,7 +4,7 @@ ghost use Rattle.std.specs.Map.{keys_of, values_of};
 ghost use Rattle.std.specs.List.{IsDistinct};
 ghost use Rattle.std.specs.List.Sorted.{IsPermutation, IsStrictlySortedBy};
 ghost use Rattle.std.specs.Ordering.{eq_by_cmp};
-ghost use Rattle.adm_register.specs.Rows.{rows_of, AreRowsOf};
+ghost use Rattle.adm_register.specs.Rows.{rows_in_order, AreRowsOf};
 ghost use Rattle.adm_register.specs.State.{State};
 ghost use Rattle.adm_register.specs.WellFormed.{WellFormed};
 
@@ -52,7 +52,7 @@ impl Tables {
 
     /// All rows, each table's in the order of its key.
     pub(crate) fn rows(&self, alloc: Global) -> Result<Rows, AllocError>
-        ensures { IfOk result (λ rows. rows ≡ rows_of self.now) }
+        ensures { IfOk result (λ rows. rows ≡ rows_in_order self.now) }
     {
         Ok(Rows {
             season: self.season.clone()?,

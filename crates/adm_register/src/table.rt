@@ -34,13 +34,13 @@ pub(crate) struct Table<K: Ord, V> {
 impl<K: Ord, V> Model for Table<K, V> {
     ghost use Rattle.std.specs.Prelude.{List};
     ghost use Rattle.std.specs.Coded.{coded_list, coded×};
-    ghost use Rattle.adm_register.specs.TableRows.{rows_of};
+    ghost use Rattle.adm_register.specs.TableRows.{table_rows};
 
     ghost Value = { List (K × V) };
 
     ghost coded = { coded_list (coded× K.code V.code) };
 
-    ghost view = { λ t. rows_of t.rows };
+    ghost view = { λ t. table_rows t.rows };
 }
 
 impl<K: Ord, V> Table<K, V> {

@@ -12,7 +12,7 @@ use Rattle.adm_types.specs.contracts.rows.Application.{the_row as application_co
 use Rattle.adm_types.specs.contracts.rows.PlaceRow.{the_row as place_code}
 use Rattle.adm_register.specs.State.{State as Register}
 use Rattle.adm_types.specs.Seasons.{SeasonFacts}
-use Rattle.adm_register.specs.Rows.{rows_of as rows_of_register}
+use Rattle.adm_register.specs.Rows.{rows_in_order}
 use Rattle.sqlite.specs.Order.{Row}
 use Rattle.sqlite.specs.Table.{Table}
 use Rattle.sqlite.specs.Tree.{Trees}
@@ -80,8 +80,8 @@ Moves writes was now = (t : Table) → Has register_schema.tables t → IsTrue (
 -- from what the old register has of a table, and what the writes leave of it, comes what the new one has
 abbrev Becomes : Trees → Trees → Register → Register → Changes → Table → Type 0
 Becomes was now old new changes t =
-    HasRows t (written_in (written_tables (rows_of_register old)) t) was → (IsTrue (are_keyed t (rows_of t was)) → IsPermutation (after t (writes_of changes) (rows_of t was)) (rows_of t now))
-    → HasRows t (written_in (written_tables (rows_of_register new)) t) now
+    HasRows t (written_in (written_tables (rows_in_order old)) t) was → (IsTrue (are_keyed t (rows_of t was)) → IsPermutation (after t (writes_of changes) (rows_of t was)) (rows_of t now))
+    → HasRows t (written_in (written_tables (rows_in_order new)) t) now
 
 -- trees that come of those of the old register by these changes
 new_trees : (was now : Trees) (old new : Register) (changes : Changes) → IsStep old new changes → HoldsRegister was old → IsSound register_schema now → Moves (writes_of changes) was now → StandsFor now new

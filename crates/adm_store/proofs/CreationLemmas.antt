@@ -19,7 +19,7 @@ use Rattle.adm_register.specs.WellFormed.{WellFormed, AllRows}
 use Rattle.adm_schema.specs.Rows.{columns_of, rows_of}
 use Rattle.adm_schema.specs.Effects.{SeesNoRows}
 use Rattle.adm_schema.specs.Schema.{meta, no_schema, register_schema}
-use Rattle.adm_register.specs.Rows.{rows_of as rows_of_register}
+use Rattle.adm_register.specs.Rows.{rows_in_order}
 use Rattle.adm_store.specs.declared.rows.SeasonRow.{SeasonRow}
 use Rattle.adm_store.specs.Changes.{IsRowOf, written_season}
 use Rattle.adm_store.specs.StandsFor.{StandsFor, HasRows, written_in, written_tables}
@@ -53,7 +53,7 @@ formed_new season fits = record {
 }
 
 -- the rows of a register that has only its season
-only_rows : (season : SeasonFacts) → rows_of_register (only_season season) ≡ record { season = season; schools = []; children = []; applications = []; places = [] }
+only_rows : (season : SeasonFacts) → rows_in_order (only_season season) ≡ record { season = season; schools = []; children = []; applications = []; places = [] }
 only_rows season = λ k. record { season = season; schools = no_values code_cmp k; children = no_values nat_cmp k; applications = no_values nat_cmp k; places = no_values nat_cmp k }
 
 pub stands_for_new : (made last : State) (season : SeasonFacts) (row : SeasonRow) → IsRowOf season row → SeesNoRows register_schema made → Leaves (write_of Adds meta written_season (row ∷ []) ∷ []) made last → StandsFor last.now.trees (only_season season)

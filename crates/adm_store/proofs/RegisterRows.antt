@@ -28,8 +28,8 @@ use Rattle.std.proofs.lemmas.List.Sorted.{IsPermutation-sym, IsPermutation-map, 
 use Rattle.adm_store.specs.Forms.{season_row, school_row, child_row, application_row, place_row}
 use Rattle.adm_store.specs.StandsFor.{HasRows, HoldsRows, HoldsRegister, written_in, written_tables}
 use Rattle.adm_store.specs.Reads.{Holds, AreReadBack}
-use Rattle.adm_register.specs.declared.all_rows.Rows.{Rows}
-use Rattle.adm_register.specs.Rows.{AreRowsOf, rows_of as rows_of_register}
+use Rattle.adm_register.specs.declared.register_rows.Rows.{Rows}
+use Rattle.adm_register.specs.Rows.{AreRowsOf, rows_in_order}
 use Rattle.adm_store.specs.Faults.{IsSchool, IsReadAgain, IsChild, IsApplication, IsPlanRow, AreReadAgain}
 use Rattle.adm_store.proofs.SeasonRows.{same_season}
 use Rattle.adm_store.proofs.RowLemmas.{values_back, recursion_had}
@@ -104,7 +104,7 @@ moved row_of read values rows same held = IsPermutation-trans _ _ _ (IsPermutati
 pub holds_register : (db : Trees) (r : Register) (rows : Rows) → HoldsRows db rows → AreRowsOf rows r → WellFormed r → HoldsRegister db r
 holds_register db r rows held are formed = record {
   rows = record {
-    each = λ t listed. each_table (λ t. HasRows t (written_in (written_tables rows) t) db → HasRows t (written_in (written_tables (rows_of_register r)) t) db) (
+    each = λ t listed. each_table (λ t. HasRows t (written_in (written_tables rows) t) db → HasRows t (written_in (written_tables (rows_in_order r)) t) db) (
       λ h. subst (λ season. HasRows meta (season_row season ∷ []) db) are.season h,
       (
         λ h. moved school_row _ _ _ are.schools h,

@@ -1,7 +1,7 @@
 -- The rows of the tables, as they are read.
 use Rattle.std.specs.Prelude.{◌≡◌, ◌<◌, ℕ, List, [], ◌∷◌, map}
 use Rattle.std.specs.List.{AllByRecursion}
-use Rattle.adm_register.specs.declared.all_rows.Rows.{Rows}
+use Rattle.adm_register.specs.declared.register_rows.Rows.{Rows}
 use Rattle.sqlite.specs.Order.{Row}
 use Rattle.sqlite.specs.State.{State, HasCleanDisk}
 use Rattle.sqlite.specs.Table.{Table}

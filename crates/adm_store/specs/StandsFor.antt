@@ -3,9 +3,9 @@ use Rattle.std.specs.Prelude.{◌==◌, ◌⊎◌, List, [], ◌∷◌, map, if�
 use Rattle.adm_types.specs.Seasons.{SeasonFacts}
 use Rattle.adm_register.specs.State.{only_season}
 use Rattle.adm_register.specs.State.{State as Register}
-use Rattle.adm_register.specs.Rows.{rows_of as rows_of_register}
+use Rattle.adm_register.specs.Rows.{rows_in_order}
 use Rattle.adm_register.specs.WellFormed.{WellFormed}
-use Rattle.adm_register.specs.declared.all_rows.Rows.{Rows}
+use Rattle.adm_register.specs.declared.register_rows.Rows.{Rows}
 use Rattle.sqlite.specs.Table.{Table}
 use Rattle.sqlite.specs.Order.{Row}
 use Rattle.sqlite.specs.Tree.{Trees}
@@ -45,7 +45,7 @@ pub record HoldsRows (db : Trees) (rows : Rows) : Type 0 where
 
 -- the tables hold the rows of the register, and no other row
 pub record HoldsRegister (db : Trees) (r : Register) : Type 0 where
-  pub rows : HoldsRows db (rows_of_register r)
+  pub rows : HoldsRows db (rows_in_order r)
   pub formed : WellFormed r
 
 -- the trees are a database of the register's tables, which hold its rows

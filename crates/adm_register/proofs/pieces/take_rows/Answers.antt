@@ -9,8 +9,8 @@ returns-clause-rows g c =
     let pieces = c.args.pieces.now.items in
     let piece = c.remove-piece.result in
     let whole = c.args.pieces.now.ok in
-    let within : c.args.place < length pieces = omega (arith, c.requires, c.len.ensures, c.if-place-len.false) in
-    let here = rows-read c.args.place pieces piece within c.remove-piece.ensures.value in
+    let within : c.args.index < length pieces = omega (arith, c.requires, c.len.ensures, c.if-index-len.false) in
+    let here = rows-read c.args.index pieces piece within c.remove-piece.ensures.value in
     MatchResult-weaker c.unwrap_or_clone.result c.unwrap_or_clone.ensures.ok
     (λ rows either. elim either [
       | inl same ↦ ap (λ m. m.entries) same ∙ sym here

@@ -11,11 +11,11 @@ returns-in-Some g c =
     let find = lookup (is_at (g.K.Ord.cmp c.args.key.now)) in
     let seen = c.deref.result.now in
     let again = c.deref-2.result.now in
-    let place = c.place_of-place.result in
+    let index = c.index_of-index.result in
     c.get-in-Some.ensures.value ∙ ap (λ m. find m.entries) c.deref-in-Some.ensures
-    ∙ ap find (sym (rows-read place again c.in-Some.piece.now c.in-Some.ensures.lookup.3.0 c.in-Some.ensures.lookup.1))
-    ∙ ap (λ ps. find (first_rows (drop place ps))) (c.deref-2.ensures.value ∙ sym c.deref.ensures.value)
-    ∙ sym (lookup-at g.met.K.Ord.total place seen c.args.key.now c.place_of-place.ensures.below c.place_of-place.ensures.above)
+    ∙ ap find (sym (rows-read index again c.in-Some.piece.now c.in-Some.ensures.lookup.3.0 c.in-Some.ensures.lookup.1))
+    ∙ ap (λ ps. find (first_rows (drop index ps))) (c.deref-2.ensures.value ∙ sym c.deref.ensures.value)
+    ∙ sym (lookup-at g.met.K.Ord.total index seen c.args.key.now c.index_of-index.ensures.below c.index_of-index.ensures.above)
     ∙ ap (λ ps. find (rows_of_pieces ps)) c.deref.ensures.value ∙ ap find c.self.view_is
 
 pub returns-in-None : goal.returns-in-None
@@ -23,8 +23,8 @@ returns-in-None g c =
     let find = lookup (is_at (g.K.Ord.cmp c.args.key.now)) in
     let seen = c.deref.result.now in
     let again = c.deref-2.result.now in
-    let place = c.place_of-place.result in
-    ap (λ ps. find (first_rows ps)) (sym (drop_all place again c.in-None.ensures.lookup.3))
-    ∙ ap (λ ps. find (first_rows (drop place ps))) (c.deref-2.ensures.value ∙ sym c.deref.ensures.value)
-    ∙ sym (lookup-at g.met.K.Ord.total place seen c.args.key.now c.place_of-place.ensures.below c.place_of-place.ensures.above)
+    let index = c.index_of-index.result in
+    ap (λ ps. find (first_rows ps)) (sym (drop_all index again c.in-None.ensures.lookup.3))
+    ∙ ap (λ ps. find (first_rows (drop index ps))) (c.deref-2.ensures.value ∙ sym c.deref.ensures.value)
+    ∙ sym (lookup-at g.met.K.Ord.total index seen c.args.key.now c.index_of-index.ensures.below c.index_of-index.ensures.above)
     ∙ ap (λ ps. find (rows_of_pieces ps)) c.deref.ensures.value ∙ ap find c.self.view_is

@@ -11,9 +11,9 @@ use Rattle.adm_register.proofs.pieces.Pieces.put.Goals as goal
 use Rattle.adm_register.proofs.pieces.Pieces.put.Given as given
 use Rattle.adm_register.proofs.pieces.Pieces.put.Goals.{in-Some, in-None+in_ok-len-in-None}
 
-change : (g : given.Over) (c : goal.In_ok-put_rows g) → IsChanged c.place_of-place.result c.self.inside.pieces.items c.take_rows.new.pieces.items c.put_rows.new.pieces.items c.in_ok-rows.rows.entries c.insert.new.self.entries
+change : (g : given.Over) (c : goal.In_ok-put_rows g) → IsChanged c.index_of-index.result c.self.inside.pieces.items c.take_rows.new.pieces.items c.put_rows.new.pieces.items c.in_ok-rows.rows.entries c.insert.new.self.entries
 change g c = record {
-  room = subst (λ ps. c.place_of-place.result ≤ length ps) c.deref.ensures.value c.place_of-place.ensures.room;
+  room = subst (λ ps. c.index_of-index.result ≤ length ps) c.deref.ensures.value c.index_of-index.ensures.room;
   without = c.in_ok-rows.ensures.pieces;
   taken_is = c.in_ok-rows.ensures.rows;
   before = c.in_ok-put_rows.ensures.before;
@@ -25,10 +25,10 @@ now : (g : given.Over) (c : goal.In_ok-put_rows g)
     → (rows_of_pieces c.put_rows.new.pieces.items ≡ insert_entry g.K.Ord.cmp (rows_of_pieces c.self.inside.pieces.items) c.args.key c.args.row) × ArePieces g.K.Ord.cmp c.put_rows.new.pieces.items
 now g c =
     let R = g.K.Ord.cmp in
-    let place = c.place_of-place.result in
-    let lower = subst (λ ps. AllByRecursion (λ other. R other c.args.key ≡ Less) (keys_of (rows_of_pieces (take place ps)))) c.deref.ensures.value c.place_of-place.ensures.below in
-    let higher = subst (λ ps. AllByRecursion (λ other. R c.args.key other ≡ Less) (keys_of (rows_of_pieces (drop (place + 1) ps)))) c.deref.ensures.value c.place_of-place.ensures.above in
-    put-changed place c.self.inside.pieces.items _ _ _ _ (change g c) g.met.K.Ord.total c.self.invariant.0 c.args.key lower higher c.args.row c.in_ok-there.ensures.entries
+    let index = c.index_of-index.result in
+    let lower = subst (λ ps. AllByRecursion (λ other. R other c.args.key ≡ Less) (keys_of (rows_of_pieces (take index ps)))) c.deref.ensures.value c.index_of-index.ensures.below in
+    let higher = subst (λ ps. AllByRecursion (λ other. R c.args.key other ≡ Less) (keys_of (rows_of_pieces (drop (index + 1) ps)))) c.deref.ensures.value c.index_of-index.ensures.above in
+    put-changed index c.self.inside.pieces.items _ _ _ _ (change g c) g.met.K.Ord.total c.self.invariant.0 c.args.key lower higher c.args.row c.in_ok-there.ensures.entries
 
 rows : (g : given.Over) (c : goal.In_ok-put_rows g) → rows_of_pieces c.put_rows.new.pieces.items ≡ insert_entry g.K.Ord.cmp c.args.self c.args.key c.args.row
 rows g c = (now g c).0 ∙ ap (λ rows. insert_entry g.K.Ord.cmp rows c.args.key c.args.row) c.self.view_is
@@ -45,7 +45,7 @@ returns-clause-ordered g c = (now g c).1.sorted
 pub invariant_of-result : goal.invariant_of-result
 invariant_of-result g c =
     let taken = length c.in_ok-rows.rows.entries in
-    let count = length-changed c.place_of-place.result c.self.inside.pieces.items _ _ _ _ (change g c) in
+    let count = length-changed c.index_of-index.result c.self.inside.pieces.items _ _ _ _ (change g c) in
     let was = c.self.invariant.1 in
     let added = c.in_ok-there.ensures.len in (
       (now g c).1,

@@ -3,7 +3,7 @@ use Rattle.std.proofs.Common.{inl, inr, ◌≡◌, ◌∙◌, ap, sym, arith}
 use Rattle.std.specs.declared.cmp.Ordering.{Ordering}
 use Rattle.std.specs.declared.cmp.Ordering.TheVariants.{Less, Equal, Greater}
 use Rattle.adm_register.proofs.PieceRuns.{rows-below, rows-above, rows-past}
-use Rattle.adm_register.proofs.pieces.place_of.Goals as goal
+use Rattle.adm_register.proofs.pieces.index_of.Goals as goal
 
 not_greater : (r : Ordering) → (r ≡ Less) ⊎ (r ≡ Equal) → r ≡ Greater → ⊥
 not_greater r is greater = elim is [ inl less ↦ cc | inr equal ↦ cc ]
@@ -28,4 +28,4 @@ loop-end-preserved g c = record {
 }
 
 pub returns-clause-above : goal.returns-clause-above
-returns-clause-above g c = rows-past g.K.Ord.cmp c.loop-end.place c.loop-end.end c.args.pieces.now c.args.key.now c.loop-end.invariant.ordered c.loop-end.invariant.within c.loop-end.invariant.apart (omega arith) c.loop-end.invariant.above
+returns-clause-above g c = rows-past g.K.Ord.cmp c.loop-end.index c.loop-end.end c.args.pieces.now c.args.key.now c.loop-end.invariant.ordered c.loop-end.invariant.within c.loop-end.invariant.apart (omega arith) c.loop-end.invariant.above
