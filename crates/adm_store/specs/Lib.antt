@@ -6,3 +6,4 @@ pub mod Faults
 pub mod FirstFault
 pub mod Changes
 pub mod Writes
+pub mod Creating

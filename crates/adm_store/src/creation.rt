@@ -2,12 +2,11 @@
 ghost use Rattle.std.specs.Prelude.{◌≡◌, ◌<◌, ◌↔◌, false, OnOk, IsTrue, Some, slice_get};
 ghost use Rattle.sqlite.specs.Held.{state};
 ghost use Rattle.sqlite.specs.State.{HasCleanDisk, Survives};
-ghost use Rattle.adm_schema.specs.Effects.{SeesNoRows, SeesNone};
+ghost use Rattle.adm_schema.specs.Effects.{SeesNone};
 ghost use Rattle.adm_schema.specs.Schema.{no_schema, register_schema};
-ghost use Rattle.adm_schema.specs.Creations.{IsCreation, creations};
-ghost use Rattle.sqlite.specs.Schema.{Schema as Tables};
-ghost use Rattle.sqlite.specs.Table.{Table};
+ghost use Rattle.adm_schema.specs.Creations.{creations};
 ghost use Rattle.adm_store.specs.Changes.{StandsForNew};
+ghost use Rattle.adm_store.specs.Creating.{MakesATable};
 
 use crate::rows::SeasonRow;
 use crate::season::AddSeason;
@@ -55,7 +54,7 @@ fn creation(at: usize) -> &'static str
 
 fn create_table<S: Alter>(tx: &mut Transaction<'_, S>, text: &str) -> Result<(), Error>
     ensures same_reference { tx.new.conn.ghost_name ≡ tx.old.conn.ghost_name }
-    ensures made { HasCleanDisk (state S.Store tx.new.conn.now) → OnOk result ((before after : Tables) (table : Table) → IsCreation before text.now table after → SeesNone before (state S.Store tx.old.conn.now) → SeesNoRows after (state S.Store tx.new.conn.now)) }
+    ensures made { HasCleanDisk (state S.Store tx.new.conn.now) → OnOk result (MakesATable text.now (state S.Store tx.old.conn.now) (state S.Store tx.new.conn.now)) }
     ensures survives { Survives (state S.Store tx.old.conn.now) (state S.Store tx.new.conn.now) (λ _. ⊥) }
 {
     tx.execute(text, &[])?;
