@@ -1,4 +1,4 @@
--- A problem in which one child hands in another list (this profile).
+-- A problem in which one child lists its wanted schools in another order, or leaves some out (this profile).
 use Rattle.std.specs.Prelude.{◌≡◌, ℕ, ◌≤◌, Bool, true, not, ◌&&◌, ◌==◌, if◌then◌else◌, List, ◌++◌, map, Option, None, Some, is_some, All, bytes_eq, find}
 use Rattle.std.specs.List.{filter_map, list_any, list_all}
 use Rattle.std.specs.Option.{option_to_list}
@@ -24,8 +24,8 @@ relist child schools entrant = if entrant.child == child then with_list entrant 
 abbrev pub relisted : Market → ℕ → List Code → Market
 relisted m child schools = record m { entrants = map (relist child schools) m.entrants }
 
--- No gain by listing otherwise: whatever schools the child lists, on its own list what the best allocation of
--- the problem relisted gives it is never before what the best allocation of the problem gives it.
+-- No gain by another order of the wanted schools, or by leaving some out: on the child's own list, what the best allocation of
+-- the problem relisted gives it is never before what the best allocation of the problem gives it. Schools that its list has not are dropped.
 abbrev pub NoGain : Type 0
 NoGain =
     (m : Market) (child : ℕ) (schools : List Code) (best other : Allocation)

@@ -1,7 +1,7 @@
 // The laws of stable allocations.
 ghost use Rattle.adm_match.specs.Relisting.{NoGain, SamePlaced, OneBest};
 
-/// A child never gains by listing other schools, or its schools in another order.
+/// A child never gains by listing its wanted schools in another order, or by leaving some out.
 pub fn no_gain()
     ensures { NoGain }
 {}

@@ -1,4 +1,4 @@
-// The entrants of a problem in which one child hands in another list.
+// The entrants of a problem in which one child lists its wanted schools otherwise.
 ghost use Rattle.std.specs.Prelude.{◌≡◌, ◌++◌, ◌∷◌, [], IfOk, map, find, bytes_eq};
 ghost use Rattle.std.specs.Option.{option_to_list, option_copied};
 ghost use Rattle.adm_match.specs.Relisting.{wishes_for, relist};

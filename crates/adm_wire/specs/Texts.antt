@@ -95,15 +95,15 @@ row_text name refused row = codes "{\"name\":\"" ++ (name ++ (codes "\",\"refuse
 abbrev pub refusal_text : Refusal → ℕ → List ℕ
 refusal_text refusal row = if row == 0 then named_text (name_of refusal) (number_of refusal) else row_text (name_of refusal) (number_of refusal) row
 
--- the text of what memory was wanting for
+-- the text of an answer for want of memory
 abbrev pub memory_text : List ℕ
 memory_text = codes "{\"memory\":true}"
 
--- the text of a command to a desk that had failed
+-- the text of the answer to a command whose commit failed, and to each command after it
 abbrev pub failed_text : List ℕ
 failed_text = codes "{\"failed\":true}"
 
--- faults 1 to 5 by their numbers and names; want of memory has no number
+-- faults 1 to 5 by their numbers and names; want of memory, the sixth, has the text of that answer
 abbrev pub fault_text : WireFault → List ℕ
 fault_text f.NotJson = codes "{\"fault\":1,\"name\":\"NotJson\"}"
 fault_text f.UnknownCommand = codes "{\"fault\":2,\"name\":\"UnknownCommand\"}"
