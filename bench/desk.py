@@ -136,6 +136,30 @@ def compare(program, words, tables, before, commands, writes):
         )
 
 
+def compare_open(program, words, tables, commands, writes):
+    """The same on the memory file system, for a run that is open: without the start of the program and the open and the close of its file, as the
+    baseline is told without its own."""
+    where, folder, most = file_systems(program)[-1]
+    ours, theirs, idle = [], [], []
+    for _ in range(RUNS):
+        with tempfile.TemporaryDirectory(dir=folder) as room:
+            theirs.append(baseline(room, tables, writes)[0])
+            file = new_register(program, room, "whole.db")
+            idle.append(whole(program, file, [])[0])
+            with Desk(program, file) as run:
+                # the first answer says that the file is open
+                run.take(commands[:1])
+                start = time.perf_counter()
+                run.take(commands[1:])
+                ours.append(time.perf_counter() - start)
+    run, least = statistics.median(ours) * len(commands) / (len(commands) - 1), statistics.median(theirs)
+    print(
+        f"| {words}, {where}, in a run that is open (to start, open and close take {statistics.median(idle) * 1000:.0f} milliseconds) "
+        f"| {run / least:.2f} | at most {most} | | {len(commands) / run:.0f} and {len(writes) / least:.0f} a second |",
+        flush=True,
+    )
+
+
 def growth(words, small, large):
     """Prints how a command's processor time grows, from its seconds in small and in large registers."""
     few, many = statistics.median(small), statistics.median(large)
