@@ -10,7 +10,7 @@ use Rattle.std.specs.declared.cmp.Ordering.TheVariants.{Less}
 use Rattle.std.specs.Ordering.{is_eq}
 use Rattle.std.specs.Cmp.{IsTotalOrder}
 use Rattle.std.specs.FinMap.{FinMap, from_entries, IsAntisymmetric}
-use Rattle.adm_register.specs.TableRows.{row_at}
+use Rattle.adm_table.specs.TableRows.{row_at}
 use Rattle.adm_register.proofs.TableMaps.{get_rows}
 use Rattle.adm_register.specs.WellFormed.{AllRows}
 use Rattle.adm_register.proofs.Maps.{AllRows-weaker, tied, same_key, both_true}

@@ -21,15 +21,14 @@ use Rattle.adm_types.specs.declared.rows.Application.{Application}
 use Rattle.adm_types.specs.declared.rows.PlaceRow.{PlaceRow}
 use Rattle.adm_register.specs.declared.difference.Difference.{Difference}
 use Rattle.adm_register.specs.State.{State, code_cmp}
-use Rattle.adm_register.specs.TableRows.{row_at, put_at, cut_at}
+use Rattle.adm_table.specs.TableRows.{row_at, put_at, cut_at}
 use Rattle.adm_register.specs.Change.{put_all, cut_all, after}
 use Rattle.adm_register.specs.Difference.{AreNew, IsDifference, differing}
-use Rattle.adm_register.specs.Same.{is_other, is_same_school, is_same_child, is_same_application, is_same_place}
+use Rattle.adm_table.specs.Same.{is_other, is_same_school, is_same_child, is_same_application, is_same_place}
 use Rattle.adm_register.specs.WellFormed.{WellFormed, AllRows}
 use Rattle.adm_register.proofs.TableMaps.{get_rows, entries_rows}
-use Rattle.adm_register.proofs.Maps.{code_cmp-IsAntisymmetric, same_key}
+use Rattle.adm_register.proofs.Maps.{code_cmp-IsAntisymmetric, none_of, same_key}
 use Rattle.adm_register.proofs.EachRow.{none_at}
-use Rattle.adm_register.proofs.Keyed.{none_of}
 use Rattle.adm_register.proofs.SameRows.{entries_in_order, map_of_entries, entries_at_own_keys}
 use Rattle.adm_register.proofs.Puts.{get-put_all, get-cut_all, there_before}
 use Rattle.adm_register.proofs.SameLemmas.{same_school, same_child, same_application, same_place, other_row}
@@ -243,7 +242,7 @@ module _ {K V : Type 0} {R : K → K → Ordering} (total : IsTotalOrder R) (sam
   not_put : (q : K) → list_any (eq_by_cmp R q) cut ≡ true → row_at R (pairs key put) q ≡ None
   not_put q among =
       let none = at_one total same (λ k. list_any (eq_by_cmp R k) (map key put) ≡ false) cut q tidy.apart among in
-      none_of (row_at R (pairs key put) q) (is_some-lookup (eq_by_cmp R q) (pairs key put) ∙ ap (list_any (eq_by_cmp R q)) (keys_of-pairs key put) ∙ none)
+      none_of (row_at R (pairs key put) q) (ap not (is_some-lookup (eq_by_cmp R q) (pairs key put) ∙ ap (list_any (eq_by_cmp R q)) (keys_of-pairs key put) ∙ none))
 
   gone : (q : K) → (contains_key old q && not (contains_key changed q)) ≡ (list_any (eq_by_cmp R q) cut && contains_key old q)
   unfolding or_else

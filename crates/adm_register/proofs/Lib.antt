@@ -1,7 +1,4 @@
 pub mod TableMaps
-pub mod TableCopies
-pub mod Runs
-pub mod PieceRuns
 pub mod PieceRows
 pub mod Maps
 pub mod Puts
@@ -11,7 +8,6 @@ pub mod Keeps
 pub mod RowLemmas
 pub mod Repeats
 pub mod EachRow
-pub mod Keyed
 pub mod SameRows
 pub mod SchoolChecks
 pub mod ChildChecks

@@ -1,13 +1,12 @@
 -- What is read off the rows of pieces, piece by piece.
-use Rattle.std.proofs.Common.{◌≡◌, ◌∙◌, ap, sym, refl, ℕ, ◌+◌, ◌<◌, ◌≤◌, Bool, true, false, cond, length, take, drop, get_or, arith, List, [], ◌∷◌, ◌++◌, append-nil}
+use Rattle.std.proofs.Common.{◌≡◌, ◌∙◌, ap, sym, refl, ℕ, ◌+◌, ◌<◌, ◌≤◌, Bool, true, false, cond, length, take, drop, get_or, arith, List, [], ◌∷◌, ◌++◌, append-nil, append_assoc}
 use Rattle.std.specs.Prelude.{◌&&◌, count_by}
 use Rattle.std.specs.List.{list_all}
 use Rattle.std.specs.Map.{values_of}
-use Rattle.std.proofs.lemmas.List.{take_more, map-append, length-append, length-map}
+use Rattle.std.proofs.lemmas.List.{take_more, take-append-drop, map-append, length-append, length-map}
 use Rattle.std.proofs.lemmas.List.Sums.{count_by-le-length, sum_by-append}
-use Rattle.adm_register.specs.declared.pieces.Piece.{Piece}
-use Rattle.adm_register.specs.Pieces.{rows_of_pieces}
-use Rattle.adm_register.proofs.PieceRuns.{rows-both, rows-at}
+use Rattle.adm_table.specs.declared.pieces.Piece.{Piece}
+use Rattle.adm_table.specs.Pieces.{rows_of_pieces}
 
 both-assoc : (a b c : Bool) → ((a && b) && c) ≡ (a && (b && c))
 both-assoc true b c = refl
@@ -18,6 +17,10 @@ list_all-both p [] ys = refl
 list_all-both p (x ∷ xs) ys = ap (λ b. p x && b) (list_all-both p xs ys) ∙ sym (both-assoc (p x) (list_all p xs) (list_all p ys))
 
 module _ {K V : Type 0} where
+  rows-both : (xs ys : List (Piece K V)) → rows_of_pieces (xs ++ ys) ≡ rows_of_pieces xs ++ rows_of_pieces ys
+  rows-both [] ys = refl
+  rows-both (x ∷ xs) ys = ap (λ rows. x.rows.value.entries ++ rows) (rows-both xs ys) ∙ sym (append_assoc x.rows.value.entries (rows_of_pieces xs) (rows_of_pieces ys))
+
   -- a test of all rows is one of the rows of each piece
   pub list_all-pieces : (p : K × V → Bool) (pieces : List (Piece K V)) → list_all p (rows_of_pieces pieces) ≡ list_all (λ piece. list_all p piece.rows.value.entries) pieces
   list_all-pieces p [] = refl
@@ -39,7 +42,7 @@ module _ {K V : Type 0} where
       let before = rows_of_pieces (take place pieces) in
       let few = count_by-le-length p (values_of before) in
       let same = length-map before (λ (e : K × V). e.1) in
-      let whole = ap length (sym (rows-at place pieces)) ∙ length-append before (rows_of_pieces (drop place pieces)) in
+      let whole = ap length (sym (ap rows_of_pieces (take-append-drop place pieces)) ∙ rows-both (take place pieces) (drop place pieces)) ∙ length-append before (rows_of_pieces (drop place pieces)) in
       omega arith
 
   pub count-more : (p : V → Bool) (place : ℕ) (pieces : List (Piece K V)) (piece : Piece K V) → place < length pieces → piece ≡ get_or pieces place piece

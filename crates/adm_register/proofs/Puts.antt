@@ -8,7 +8,7 @@ use Rattle.std.specs.Cmp.{IsTotalOrder, eq_by_cmp_equiv}
 use Rattle.std.specs.FinMap.{FinMap, get, insert, remove, contains_key, from_entries, get-insert, get-remove, same_map, IsAntisymmetric}
 use Rattle.adm_types.specs.declared.rows.School.{School}
 use Rattle.adm_register.specs.State.{code_cmp}
-use Rattle.adm_register.specs.TableRows.{row_at, put_at, cut_at}
+use Rattle.adm_table.specs.TableRows.{row_at, put_at, cut_at}
 use Rattle.adm_register.specs.Change.{put_all, cut_all}
 use Rattle.adm_register.specs.WellFormed.{AllRows, are_schools}
 use Rattle.adm_register.proofs.TableMaps.{get_rows}

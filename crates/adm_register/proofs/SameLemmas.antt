@@ -16,7 +16,7 @@ use Rattle.adm_types.specs.declared.rows.Application.{Application}
 use Rattle.adm_types.specs.declared.rows.PlaceRow.{PlaceRow}
 use Rattle.adm_types.specs.contracts.rows.CriterionPartialEq.TheImpl.{eq-value as criterion_eq}
 use Rattle.adm_types.specs.contracts.rows.PlaceStatePartialEq.TheImpl.{eq-value as state_eq}
-use Rattle.adm_register.specs.Same.{is_same_school, is_same_child, is_same_application, is_same_place, is_other}
+use Rattle.adm_table.specs.Same.{is_same_school, is_same_child, is_same_application, is_same_place, is_other}
 
 not_true : {A : Type 0} → false ≡ true → A
 not_true e = absurd (true≢false (sym e))

@@ -15,7 +15,7 @@ use Rattle.std.proofs.lemmas.List.Sorted.{All-permutation, IsPermutation-map, Is
 use Rattle.std.proofs.lemmas.List.Elements.{All-nil, All-cons, All-head, All-tail}
 use Rattle.std.proofs.lemmas.Map.Keys.{IsDistinct-from_sorted, IsDistinct-IsPermutation}
 use Rattle.std.specs.Cmp.{eq_by_cmp_equiv}
-use Rattle.adm_register.specs.TableRows.{row_at}
+use Rattle.adm_table.specs.TableRows.{row_at}
 use Rattle.adm_register.specs.WellFormed.{AllRows}
 use Rattle.adm_register.proofs.TableMaps.{get_rows}
 use Rattle.adm_register.proofs.Maps.{tied, same_key, both_true}

@@ -7,7 +7,7 @@ use Rattle.std.specs.Map.{keys_of, values_of}
 use Rattle.std.specs.List.Sorted.{IsStrictlySortedBy}
 use Rattle.std.specs.FinMap.{put, entries, values, len, len-entries, len-empty, entries-insert, find, get, from_entries, get-from_entries}
 use Rattle.std.specs.BTreeMap.{is_at}
-use Rattle.adm_register.specs.TableRows.{row_at}
+use Rattle.adm_table.specs.TableRows.{row_at}
 
 find_row : {K V : Type 0} (R : K → K → Ordering) (rows : List (K × V)) (key : K) → find R key rows ≡ row_at R rows key
 find_row R [] key = refl

@@ -8,7 +8,7 @@ use Rattle.adm_types.specs.declared.rows.Application.{Application}
 use Rattle.adm_types.specs.declared.rows.PlaceRow.{PlaceRow}
 use Rattle.adm_register.specs.State.{State}
 use Rattle.adm_register.specs.declared.difference.Difference.{Difference}
-use Rattle.adm_register.specs.Same.{is_other, is_same_school, is_same_child, is_same_application, is_same_place}
+use Rattle.adm_table.specs.Same.{is_other, is_same_school, is_same_child, is_same_application, is_same_place}
 
 -- the list is just the rows of the new map that the old one has not, in the order of their keys
 pub record AreNew {K V : Type 0} {R : K → K → Ordering} (key : V → K) (old new : FinMap R V) (rows : List V) : Type 0 where

@@ -1,5 +1,3 @@
-pub mod TableRows
-pub mod Pieces
 pub mod State
 pub mod WellFormed
 pub mod Plans
@@ -15,4 +13,3 @@ pub mod Extends
 pub mod Outcome
 pub mod Rows
 pub mod Difference
-pub mod Same

@@ -4,14 +4,13 @@ ghost use Rattle.std.specs.List.{list_all};
 ghost use Rattle.std.specs.FinMap.{len};
 ghost use Rattle.adm_types.specs.Limits.{most_schools, most_children};
 ghost use Rattle.adm_types.specs.Seasons.{lists_end};
-ghost use Rattle.adm_register.specs.Pieces.{rows_of_pieces};
+ghost use Rattle.adm_table.specs.Pieces.{rows_of_pieces};
 ghost use Rattle.adm_register.specs.State.{is_plan};
 ghost use Rattle.adm_register.specs.WellFormed.{AllRows, SchoolFits, ChildFits, ApplicationFits, PlaceFits, WellFormed};
 ghost use Rattle.adm_register.specs.WellFormed.{fits_school, is_school, fits_child, is_child, fits_application, is_application, fits_place, is_place};
 
-use crate::pieces::Piece;
-use crate::shared::Shared;
 use crate::tables::Tables;
+use adm_table::{Piece, Shared};
 use adm_types::limits::{
     MOST_CHILDREN, MOST_SCHOOLS, is_child_in_range, is_name, is_school_in_range, is_without_repeat,
 };

@@ -5,7 +5,7 @@ ghost use Rattle.adm_register.specs.KeptByTypes.{KeptByChild};
 
 use crate::Difference;
 use crate::difference::one;
-use crate::shared::Shared;
+use adm_table::Shared;
 use adm_types::Child;
 use std::alloc::{AllocError, Global};
 

@@ -2,7 +2,7 @@
 ghost use Rattle.std.specs.Prelude.{◌≡◌, [], ◌∷◌, IfOk};
 ghost use Rattle.adm_register.specs.Change.{no_change};
 
-use crate::shared::Shared;
+use adm_table::Shared;
 use adm_types::{
     Application, Child, ChildNo, Day, Place, PlaceRow, PlaceState, School, SchoolCode, Seq,
 };

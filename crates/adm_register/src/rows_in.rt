@@ -9,9 +9,8 @@ ghost use Rattle.adm_register.specs.State.{State};
 ghost use Rattle.adm_register.specs.WellFormed.{WellFormed};
 
 use crate::Rows;
-use crate::shared::Shared;
-use crate::table::{Keyed, Table};
 use crate::tables::Tables;
+use adm_table::{Keyed, Shared, Table};
 use adm_types::{Exact, Seq};
 use std::alloc::{AllocError, Global};
 

@@ -8,49 +8,15 @@ ghost use Rattle.std.specs.Cmp.Lexicographic.{pointwise};
 ghost use Rattle.adm_register.specs.Plans.{has_plan};
 ghost use Rattle.adm_register.specs.Rows.{place_of, places_at, vacancies};
 ghost use Rattle.adm_register.specs.State.{code_cmp, only_season};
-ghost use Rattle.adm_register.specs.Pieces.{rows_of_pieces};
+ghost use Rattle.adm_table.specs.Pieces.{rows_of_pieces};
 ghost use Rattle.adm_register.specs.WellFormed.{are_schools};
 
-use crate::pieces::Piece;
-use crate::shared::Shared;
-use crate::table::{Keyed, Table};
+use adm_table::{Keyed, Piece, Shared, Table};
 use adm_types::{
     Application, Child, ChildNo, Place, PlaceRow, PlaceState, School, SchoolCode, Season,
 };
 use std::alloc::AllocError;
 use std::marker::Model;
-
-impl Keyed<SchoolCode> for School {
-    ghost key = { λ school. school.code };
-
-    fn key(&self) -> SchoolCode {
-        self.code
-    }
-}
-
-impl Keyed<ChildNo> for Child {
-    ghost key = { λ child. child.no };
-
-    fn key(&self) -> ChildNo {
-        self.no
-    }
-}
-
-impl Keyed<ChildNo> for Application {
-    ghost key = { λ application. application.child };
-
-    fn key(&self) -> ChildNo {
-        self.child
-    }
-}
-
-impl Keyed<ChildNo> for PlaceRow {
-    ghost key = { λ row. row.child };
-
-    fn key(&self) -> ChildNo {
-        self.child
-    }
-}
 
 /// A season and tables of rows.
 #[derive(Drop)]

@@ -7,7 +7,8 @@ ghost use Rattle.adm_store.specs.Forms.{season_row, school_row, child_row, appli
 
 use crate::lists;
 use crate::rows::{ApplicationRow, Changes, ChildRow, SchoolRow, SeasonRow};
-use adm_register::{Difference, Shared};
+use adm_register::Difference;
+use adm_table::Shared;
 use adm_types::{Application, Child, School, Season, Seq, Text};
 use std::alloc::{AllocError, Global};
 

@@ -1,7 +1,7 @@
 use Rattle.std.proofs.Common.{◌∙◌, sym}
 use Rattle.std.specs.FinMap.{nat_cmp-IsAntisymmetric}
 use Rattle.std.specs.Cmp.{nat_cmp_total}
-use Rattle.adm_register.specs.Pieces.{rows_of_pieces}
+use Rattle.adm_table.specs.Pieces.{rows_of_pieces}
 use Rattle.adm_register.specs.WellFormed.{fits_child, ChildFits}
 use Rattle.adm_register.proofs.EachRow.{rows_decided}
 use Rattle.adm_register.proofs.PieceRows.{list_all-pieces}

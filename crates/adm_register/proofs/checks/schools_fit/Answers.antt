@@ -1,6 +1,6 @@
 use Rattle.std.proofs.Common.{◌∙◌, sym}
 use Rattle.std.specs.Cmp.Lexicographic.{nat_list_cmp_total}
-use Rattle.adm_register.specs.Pieces.{rows_of_pieces}
+use Rattle.adm_table.specs.Pieces.{rows_of_pieces}
 use Rattle.adm_register.specs.WellFormed.{fits_school, SchoolFits}
 use Rattle.adm_register.proofs.Maps.{code_cmp-IsAntisymmetric}
 use Rattle.adm_register.proofs.EachRow.{rows_decided}

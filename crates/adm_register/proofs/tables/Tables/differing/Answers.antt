@@ -8,7 +8,7 @@ use Rattle.adm_types.specs.declared.rows.Application.{Application}
 use Rattle.adm_types.specs.declared.rows.Child.{Child}
 use Rattle.adm_types.specs.declared.rows.PlaceRow.{PlaceRow}
 use Rattle.adm_types.specs.declared.rows.School.{School}
-use Rattle.adm_register.specs.Same.{is_other, is_same_school, is_same_child, is_same_application, is_same_place}
+use Rattle.adm_table.specs.Same.{is_other, is_same_school, is_same_child, is_same_application, is_same_place}
 use Rattle.adm_register.proofs.TableMaps.{get_rows}
 use Rattle.adm_register.proofs.tables.Tables.differing.Goals as goal
 

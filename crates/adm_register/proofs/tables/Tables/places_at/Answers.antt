@@ -4,7 +4,7 @@ use Rattle.std.specs.Cmp.Lexicographic.{pointwise}
 use Rattle.std.specs.Map.{values_of}
 use Rattle.std.proofs.lemmas.List.{take_all}
 use Rattle.adm_types.specs.declared.rows.PlaceRow.{PlaceRow}
-use Rattle.adm_register.specs.Pieces.{rows_of_pieces}
+use Rattle.adm_table.specs.Pieces.{rows_of_pieces}
 use Rattle.adm_register.proofs.PieceRows.{count-more, count-within}
 use Rattle.adm_register.proofs.RowLemmas.{places_at_rows}
 use Rattle.adm_register.proofs.tables.Tables.places_at.Goals as goal

@@ -2,7 +2,7 @@ use Rattle.std.proofs.Common.{◌≡◌, take}
 use Rattle.std.specs.Prelude.{count_by, nat_eq}
 use Rattle.std.specs.Cmp.Lexicographic.{pointwise}
 use Rattle.std.specs.Map.{values_of}
-use Rattle.adm_register.specs.Pieces.{rows_of_pieces}
+use Rattle.adm_table.specs.Pieces.{rows_of_pieces}
 use Rattle.adm_register.proofs.tables.Tables.places_at.Given as goal
 
 -- the count so far is that of as many pieces

@@ -1,0 +1,5 @@
+pub mod TableCopies
+pub mod OwnKeys
+pub mod Runs
+pub mod PieceRuns
+pub mod PieceRows

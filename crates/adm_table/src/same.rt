@@ -1,0 +1,66 @@
+// Whether two rows are the same.
+ghost use Rattle.std.specs.Prelude.{◌≡◌, Bool};
+ghost use Rattle.adm_table.specs.Same.{is_same_school, is_same_child, is_same_application, is_same_place};
+
+use crate::Shared;
+use adm_types::{Application, Child, PlaceRow, School};
+
+/// A row that can be compared with another.
+pub trait Same {
+    ghost same: { Self → Self → Bool };
+
+    /// Whether the two rows are the same.
+    fn is_same(&self, other: &Self) -> bool
+        ensures { result ≡ same self.now other.now };
+}
+
+impl Same for School {
+    ghost same = { is_same_school };
+
+    fn is_same(&self, other: &School) -> bool {
+        self.code == other.code
+            && self.name.as_str() == other.name.as_str()
+            && self.pan == other.pan
+            && self.at == other.at
+            && self.criteria.as_slice() == other.criteria.as_slice()
+    }
+}
+
+impl Same for Child {
+    ghost same = { is_same_child };
+
+    fn is_same(&self, other: &Child) -> bool {
+        self.no == other.no
+            && self.name.as_str() == other.name.as_str()
+            && self.home == other.home
+            && self.looked_after == other.looked_after
+            && self.flags == other.flags
+            && self.siblings.as_slice() == other.siblings.as_slice()
+    }
+}
+
+impl Same for Application {
+    ghost same = { is_same_application };
+
+    fn is_same(&self, other: &Application) -> bool {
+        self.child == other.child
+            && self.day == other.day
+            && self.list.as_slice() == other.list.as_slice()
+    }
+}
+
+impl Same for PlaceRow {
+    ghost same = { is_same_place };
+
+    fn is_same(&self, other: &PlaceRow) -> bool {
+        self == other
+    }
+}
+
+impl<T: Same> Same for Shared<T> {
+    ghost same = { T.same };
+
+    fn is_same(&self, other: &Shared<T>) -> bool {
+        self.as_ref().is_same(other.as_ref())
+    }
+}
