@@ -1,7 +1,6 @@
 -- The tests of rows tell whether they are equal.
 use Rattle.std.specs.Prelude.{◌≡◌, ◌↔◌, ◌&&◌, not, nat_eq, ℕ, Bool, true, false, List, Option, Some, None}
 use Rattle.std.proofs.Common.{refl, ap, sym, subst, true≢false}
-use mathlib.Core.Bool.{beq}
 use Rattle.std.specs.Option.{option_eq}
 use Rattle.std.specs.Cmp.{unsigned_Decides, booleans_Decides, first_so, second_so}
 use Rattle.std.specs.Cmp.Lexicographic.{pointwise, pointwise_decides, bytes_decides}
