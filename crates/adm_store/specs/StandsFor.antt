@@ -1,5 +1,5 @@
 -- When the trees of a file stand for a register, and what a crash may leave.
-use Rattle.std.specs.Prelude.{◌==◌, ◌⊎◌, List, [], ◌∷◌, map, if◌then◌else◌, IsPermutation, IsTrue}
+use Rattle.std.specs.Prelude.{◌≡◌, ◌==◌, ◌⊎◌, List, [], ◌∷◌, map, if◌then◌else◌, IsPermutation, IsTrue}
 use Rattle.adm_types.specs.Seasons.{SeasonFacts}
 use Rattle.adm_register.specs.State.{only_season}
 use Rattle.adm_register.specs.State.{State as Register}
@@ -13,7 +13,7 @@ use Rattle.sqlite.specs.State.{State, HasCleanDisk}
 use Rattle.sqlite_catalog.specs.Listing.{IsSound}
 use Rattle.sqlite_rules.specs.Lists.{Has}
 use Rattle.adm_schema.specs.Rows.{rows_of}
-use Rattle.adm_schema.specs.Schema.{meta, school, child, application, place, register_schema}
+use Rattle.adm_schema.specs.Schema.{meta, school, child, application, place, no_schema, register_schema}
 use Rattle.adm_store.specs.Forms.{season_row, school_row, child_row, application_row, place_row}
 
 -- as after a start: on a clean disk the connection is open
@@ -61,9 +61,9 @@ LeavesOnly r s = HasCleanDisk s → (db : Trees) → s.may_leave db → StandsFo
 abbrev pub LeavesEither : Register → Register → State → Type 0
 LeavesEither old new s = HasCleanDisk s → (db : Trees) → s.may_leave db → StandsFor db old ⊎ StandsFor db new
 
--- a crash leaves what it could leave before, or the new register of the season
+-- a crash leaves what it could leave before, or, where there was no table, index or view, the new register of the season
 abbrev pub LeavesOldOrNew : SeasonFacts → State → State → Type 0
-LeavesOldOrNew season old new = HasCleanDisk new → (db : Trees) → new.may_leave db → old.may_leave db ⊎ StandsFor db (only_season season)
+LeavesOldOrNew season old new = HasCleanDisk new → (db : Trees) → new.may_leave db → old.may_leave db ⊎ ((old.now.schema ≡ no_schema) × StandsFor db (only_season season))
 
 -- the trees stand for no register
 abbrev pub StandsForNone : Trees → Type 0

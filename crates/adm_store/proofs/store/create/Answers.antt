@@ -1,4 +1,5 @@
-use Rattle.std.proofs.Common.{inl, inr, sym, subst}
+use Rattle.std.proofs.Common.{◌≡◌, inl, inr, sym, subst, rules}
+use Rattle.adm_schema.specs.Schema.{no_schema}
 use Rattle.adm_register.specs.State.{only_season}
 use Rattle.adm_store.specs.StandsFor.{StandsFor}
 use Rattle.adm_store.proofs.store.create.Goals as goal
@@ -9,4 +10,6 @@ returns-in-Ok-build-clause-ok g c clean db may =
     subst (λ t. StandsFor t (only_season c.args.season.now)) (sym (g.met.S.Store.settled c.build.new.conn.store db committed.0 may)) (committed.1 _ record { season_is = c.holidays-days.ensures.season; written = c.in-Ok.ensures })
 
 pub returns-clause-err : goal.returns-clause-err
-returns-clause-err g c clean db may = elim (c.build.ensures.survives.crash clean db may) [ inl was ↦ inl was | inr now ↦ inr (now _ record { season_is = c.holidays-days.ensures.season; written = c.in-Ok.ensures }) ]
+returns-clause-err g c clean db may =
+    let empty : c.args.conn.now.schema ≡ no_schema = search rules in
+    elim (c.build.ensures.survives.crash clean db may) [ inl was ↦ inl was | inr now ↦ inr (empty, now _ record { season_is = c.holidays-days.ensures.season; written = c.in-Ok.ensures }) ]
