@@ -1,11 +1,11 @@
 -- Which rows are those of no child, no application and no place.
-use Rattle.std.proofs.Common.{◌≡◌, ℕ, zero, suc, ◌<◌, ◌^◌, Bool, Option, true, false, [], ◌∷◌, length, Some, None, pos, nat_le, refl, ap, arith}
+use Rattle.std.proofs.Common.{◌≡◌, ℕ, zero, suc, List, ◌<◌, ◌^◌, Bool, Option, true, false, [], ◌∷◌, length, Some, None, pos, nat_le, refl, sym, ap, ◌∙◌, drop, arith}
 use Rattle.std.specs.Prelude.{◌&&◌, nat_lt, nat_eq}
 use Rattle.std.specs.Option.{unwrap_or}
 use Rattle.std.proofs.lemmas.Bool.{and_parts}
 use Rattle.std.proofs.lemmas.Bool.Decides.{nat_tests}
 use Rattle.sqlite.specs.declared.types.Value.{Value}
-use Rattle.sqlite.specs.declared.types.Value.TheVariants.{Null, Int, Text}
+use Rattle.sqlite.specs.declared.types.Value.TheVariants.{Int, Text}
 use Rattle.sqlite.specs.Order.{Row, column}
 use Rattle.adm_types.specs.Joined.{codes_of}
 use Rattle.adm_types.specs.Limits.{is_on_map, is_without_repeat}
@@ -16,7 +16,7 @@ use Rattle.adm_types.specs.declared.rows.PlaceState.{PlaceState}
 use Rattle.adm_types.specs.declared.rows.PlaceState.TheVariants.{Offered, Accepted, Plan}
 use Rattle.adm_register.specs.State.{is_plan}
 use Rattle.adm_store.specs.Forms.{truth_code, day_value, state_columns, child_row, application_row, place_row}
-use Rattle.adm_store.specs.Faults.{IsChild, AreReadAgain}
+use Rattle.adm_store.specs.Faults.{IsChild, AreReadAgain, IsPlaceRow, HasPlaceColumns, is_day, is_day_or_none, are_days}
 use Rattle.adm_store.proofs.RowLemmas.{number_in, text_in}
 
 -- ---- children
@@ -76,10 +76,6 @@ unfolding day_in
 day_back None = refl
 day_back (Some day) = refl
 
-pub null_day : (day : Option ℕ) → day_value day ≡ Null → day ≡ None
-null_day None is = refl
-null_day (Some day) is = absurd (cc)
-
 pub state_from : ℕ → Value → Value → PlaceState
 state_from (suc zero) day reminded = Offered (number_in day) (day_in reminded)
 state_from (suc (suc zero)) day reminded = Accepted
@@ -98,11 +94,25 @@ place_from cells = record { child = number_in (column cells 0); place = record {
 pub place_back : (p : PlaceRow) → place_from (place_row p) ≡ p
 place_back p = λ k. record { child = p.child; place = record { school = p.place.school; state = state_back p.place.state k } }
 
--- the columns of the place of a plan
-pub plan_columns : (p : PlaceRow) → is_plan p.place.state ≡ true → place_row p ≡ Int (pos p.child) ∷ Text p.place.school ∷ Int (pos 3) ∷ Null ∷ Null ∷ []
-plan_columns p plan = ap (λ state. Int (pos p.child) ∷ Text p.place.school ∷ state_columns state) (is_the_plan p.place.state plan)
+pub plan_days : (state : PlaceState) → is_plan state ≡ true → are_days state ≡ true
+plan_days (Offered day reminded) plan = absurd (cc)
+plan_days Accepted plan = refl
+plan_days Plan plan = refl
+
+-- the columns of a place
+pub has_place_columns : (row : Row) (x : PlaceRow) → IsPlaceRow x → row ≡ place_row x → (kind : ℕ) × (day reminded : Option ℕ) × HasPlaceColumns row x.child x.place.school kind day reminded
+    × (state_columns x.place.state ≡ Int (pos kind) ∷ day_value day ∷ day_value reminded ∷ [])
+has_place_columns row x fits is = go x.place.state fits.days is
   where
-    is_the_plan : (state : PlaceState) → is_plan state ≡ true → state ≡ Plan
-    is_the_plan Plan h = refl
-    is_the_plan Accepted h = absurd (cc)
-    is_the_plan (Offered day reminded) h = absurd (cc)
+    go : (state : PlaceState) → are_days state ≡ true → row ≡ Int (pos x.child) ∷ Text x.place.school ∷ state_columns state → (kind : ℕ) × (day reminded : Option ℕ) × HasPlaceColumns row x.child x.place.school kind day reminded
+        × (state_columns state ≡ Int (pos kind) ∷ day_value day ∷ day_value reminded ∷ [])
+    go (Offered day reminded) days is =
+        let parts = and_parts (is_day day) (is_day_or_none reminded) days in
+        (1, Some day, reminded, record { row_is = is; number_form = fits.number_form; code_form = fits.code_form; kind_fits = omega arith; day_fits = parts.0; reminded_fits = parts.1 }, refl)
+    go Accepted days is = (2, None, None, record { row_is = is; number_form = fits.number_form; code_form = fits.code_form; kind_fits = omega arith; day_fits = refl; reminded_fits = refl }, refl)
+    go Plan days is = (3, None, None, record { row_is = is; number_form = fits.number_form; code_form = fits.code_form; kind_fits = omega arith; day_fits = refl; reminded_fits = refl }, refl)
+
+-- the kind, the day and the day of the reminder
+pub last_columns : (row : Row) (x : PlaceRow) (child kind : ℕ) (school : List ℕ) (day reminded : Option ℕ) → row ≡ Int (pos child) ∷ Text school ∷ Int (pos kind) ∷ day_value day ∷ day_value reminded ∷ [] → row ≡ place_row x
+    → state_columns x.place.state ≡ Int (pos kind) ∷ day_value day ∷ day_value reminded ∷ []
+last_columns row x child kind school day reminded read is = ap (drop 2) (sym is ∙ read)

@@ -30,11 +30,11 @@ use Rattle.adm_store.specs.StandsFor.{HasRows, HoldsRows, HoldsRegister, written
 use Rattle.adm_store.specs.Reads.{Holds, AreReadBack}
 use Rattle.adm_register.specs.declared.register_rows.Rows.{Rows}
 use Rattle.adm_register.specs.Rows.{AreRowsOf, rows_in_order}
-use Rattle.adm_store.specs.Faults.{IsSchool, IsReadAgain, IsChild, IsApplication, IsPlanRow, AreReadAgain}
+use Rattle.adm_store.specs.Faults.{IsSchool, IsReadAgain, IsChild, IsApplication, IsPlaceRow, AreReadAgain}
 use Rattle.adm_store.proofs.SeasonRows.{same_season}
-use Rattle.adm_store.proofs.RowLemmas.{values_back, recursion_had}
+use Rattle.adm_store.proofs.RowLemmas.{values_back, recursion_had, recursion_map}
 use Rattle.adm_store.proofs.SchoolRows.{school_from, from_row, reads_again}
-use Rattle.adm_store.proofs.ChildRows.{child_from, child_back, application_from, application_back, place_from, place_back}
+use Rattle.adm_store.proofs.ChildRows.{child_from, child_back, application_from, application_back, place_from, place_back, plan_days}
 use Rattle.adm_store.proofs.CodeLemmas.{codes_again}
 use Rattle.adm_store.proofs.MapRows.{each_value, row_there}
 
@@ -80,11 +80,11 @@ applications_fit r last formed same = each_value nat_cmp_total nat_cmp-IsAntisym
   codes = codes_there r.schools formed.base.schools_fit application.list fits.known;
 })
 
-pub places_fit : (r : Register) → WellFormed r → AllByRecursion IsPlanRow (values r.places)
-places_fit r formed = each_value nat_cmp_total nat_cmp-IsAntisymmetric IsPlanRow r.places (λ number row is. let fits = formed.places number row is in record {
+pub places_fit : (r : Register) → WellFormed r → AllByRecursion IsPlaceRow (values r.places)
+places_fit r formed = each_value nat_cmp_total nat_cmp-IsAntisymmetric IsPlaceRow r.places (λ number row is. let fits = formed.places number row is in record {
   number_form = number_there r formed row.child fits.child;
   code_form = code_there r.schools formed.base.schools_fit row.place.school fits.school;
-  plan = fits.plan;
+  days = plan_days row.place.state fits.plan;
 })
 
 -- ---- the rows of a file, and the register that it holds
@@ -128,7 +128,7 @@ rows_held db r rows file held again season = record {
   schools = values_back school_row school_from IsReadAgain IsSchool from_row reads_again _ _ _ again.schools (schools_fit r file.formed) (held.each school has_school) (file.rows.each school has_school);
   children = values_back child_row child_from (λ x. AreReadAgain x.siblings) IsChild child_back (λ x fits. codes_again x.siblings fits.codes) _ _ _ again.children (children_fit r file.formed) (held.each child has_child) (file.rows.each child has_child);
   applications = values_back application_row application_from (λ x. AreReadAgain x.list) (IsApplication (lists_end r.season)) application_back (λ x fits. codes_again x.list fits.codes) _ _ _ again.applications (applications_fit r (lists_end r.season) file.formed refl) (held.each application has_application) (file.rows.each application has_application);
-  places = values_back place_row place_from (λ _. Unit {0}) IsPlanRow (λ x _. place_back x) (λ _ _. tt) _ _ _ (no_condition rows.places) (places_fit r file.formed) (held.each place has_place) (file.rows.each place has_place);
+  places = values_back place_row place_from (λ _. Unit {0}) IsPlaceRow (λ x _. place_back x) (λ _ _. tt) _ _ _ (no_condition rows.places) (places_fit r file.formed) (held.each place has_place) (file.rows.each place has_place);
 }
 
 first_row : (a b : Row) → a ∷ [] ≡ b ∷ [] → a ≡ b
@@ -136,6 +136,14 @@ first_row a b e = cc
 
 one_row : (a b : Row) → IsPermutation (a ∷ []) (b ∷ []) → a ≡ b
 one_row a b same = first_row a b (sym (one_permutation a (b ∷ []) same))
+
+-- each row of a register is read back
+pub read_back : (r : Register) → WellFormed r → AreReadBack (rows_in_order r)
+read_back r formed = record {
+  schools = recursion_map IsSchool IsReadAgain reads_again _ (schools_fit r formed);
+  children = recursion_map IsChild (λ x. AreReadAgain x.siblings) (λ x fits. codes_again x.siblings fits.codes) _ (children_fit r formed);
+  applications = recursion_map (IsApplication (lists_end r.season)) (λ x. AreReadAgain x.list) (λ x fits. codes_again x.list fits.codes) _ (applications_fit r (lists_end r.season) formed refl);
+}
 
 -- the season that was read is that of the register
 pub season_back : (db : Trees) (r : Register) (season : SeasonFacts) → HasRows meta (season_row season ∷ []) db → IsSeason season → HoldsRegister db r → r.season ≡ season

@@ -1,5 +1,5 @@
 -- The faults that say that the tables hold no register, and when rows are those of no register.
-use Rattle.std.specs.Prelude.{◌≡◌, ℕ, ◌<◌, ◌^◌, pos, nat_lt, List, [], ◌∷◌, Some, IsTrue}
+use Rattle.std.specs.Prelude.{◌≡◌, ℕ, ◌<◌, ◌^◌, pos, Bool, true, ◌&&◌, nat_lt, List, [], ◌∷◌, Option, Some, None, IsTrue}
 use Rattle.std.specs.List.{list_all}
 use Rattle.std.specs.Str.{IsUtf8, is_utf8}
 use Rattle.adm_types.specs.Code.{is_code}
@@ -10,12 +10,14 @@ use Rattle.adm_types.specs.declared.rows.School.{School}
 use Rattle.adm_types.specs.declared.rows.Child.{Child}
 use Rattle.adm_types.specs.declared.rows.Application.{Application}
 use Rattle.adm_types.specs.declared.rows.PlaceRow.{PlaceRow}
-use Rattle.adm_register.specs.State.{is_plan}
+use Rattle.adm_types.specs.declared.rows.PlaceState.{PlaceState}
+use Rattle.adm_types.specs.declared.rows.PlaceState.TheVariants.{Offered, Accepted, Plan}
+use Rattle.adm_types.specs.Numbers.{last_day}
 use Rattle.sqlite.specs.declared.types.Value.TheVariants.{Int, Text}
 use Rattle.sqlite.specs.Order.{Row}
 use Rattle.adm_store.specs.declared.fault.OpenFault.{OpenFault}
 use Rattle.adm_store.specs.declared.fault.OpenFault.TheVariants.{NotOurs, Version, BadRow, Disk, Memory}
-use Rattle.adm_store.specs.Forms.{phase_code, criteria_text, criteria_of, codes_text}
+use Rattle.adm_store.specs.Forms.{phase_code, criteria_text, criteria_of, codes_text, day_value}
 
 -- the faults that say that the tables hold no register
 abbrev pub IsNoRegister : OpenFault → Type 0
@@ -69,8 +71,31 @@ pub record IsApplication (last : ℕ) (application : Application) : Type 0 where
   pub day : IsTrue (is_from first_day last application.day)
   pub codes : IsTrue (list_all is_code application.list)
 
--- the place of a plan, with a child's number and a code
-pub record IsPlanRow (row : PlaceRow) : Type 0 where
+-- a day in its range
+abbrev pub is_day : ℕ → Bool
+is_day day = is_from first_day last_day day
+
+abbrev pub is_day_or_none : Option ℕ → Bool
+is_day_or_none None = true
+is_day_or_none (Some day) = is_day day
+
+-- the days of an offer are in their range
+abbrev pub are_days : PlaceState → Bool
+are_days (Offered day reminded) = is_day day && is_day_or_none reminded
+are_days Accepted = true
+are_days Plan = true
+
+-- a place of any kind, with a child's number, a code, and days in their range
+pub record IsPlaceRow (row : PlaceRow) : Type 0 where
   pub number_form : IsTrue (is_child_number row.child)
   pub code_form : IsTrue (is_code row.place.school)
-  pub plan : IsTrue (is_plan row.place.state)
+  pub days : IsTrue (are_days row.place.state)
+
+-- the row has a child's number, a code, a kind of 32 bits, and days or NULL
+pub record HasPlaceColumns (row : Row) (child : ℕ) (code : List ℕ) (kind : ℕ) (day reminded : Option ℕ) : Type 0 where
+  pub row_is : row ≡ Int (pos child) ∷ Text code ∷ Int (pos kind) ∷ day_value day ∷ day_value reminded ∷ []
+  pub number_form : IsTrue (is_child_number child)
+  pub code_form : IsTrue (is_code code)
+  pub kind_fits : kind < 2 ^ 32
+  pub day_fits : IsTrue (is_day_or_none day)
+  pub reminded_fits : IsTrue (is_day_or_none reminded)

@@ -1,11 +1,11 @@
 // The values of the columns of a row.
-ghost use Rattle.std.specs.Prelude.{◌≡◌, ◌⊎◌, ◌<◌, ◌^◌, ℕ, Bool, List, true, pos, length, None, IfOk, IfErr, Some};
+ghost use Rattle.std.specs.Prelude.{◌≡◌, ◌⊎◌, ◌<◌, ◌^◌, ℕ, Bool, List, Option, true, pos, length, None, IfOk, IfErr, Some};
 ghost use Rattle.std.specs.Str.{is_utf8};
 ghost use Rattle.sqlite.specs.declared.types.Value.TheVariants.{Null, Int, Text as TextValue};
 ghost use Rattle.sqlite.specs.Order.{column};
 ghost use Rattle.adm_types.specs.Limits.{is_from, is_child_number, first_day};
 ghost use Rattle.adm_store.specs.Forms.{truth_code, day_value};
-ghost use Rattle.adm_store.specs.Faults.{IsNoRegister};
+ghost use Rattle.adm_store.specs.Faults.{IsNoRegister, is_day_or_none};
 
 use crate::OpenFault;
 use adm_types::{ChildNo, Day, Text};
@@ -112,7 +112,7 @@ pub(super) fn day_at(row: &Row, at: usize, last: Day) -> Result<Day, OpenFault>
 pub(super) fn day_or_null_at(row: &Row, at: usize) -> Result<Option<Day>, OpenFault>
     requires { at < length row.now }
     ensures ok { IfOk result (λ day. column row.now at ≡ day_value day) }
-    ensures bad { IfErr result (λ e. IsNoRegister e → column row.now at ≡ Null → ⊥) }
+    ensures bad { IfErr result (λ e. IsNoRegister e → (day : Option ℕ) → is_day_or_none day ≡ true → column row.now at ≡ day_value day → ⊥) }
     ensures first { IfErr result (λ e. IsNoRegister e → e ≡ OpenFault.BadRow) }
 {
     let value: Option<u32> = value_at(row, at)?;

@@ -1,10 +1,10 @@
 // The rows of `place` as places.
-ghost use Rattle.std.specs.Prelude.{◌≡◌, pos, None, [], ◌∷◌, IfOk, IfErr, IfSome};
+ghost use Rattle.std.specs.Prelude.{◌≡◌, ℕ, List, Option, pos, None, [], ◌∷◌, IfOk, IfErr, IfSome};
 ghost use Rattle.sqlite.specs.declared.types.Value.TheVariants.{Int, Text as TextValue};
-ghost use Rattle.adm_types.specs.declared.rows.PlaceRow.{PlaceRow as Facts};
+ghost use Rattle.adm_types.specs.declared.rows.PlaceState.{PlaceState as StateFacts};
 ghost use Rattle.adm_schema.specs.Schema.{place};
 ghost use Rattle.adm_store.specs.Forms.{place_row, state_columns, day_value};
-ghost use Rattle.adm_store.specs.Faults.{IsNoRegister, IsPlanRow};
+ghost use Rattle.adm_store.specs.Faults.{IsNoRegister, IsPlaceRow, HasPlaceColumns};
 
 use crate::OpenFault;
 use crate::reading::codes::code_at;
@@ -25,7 +25,7 @@ struct PlaceColumns {
 
 fn place_columns(row: &Row) -> Result<PlaceColumns, OpenFault>
     ensures ok { IfOk result (λ c. row.now ≡ Int (pos c.child) ∷ TextValue c.school ∷ Int (pos c.kind) ∷ day_value c.day ∷ day_value c.reminded ∷ []) }
-    ensures bad { IfErr result (λ e. IsNoRegister e → (x : Facts) → IsPlanRow x → row.now ≡ place_row x → ⊥) }
+    ensures bad { IfErr result (λ e. IsNoRegister e → (child kind : ℕ) (code : List ℕ) (day reminded : Option ℕ) → HasPlaceColumns row.now child code kind day reminded → ⊥) }
     ensures first { IfErr result (λ e. IsNoRegister e → e ≡ OpenFault.BadRow) }
 {
     if row.column_count() != 5 {
@@ -48,7 +48,7 @@ fn place_columns(row: &Row) -> Result<PlaceColumns, OpenFault>
 /// How the child holds the place.
 fn state_of(kind: u32, day: Option<Day>, reminded: Option<Day>) -> Option<PlaceState>
     ensures ok { IfSome result (λ state. state_columns state ≡ Int (pos kind) ∷ day_value day ∷ day_value reminded ∷ []) }
-    ensures none { result ≡ None → kind ≡ 3 → day ≡ None → reminded ≡ None → ⊥ }
+    ensures none { result ≡ None → (state : StateFacts) → state_columns state ≡ Int (pos kind) ∷ day_value day ∷ day_value reminded ∷ [] → ⊥ }
 {
     match day {
         Some(day) => {
@@ -81,7 +81,7 @@ impl Reader for PlaceReader {
 
     ghost row_of = { place_row };
 
-    ghost Fits = { λ _ x. IsPlanRow x };
+    ghost Fits = { λ _ x. IsPlaceRow x };
 
     ghost IsRead = { λ _. Unit {0} };
 
