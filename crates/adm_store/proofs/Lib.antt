@@ -23,3 +23,4 @@ pub mod CodeLemmas
 pub mod ReadingLemmas
 pub mod FaultLemmas
 pub mod FirstFaultLemmas
+pub mod OneRegister

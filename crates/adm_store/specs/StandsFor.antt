@@ -53,6 +53,10 @@ pub record StandsFor (db : Trees) (r : Register) : Type 0 where
   pub sound : IsSound register_schema db
   pub holds : HoldsRegister db r
 
+-- a file stands for at most one register
+abbrev pub OneRegister : Type 0
+OneRegister = (db : Trees) → (r s : Register) → StandsFor db r → StandsFor db s → r ≡ s
+
 -- all that a crash may leave stands for the register
 abbrev pub LeavesOnly : Register → State → Type 0
 LeavesOnly r s = HasCleanDisk s → (db : Trees) → s.may_leave db → StandsFor db r

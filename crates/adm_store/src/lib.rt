@@ -6,6 +6,7 @@ mod children;
 mod creation;
 mod difference;
 mod fault;
+mod laws;
 mod lists;
 mod places;
 mod reading;
@@ -17,5 +18,6 @@ mod store;
 
 pub use difference::changes;
 pub use fault::{CreateFault, Failed, OpenFault};
+pub use laws::one_register;
 pub use rows::{ApplicationRow, Changes, ChildRow, SchoolRow};
 pub use store::{Store, create, open};

@@ -1,0 +1,42 @@
+-- A file stands for at most one register.
+use Rattle.std.proofs.Common.{◌≡◌, ◌∙◌, Option, Some, None, refl, sym, ap}
+use Rattle.std.specs.List.Sorted.{IsPermutation}
+use Rattle.std.proofs.lemmas.List.Sorted.{IsPermutation-sym, Contains-permutation}
+use Rattle.std.specs.declared.cmp.Ordering.{Ordering}
+use Rattle.std.specs.Cmp.{IsTotalOrder, nat_cmp_total}
+use Rattle.std.specs.Cmp.Lexicographic.{nat_list_cmp_total}
+use Rattle.std.specs.FinMap.{FinMap, get, values, same_map, IsAntisymmetric, slice_cmp-IsAntisymmetric, nat_cmp-IsAntisymmetric}
+use Rattle.sqlite_rules.proofs.ListLemmas.{has_contained, contains_had}
+use Rattle.adm_register.specs.Rows.{rows_in_order}
+use Rattle.adm_schema.specs.Schema.{meta}
+use Rattle.adm_schema.proofs.Listed.{has_meta}
+use Rattle.adm_store.specs.StandsFor.{OneRegister}
+use Rattle.adm_store.proofs.Entries.{has_value, value_at}
+use Rattle.adm_store.proofs.RegisterRows.{rows_held, read_back, season_back}
+
+-- maps whose rows stand at their own keys, and which have the same rows, are the same
+module _ {K V : Type 0} {R : K → K → Ordering} (total : IsTotalOrder R) (exact : IsAntisymmetric R) (key : V → K) where
+  had_too : (m n : FinMap R V) → ((k : K) (v : V) → get m k ≡ Some v → key v ≡ k) → ((k : K) (v : V) → get n k ≡ Some v → key v ≡ k) → IsPermutation (values m) (values n) → (k : K) (v : V) → get m k ≡ Some v → get n k ≡ Some v
+  had_too m n own other same k v there =
+      let here = has_contained (values n) v (Contains-permutation (values m) (values n) v same (contains_had (values m) v (has_value total exact m k v there))) in
+      ap (get n) (sym (own k v there)) ∙ value_at total exact key n other v here
+
+  same_by_rows : (m n : FinMap R V) → ((k : K) (v : V) → get m k ≡ Some v → key v ≡ k) → ((k : K) (v : V) → get n k ≡ Some v → key v ≡ k) → IsPermutation (values m) (values n) → m ≡ n
+  same_by_rows m n own other same = same_map total exact m n (λ k. go k (get m k) refl (get n k) refl)
+    where
+      go : (k : K) (a : Option V) → get m k ≡ a → (b : Option V) → get n k ≡ b → get m k ≡ get n k
+      go k (Some v) is b at = is ∙ sym (had_too m n own other same k v is)
+      go k None is (Some w) at = had_too n m other own (IsPermutation-sym _ _ same) k w at ∙ sym at
+      go k None is None at = is ∙ sym at
+
+pub one_register_lem : OneRegister
+one_register_lem db r s one two =
+    let a = one.holds.formed in
+    let b = two.holds.formed in
+    let season = season_back db r s.season (two.holds.rows.each meta has_meta) b.base.season_is one.holds in
+    let rows = rows_held db s (rows_in_order r) two.holds one.holds.rows (read_back r a) season in
+    let schools = same_by_rows nat_list_cmp_total (slice_cmp-IsAntisymmetric nat_cmp-IsAntisymmetric) (λ x. x.code) r.schools s.schools (λ k x there. (a.base.schools_fit k x there).own_code) (λ k x there. (b.base.schools_fit k x there).own_code) rows.schools in
+    let children = same_by_rows nat_cmp_total nat_cmp-IsAntisymmetric (λ x. x.no) r.children s.children (λ k x there. (a.base.children_fit k x there).own_number) (λ k x there. (b.base.children_fit k x there).own_number) rows.children in
+    let applications = same_by_rows nat_cmp_total nat_cmp-IsAntisymmetric (λ x. x.child) r.applications s.applications (λ k x there. (a.base.applications_fit k x there).own_number) (λ k x there. (b.base.applications_fit k x there).own_number) rows.applications in
+    let places = same_by_rows nat_cmp_total nat_cmp-IsAntisymmetric (λ x. x.child) r.places s.places (λ k x there. (a.places k x there).own_number) (λ k x there. (b.places k x there).own_number) rows.places in
+    λ i. record { season = season i; schools = schools i; children = children i; applications = applications i; places = places i }

@@ -1,0 +1,7 @@
+// Laws of what a file stands for.
+ghost use Rattle.adm_store.specs.StandsFor.{OneRegister};
+
+/// A file stands for at most one register.
+pub fn one_register()
+    ensures { OneRegister }
+{}
