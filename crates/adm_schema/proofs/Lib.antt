@@ -10,3 +10,4 @@ pub mod RowTexts
 pub mod OneTest
 pub mod OneRow
 pub mod Listed
+pub mod Answered

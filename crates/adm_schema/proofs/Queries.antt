@@ -1,5 +1,6 @@
 -- What a query of one table answers.
-use Rattle.std.proofs.Common.{◌≡◌, ℕ, ◌^◌, false, List, [], ◌∷◌, map, flat_map, nat_le, sym, ap, ◌∙◌, subst₂, ◌⊎◌, inl, inr, subst}
+use Rattle.std.proofs.Common.{◌≡◌, ℕ, ◌^◌, true, false, List, [], ◌∷◌, length, map, flat_map, nat_le, None, sym, ap, ◌∙◌, subst₂, ◌⊎◌, inl, inr, subst}
+use Rattle.std.specs.Prelude.{is_some}
 use Rattle.std.specs.List.Sorted.{IsPermutation}
 use Rattle.std.proofs.lemmas.List.Sorted.{IsPermutation-map}
 use Rattle.sqlite.specs.declared.types.Value.TheVariants.{Null}
@@ -18,11 +19,11 @@ use Rattle.sqlite.specs.declared.error.Error.TheVariants.{SqlInputError}
 use Rattle.sqlite.specs.Clock.{timed}
 use Rattle.sqlite.specs.Schema.{Schema}
 use Rattle.sqlite.specs.Command.TheVariants.{Select}
-use Rattle.sqlite.specs.Listing.{understood}
-use Rattle.sqlite.specs.Effect.{RefusesToRead}
-use Rattle.sqlite.specs.State.{State, IsUnchanged, Shown, FailsToQuery, IsNotRun, IsTooLate, store_error}
+use Rattle.sqlite.specs.Listing.{understood, reads_listing, IsSourceOf}
+use Rattle.sqlite.specs.Effect.{RefusesToRead, RefusesQuery}
+use Rattle.sqlite.specs.State.{State, Fails, IsUnchanged, Shown, FailsToQuery, IsNotRun, IsTooLate, store_error}
 use Rattle.sqlite.proofs.Callers.{IsPlain, command_of, reads_as}
-use Rattle.adm_schema.specs.Queries.{query_of, program_of, Asks}
+use Rattle.adm_schema.specs.Queries.{query_of, program_of, Asks, IsWhole}
 use Rattle.adm_schema.proofs.Lists.{map-flat}
 
 -- the columns of every row, in some order
@@ -82,3 +83,33 @@ module _ {schema : Schema} {sql : List ℕ} {tree : ℕ} {project : List Term} {
         | inr (inr limit) ↦ absurd (let wrong = sym limit.0 ∙ text in cc)
       ]
   never_refused old new e why has text (inr h) = absurd (let wrong = sym h.4 ∙ text in cc)
+
+  -- without a limit on its steps it fails only for memory, or where the store told why
+  pub fails_alone : (old new : State) (e : Error) → old.now.schema ≡ schema → old.step_limit ≡ None → ((why : CompileError) → e ≡ SqlInputError why → ⊥) → FailsToQuery sql [] old new e ⊎ IsTooLate sql [] old new e → Fails old new ⊥ e
+  unfolding FailsToQuery IsNotRun
+  fails_alone old new e has unlimited other (inl (inl (inl h))) = elim h.0 [
+    | inl none ↦ absurd (other none.0 none.2)
+    | inr some ↦
+        let known = sym some.1 ∙ ap (λ s. understood s sql) has in
+        let whole = subst (IsWhole sql) (sym known) asks.whole in
+        let bare = subst IsPlain (sym known) asks.plain in
+        elim some.2 [
+          | inl many ↦ absurd (many.0 whole.0)
+          | inr (inl count) ↦ absurd (count.0 (sym (ap length whole.1)))
+          | inr (inr clock) ↦ absurd (clock.0 bare.1)
+        ]
+  ]
+  fails_alone old new e has unlimited other (inl (inl (inr h))) = h
+  fails_alone old new e has unlimited other (inl (inr h)) =
+      let known = sym h.1.is ∙ ap (λ s. understood s sql) has in
+      let bare = subst IsPlain (sym known) asks.plain in
+      let it = rw (bare.0, bare.1) at h.2 in
+      let same : it.0 ≡ old.now = subst (λ b. IsSourceOf b old.now it.0) (ap (λ s. reads_listing s sql) has ∙ asks.unlisted) it.1 in
+      let refused = subst (λ k. RefusesToRead old.step_limit k it.0 [] e) (ap command_of known ∙ asks.command) it.2 in
+      let at : RefusesQuery None (record { schema = schema; trees = it.0.trees }) (program_of (query_of tree [] project order)) [] e =
+      subst₂ (λ limit s. RefusesQuery limit (record { schema = s; trees = it.0.trees }) (program_of (query_of tree [] project order)) [] e) unlimited (ap (λ (d : Database). d.schema) same ∙ has) refused in
+      absurd (asks.answered it.0.trees e at)
+  fails_alone old new e has unlimited other (inr h) =
+      let known = sym h.1.is ∙ ap (λ s. understood s sql) has in
+      let bare = subst IsPlain (sym known) asks.plain in
+      absurd (let wrong : false ≡ true = sym (ap is_some bare.0) ∙ h.2 in cc)

@@ -1,5 +1,5 @@
 -- What each fixed text means under the register's schema.
-use Rattle.std.proofs.Common.{◌≡◌, refl}
+use Rattle.std.proofs.Common.{◌≡◌, refl, arith}
 use Rattle.std.specs.Prelude.{[]}
 use Rattle.sqlite.specs.Command.TheVariants.{Insert}
 use Rattle.sqlite.specs.Source.TheVariants.{Values}
@@ -8,6 +8,7 @@ use Rattle.sqlite.proofs.Callers.{IsPlain, command_of}
 use Rattle.sqlite_tied.specs.Compute.{everything}
 use Rattle.adm_schema.specs.Queries.{Asks}
 use Rattle.adm_schema.specs.Schema.{register_schema}
+use Rattle.adm_schema.proofs.Answered.{answered}
 use Rattle.adm_schema.specs.Texts as text
 
 pub inserts_meta : (command_of (understood register_schema text.insert_meta) ≡ Insert 0 (Values text.meta_terms 7)) × IsPlain (understood register_schema text.insert_meta)
@@ -20,40 +21,40 @@ inserts_school = (refl, (refl, refl))
 
 pub asks_meta : Asks register_schema text.select_meta 0 text.meta_columns []
 unfolding understood everything
-asks_meta = record { names = _; command = refl; unlisted = refl; plain = (refl, refl) }
+asks_meta = record { names = _; command = refl; unlisted = refl; plain = (refl, refl); whole = (omega arith, refl); answered = λ db e. answered _ db e 0 text.meta_columns [] (λ h. absurd (let wrong = h.1 in cc)) }
 
 pub asks_schools : Asks register_schema text.select_schools 1 text.school_columns text.by_code
 unfolding understood everything
-asks_schools = record { names = _; command = refl; unlisted = refl; plain = (refl, refl) }
+asks_schools = record { names = _; command = refl; unlisted = refl; plain = (refl, refl); whole = (omega arith, refl); answered = λ db e. answered _ db e 1 text.school_columns text.by_code (λ h. absurd (let wrong = h.1 in cc)) }
 
 pub asks_children : Asks register_schema text.select_children 3 text.child_columns text.by_child
 unfolding understood everything
-asks_children = record { names = _; command = refl; unlisted = refl; plain = (refl, refl) }
+asks_children = record { names = _; command = refl; unlisted = refl; plain = (refl, refl); whole = (omega arith, refl); answered = λ db e. answered _ db e 3 text.child_columns text.by_child (λ h. absurd (let wrong = h.1 in cc)) }
 
 pub asks_applications : Asks register_schema text.select_applications 4 text.application_columns text.by_child
 unfolding understood everything
-asks_applications = record { names = _; command = refl; unlisted = refl; plain = (refl, refl) }
+asks_applications = record { names = _; command = refl; unlisted = refl; plain = (refl, refl); whole = (omega arith, refl); answered = λ db e. answered _ db e 4 text.application_columns text.by_child (λ h. absurd (let wrong = h.1 in cc)) }
 
 pub asks_places : Asks register_schema text.select_places 5 text.place_columns text.by_child
 unfolding understood everything
-asks_places = record { names = _; command = refl; unlisted = refl; plain = (refl, refl) }
+asks_places = record { names = _; command = refl; unlisted = refl; plain = (refl, refl); whole = (omega arith, refl); answered = λ db e. answered _ db e 5 text.place_columns text.by_child (λ h. absurd (let wrong = h.1 in cc)) }
 
 pub asks_left_list : Asks register_schema text.select_left_list 6 text.left_list_columns []
 unfolding understood everything
-asks_left_list = record { names = _; command = refl; unlisted = refl; plain = (refl, refl) }
+asks_left_list = record { names = _; command = refl; unlisted = refl; plain = (refl, refl); whole = (omega arith, refl); answered = λ db e. answered _ db e 6 text.left_list_columns [] (λ h. absurd (let wrong = h.1 in cc)) }
 
 pub asks_draws : Asks register_schema text.select_draws 8 text.draw_columns []
 unfolding understood everything
-asks_draws = record { names = _; command = refl; unlisted = refl; plain = (refl, refl) }
+asks_draws = record { names = _; command = refl; unlisted = refl; plain = (refl, refl); whole = (omega arith, refl); answered = λ db e. answered _ db e 8 text.draw_columns [] (λ h. absurd (let wrong = h.1 in cc)) }
 
 pub asks_offers : Asks register_schema text.select_offers 9 text.offer_columns []
 unfolding understood everything
-asks_offers = record { names = _; command = refl; unlisted = refl; plain = (refl, refl) }
+asks_offers = record { names = _; command = refl; unlisted = refl; plain = (refl, refl); whole = (omega arith, refl); answered = λ db e. answered _ db e 9 text.offer_columns [] (λ h. absurd (let wrong = h.1 in cc)) }
 
 pub asks_lots : Asks register_schema text.select_lots 11 text.lot_columns []
 unfolding understood everything
-asks_lots = record { names = _; command = refl; unlisted = refl; plain = (refl, refl) }
+asks_lots = record { names = _; command = refl; unlisted = refl; plain = (refl, refl); whole = (omega arith, refl); answered = λ db e. answered _ db e 11 text.lot_columns [] (λ h. absurd (let wrong = h.1 in cc)) }
 
 pub asks_imported : Asks register_schema text.select_imported 14 text.imported_columns []
 unfolding understood everything
-asks_imported = record { names = _; command = refl; unlisted = refl; plain = (refl, refl) }
+asks_imported = record { names = _; command = refl; unlisted = refl; plain = (refl, refl); whole = (omega arith, refl); answered = λ db e. answered _ db e 14 text.imported_columns [] (λ h. absurd (let wrong = h.1 in cc)) }
