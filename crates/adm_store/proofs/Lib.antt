@@ -24,3 +24,4 @@ pub mod ReadingLemmas
 pub mod FaultLemmas
 pub mod FirstFaultLemmas
 pub mod OneRegister
+pub mod CauseLemmas

@@ -4,6 +4,7 @@ pub mod Reads
 pub mod Unused
 pub mod Faults
 pub mod FirstFault
+pub mod Causes
 pub mod Changes
 pub mod Writes
 pub mod Creating

@@ -1,14 +1,15 @@
 // A register as its tables hold it.
-ghost use Rattle.std.specs.Prelude.{◌≡◌, [], ◌∷◌, IfOk, IfErr, OnOk};
+ghost use Rattle.std.specs.Prelude.{◌≡◌, ◌↔◌, ◌⊎◌, IsTrue, [], ◌∷◌, IfOk, IfErr, OnOk};
 ghost use Rattle.sqlite.specs.Held.{state};
 ghost use Rattle.sqlite.specs.State.{HasCleanDisk, Survives};
 ghost use Rattle.adm_register.specs.State.{State as RegisterFacts};
-ghost use Rattle.adm_schema.specs.Schema.{meta};
+ghost use Rattle.adm_schema.specs.Schema.{meta, register_schema};
 ghost use Rattle.adm_store.specs.Forms.{season_row};
 ghost use Rattle.adm_store.specs.StandsFor.{HasRows, HoldsRows, HoldsRegister};
 ghost use Rattle.adm_store.specs.Reads.{Finds, AreReadBack};
 ghost use Rattle.adm_store.specs.FirstFault.{IsFirstFault};
 ghost use Rattle.adm_store.specs.Faults.{IsNoRegister};
+ghost use Rattle.adm_store.specs.Causes.{DiskFailed, HasDiskCause};
 
 mod applications;
 mod children;
@@ -46,6 +47,7 @@ fn rows_in<S: Alter>(
     ensures again { IfOk result AreReadBack }
     ensures bad { IfErr result (λ e. IsNoRegister e → (r : RegisterFacts) → r.season ≡ season → Finds (λ db. ¬ HoldsRegister db r) (state S.Store tx.old.conn.now) (state S.Store tx.new.conn.now)) }
     ensures first { HasCleanDisk (state S.Store tx.new.conn.now) → IfErr result (λ e. IsNoRegister e → e ≡ OpenFault.BadRow) }
+    ensures disk { IfErr result (λ e. e ≡ OpenFault.Disk → DiskFailed (state S.Store tx.old.conn.now) (state S.Store tx.new.conn.now)) }
     ensures survives { Survives (state S.Store tx.old.conn.now) (state S.Store tx.new.conn.now) (λ _. ⊥) }
 {
     let last = season.lists_end();
@@ -63,23 +65,38 @@ fn rows_in<S: Alter>(
     })
 }
 
-/// The register that the tables hold.
+/// Rows that are no register's are a bad row, and want of memory is want of memory.
+fn fault_of(fault: RowsFault) -> OpenFault
+    ensures { ((fault ≡ RowsFault.BadRow) × (result ≡ OpenFault.BadRow)) ⊎ ((fault ≡ RowsFault.Memory) × (result ≡ OpenFault.Memory)) }
+{
+    match fault {
+        RowsFault::BadRow => OpenFault::BadRow,
+        RowsFault::Memory => OpenFault::Memory,
+    }
+}
+
+/// The register that the tables hold, where they are a register's.
 pub(crate) fn register_in<S: Alter>(
     alloc: Global,
     tx: &mut Transaction<'_, S>,
+    has_tables: bool,
 ) -> Result<Register, OpenFault>
+    requires tables { IsTrue has_tables ↔ ((state S.Store tx.old.conn.now).now.schema ≡ register_schema) }
     ensures same_reference { tx.new.conn.ghost_name ≡ tx.old.conn.ghost_name }
     ensures ok { IfOk result (λ r. Finds (λ db. HoldsRegister db r) (state S.Store tx.old.conn.now) (state S.Store tx.new.conn.now)) }
     ensures bad { IfErr result (λ e. IsNoRegister e → (r : RegisterFacts) → Finds (λ db. ¬ HoldsRegister db r) (state S.Store tx.old.conn.now) (state S.Store tx.new.conn.now)) }
-    ensures version { HasCleanDisk (state S.Store tx.new.conn.now) → OnOk result (IsFirstFault (state S.Store tx.old.conn.now).now OpenFault.BadRow) }
+    ensures tables { OnOk result (IsTrue has_tables) }
     ensures first { HasCleanDisk (state S.Store tx.new.conn.now) → IfErr result (λ e. IsNoRegister e → IsFirstFault (state S.Store tx.old.conn.now).now e) }
+    ensures disk { IfErr result (λ e. e ≡ OpenFault.Disk → HasDiskCause (state S.Store tx.old.conn.now) (state S.Store tx.new.conn.now)) }
     ensures survives { Survives (state S.Store tx.old.conn.now) (state S.Store tx.new.conn.now) (λ _. ⊥) }
 {
     let season = read_season(alloc, tx)?;
+    if !has_tables {
+        return Err(OpenFault::BadRow);
+    }
     let rows = rows_in(alloc, tx, season)?;
     match Register::from_rows(alloc, rows) {
         Ok(register) => Ok(register),
-        Err(RowsFault::BadRow) => Err(OpenFault::BadRow),
-        Err(RowsFault::Memory) => Err(OpenFault::Memory),
+        Err(fault) => Err(fault_of(fault)),
     }
 }

@@ -1,5 +1,5 @@
 // The store of a register: to create it, to open it and to write what a command changed.
-ghost use Rattle.std.specs.Prelude.{◌≡◌, ◌≢◌, ◌<◌, false, Err, OnOk, OnErr, IfOk, IfErr, IsTrue};
+ghost use Rattle.std.specs.Prelude.{◌≡◌, ◌≢◌, ◌↔◌, ◌<◌, false, Err, OnOk, OnErr, IfOk, IfErr, IsTrue};
 ghost use Rattle.sqlite.specs.Held.{state};
 ghost use Rattle.sqlite.specs.State.{HasCleanDisk, Survives};
 ghost use Rattle.adm_schema.specs.Schema.{no_schema};
@@ -9,6 +9,7 @@ ghost use Rattle.adm_store.specs.Changes.{AtNext, Commits, CommitsOrNot};
 ghost use Rattle.adm_store.specs.StandsFor.{IsStarted, StandsFor, StandsForNone, LeavesOnly, LeavesOldOrNew, LeavesNone};
 ghost use Rattle.adm_store.specs.Faults.{IsNoRegister};
 ghost use Rattle.adm_store.specs.FirstFault.{IsFirstFault};
+ghost use Rattle.adm_store.specs.Causes.{HasDiskCause};
 ghost use Rattle.adm_store.specs.Writes.{count_of, writes_of, Writes};
 
 use crate::applications::{CutApplication, PutApplication};
@@ -26,8 +27,10 @@ use sqlite::{Alter, Connection, Error, ErrorCode, Transaction};
 use std::alloc::Global;
 use std::marker::Model;
 
+/// Memory only where `sqlite` has none.
 fn fault_of(error: Error) -> CreateFault
-    ensures { result ≢ CreateFault.InUse }
+    ensures memory { (result ≡ CreateFault.Memory) ↔ (error ≡ Error.SqliteFailure ErrorCode.OutOfMemory) }
+    ensures other { result ≢ CreateFault.InUse }
 {
     match error {
         Error::SqliteFailure(ErrorCode::OutOfMemory) => CreateFault::Memory,
@@ -71,22 +74,17 @@ fn read<S: Alter>(alloc: Global, conn: &mut Connection<S>) -> Result<Register, O
     ensures ok { HasCleanDisk (state S.Store conn.new) → IsTrue (state S.Store conn.old).is_open → IfOk result (λ r. (db : Trees) → (state S.Store conn.old).may_leave db → StandsFor db r) }
     ensures bad { HasCleanDisk (state S.Store conn.new) → IsTrue (state S.Store conn.old).is_open → IfErr result (λ e. IsNoRegister e → (db : Trees) → (state S.Store conn.old).may_leave db → StandsForNone db) }
     ensures first { HasCleanDisk (state S.Store conn.new) → IfErr result (λ e. IsNoRegister e → IsFirstFault (state S.Store conn.old).now e) }
+    ensures disk { IfErr result (λ e. e ≡ OpenFault.Disk → HasDiskCause (state S.Store conn.old) (state S.Store conn.new)) }
     ensures survives { Survives (state S.Store conn.old) (state S.Store conn.new) (λ _. ⊥) }
 {
     let at_rest = conn.is_autocommit();
     prove!(at_rest);
     let has_tables = is_register_schema(conn.schema());
     let mut tx = conn.transaction();
-    let register = reading::register_in(alloc, &mut tx);
+    let register = reading::register_in(alloc, &mut tx, has_tables);
     tx.rollback();
     match register {
-        Ok(register) => {
-            if has_tables {
-                Ok(register)
-            } else {
-                Err(OpenFault::BadRow)
-            }
-        }
+        Ok(register) => Ok(register),
         Err(fault) => Err(fault),
     }
 }
@@ -101,6 +99,7 @@ pub fn open<S: Alter>(
     ensures ok { IfOk result (λ o. LeavesOnly o.1 (state S.Store o.0)) }
     ensures bad { IfErr result (λ e. IsNoRegister e.0 → LeavesNone (state S.Store e.1)) }
     ensures first { IfErr result (λ e. HasCleanDisk (state S.Store e.1) → IsNoRegister e.0 → IsFirstFault (state S.Store conn).now e.0) }
+    ensures disk { IfErr result (λ e. e.0 ≡ OpenFault.Disk → HasDiskCause (state S.Store conn) (state S.Store e.1)) }
     ensures kept { IfOk result (λ o. Survives (state S.Store conn) (state S.Store o.0) (λ _. ⊥)) }
     ensures ended { IfErr result (λ e. e.1.in_transaction ≡ false) }
     ensures left { IfErr result (λ e. Survives (state S.Store conn) (state S.Store e.1) (λ _. ⊥)) }

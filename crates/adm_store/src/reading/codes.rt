@@ -20,6 +20,7 @@ pub(super) fn code_at(row: &Row, at: usize) -> Result<SchoolCode, OpenFault>
     ensures ok { IfOk result (λ code. column row.now at ≡ TextValue code) }
     ensures bad { IfErr result (λ e. IsNoRegister e → (code : List ℕ) → is_code code ≡ true → column row.now at ≡ TextValue code → ⊥) }
     ensures first { IfErr result (λ e. IsNoRegister e → e ≡ OpenFault.BadRow) }
+    ensures disk { IfErr result (λ e. e ≡ OpenFault.Disk → ⊥) }
 {
     let text: String = value_at(row, at)?;
     let Some(code) = SchoolCode::new(&text) else {
@@ -33,6 +34,7 @@ fn read_codes(alloc: Global, text: &str) -> Result<Seq<SchoolCode>, OpenFault>
     ensures ok { IfOk result (λ list. codes_of text.now ≡ Some list) }
     ensures bad { IfErr result (λ e. IsNoRegister e → codes_of text.now ≡ None) }
     ensures first { IfErr result (λ e. IsNoRegister e → e ≡ OpenFault.BadRow) }
+    ensures disk { IfErr result (λ e. e ≡ OpenFault.Disk → ⊥) }
 {
     let Ok(read) = codes(alloc, text) else {
         return Err(OpenFault::Memory);
@@ -60,6 +62,7 @@ fn codes_in(alloc: Global, text: &str) -> Result<Seq<SchoolCode>, OpenFault>
     ensures again { IfOk result (λ list. codes_of text.now ≡ Some list) }
     ensures bad { IfErr result (λ e. IsNoRegister e → (list : List (List ℕ)) → list_all is_code list ≡ true → text.now ≡ codes_text list → ⊥) }
     ensures first { IfErr result (λ e. IsNoRegister e → e ≡ OpenFault.BadRow) }
+    ensures disk { IfErr result (λ e. e ≡ OpenFault.Disk → ⊥) }
 {
     let list = match read_codes(alloc, text) {
         Ok(list) => list,
@@ -83,6 +86,7 @@ pub(super) fn codes_at(alloc: Global, row: &Row, at: usize) -> Result<Seq<School
     ensures again { IfOk result AreReadAgain }
     ensures bad { IfErr result (λ e. IsNoRegister e → (list : List (List ℕ)) → list_all is_code list ≡ true → column row.now at ≡ TextValue (codes_text list) → ⊥) }
     ensures first { IfErr result (λ e. IsNoRegister e → e ≡ OpenFault.BadRow) }
+    ensures disk { IfErr result (λ e. e ≡ OpenFault.Disk → ⊥) }
 {
     let text: String = value_at(row, at)?;
     match codes_in(alloc, &text) {

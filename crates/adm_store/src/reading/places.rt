@@ -27,6 +27,7 @@ fn place_columns(row: &Row) -> Result<PlaceColumns, OpenFault>
     ensures ok { IfOk result (λ c. row.now ≡ Int (pos c.child) ∷ TextValue c.school ∷ Int (pos c.kind) ∷ day_value c.day ∷ day_value c.reminded ∷ []) }
     ensures bad { IfErr result (λ e. IsNoRegister e → (child kind : ℕ) (code : List ℕ) (day reminded : Option ℕ) → HasPlaceColumns row.now child code kind day reminded → ⊥) }
     ensures first { IfErr result (λ e. IsNoRegister e → e ≡ OpenFault.BadRow) }
+    ensures disk { IfErr result (λ e. e ≡ OpenFault.Disk → ⊥) }
 {
     if row.column_count() != 5 {
         return Err(OpenFault::BadRow);

@@ -1,5 +1,5 @@
 // The rows that a query answers.
-ghost use Rattle.std.specs.Prelude.{◌≡◌, IfOk, IfErr, OnOk};
+ghost use Rattle.std.specs.Prelude.{◌≡◌, ◌↔◌, IfOk, IfErr, OnOk};
 ghost use Rattle.sqlite.specs.Held.{state};
 ghost use Rattle.sqlite.specs.State.{HasCleanDisk, Survives};
 ghost use Rattle.sqlite.specs.Table.{Table};
@@ -8,13 +8,16 @@ ghost use Rattle.adm_store.specs.Reads.{AsksAll, Finds, SeesTheSame};
 ghost use Rattle.adm_store.specs.StandsFor.{HasRows};
 ghost use Rattle.adm_store.specs.FirstFault.{IsAnswered, IsNotAsked};
 ghost use Rattle.adm_store.specs.Faults.{IsNoRegister};
+ghost use Rattle.adm_store.specs.Causes.{DiskFailed, DiskFailedOr};
 
 use crate::OpenFault;
 use sqlite::{Alter, Error, ErrorCode, Row, Transaction};
 
 /// A query is refused for its text only where a table or a column is missing.
 fn fault_of(error: Error, missing: OpenFault) -> OpenFault
-    ensures { IsNoRegister result → IsNoRegister missing × ((why : CompileError) × (error ≡ Error.SqlInputError why)) × (result ≡ missing) }
+    ensures missing { IsNoRegister result → IsNoRegister missing × ((why : CompileError) × (error ≡ Error.SqlInputError why)) × (result ≡ missing) }
+    ensures memory { IsNoRegister missing → ((result ≡ OpenFault.Memory) ↔ (error ≡ Error.SqliteFailure ErrorCode.OutOfMemory)) }
+    ensures disk { IsNoRegister missing → result ≡ OpenFault.Disk → (error ≡ Error.SqliteFailure ErrorCode.OutOfMemory → ⊥) × ((why : CompileError) → error ≡ Error.SqlInputError why → ⊥) }
 {
     match error {
         Error::SqlInputError(_) => missing,
@@ -35,6 +38,8 @@ pub(super) fn query<S: Alter>(
     ensures bad { IfErr result (λ e. IsNoRegister e → (t : Table) → AsksAll t text.now → Finds (λ _. ⊥) (state S.Store tx.old.conn.now) (state S.Store tx.new.conn.now)) }
     ensures answered { HasCleanDisk (state S.Store tx.new.conn.now) → IfOk result (λ rows. IsAnswered (state S.Store tx.old.conn.now).now text.now rows.items) }
     ensures refused { HasCleanDisk (state S.Store tx.new.conn.now) → IfErr result (λ e. IsNoRegister e → (e ≡ missing) × IsNotAsked (state S.Store tx.old.conn.now).now text.now) }
+    ensures disk { IsNoRegister missing → IfErr result (λ e. e ≡ OpenFault.Disk → (t : Table) → AsksAll t text.now → DiskFailed (state S.Store tx.old.conn.now) (state S.Store tx.new.conn.now)) }
+    ensures unanswered { IsNoRegister missing → IfErr result (λ e. e ≡ OpenFault.Disk → DiskFailedOr text.now (state S.Store tx.old.conn.now) (state S.Store tx.new.conn.now)) }
     ensures survives { Survives (state S.Store tx.old.conn.now) (state S.Store tx.new.conn.now) (λ _. ⊥) }
 {
     match tx.query_all(text, &[]) {

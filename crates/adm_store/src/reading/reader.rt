@@ -4,6 +4,7 @@ ghost use Rattle.std.specs.List.{AllByRecursion};
 ghost use Rattle.sqlite.specs.Held.{state};
 ghost use Rattle.sqlite.specs.State.{HasCleanDisk, Survives};
 ghost use Rattle.adm_store.specs.Faults.{IsNoRegister};
+ghost use Rattle.adm_store.specs.Causes.{DiskFailed};
 ghost use Rattle.adm_store.specs.Reads.{Finds, SeesTheSame, Holds};
 
 use crate::OpenFault;
@@ -40,7 +41,8 @@ pub(super) trait Reader {
         ensures ok { IfOk result (λ x. row.now ≡ row_of x) }
         ensures again { IfOk result IsRead }
         ensures bad { IfErr result (λ e. IsNoRegister e → (x : Self.Item) → Fits self.now x → row.now ≡ row_of x → ⊥) }
-        ensures first { IfErr result (λ e. IsNoRegister e → e ≡ OpenFault.BadRow) };
+        ensures first { IfErr result (λ e. IsNoRegister e → e ≡ OpenFault.BadRow) }
+        ensures disk { IfErr result (λ e. e ≡ OpenFault.Disk → ⊥) };
 }
 
 /// The values of these rows.
@@ -49,6 +51,7 @@ fn all_in<R: Reader>(alloc: Global, reader: &R, rows: &[Row]) -> Result<Vec<R::I
     ensures again { IfOk result (λ all. AllByRecursion R.IsRead all.items) }
     ensures bad { IfErr result (λ e. IsNoRegister e → (all : List R.Item) → AllByRecursion (R.Fits reader.now) all → IsPermutation (map R.row_of all) rows.now → ⊥) }
     ensures first { IfErr result (λ e. IsNoRegister e → e ≡ OpenFault.BadRow) }
+    ensures disk { IfErr result (λ e. e ≡ OpenFault.Disk → ⊥) }
 {
     let mut all = Vec::new(alloc);
     'rows: for row in rows {
@@ -85,6 +88,7 @@ pub(super) trait Readers {
         ensures same { OnOk result (SeesTheSame (state S.Store tx.old.conn.now) (state S.Store tx.new.conn.now)) }
         ensures bad { IfErr result (λ e. IsNoRegister e → (all : Self.Items) → Fit self.now all → Finds (λ db. ¬ AreHeld self.now all db) (state S.Store tx.old.conn.now) (state S.Store tx.new.conn.now)) }
         ensures first { HasCleanDisk (state S.Store tx.new.conn.now) → IfErr result (λ e. IsNoRegister e → e ≡ OpenFault.BadRow) }
+        ensures disk { IfErr result (λ e. e ≡ OpenFault.Disk → DiskFailed (state S.Store tx.old.conn.now) (state S.Store tx.new.conn.now)) }
         ensures survives { Survives (state S.Store tx.old.conn.now) (state S.Store tx.new.conn.now) (λ _. ⊥) };
 }
 

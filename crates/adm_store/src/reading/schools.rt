@@ -21,6 +21,7 @@ fn read_criteria(alloc: Global, text: &str) -> Result<Vec<Criterion>, OpenFault>
     ensures ok { IfOk result (λ criteria. criteria_of text.now ≡ Some criteria.items) }
     ensures bad { IfErr result (λ e. IsNoRegister e → criteria_of text.now ≡ None) }
     ensures first { IfErr result (λ e. IsNoRegister e → e ≡ OpenFault.BadRow) }
+    ensures disk { IfErr result (λ e. e ≡ OpenFault.Disk → ⊥) }
 {
     let Ok(read) = lists::criteria_in(alloc, text) else {
         return Err(OpenFault::Memory);
@@ -48,6 +49,7 @@ fn criteria_in(alloc: Global, text: &str) -> Result<Vec<Criterion>, OpenFault>
     ensures again { IfOk result (λ criteria. criteria_of text.now ≡ Some criteria.items) }
     ensures bad { IfErr result (λ e. IsNoRegister e → (criteria : List Facts) → list_all is_criterion criteria ≡ true → text.now ≡ criteria_text criteria → ⊥) }
     ensures first { IfErr result (λ e. IsNoRegister e → e ≡ OpenFault.BadRow) }
+    ensures disk { IfErr result (λ e. e ≡ OpenFault.Disk → ⊥) }
 {
     let criteria = match read_criteria(alloc, text) {
         Ok(criteria) => criteria,
@@ -79,6 +81,7 @@ fn school_columns(row: &Row) -> Result<SchoolColumns, OpenFault>
     ensures ok { IfOk result (λ c. row.now ≡ TextValue (string_bytes c.code) ∷ TextValue (string_bytes c.name) ∷ Int (pos c.pan) ∷ Int (pos c.east) ∷ Int (pos c.north) ∷ TextValue (string_bytes c.criteria) ∷ []) }
     ensures bad { IfErr result (λ e. IsNoRegister e → (code name criteria : List ℕ) (pan east north : ℕ) → HasSchoolColumns row.now code name criteria pan east north → ⊥) }
     ensures first { IfErr result (λ e. IsNoRegister e → e ≡ OpenFault.BadRow) }
+    ensures disk { IfErr result (λ e. e ≡ OpenFault.Disk → ⊥) }
 {
     if row.column_count() != 6 {
         return Err(OpenFault::BadRow);

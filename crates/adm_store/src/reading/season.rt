@@ -1,17 +1,20 @@
 // The row of `meta` as the season.
 ghost use Rattle.std.specs.Prelude.{◌≡◌, ◌↔◌, ◌⊎◌, ◌≤◌, false, pos, OnOk, None, [], ◌∷◌, length, IfOk, IfErr, IfSome, IsTrue, Some, string_bytes};
 ghost use Rattle.sqlite.specs.declared.types.Value.TheVariants.{Int, Text as TextValue};
-ghost use Rattle.std.specs.Prelude.{ℕ, List};
+ghost use Rattle.std.specs.Prelude.{ℕ, List, Err, ◌&&◌, nat_lt};
+ghost use Rattle.adm_types.specs.Limits.{is_from};
 ghost use Rattle.adm_types.specs.Seasons.{SeasonFacts, IsSeason, IsRising};
 ghost use Rattle.adm_store.specs.Forms.{phase_code, days_text, days_of, season_row};
 ghost use Rattle.sqlite.specs.Held.{state};
 ghost use Rattle.sqlite.specs.Order.{column};
 ghost use Rattle.sqlite.specs.State.{HasCleanDisk, Survives};
 ghost use Rattle.adm_schema.specs.Schema.{meta};
+ghost use Rattle.adm_schema.specs.Texts.{select_meta};
 ghost use Rattle.adm_store.specs.StandsFor.{HasRows};
 ghost use Rattle.adm_store.specs.Reads.{Finds, SeesTheSame};
 ghost use Rattle.adm_store.specs.FirstFault.{is_one, first_fault, IsFirstFault};
 ghost use Rattle.adm_store.specs.Faults.{IsNoRegister, HasSeasonColumns};
+ghost use Rattle.adm_store.specs.Causes.{DiskFailed, DiskFailedOr};
 
 use crate::reading::columns::value_at;
 use crate::reading::queries::query;
@@ -63,6 +66,7 @@ fn season_columns(row: &Row) -> Result<SeasonColumns, OpenFault>
     ensures ok { IfOk result (λ c. row.now ≡ Int (pos 1) ∷ Int (pos 1) ∷ Int (pos (phase_code c.phase)) ∷ Int (pos c.year) ∷ TextValue (string_bytes c.holidays) ∷ Int (pos 0) ∷ []) }
     ensures bad { IfErr result (λ e. IsNoRegister e → (phase : Phase) (year : ℕ) (holidays : List ℕ) → HasSeasonColumns row.now phase year holidays → ⊥) }
     ensures first { IfErr result (λ e. IsNoRegister e → e ≡ OpenFault.BadRow) }
+    ensures disk { IfErr result (λ e. e ≡ OpenFault.Disk → ⊥) }
 {
     if row.column_count() != 6 {
         return Err(OpenFault::BadRow);
@@ -99,7 +103,10 @@ fn is_text_of_days(alloc: Global, text: &str, days: &[Day]) -> Result<bool, Open
 fn season_on(alloc: Global, phase: Phase, year: u32, days: &[Day]) -> Result<Season, OpenFault>
     ensures ok { IfOk result (λ season. (season.phase ≡ phase) × (season.year ≡ year) × IsRising days.now season.holidays) }
     ensures bad { IfErr result (λ e. IsNoRegister e → 2000 ≤ year → year ≤ 2100 → length days.now ≤ 40 → ⊥) }
+    ensures out_of_range { is_from 2000 2100 year ≡ false → result ≡ Err OpenFault.BadRow }
+    ensures too_many { IsTrue (is_from 2000 2100 year && nat_lt 40 (length days.now)) → result ≡ Err OpenFault.BadRow }
     ensures first { IfErr result (λ e. IsNoRegister e → e ≡ OpenFault.BadRow) }
+    ensures disk { IfErr result (λ e. e ≡ OpenFault.Disk → ⊥) }
 {
     match Season::new(alloc, phase, year, days) {
         Ok(season) => Ok(season),
@@ -114,6 +121,7 @@ fn read_days(alloc: Global, text: &str) -> Result<Vec<Day>, OpenFault>
     ensures ok { IfOk result (λ days. days_of text.now ≡ Some days.items) }
     ensures bad { IfErr result (λ e. IsNoRegister e → days_of text.now ≡ None) }
     ensures first { IfErr result (λ e. IsNoRegister e → e ≡ OpenFault.BadRow) }
+    ensures disk { IfErr result (λ e. e ≡ OpenFault.Disk → ⊥) }
 {
     let Ok(read) = lists::days_in(alloc, text) else {
         return Err(OpenFault::Memory);
@@ -130,6 +138,7 @@ fn season_with(alloc: Global, columns: &SeasonColumns) -> Result<Season, OpenFau
     ensures season { IfOk result IsSeason }
     ensures bad { IfErr result (λ e. IsNoRegister e → (season : SeasonFacts) → IsSeason season → columns.now.year ≡ season.year → string_bytes columns.now.holidays ≡ days_text season.holidays → ⊥) }
     ensures first { IfErr result (λ e. IsNoRegister e → e ≡ OpenFault.BadRow) }
+    ensures disk { IfErr result (λ e. e ≡ OpenFault.Disk → ⊥) }
 {
     let days = match read_days(alloc, &columns.holidays) {
         Ok(days) => days,
@@ -156,6 +165,7 @@ fn season_in(alloc: Global, row: &Row) -> Result<Season, OpenFault>
     ensures season { IfOk result IsSeason }
     ensures bad { IfErr result (λ e. IsNoRegister e → (season : SeasonFacts) → IsSeason season → row.now ≡ season_row season → ⊥) }
     ensures first { IfErr result (λ e. IsNoRegister e → e ≡ first_fault (row.now ∷ [])) }
+    ensures disk { IfErr result (λ e. e ≡ OpenFault.Disk → ⊥) }
 {
     match expect_version(row) {
         Ok(()) => {}
@@ -177,6 +187,7 @@ fn season_of(alloc: Global, rows: &[Row]) -> Result<Season, OpenFault>
     ensures season { IfOk result IsSeason }
     ensures bad { IfErr result (λ e. IsNoRegister e → (season : SeasonFacts) → IsSeason season → rows.now ≡ season_row season ∷ [] → ⊥) }
     ensures first { IfErr result (λ e. IsNoRegister e → e ≡ first_fault rows.now) }
+    ensures disk { IfErr result (λ e. e ≡ OpenFault.Disk → ⊥) }
 {
     match rows {
         [] => Err(OpenFault::NotOurs),
@@ -197,6 +208,8 @@ pub(super) fn read_season<S: Alter>(
     ensures bad { IfErr result (λ e. IsNoRegister e → (s : SeasonFacts) → IsSeason s → Finds (λ db. ¬ HasRows meta (season_row s ∷ []) db) (state S.Store tx.old.conn.now) (state S.Store tx.new.conn.now)) }
     ensures version { HasCleanDisk (state S.Store tx.new.conn.now) → OnOk result (IsFirstFault (state S.Store tx.old.conn.now).now OpenFault.BadRow) }
     ensures first { HasCleanDisk (state S.Store tx.new.conn.now) → IfErr result (λ e. IsNoRegister e → IsFirstFault (state S.Store tx.old.conn.now).now e) }
+    ensures disk { IfErr result (λ e. e ≡ OpenFault.Disk → DiskFailed (state S.Store tx.old.conn.now) (state S.Store tx.new.conn.now)) }
+    ensures unanswered { IfErr result (λ e. e ≡ OpenFault.Disk → DiskFailedOr select_meta (state S.Store tx.old.conn.now) (state S.Store tx.new.conn.now)) }
     ensures survives { Survives (state S.Store tx.old.conn.now) (state S.Store tx.new.conn.now) (λ _. ⊥) }
 {
     let text = "SELECT one, version, phase, year, holidays, draws FROM meta";

@@ -48,3 +48,8 @@ returns-in_err-schools-clause-bad g c =
     (schools_fit r held.formed, (children_fit r held.formed, (applications_fit r _ held.formed last, (places_fit r held.formed, (tt, (tt, (tt, (tt, (tt, tt)))))))))
     clean has
     (each _ has_school, (each _ has_child, (each _ has_application, (each _ has_place, (each _ has_left_list, (each _ has_draw, (each _ has_offer, (each _ has_lot, (each _ has_imported, tt))))))))))
+
+pub returns-in_err-schools-clause-disk : goal.returns-in_err-schools-clause-disk
+returns-in_err-schools-clause-disk g c =
+    let p = err_from_is_err_and c.from_residual.result c.from_residual.ensures.1 in
+    rw (p.1, p.2) c.in_err-schools.ensures.disk

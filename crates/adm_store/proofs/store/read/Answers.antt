@@ -1,19 +1,12 @@
-use Rattle.std.proofs.Common.{◌≡◌, ◌∙◌, true, false, refl, sym, ap, subst, arith, rules}
+use Rattle.std.proofs.Common.{◌≡◌, ◌∙◌, refl, sym, ap, subst, arith, rules}
 use Rattle.sqlite.specs.Held.{Held, state}
 use Rattle.sqlite.specs.State.{HasCleanDisk}
 use Rattle.adm_store.specs.StandsFor.{HoldsRegister}
-use Rattle.adm_store.specs.declared.fault.OpenFault.TheVariants.{BadRow}
 use Rattle.adm_store.specs.FirstFault.{IsFirstFault}
+use Rattle.adm_store.specs.Causes.{HasDiskCause}
+use Rattle.adm_store.proofs.CauseLemmas.{cause_before}
 use Rattle.adm_store.proofs.FaultLemmas.{stands_now}
 use Rattle.adm_store.proofs.store.read.Goals as goal
-
-pub returns-else-has_tables-clause-bad : goal.returns-else-has_tables-clause-bad
-returns-else-has_tables-clause-bad g c clean live structural db may r file =
-    let start = c.args.conn.now in
-    let it = stands_now (state g.S.Store start) db r file (g.met.S.Store.settled start.store db live may) (c.if-prove.ensures.settled refl live) (c.schema.ensures.live live).0 in
-    let same = c.is_register_schema-has_tables.ensures.1 (c.schema.ensures.value ∙ it.0) in
-    let wrong : true ≡ false = sym same ∙ c.if-has_tables.false in
-    cc
 
 pub returns-in-Err-clause-bad : goal.returns-in-Err-clause-bad
 returns-in-Err-clause-bad g c clean live structural db may r file =
@@ -25,16 +18,16 @@ returns-in-Err-clause-bad g c clean live structural db may r file =
     let it = stands_now (state g.S.Store start) db r file (g.met.S.Store.settled start.store db live may) (c.if-prove.ensures.settled refl live) (c.schema.ensures.live live).0 in
     c.in-Err.ensures.bad structural r early (ap (λ (h : Held _). h.schema) begun ∙ it.0) (subst (λ (h : Held _). HoldsRegister (state g.S.Store h).now.trees r) (sym begun) it.1)
 
-pub returns-else-has_tables-clause-first : goal.returns-else-has_tables-clause-first
-returns-else-has_tables-clause-first g c clean structural =
-    let mid = state g.S.Store c.register_in-register.new.tx.conn.now in
-    let late : HasCleanDisk (state g.S.Store c.rollback.new.self.0) = search rules in
-    let early : HasCleanDisk mid = omega (arith, c.rollback.ensures.survives.clean) in
-    subst (λ (h : Held _). IsFirstFault (state g.S.Store h).now BadRow) c.transaction-tx.ensures.begun (c.in-Ok.ensures.version early)
-
 pub returns-in-Err-clause-first : goal.returns-in-Err-clause-first
 returns-in-Err-clause-first g c clean structural =
     let mid = state g.S.Store c.register_in-register.new.tx.conn.now in
     let late : HasCleanDisk (state g.S.Store c.rollback.new.self.0) = search rules in
     let early : HasCleanDisk mid = omega (arith, c.rollback.ensures.survives.clean) in
     subst (λ (h : Held _). IsFirstFault (state g.S.Store h).now c.in-Err.fault) c.transaction-tx.ensures.begun (c.in-Err.ensures.first early structural)
+
+pub returns-in-Err-clause-disk : goal.returns-in-Err-clause-disk
+returns-in-Err-clause-disk g c is =
+    let mid = state g.S.Store c.register_in-register.new.tx.conn.now in
+    let failed = subst (λ (h : Held _). HasDiskCause (state g.S.Store h) mid) c.transaction-tx.ensures.begun (c.in-Err.ensures.disk is) in
+    let same : c.rollback.new.self.0 ≡ c.conn-1.given.0 = search rules in
+    subst (λ h. HasDiskCause (state g.S.Store c.args.conn.now) (state g.S.Store h)) same (cause_before (state g.S.Store c.args.conn.now) mid (state g.S.Store c.rollback.new.self.0) c.rollback.ensures.survives failed)

@@ -51,3 +51,13 @@ pub returns-clause-version : goal.returns-clause-version
 returns-clause-version g c clean =
     let row = sym c.as_slice.ensures.value ∙ c.in_ok-season.ensures.ok in
     first_by_rows _ c.in_ok-rows.rows.items BadRow (c.in_ok-rows.ensures.answered clean) (λ has. IsPermutation-sym _ _ (c.in_ok-rows.ensures.ok meta asks clean has)) (sym (ap first_fault row))
+
+pub returns-in_err-rows-clause-disk : goal.returns-in_err-rows-clause-disk
+returns-in_err-rows-clause-disk g c =
+    let p = err_from_is_err_and c.from_residual.result c.from_residual.ensures.1 in
+    rw (p.1, p.2) (λ is. c.in_err-rows.ensures.disk tt is meta asks)
+
+pub returns-in_err-rows-clause-unanswered : goal.returns-in_err-rows-clause-unanswered
+returns-in_err-rows-clause-unanswered g c =
+    let p = err_from_is_err_and c.from_residual.result c.from_residual.ensures.1 in
+    rw (p.1, p.2) (λ is. c.in_err-rows.ensures.unanswered tt is)

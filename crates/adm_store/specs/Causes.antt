@@ -1,0 +1,33 @@
+-- When it may be told that the store failed.
+use Rattle.std.specs.Prelude.{◌≡◌, ◌≢◌, ◌⊎◌, List, [], ℕ, None, Ok, IsSome, IsTrue}
+use Rattle.sqlite.specs.Clock.{timed}
+use Rattle.sqlite.specs.Effect.{Database, RefusesToRead}
+use Rattle.sqlite.specs.Listing.{understood, reads_listing, IsSourceOf}
+use Rattle.sqlite.specs.State.{State, HasCleanDisk, IsNoStatement}
+use Rattle.sqlite.specs.declared.error.Error.{Error}
+use Rattle.sqlite.specs.declared.error.Error.TheVariants.{SqlInputError}
+use Rattle.sqlite_disk.specs.Disk.{MoreFaults}
+use Rattle.sqlite_resolve.specs.declared.compiled.Compiled.{Compiled}
+use Rattle.sqlite_resolve.specs.declared.error.CompileError.{CompileError}
+use Rattle.adm_schema.specs.Schema.{register_schema}
+use Rattle.adm_schema.specs.Texts.{select_meta}
+
+-- `sqlite` understands the text and does not answer it, as where it reads a view whose sum overflows
+abbrev pub IsUnanswered : List ℕ → State → Type 0
+IsUnanswered sql s =
+    (e : Error) × ((why : CompileError) → e ≡ SqlInputError why → ⊥)
+    × (IsNoStatement s sql [] e ⊎ ((c : Compiled) × (understood s.now.schema sql ≡ Ok c) × (IsSome c.returning
+    ⊎ ((db : Database) × (now : ℕ) × IsSourceOf (reads_listing s.now.schema sql) s.now db × RefusesToRead s.step_limit c.command db (timed [] c.formats now) e))))
+
+-- on a clean disk, where the connection was open on the tables of a register, and no limit was set on the steps of a query, the disk failed or refused since
+abbrev pub DiskFailed : State → State → Type 0
+DiskFailed old new = HasCleanDisk new → IsTrue old.is_open → old.step_limit ≡ None → old.now.schema ≡ register_schema → MoreFaults old.faults new.faults
+
+-- on a clean disk, where the connection was open, the disk failed or refused since, or the text is not answered
+abbrev pub DiskFailedOr : List ℕ → State → State → Type 0
+DiskFailedOr sql old new = HasCleanDisk new → IsTrue old.is_open → MoreFaults old.faults new.faults ⊎ IsUnanswered sql old
+
+-- On a clean disk, where the connection was open without a limit on the steps of a query, the disk failed or refused since. Under other tables than a register's it may be that the row of its table `meta` is not answered.
+abbrev pub HasDiskCause : State → State → Type 0
+HasDiskCause old new =
+    HasCleanDisk new → IsTrue old.is_open → old.step_limit ≡ None → MoreFaults old.faults new.faults ⊎ ((old.now.schema ≢ register_schema) × IsUnanswered select_meta old)
