@@ -1,5 +1,5 @@
 -- Bytes cut into lines.
-use Rattle.std.proofs.Common.{◌≡◌, ℕ, ◌+◌, ◌==◌, eqb, List, [], ◌∷◌, ◌++◌, length, take, Bool, true, false, cond, refl, sym, ap, ◌∙◌, append_assoc, arith}
+use Rattle.std.proofs.Common.{◌≡◌, ◌≤◌, ℕ, ◌+◌, ◌==◌, eqb, List, [], ◌∷◌, ◌++◌, length, take, Bool, true, false, cond, refl, sym, ap, ◌∙◌, append_assoc, arith}
 use Rattle.std.specs.List.{AllByRecursion}
 use Rattle.std.proofs.lemmas.List.{append-nil}
 use Rattle.std.proofs.lemmas.Grind.{flat_map-append}
@@ -80,6 +80,10 @@ ended-joined (l ∷ ls) p plain rest =
     let none = ended-plain l plain.0 in
     let later = ended-joined ls p plain.1 rest in
     omega (arith, ended-append ((l ++ 10 ∷ []) ++ joined ls) p, ended-append (l ++ 10 ∷ []) (joined ls), ended-append l (10 ∷ []), ended-append (joined ls) p, none, later)
+
+-- at least the whole lines have ended
+pub ended-more : (ls : List (List ℕ)) (more : List ℕ) → AllByRecursion IsPlain ls → length ls ≤ ended (joined ls ++ more)
+ended-more ls more plain = omega (arith, ended-append (joined ls) more, ap ended (append-nil (joined ls)), ended-joined ls [] plain tt)
 
 pub first_lines : (ls : List (List ℕ)) (more : List ℕ) → AllByRecursion IsPlain ls → take (length ls) (lines_of (joined ls ++ more)) ≡ ls
 first_lines ls more plain = rw (lines_of-joined ls more plain, take-append_seam ls (lines_of more)) refl

@@ -1,3 +1,4 @@
+pub mod AcknowledgedLemmas
 pub mod AnswerLemmas
 pub mod CutLemmas
 pub mod Known

@@ -1,10 +1,8 @@
 -- A run goes on by one step.
-use Rattle.std.proofs.Common.{◌≡◌, ℕ, List, [], ◌∷◌, ◌++◌, subst, sym, refl, true, true≢false, ◌∙◌, ◌+◌, ◌<◌, length, get_or, map, take}
+use Rattle.std.proofs.Common.{◌≡◌, ℕ, List, [], ◌∷◌, ◌++◌, subst, refl, ◌+◌, ◌<◌, length, get_or, take}
 use Rattle.std.proofs.lemmas.List.{take_more}
 use Rattle.adm_types.specs.declared.commands.Command.{Command}
-use Rattle.std.specs.List.{AllByRecursion}
 use Rattle.adm_desk.specs.declared.answer.Answer.{Answer}
-use Rattle.adm_desk.specs.declared.answer.Answer.TheVariants.{Done, Refused, Memory, Failed}
 use Rattle.adm_desk.specs.Steps.{IsRun}
 
 -- step is a variable of each lemma

@@ -1,7 +1,7 @@
 -- What a call over a reader and a writer did.
-use Rattle.std.specs.Prelude.{◌≡◌, ◌≢◌, ℕ, ◌+◌, ◌-◌, ◌^◌, ◌||◌, min, max, List, [], ◌∷◌, ◌++◌, Bool, true, Option, length, take, drop, count_by}
+use Rattle.std.specs.Prelude.{◌≡◌, ◌≢◌, ◌⊎◌, ◌≤◌, ℕ, ◌+◌, ◌-◌, ◌^◌, ◌||◌, min, max, List, [], ◌∷◌, ◌++◌, Bool, true, Option, length, take, drop, count_by}
 use Rattle.std.specs.List.{list_any, flat_map, AllByRecursion}
-use Rattle.std.specs.Io.KnownBytes.{Appends}
+use Rattle.std.specs.Io.KnownBytes.{Appends, IsAtEnd}
 use Rattle.adm_types.specs.declared.commands.Command.{Command}
 use Rattle.adm_desk.specs.declared.answer.Answer.{Answer}
 use Rattle.adm_desk.specs.declared.answer.LineAnswer.{LineAnswer}
@@ -53,6 +53,12 @@ pub record Stopped {D : Type 0} (step : D → Command → Answer → D → Type 
   pub answered : AnswersLines step old lines answers new
   pub beginning : IsBeginning answers text
   pub written : Appends old_text new_text text
+
+-- A fault of the writer or of memory, after these bytes: some first lines of them were answered, and one without LF only at the end of the input.
+pub record StoppedWithin {D : Type 0} (step : D → Command → Answer → D → Type 0) (old new : D) (old_text new_text : Option (List ℕ)) (bytes : List ℕ) (left : Option (List ℕ)) : Type 0 where
+  pub count : ℕ
+  pub within : IsAtEnd left ⊎ (count ≤ ended bytes)
+  pub stopped : Stopped step old new old_text new_text (take count (lines_of bytes))
 
 -- ---- for private clauses
 

@@ -1,23 +1,26 @@
 // The desk: one register and its file.
-ghost use Rattle.std.specs.Prelude.{◌≡◌, ◌≢◌, ◌^◌, ◌<◌, ◌-◌, ℕ, List, length, take, true, false, if◌then◌else◌, IfOk, IfErr, IfSome, OnOk, OnErr, IsErrOf, Some, None, option_copied};
+ghost use Rattle.std.specs.Prelude.{◌≡◌, ◌≢◌, ◌^◌, ◌<◌, ◌-◌, ℕ, List, length, zip, true, false, if◌then◌else◌, IfOk, IfErr, IfSome, OnOk, OnErr, IsErrOf, Some, None, option_copied};
 ghost use Rattle.std.specs.Io.KnownBytes.{Consumes, IsAtEnd};
 ghost use Rattle.sqlite.specs.Held.{state};
 ghost use Rattle.sqlite.specs.State.{HasCleanDisk, Survives};
 ghost use Rattle.adm_register.specs.Extends.{Extends, KeepsSchools};
 ghost use Rattle.adm_register.specs.Difference.{IsDifference};
 ghost use Rattle.adm_register.specs.WellFormed.{WellFormed};
+ghost use Rattle.adm_store.specs.Changes.{IsChanges};
 ghost use Rattle.adm_store.specs.Faults.{IsNoRegister};
 ghost use Rattle.adm_store.specs.FirstFault.{IsFirstFault};
 ghost use Rattle.adm_store.specs.StandsFor.{IsStarted, LeavesOnly, LeavesNone};
 ghost use Rattle.adm_desk.specs.Steps.{IsRun};
 ghost use Rattle.adm_desk.specs.Standing.{Handles, Keeps, Standing};
-ghost use Rattle.adm_desk.specs.Lines.{lines_of};
-ghost use Rattle.adm_desk.specs.Written.{Finished, AnsweredUpTo, Stopped};
+ghost use Rattle.adm_desk.specs.Lines.{lines_of, AnswersLines};
+ghost use Rattle.adm_desk.specs.Acknowledged.{KeepsAcknowledged, handled};
+ghost use Rattle.adm_desk.specs.declared.answer.LineAnswer.{LineAnswer};
+ghost use Rattle.adm_desk.specs.Written.{Finished, AnsweredUpTo, StoppedWithin};
 
 use crate::handler::{self, Handler};
 use crate::{Answer, Run, RunFault, lines};
 use adm_register::{Difference, NotDone, Proposal, Register};
-use adm_store::{OpenFault, Store, changes};
+use adm_store::{Changes, OpenFault, Store, changes};
 use adm_types::{Command, Reply};
 use adm_wire::{Input, Output};
 use sqlite::{Alter, Connection};
@@ -145,17 +148,28 @@ impl<S: Alter> Desk<S> {
     {
         match changes(self.alloc, change) {
             Err(_) => Answer::Memory,
-            Ok(changes) => match self.store.commit(&changes) {
-                Ok(()) => {
-                    self.register = new;
-                    Answer::Done(reply)
-                }
-                Err(_) => {
-                    drop(new);
-                    self.failed = true;
-                    Answer::Failed
-                }
-            },
+            Ok(changes) => self.write(&changes, new, reply),
+        }
+    }
+
+    /// Writes the changes, and then takes the new register over.
+    fn write(&mut self, changes: &Changes, new: Register, reply: Reply) -> Answer
+        requires alive { self.old.failed ≡ false }
+        requires changes { IsChanges self.old.register new changes.now }
+        requires extends { Extends self.old.register new × WellFormed new }
+        requires schools { KeepsSchools self.old.register new }
+        ensures { Keeps (state S.Store) self.old new reply result self.new }
+    {
+        match self.store.commit(changes) {
+            Ok(()) => {
+                self.register = new;
+                Answer::Done(reply)
+            }
+            Err(_) => {
+                drop(new);
+                self.failed = true;
+                Answer::Failed
+            }
         }
     }
 
@@ -163,6 +177,7 @@ impl<S: Alter> Desk<S> {
     /// command was handled.
     pub fn handle_all(&mut self, commands: &[Command]) -> Result<Vec<Answer>, AllocError>
         ensures run { IfOk result (λ answers. IsRun (Handles (state S.Store)) self.old commands.now answers.items self.new) }
+        ensures kept { IfOk result (λ answers. self.old.failed ≡ false → KeepsAcknowledged (state S.Store) self.old self.new (zip commands.now answers.items)) }
         ensures err { OnErr result (self.new ≡ self.old) }
     {
         handler::handle_all(self.alloc, self, commands)
@@ -178,8 +193,8 @@ impl<S: Alter> Desk<S> {
     ) -> Result<Run, RunFault>
         // The reader was read to its end, and each of its lines was answered, written and counted.
         ensures end { OnOk result (IsAtEnd (R.remaining reader.new)) }
-        ensures ok { IfOk result (λ run. IfSome (R.remaining reader.old) (λ input.
-            Finished (Handles (state S.Store)) self.old self.new (W.contents writer.old) (W.contents writer.new) run (lines_of input))) }
+        ensures ok { IfOk result (λ run. (bytes : List ℕ) × Consumes (R.remaining reader.old) (R.remaining reader.new) bytes
+            × Finished (Handles (state S.Store)) self.old self.new (W.contents writer.old) (W.contents writer.new) run (lines_of bytes)) }
 
         // A fault of the reader: it failed, and what had been read before was answered line by line.
         ensures read_failed { IsErrOf result RunFault.Read → IfSome (R.remaining reader.old) (λ input. length input < 2 ^ 64 - 1 → R.has_failed reader.new ≡ true) }
@@ -188,8 +203,12 @@ impl<S: Alter> Desk<S> {
 
         // A fault of the writer, or of memory: some first lines were answered, and only of the last answer a part may be missing.
         ensures write_failed { IsErrOf result RunFault.Write → W.has_failed writer.new ≡ true }
-        ensures stopped { IfErr result (λ e. e ≢ RunFault.Read → IfSome (R.remaining reader.old) (λ input. (k : ℕ)
-            × Stopped (Handles (state S.Store)) self.old self.new (W.contents writer.old) (W.contents writer.new) (take k (lines_of input)))) }
+        ensures stopped { IfErr result (λ e. e ≢ RunFault.Read → (bytes : List ℕ) × Consumes (R.remaining reader.old) (R.remaining reader.new) bytes
+            × StoppedWithin (Handles (state S.Store)) self.old self.new (W.contents writer.old) (W.contents writer.new) bytes (R.remaining reader.new)) }
+
+        // Whatever lines were answered so: what their answers acknowledge is kept.
+        ensures kept { self.old.failed ≡ false → (lines : List (List ℕ)) (answers : List LineAnswer)
+            → AnswersLines (Handles (state S.Store)) self.old lines answers self.new → KeepsAcknowledged (state S.Store) self.old self.new (handled lines answers) }
     {
         lines::run_lines(self.alloc, self, reader, writer)
     }

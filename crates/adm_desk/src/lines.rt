@@ -2,7 +2,7 @@
 ghost use Rattle.std.specs.Prelude.{◌≡◌, ◌≢◌, ◌^◌, ◌<◌, ◌-◌, ℕ, true, length, [], ◌∷◌, ◌++◌, List, take, MatchResult, IfOk, IfErr, OnOk, IfSome, IsErrOf};
 ghost use Rattle.std.specs.Io.KnownBytes.{Appends, Consumes, IsAtEnd};
 ghost use Rattle.adm_desk.specs.Lines.{AnswersLine, lines_of, line_text};
-ghost use Rattle.adm_desk.specs.Written.{Answered, Finished, AnsweredUpTo, Stopped, last_line, Counts, Takes, Breaks, OfWriter};
+ghost use Rattle.adm_desk.specs.Written.{Answered, Finished, AnsweredUpTo, Stopped, StoppedWithin, last_line, Counts, Takes, Breaks, OfWriter};
 
 use crate::handler::Handler;
 use crate::{Answer, LineAnswer, Run, RunFault};
@@ -163,8 +163,8 @@ pub(crate) fn run_lines<H: Handler, R: Input, W: Output>(
 ) -> Result<Run, RunFault>
     // The reader was read to its end, and each of its lines was answered, written and counted.
     ensures end { OnOk result (IsAtEnd (R.remaining reader.new)) }
-    ensures ok { IfOk result (λ run. IfSome (R.remaining reader.old) (λ input.
-        Finished H.step (H.view handler.old) (H.view handler.new) (W.contents writer.old) (W.contents writer.new) run (lines_of input))) }
+    ensures ok { IfOk result (λ run. (bytes : List ℕ) × Consumes (R.remaining reader.old) (R.remaining reader.new) bytes
+        × Finished H.step (H.view handler.old) (H.view handler.new) (W.contents writer.old) (W.contents writer.new) run (lines_of bytes)) }
 
     // A fault of the reader: it failed, and what had been read before was answered line by line.
     ensures read_failed { IsErrOf result RunFault.Read → IfSome (R.remaining reader.old) (λ input. length input < 2 ^ 64 - 1 → R.has_failed reader.new ≡ true) }
@@ -173,8 +173,8 @@ pub(crate) fn run_lines<H: Handler, R: Input, W: Output>(
 
     // A fault of the writer, or of memory: some first lines were answered, and only of the last answer a part may be missing.
     ensures write_failed { IsErrOf result RunFault.Write → W.has_failed writer.new ≡ true }
-    ensures stopped { IfErr result (λ e. e ≢ RunFault.Read → IfSome (R.remaining reader.old) (λ input. (k : ℕ)
-        × Stopped H.step (H.view handler.old) (H.view handler.new) (W.contents writer.old) (W.contents writer.new) (take k (lines_of input)))) }
+    ensures stopped { IfErr result (λ e. e ≢ RunFault.Read → (bytes : List ℕ) × Consumes (R.remaining reader.old) (R.remaining reader.new) bytes
+        × StoppedWithin H.step (H.view handler.old) (H.view handler.new) (W.contents writer.old) (W.contents writer.new) bytes (R.remaining reader.new)) }
 {
     let mut run = Run {
         done: 0,

@@ -3,7 +3,7 @@ use Rattle.std.proofs.lemmas.List.{length-take-le}
 use Rattle.std.proofs.lemmas.Result.{MatchResult-weaker}
 use Rattle.adm_desk.proofs.Known.{Consumes-nothing, Consumes-then}
 use Rattle.adm_desk.proofs.AnswerLemmas.{Takes-nothing, Takes-then, Takes-breaks}
-use Rattle.adm_desk.proofs.RunLemmas.{Consumes-kept, too_long, all_read, some_read, at_input, finished_from, stopped_from, broken_from, read_failed_from}
+use Rattle.adm_desk.proofs.RunLemmas.{Consumes-kept, Consumes-end, too_long, finished_from, stopped_from, broken_from, read_failed_from}
 use Rattle.adm_desk.proofs.lines.run_lines.Goals as goal
 
 pub loop-turn-init : goal.loop-turn-init
@@ -33,8 +33,7 @@ returns-then-count-eq0-clause-ok g c =
     let i = c.loop-turn.invariant in
     let reads = rw c.if-count-eq0.true at c.in-Ok.ensures.bytes in
     MatchResult-weaker c.finish.result (rw c.as_slice.ensures.value at c.finish.ensures.bytes)
-    (λ ran last. at_input _ _ _ (all_read _ _ _ i.0 i.1 reads.0 (reads.1 (search rules) (search rules)))
-    (λ input is. finished_from g.H.Handler.step _ _ _ _ _ _ _ ran _ i.0 input i.2 last is))
+    (λ ran last. (i.0, Consumes-end _ _ _ i.0 i.1 reads.0, finished_from g.H.Handler.step _ _ _ _ _ _ _ ran _ i.0 i.2 last))
     (λ _ _. tt)
 
 pub returns-then-count-eq0-clause-stopped : goal.returns-then-count-eq0-clause-stopped
@@ -43,15 +42,16 @@ returns-then-count-eq0-clause-stopped g c =
     let reads = rw c.if-count-eq0.true at c.in-Ok.ensures.bytes in
     MatchResult-weaker c.finish.result (rw c.as_slice.ensures.value at c.finish.ensures.bytes)
     (λ _ _. tt)
-    (λ fault last _. at_input _ _ _ (all_read _ _ _ i.0 i.1 reads.0 (reads.1 (search rules) (search rules)))
-    (λ input is. stopped_from g.H.Handler.step _ _ _ _ _ _ _ _ _ i.0 input i.2 last is))
+    (λ fault last _. (i.0, Consumes-end _ _ _ i.0 i.1 reads.0, stopped_from g.H.Handler.step _ _ _ _ _ _ _ _ _ _ i.0 i.2 last (reads.1 (search rules) (search rules))))
 
 pub returns-in-Err-take_bytes-clause-stopped : goal.returns-in-Err-take_bytes-clause-stopped
 returns-in-Err-take_bytes-clause-stopped g c = λ _.
     let i = c.loop-turn.invariant in
-    at_input _ _ _ (some_read _ _ _ (Consumes-then _ _ _ i.0 _ i.1 c.in-Ok.ensures.bytes.0))
-    (λ input is. broken_from g.H.Handler.step _ _ _ _ _ input
-    (Takes-breaks g.H.Handler.step _ _ _ _ _ _ _ _ _ _ i.0 _ i.2 c.in-Err-take_bytes.ensures.bytes) is)
+    let bytes = i.0 ++ take c.in-Ok.count c.read_some.new.buffer in (
+      bytes,
+      Consumes-then _ _ _ i.0 _ i.1 c.in-Ok.ensures.bytes.0,
+      broken_from g.H.Handler.step _ _ _ _ _ bytes (Takes-breaks g.H.Handler.step _ _ _ _ _ _ _ _ _ _ i.0 _ i.2 c.in-Err-take_bytes.ensures.bytes),
+    )
 
 pub returns-clause-read_failed : goal.returns-clause-read_failed
 returns-clause-read_failed g c = λ _.

@@ -1,0 +1,119 @@
+-- A run keeps what it acknowledged.
+use Rattle.std.proofs.Common.{◌≡◌, ◌∙◌, ℕ, List, [], ◌∷◌, true, false, Result, refl, sym, ap, subst, zip}
+use Rattle.sqlite.specs.State.{State as Disk}
+use Rattle.adm_types.specs.declared.commands.Command.{Command}
+use Rattle.adm_wire.specs.declared.fault.WireFault.{WireFault}
+use Rattle.adm_wire.specs.declared.fault.WireFault.TheVariants as fault
+use Rattle.adm_register.specs.State.{State as Register}
+use Rattle.adm_store.specs.StandsFor.{LeavesOnly, LeavesEither}
+use Rattle.adm_desk.specs.declared.answer.Answer.{Answer}
+use Rattle.adm_desk.specs.declared.answer.Answer.TheVariants.{Done, Refused, Memory, Failed}
+use Rattle.adm_desk.specs.declared.answer.LineAnswer.{LineAnswer}
+use Rattle.adm_desk.specs.declared.answer.LineAnswer.TheVariants.{Handled, Faulty}
+use Rattle.adm_desk.specs.Steps.{IsRun}
+use Rattle.adm_desk.specs.Lines.{AnswersLine, AnswersLines}
+use Rattle.adm_desk.specs.Standing.{Standing, Handles}
+use Rattle.adm_desk.specs.Acknowledged.{KeepsAcknowledged, AreAccepted, IsAccepted, acknowledged, after_one, after_all, handled, with_command}
+
+-- ---- a run over commands with their answers
+
+abbrev pub RunsOver : {D : Type 0} → (D → Command → Answer → D → Type 0) → D → List (Command × Answer) → D → Type 0
+RunsOver step old [] new = new ≡ old
+RunsOver {D} step old ((command, answer) ∷ more) new = (mid : D) × step old command answer mid × RunsOver step mid more new
+
+over_commands : {D : Type 0} (step : D → Command → Answer → D → Type 0) (old new : D) (commands : List Command) (answers : List Answer)
+    → IsRun step old commands answers new → RunsOver step old (zip commands answers) new
+over_commands step old new [] [] run = run
+over_commands step old new [] (a ∷ answers) run = absurd run
+over_commands step old new (c ∷ commands) [] run = absurd run
+over_commands step old new (c ∷ commands) (a ∷ answers) run = (run.0, run.1, over_commands step run.0 new commands answers run.2)
+
+from_same : {D : Type 0} (step : D → Command → Answer → D → Type 0) (old mid new : D) (more : List (Command × Answer)) → mid ≡ old → RunsOver step mid more new → RunsOver step old more new
+from_same {D} step old mid new more same run = let P : D → Type 0 = λ h. RunsOver step h more new in subst P same run
+
+over_lines : {D : Type 0} (step : D → Command → Answer → D → Type 0) (old new : D) (lines : List (List ℕ)) (answers : List LineAnswer)
+    → AnswersLines step old lines answers new → RunsOver step old (handled lines answers) new
+over_lines step old new [] [] run = run
+over_lines step old new [] (a ∷ answers) run = absurd run
+over_lines step old new (l ∷ lines) [] run = absurd run
+over_lines step old new (l ∷ lines) (Faulty f ∷ answers) run = from_same step old run.0 new (handled lines answers) (unchanged step old run.0 l f run.1) (over_lines step run.0 new lines answers run.2)
+  where
+    unchanged : {D : Type 0} (step : D → Command → Answer → D → Type 0) (old mid : D) (line : List ℕ) (f : WireFault) → AnswersLine step old line (Faulty f) mid → mid ≡ old
+    unchanged step old mid line fault.Memory by = by
+    unchanged step old mid line fault.NotJson by = by.1
+    unchanged step old mid line fault.UnknownCommand by = by.1
+    unchanged step old mid line fault.MissingField by = by.1
+    unchanged step old mid line fault.WrongKind by = by.1
+    unchanged step old mid line fault.ExtraField by = by.1
+over_lines {D} step old new (l ∷ lines) (Handled a ∷ answers) run =
+    let by = run.1 in
+    let P : Result Command WireFault → Type 0 = λ read. RunsOver step old (with_command read a (handled lines answers)) new in
+    subst P (sym by.1) (run.0, by.2, over_lines step run.0 new lines answers run.2)
+
+-- ---- what it keeps
+
+module _ {C : Type 0} (disk : C → Disk) where
+  apart : true ≡ false → ⊥
+  apart e = cc
+
+  -- after a Failed nothing changes, and nothing is acknowledged
+  pub all_failed : (old new : Standing C) (answered : List (Command × Answer)) → old.failed ≡ true → RunsOver (Handles disk) old answered new → (new ≡ old) × (acknowledged answered ≡ [])
+  all_failed old new [] dead run = (run, refl)
+  all_failed old new ((c, Done reply) ∷ more) dead run = absurd (apart (sym dead ∙ run.1.0))
+  all_failed old new ((c, Refused refusal row) ∷ more) dead run = absurd (apart (sym dead ∙ run.1.0))
+  all_failed old new ((c, Memory) ∷ more) dead run = absurd (apart (sym dead ∙ run.1.0))
+  all_failed old new ((c, Failed) ∷ more) dead run =
+      let same = run.1.2 dead in
+      let rest = all_failed run.0 new more run.1.0 run.2 in
+      (rest.0 ∙ same, rest.1)
+
+  at_same : (old new : Standing C) → new ≡ old → old.failed ≡ false → LeavesOnly old.register (disk old.conn) → KeepsAcknowledged disk old new []
+  at_same old new same alive leaves = record {
+    accepted = tt;
+    register = ap (λ (s : Standing C). s.register) same;
+    failed = ap (λ (s : Standing C). s.failed) same ∙ alive;
+    leaves = subst (λ (s : Standing C). LeavesOnly s.register (disk s.conn)) (sym same) leaves;
+  }
+
+  after_work : (old mid new : Standing C) (c : Command) (more : List (Command × Answer)) → Handles disk old c Failed mid → old.failed ≡ false → RunsOver (Handles disk) mid more new → KeepsAcknowledged disk old new ((c, Failed) ∷ more)
+  after_work old mid new c more by alive run =
+      let rest = all_failed mid new more by.0 run in
+      let it = by.3 alive in
+      let register : new.register ≡ old.register = ap (λ (s : Standing C). s.register) rest.0 ∙ by.1 in
+      let conn : new.conn ≡ mid.conn = ap (λ (s : Standing C). s.conn) rest.0 in
+      let either : LeavesEither old.register (after_one old.register c) (disk mid.conn) = subst (λ (r : Register). LeavesEither old.register r (disk mid.conn)) it.accepted.1.1 it.leaves in
+      let now : LeavesEither old.register (after_one old.register c) (disk new.conn) = subst (λ (d : C). LeavesEither old.register (after_one old.register c) (disk d)) (sym conn) either in
+      record {
+        accepted = subst (λ cs. AreAccepted old.register cs) (sym rest.1) tt;
+        register = register ∙ ap (after_all old.register) (sym rest.1);
+        failed = ap (λ (s : Standing C). s.failed) rest.0 ∙ by.0;
+        leaves = subst (λ (r : Register). IsAccepted r c × LeavesEither r (after_one r c) (disk new.conn)) (sym register) (it.accepted.0, now);
+      }
+
+  pub keeps : (old new : Standing C) (answered : List (Command × Answer)) → old.failed ≡ false → LeavesOnly old.register (disk old.conn) → RunsOver (Handles disk) old answered new → KeepsAcknowledged disk old new answered
+  keeps old new [] alive leaves run = at_same old new run alive leaves
+  keeps old new ((c, Done reply) ∷ more) alive leaves run =
+      let by = run.1 in
+      let rest = keeps run.0 new more by.2 by.3 run.2 in
+      let is = by.1.1.1 in
+      record {
+        accepted = (by.1.0, subst (λ (r : Register). AreAccepted r (acknowledged more)) is rest.accepted);
+        register = rest.register ∙ ap (λ (r : Register). after_all r (acknowledged more)) is;
+        failed = rest.failed;
+        leaves = rest.leaves;
+      }
+  keeps old new ((c, Refused refusal row) ∷ more) alive leaves run =
+      let rest = keeps old new more alive leaves (from_same (Handles disk) old run.0 new more run.1.2 run.2) in
+      record { accepted = rest.accepted; register = rest.register; failed = rest.failed; leaves = rest.leaves }
+  keeps old new ((c, Memory) ∷ more) alive leaves run =
+      let rest = keeps old new more alive leaves (from_same (Handles disk) old run.0 new more run.1.1 run.2) in
+      record { accepted = rest.accepted; register = rest.register; failed = rest.failed; leaves = rest.leaves }
+  keeps old new ((c, Failed) ∷ more) alive leaves run = after_work old run.0 new c more run.1 alive run.2
+
+  pub keeps_commands : (old new : Standing C) (commands : List Command) (answers : List Answer) → old.failed ≡ false → LeavesOnly old.register (disk old.conn)
+      → IsRun (Handles disk) old commands answers new → KeepsAcknowledged disk old new (zip commands answers)
+  keeps_commands old new commands answers alive leaves run = keeps old new (zip commands answers) alive leaves (over_commands (Handles disk) old new commands answers run)
+
+  pub keeps_lines : (old new : Standing C) (lines : List (List ℕ)) (answers : List LineAnswer) → old.failed ≡ false → LeavesOnly old.register (disk old.conn)
+      → AnswersLines (Handles disk) old lines answers new → KeepsAcknowledged disk old new (handled lines answers)
+  keeps_lines old new lines answers alive leaves run = keeps old new (handled lines answers) alive leaves (over_lines (Handles disk) old new lines answers run)
