@@ -1,6 +1,8 @@
 -- What a run promises over a crash: the register after the acknowledged commands, or also the one after the command in work.
-use Rattle.std.specs.Prelude.{◌≡◌, ⊤, ℕ, List, [], ◌∷◌, Option, Some, None, is_some, Result, Ok, Err}
-use Rattle.sqlite.specs.State.{State as Disk}
+use Rattle.std.specs.Prelude.{◌≡◌, ◌≤◌, ◌⊎◌, ⊤, ℕ, List, [], ◌∷◌, Option, Some, None, is_some, Result, Ok, Err}
+use Rattle.sqlite.specs.State.{State as Disk, HasCleanDisk}
+use Rattle.sqlite.specs.View.{doubt}
+use Rattle.sqlite.specs.Tree.{Trees}
 use Rattle.adm_types.specs.declared.commands.Command.{Command}
 use Rattle.adm_wire.specs.declared.fault.WireFault.{WireFault}
 use Rattle.adm_wire.specs.Commands.{command_of}
@@ -63,12 +65,17 @@ handled (line ∷ lines) [] = []
 handled (line ∷ lines) (Handled answer ∷ answers) = with_command (command_of line) answer (handled lines answers)
 handled (line ∷ lines) (Faulty fault ∷ answers) = handled lines answers
 
--- ---- what a crash leaves
+-- ---- what a crash leaves, and what the next start finds
 
 -- All that a crash may leave stands for the register. With a command in work, which was accepted, each thing stands for it or for the one after that command.
 abbrev pub LeavesAcknowledged : Register → Option Command → Disk → Type 0
 LeavesAcknowledged register None disk = LeavesOnly register disk
 LeavesAcknowledged register (Some command) disk = IsAccepted register command × LeavesEither register (after_one register command) disk
+
+-- the register, or with a command in work, which was accepted, that one or the one after that command
+abbrev pub FindsAgain : Register → Option Command → Register → Type 0
+FindsAgain register None found = found ≡ register
+FindsAgain register (Some command) found = (found ≡ register) ⊎ (IsAccepted register command × (found ≡ after_one register command))
 
 -- The desk has the register after the acknowledged commands, in their order, each of which was accepted. It has failed just where a command is
 -- in work. All that a crash may leave stands for that register, or also for the one after the command in work.
@@ -77,3 +84,11 @@ pub record KeepsAcknowledged {C : Type 0} (disk : C → Disk) (old new : Standin
   pub register : new.register ≡ after_all old.register (acknowledged answered)
   pub failed : new.failed ≡ is_some (in_work answered)
   pub leaves : LeavesAcknowledged new.register (in_work answered) (disk new.conn)
+
+-- ---- for a private clause
+
+-- the start found one of the things that the crash could leave, and nothing else may be left now
+pub record Reopens (old new : Disk) : Type 0 where
+  pub clean : doubt old.is_clean ≤ doubt new.is_clean
+  pub found : HasCleanDisk new → old.may_leave new.committed.trees
+  pub only : HasCleanDisk new → (db : Trees) → new.may_leave db → db ≡ new.committed.trees

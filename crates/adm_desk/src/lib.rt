@@ -5,8 +5,10 @@ mod answer;
 mod desk;
 mod handler;
 mod lines;
+mod restart;
 mod run;
 
 pub use answer::{Answer, LineAnswer};
 pub use desk::Desk;
+pub use restart::{Restarted, run_and_reopen};
 pub use run::{Run, RunFault};

@@ -1,0 +1,86 @@
+-- What a start after a crash finds.
+use Rattle.std.proofs.Common.{◌≡◌, inl, inr, Option, Some, None, List, [], ◌∷◌, zip, refl, ap, sym, subst, arith}
+use Rattle.std.proofs.Math.Logic.{∥∥₁_elim}
+use base.Stored.{Coded-set}
+use Rattle.sqlite.specs.State.{State as Disk, HasCleanDisk, Survives}
+use Rattle.sqlite.specs.Tree.{Trees}
+use Rattle.adm_types.specs.declared.commands.Command.{Command}
+use Rattle.adm_register.specs.State.{State as Register, coded_state}
+use Rattle.adm_store.specs.StandsFor.{StandsFor, LeavesOnly, LeavesNone}
+use Rattle.adm_desk.specs.declared.answer.Answer.{Answer}
+use Rattle.adm_desk.specs.Standing.{Standing}
+use Rattle.adm_desk.specs.Acknowledged.{KeepsAcknowledged, LeavesAcknowledged, FindsAgain, Reopens, after_one, after_all, acknowledged, in_work}
+
+-- a crash leaves something
+abbrev pub LeavesSome : Disk → Type 0
+LeavesSome disk = ∥ ((db : Trees) × disk.may_leave db) ∥₁
+
+module _ (before started opened : Disk) (reopens : Reopens before started) (survives : Survives started opened (λ _. ⊥)) (clean : HasCleanDisk opened) where
+  clean_started : HasCleanDisk started
+  clean_started = omega (arith, survives.clean, clean)
+
+  clean_before : HasCleanDisk before
+  clean_before = omega (arith, reopens.clean, clean_started)
+
+  -- the one thing that may be left
+  pub the_file : Trees
+  the_file = started.committed.trees
+
+  could_be_left : before.may_leave started.committed.trees
+  could_be_left = reopens.found clean_started
+
+  is_the_file : (db : Trees) → opened.may_leave db → db ≡ started.committed.trees
+  is_the_file db may = elim (survives.crash clean db may) [ inl left ↦ reopens.only clean_started db left | inr none ↦ absurd none ]
+
+  was_left : (db : Trees) → opened.may_leave db → before.may_leave db
+  was_left db may = subst (λ (t : Trees). before.may_leave t) (sym (is_the_file db may)) could_be_left
+
+  module _ (some : LeavesSome opened) where
+    found_one : ((db : Trees) (r s : Register) → StandsFor db r → StandsFor db s → r ≡ s) → (found r : Register) → LeavesOnly found opened → StandsFor started.committed.trees r → found ≡ r
+    found_one one found r leaves stands =
+        ∥∥₁_elim some (Coded-set coded_state found r) (λ left. one started.committed.trees found r (subst (λ (t : Trees). StandsFor t found) (is_the_file left.0 left.1) (leaves clean left.0 left.1)) stands)
+
+    finds : ((db : Trees) (r s : Register) → StandsFor db r → StandsFor db s → r ≡ s) → (r : Register) (work : Option Command) (found : Register) → LeavesAcknowledged r work before → LeavesOnly found opened → FindsAgain r work found
+    finds one r None found left leaves = found_one one found r leaves (left clean_before started.committed.trees could_be_left)
+    finds one r (Some command) found left leaves = elim (left.1 clean_before started.committed.trees could_be_left)
+        [ inl stands ↦ inl (found_one one found r leaves stands) | inr stands ↦ inr (left.0, found_one one found (after_one r command) leaves stands) ]
+
+    holds_one : (r : Register) (work : Option Command) → LeavesAcknowledged r work before → LeavesNone opened → ⊥
+    holds_one r work left none = ∥∥₁_elim some (λ x y. absurd x) (λ it. go work left it.0 it.1)
+      where
+        go : (work : Option Command) → LeavesAcknowledged r work before → (db : Trees) → opened.may_leave db → ⊥
+        go None left db may = none clean db may r (left clean_before db (was_left db may))
+        go (Some command) left db may = elim (left.1 clean_before db (was_left db may)) [ inl stands ↦ none clean db may r stands | inr stands ↦ none clean db may (after_one r command) stands ]
+
+-- what is left stands for the same registers
+still_leaves : (before started opened : Disk) → Reopens before started → Survives started opened (λ _. ⊥) → (r : Register) (work : Option Command) → LeavesAcknowledged r work before → LeavesAcknowledged r work opened
+still_leaves before started opened reopens survives r None left = λ clean db may. left (clean_before before started opened reopens survives clean) db (was_left before started opened reopens survives clean db may)
+still_leaves before started opened reopens survives r (Some command) left =
+    (left.0, λ clean db may. left.1 (clean_before before started opened reopens survives clean) db (was_left before started opened reopens survives clean db may))
+
+-- ---- after a run
+
+module _ {C : Type 0} (disk : C → Disk) (old mid : Standing C) (answered : List (Command × Answer)) (kept : KeepsAcknowledged disk old mid answered) where
+  left_by_run : LeavesAcknowledged (after_all old.register (acknowledged answered)) (in_work answered) (disk mid.conn)
+  left_by_run = subst (λ (r : Register). LeavesAcknowledged r (in_work answered) (disk mid.conn)) kept.register kept.leaves
+
+  module _ (started opened : Disk) (reopens : Reopens (disk mid.conn) started) (survives : Survives started opened (λ _. ⊥)) where
+    pub finds_acknowledged : ((db : Trees) (r s : Register) → StandsFor db r → StandsFor db s → r ≡ s) → LeavesSome opened → (found : Register) → LeavesOnly found opened → HasCleanDisk opened → FindsAgain (after_all old.register (acknowledged answered)) (in_work answered) found
+    finds_acknowledged one some found leaves clean = finds (disk mid.conn) started opened reopens survives clean some one _ (in_work answered) found left_by_run leaves
+
+    pub never_none : LeavesSome opened → HasCleanDisk opened → LeavesNone opened → ⊥
+    never_none some clean none = holds_one (disk mid.conn) started opened reopens survives clean some _ (in_work answered) left_by_run none
+
+    pub leaves_acknowledged : LeavesAcknowledged (after_all old.register (acknowledged answered)) (in_work answered) opened
+    leaves_acknowledged = still_leaves (disk mid.conn) started opened reopens survives _ (in_work answered) left_by_run
+
+-- ---- no answer
+
+no_exchange : (commands : List Command) (answers : List Answer) → answers ≡ [] → zip commands answers ≡ []
+no_exchange [] answers none = refl
+no_exchange (c ∷ commands) answers none = ap (zip (c ∷ commands)) none
+
+pub none_answered : (disk : Disk) (r : Register) (commands : List Command) (answers : List Answer) → answers ≡ [] → LeavesOnly r disk
+    → LeavesAcknowledged (after_all r (acknowledged (zip commands answers))) (in_work (zip commands answers)) disk
+none_answered disk r commands answers none leaves =
+    subst (λ (x : List (Command × Answer)). LeavesAcknowledged (after_all r (acknowledged x)) (in_work x) disk) (sym (no_exchange commands answers none)) leaves

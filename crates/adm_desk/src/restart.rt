@@ -1,0 +1,124 @@
+// A run of commands, a crash, and the start after it.
+ghost use Rattle.std.specs.Prelude.{◌≡◌, ◌⊎◌, false, zip, IfOk, IfErr, OnOk, IfSome, MatchOption};
+ghost use Rattle.sqlite.specs.Held.{Held, state};
+ghost use Rattle.sqlite.specs.State.{HasCleanDisk};
+ghost use Rattle.adm_store.specs.Faults.{IsNoRegister};
+ghost use Rattle.adm_store.specs.StandsFor.{IsStarted, LeavesOnly};
+ghost use Rattle.adm_desk.specs.Steps.{IsRun};
+ghost use Rattle.adm_desk.specs.Standing.{Handles, Standing};
+ghost use Rattle.adm_desk.specs.Acknowledged.{acknowledged, after_all, in_work, FindsAgain, LeavesAcknowledged, Reopens};
+
+use crate::{Answer, Desk};
+use adm_store::{OpenFault, one_register};
+use adm_types::Command;
+use sqlite::{Alter, Connection, Error, ErrorCode};
+use sqlite_trees::error::StoreError;
+use sqlite_trees::store::Reopen;
+use std::alloc::Global;
+
+/// The answers of a run, and what the start after it came to: a desk, or the fault and, where the
+/// store was started, the connection to it.
+pub struct Restarted<S: Alter> {
+    pub answers: Vec<Answer>,
+    pub opened: Result<Desk<S>, (OpenFault, Option<Connection<S>>)>,
+}
+
+impl<S: Alter + Drop> Drop for Restarted<S> {
+    fn drop(self) {
+        let Restarted {
+            answers: _,
+            opened: _,
+        } = self;
+    }
+}
+
+fn fault_of(error: StoreError) -> OpenFault
+    ensures { (result ≡ OpenFault.Disk) ⊎ (result ≡ OpenFault.Memory) }
+{
+    match error {
+        StoreError::OutOfMemory => OpenFault::Memory,
+        _ => OpenFault::Disk,
+    }
+}
+
+fn fault_at(error: Error) -> OpenFault
+    ensures { (result ≡ OpenFault.Disk) ⊎ (result ≡ OpenFault.Memory) }
+{
+    match error {
+        Error::SqliteFailure(ErrorCode::OutOfMemory) => OpenFault::Memory,
+        _ => OpenFault::Disk,
+    }
+}
+
+/// Lets a crash come to the disk under the desk, and starts the store again.
+fn start_again<S: Alter + Reopen + Drop>(
+    alloc: Global,
+    desk: Desk<S>,
+) -> Result<Connection<S>, OpenFault>
+    ensures ended { IfOk result (λ conn. conn.in_transaction ≡ false) }
+    ensures started { IfOk result (λ conn. IsStarted (state S.Store conn)) }
+    ensures reopens { IfOk result (λ conn. Reopens (state S.Store desk.conn) (state S.Store conn)) }
+    ensures fault { IfErr result (λ e. (e ≡ OpenFault.Disk) ⊎ (e ≡ OpenFault.Memory)) }
+{
+    let mut store = desk.into_connection().into_store();
+    if let Err(error) = store.crash_and_reopen() {
+        return Err(fault_of(error));
+    }
+    match Connection::over(alloc, store) {
+        Ok(conn) => Ok(conn),
+        Err((error, _)) => Err(fault_at(error)),
+    }
+}
+
+/// Answers the commands, lets a crash come to the disk, starts the store again and opens what it
+/// holds. Disk and Memory may come where the store or memory is wanting; where there is no room for
+/// the answers, no command was handled.
+pub fn run_and_reopen<S: Alter + Reopen + Drop>(
+    alloc: Global,
+    mut desk: Desk<S>,
+    commands: &[Command],
+) -> Restarted<S>
+    // The register is the one after the acknowledged commands, or also the one after the command in work.
+    ensures register { desk.failed ≡ false → IfOk result.opened (λ new. HasCleanDisk (state S.Store new.conn)
+        → FindsAgain (after_all desk.register (acknowledged (zip commands.now result.answers.items))) (in_work (zip commands.now result.answers.items)) new.register) }
+    ensures alive { IfOk result.opened (λ new. (new.failed ≡ false) × LeavesOnly new.register (state S.Store new.conn)) }
+    ensures run { OnOk result.opened ((mid : Standing (Held S)) × IsRun (Handles (state S.Store)) desk commands.now result.answers.items mid) }
+
+    // What was started stands for such a register also where it was not opened, so no NotOurs, Version or BadRow comes.
+    ensures kept { desk.failed ≡ false → IfErr result.opened (λ e. IfSome e.1 (λ conn.
+        LeavesAcknowledged (after_all desk.register (acknowledged (zip commands.now result.answers.items))) (in_work (zip commands.now result.answers.items)) (state S.Store conn))) }
+    ensures never { desk.failed ≡ false → IfErr result.opened (λ e. MatchOption e.1 (¬ IsNoRegister e.0) (λ conn. HasCleanDisk (state S.Store conn) → ¬ IsNoRegister e.0)) }
+{
+    // that a crash leaves its register, a call of it says
+    let _register = desk.register();
+    let answers = match desk.handle_all(commands) {
+        Ok(answers) => answers,
+        Err(_) => {
+            return Restarted {
+                answers: Vec::new(alloc),
+                opened: Err((OpenFault::Memory, Some(desk.into_connection()))),
+            };
+        }
+    };
+    let conn = match start_again(alloc, desk) {
+        Ok(conn) => conn,
+        Err(fault) => {
+            return Restarted {
+                answers,
+                opened: Err((fault, None)),
+            };
+        }
+    };
+    // that a file stands for one register, a call of the law says
+    one_register();
+    match Desk::open(alloc, conn) {
+        Ok(desk) => Restarted {
+            answers,
+            opened: Ok(desk),
+        },
+        Err((fault, conn)) => Restarted {
+            answers,
+            opened: Err((fault, Some(conn))),
+        },
+    }
+}
