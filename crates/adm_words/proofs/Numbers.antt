@@ -13,7 +13,7 @@ use Rattle.adm_words.specs.Lines.{number_of}
 digits : IsNumeralModel (λ ds. list_all is_ascii_digit ds ≡ true) (digits_value 10)
 digits = numerals_by_value _ (search rules)
 
-decided : (ds : List ℕ) → Decides (nat_lt 0 (length ds) && (list_all is_ascii_digit ds && nat_lt (digits_value 10 ds) (2 ^ 32))) (IsNumeral 10 ds × (digits_value 10 ds < 2 ^ 32))
+pub decided : (ds : List ℕ) → Decides (nat_lt 0 (length ds) && (list_all is_ascii_digit ds && nat_lt (digits_value 10 ds) (2 ^ 32))) (IsNumeral 10 ds × (digits_value 10 ds < 2 ^ 32))
 decided ds =
     let both = Decides-and _ _ (Decides-ltb 0 (length ds)) (Decides-and _ _ (digits.to ds, digits.from ds) (Decides-ltb (digits_value 10 ds) (2 ^ 32))) in
     (λ e. let h = both.0 e in ((h.0, h.1.0), h.1.1), λ h. both.1 (h.0.0, (h.0.1, h.1)))

@@ -12,7 +12,7 @@ use Rattle.adm_words.specs.declared.actions.Action.{Action}
 use Rattle.adm_words.specs.declared.faults.WordsFault.{WordsFault}
 use Rattle.adm_words.specs.declared.faults.WordsFault.TheVariants.{Words, BadDate, Memory}
 use Rattle.adm_words.specs.Program.{IsPhases, program_app}
-use Rattle.adm_words.specs.Lines.{Line, init_line, do_line, Reads, ReadsWords, line_in}
+use Rattle.adm_words.specs.Lines.{Line, init_line, do_line, Reads, ReadsLine, ReadsWords, line_in}
 
 pub is_free : (phases : ValueParser) → IsPhases phases → is_simple_and_free (program_app phases) ≡ true
 unfolding clap_on_literals
@@ -46,10 +46,10 @@ no_words (init_line file phase year texts) e h = h
 no_words (do_line file) e h = h
 
 pub reads_from : (phases : ValueParser) (words : List Text) (r : Result Action WordsFault) (name : Text) (rows : List Row) → IsPhases phases
-    → fault_of (program_app phases) words ≡ [] → subcommand_of (program_app phases) words ≡ Some (name, rows) → Reads (line_in name rows) r → ReadsWords words r
+    → fault_of (program_app phases) words ≡ [] → subcommand_of (program_app phases) words ≡ Some (name, rows) → ReadsLine (line_in name rows) r → ReadsWords words r
 reads_from phases words (Ok action) name rows h none is reads = (phases, h, none, name, rows, is, reads)
 reads_from phases words (Err BadDate) name rows h none is reads = (phases, h, none, name, rows, is, reads)
-reads_from phases words (Err (Words e)) name rows h none is reads = absurd (no_words (line_in name rows) e reads)
+reads_from phases words (Err (Words e)) name rows h none is reads = absurd (no_words reads.0 e reads.2)
 reads_from phases words (Err Memory) name rows h none is reads = tt
 
 -- a pair of which each half is known

@@ -1,5 +1,5 @@
 -- A line of the command line, read from what clap found.
-use Rattle.std.specs.Prelude.{◌≡◌, ℕ, ◌^◌, ◌⊎◌, ◌&&◌, List, [], ◌∷◌, codes, length, nat_lt, Option, Some, None, unwrap_or, Result, Ok, Err, if◌then◌else◌}
+use Rattle.std.specs.Prelude.{◌≡◌, ℕ, ◌^◌, ◌≤◌, ◌⊎◌, ◌&&◌, List, [], ◌∷◌, codes, length, nat_le, nat_lt, Option, Some, None, option_and_then, option_map, unwrap_or, Result, Ok, Err, if◌then◌else◌}
 use Rattle.std.specs.Str.{bytes_eq}
 use Rattle.std.specs.Char.{is_ascii_digit}
 use Rattle.std.specs.List.{list_all}
@@ -23,13 +23,9 @@ pub data Line : Type 0 where
 
 -- ---- the values of arguments
 
--- the first value that clap found; a required argument has one in all words that clap takes
-abbrev pub value_in : Text → List Row → Text
-value_in id rows = unwrap_or (first_of id rows) []
-
--- of the two names of phases
-abbrev pub phase_of : Text → Phase
-phase_of text = if bytes_eq text (codes "primary") then Primary else Secondary
+-- the phase of this name; no other text names one
+abbrev pub phase_of : Text → Option Phase
+phase_of text = if bytes_eq text (codes "primary") then Some Primary else (if bytes_eq text (codes "secondary") then Some Secondary else None)
 
 -- the number that decimal digits write, below 2 ^ 32
 abbrev pub digits_number : List ℕ → Option ℕ
@@ -39,18 +35,43 @@ digits_number digits = if nat_lt 0 (length digits) && (list_all is_ascii_digit d
 abbrev pub number_of : Text → Option ℕ
 number_of text = digits_number (without_leading_plus text)
 
--- the year that a text writes, which clap has found to be from 2000 to 2100
-abbrev pub year_of : Text → ℕ
-year_of text = unwrap_or (number_of text) 0
+-- the year, from 2000 to 2100
+abbrev pub year_in_range : ℕ → Option ℕ
+year_in_range n = if nat_le 2000 n && nat_le n 2100 then Some n else None
+
+-- the year that a text writes
+abbrev pub year_of : Text → Option ℕ
+year_of text = option_and_then year_in_range (number_of text)
 
 -- ---- the lines
 
-abbrev pub init_in : List Row → Line
-init_in rows = init_line (value_in (codes "file") rows) (phase_of (value_in (codes "phase") rows)) (year_of (value_in (codes "year") rows)) (unwrap_or (all_of (codes "holiday") rows) [])
+-- the values of arguments, by what clap found
+abbrev pub file_in : List Row → Option Text
+file_in rows = first_of (codes "file") rows
 
--- the line of a subcommand's name and entries, which are those of `init` or of `do`
-abbrev pub line_in : Text → List Row → Line
-line_in name rows = if bytes_eq name (codes "init") then init_in rows else do_line (value_in (codes "file") rows)
+abbrev pub phase_in : List Row → Option Phase
+phase_in rows = option_and_then phase_of (first_of (codes "phase") rows)
+
+abbrev pub year_in : List Row → Option ℕ
+year_in rows = option_and_then year_of (first_of (codes "year") rows)
+
+abbrev pub holidays_in : List Row → List Text
+holidays_in rows = unwrap_or (all_of (codes "holiday") rows) []
+
+-- a line with all of its values
+abbrev pub init_of : Option Text → Option Phase → Option ℕ → List Text → Option Line
+init_of (Some file) (Some phase) (Some year) holidays = Some (init_line file phase year holidays)
+init_of file phase year holidays = None
+
+abbrev pub init_in : List Row → Option Line
+init_in rows = init_of (file_in rows) (phase_in rows) (year_in rows) (holidays_in rows)
+
+abbrev pub do_in : List Row → Option Line
+do_in rows = option_map do_line (file_in rows)
+
+-- the lines `init` and `do`, by the name of the subcommand and its entries; no other name is that of a line
+abbrev pub line_in : Text → List Row → Option Line
+line_in name rows = if bytes_eq name (codes "init") then init_in rows else (if bytes_eq name (codes "do") then do_in rows else None)
 
 -- ---- what a line asks for
 
@@ -80,9 +101,17 @@ Reads (init_line file phase year texts) (Err BadDate) = HasNoDay texts
 Reads line (Err Memory) = Unit {0}
 Reads line result = ⊥
 
+-- there is a line
+abbrev pub IsLine : Option Line → Type 0
+IsLine found = (line : Line) × (found ≡ Some line)
+
+-- there is a line, and this is what it asks for
+abbrev pub ReadsLine : Option Line → Result Action WordsFault → Type 0
+ReadsLine found result = (line : Line) × (found ≡ Some line) × Reads line result
+
 -- clap takes the words, and this is what the line that it found asks for
 abbrev pub Takes : List Text → Result Action WordsFault → Type 0
-Takes words result = (phases : ValueParser) × IsPhases phases × (fault_of (program_app phases) words ≡ []) × (name : Text) × (rows : List Row) × (subcommand_of (program_app phases) words ≡ Some (name, rows)) × Reads (line_in name rows) result
+Takes words result = (phases : ValueParser) × IsPhases phases × (fault_of (program_app phases) words ≡ []) × (name : Text) × (rows : List Row) × (subcommand_of (program_app phases) words ≡ Some (name, rows)) × ReadsLine (line_in name rows) result
 
 -- clap refuses the words, and this is the kind of its error
 abbrev pub Refuses : List Text → ErrorKind → Type 0
@@ -94,6 +123,11 @@ ReadsWords words (Ok a) = Takes words (Ok a)
 ReadsWords words (Err (Words e)) = Refuses words (kind_of e)
 ReadsWords words (Err BadDate) = Takes words (Err BadDate)
 ReadsWords words (Err Memory) = Unit {0}
+
+-- a season's year is from 2000 to 2100
+abbrev pub HasYear : Action → Type 0
+HasYear (action.Init f p y days) = (2000 ≤ y) × (y ≤ 2100)
+HasYear (action.Do f) = Unit {0}
 
 -- `fault: `, a fault's name and LF. The text of clap is its own.
 abbrev pub IsFaultText : WordsFault → List ℕ → Type 0

@@ -3,32 +3,53 @@ ghost use Rattle.std.specs.Prelude.{◌≡◌, IfOk, false, true};
 ghost use Rattle.clap.specs.Words.{app_of, rule_of};
 ghost use Rattle.clap.specs.declared.builder.command.Command.TheViews.{out-Command as fields_of};
 ghost use Rattle.clap.specs.declared.builder.value_parser.ValueParser.{ValueParser};
-ghost use Rattle.adm_words.specs.Program.{IsPhases, required_rule, phase_rule, holiday_rule, year_rule, init_app, do_app, program_app};
+ghost use Rattle.adm_words.specs.Program.{IsPhases, required_rule, file_rule, phase_rule, holiday_rule, year_rule, init_app, do_app, program_app};
 
 use clap::{Arg, ArgAction, Command, value_parser};
 use std::alloc::{AllocError, Global};
 
+/// The version that `--version` tells.
+const VERSION: &str = "0.1.0";
+
 static PHASES: [&str; 2] = ["primary", "secondary"];
 
-fn required<'a>(alloc: Global, id: &'a str) -> Arg<'a>
+/// A required argument: its id, and its name and its line in the help.
+fn required<'a>(alloc: Global, id: &'a str, name: &'a str, help: &'a str) -> Arg<'a>
     ensures rule { rule_of result ≡ required_rule id.now }
     ensures local { result.global ≡ false }
 {
-    Arg::new(alloc, id).required(true).action(ArgAction::Set)
+    Arg::new(alloc, id)
+        .value_name(name)
+        .help(help)
+        .required(true)
+        .action(ArgAction::Set)
+}
+
+fn file<'a>(alloc: Global, help: &'a str) -> Arg<'a>
+    ensures rule { rule_of result ≡ file_rule }
+    ensures local { result.global ≡ false }
+{
+    required(alloc, "file", "FILE", help)
 }
 
 fn phase<'a>(alloc: Global) -> Arg<'a>
     ensures rule { (phases : ValueParser) × IsPhases phases × (rule_of result ≡ phase_rule phases) }
     ensures local { result.global ≡ false }
 {
-    required(alloc, "phase").value_parser(PHASES.as_slice())
+    required(alloc, "phase", "PHASE", "The phase of education").value_parser(PHASES.as_slice())
 }
 
 fn year<'a>(alloc: Global) -> Arg<'a>
     ensures rule { rule_of result ≡ year_rule }
     ensures local { result.global ≡ false }
 {
-    required(alloc, "year").value_parser(value_parser!(u32).range(2000..=2100))
+    required(
+        alloc,
+        "year",
+        "YEAR",
+        "The year of entry, from 2000 to 2100",
+    )
+    .value_parser(value_parser!(u32).range(2000..=2100))
 }
 
 fn holiday<'a>(alloc: Global) -> Arg<'a>
@@ -36,6 +57,8 @@ fn holiday<'a>(alloc: Global) -> Arg<'a>
     ensures local { result.global ≡ false }
 {
     Arg::new(alloc, "holiday")
+        .value_name("HOLIDAY")
+        .help("A day that is no working day, YYYY-MM-DD")
         .action(ArgAction::Append)
         .num_args(0..)
 }
@@ -44,7 +67,9 @@ fn do_command<'a>(alloc: Global) -> Result<Command<'a>, AllocError>
     ensures app { IfOk result (λ c. app_of c ≡ do_app) }
     ensures local { IfOk result (λ c. (fields_of c).has_globals ≡ false) }
 {
-    Command::new(alloc, "do").arg(required(alloc, "file"))
+    Command::new(alloc, "do")
+        .about("Answers the commands of the standard input, line by line")
+        .arg(file(alloc, "The file of the register"))
 }
 
 fn init_command<'a>(alloc: Global) -> Result<Command<'a>, AllocError>
@@ -52,7 +77,8 @@ fn init_command<'a>(alloc: Global) -> Result<Command<'a>, AllocError>
     ensures local { IfOk result (λ c. (fields_of c).has_globals ≡ false) }
 {
     Command::new(alloc, "init")
-        .arg(required(alloc, "file"))?
+        .about("Creates the register of a season")
+        .arg(file(alloc, "The file to make, or an empty one"))?
         .arg(phase(alloc))?
         .arg(year(alloc))?
         .arg(holiday(alloc))
@@ -64,6 +90,8 @@ pub(crate) fn program<'a>(alloc: Global) -> Result<Command<'a>, AllocError>
     ensures required { IfOk result (λ c. (fields_of c).subcommand_required ≡ true) }
 {
     Command::new(alloc, "admissions")
+        .about("A register for coordinated school admissions")
+        .version(VERSION)
         .subcommand_required(true)
         .subcommand(init_command(alloc)?)?
         .subcommand(do_command(alloc)?)

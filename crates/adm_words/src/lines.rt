@@ -1,21 +1,14 @@
 // One line of the command line, read from the values that clap found.
-ghost use Rattle.std.specs.Prelude.{◌≡◌, map, option_map};
+ghost use Rattle.std.specs.Prelude.{◌≡◌, ◌≤◌, map, option_map, IfOk, IfSome};
 ghost use Rattle.clap.specs.Words.{first_of, all_of, found_of, rows_of};
-ghost use Rattle.adm_words.specs.Lines.{Reads, ReadsDays, phase_of, number_of, year_of, value_in, init_in, line_in};
+ghost use Rattle.adm_words.specs.Lines.{IsLine, ReadsLine, ReadsDays, HasYear, phase_of, number_of, year_of, phase_in, year_in, holidays_in, init_in, do_in, line_in};
 
 use crate::{Action, WordsFault};
 use adm_types::{Day, Phase, Seq};
 use clap::ArgMatches;
 use std::alloc::Global;
 
-/// The first value of an argument; an empty text where it has none, which a required argument
-/// never has.
-fn value_of<'a>(found: &ArgMatches<'a>, id: &str) -> &'a str
-    ensures { result.now ≡ value_in id.now (rows_of (found_of found.now)) }
-{
-    text_of(found, id).unwrap_or("")
-}
-
+/// The first value of an argument.
 fn text_of<'a>(found: &ArgMatches<'a>, id: &str) -> Option<&'a str>
     ensures { option_map (λ s. s.now) result ≡ first_of id.now (rows_of (found_of found.now)) }
 {
@@ -29,14 +22,16 @@ fn texts_of<'f, 'a>(found: &'f ArgMatches<'a>, id: &str) -> Option<&'f [&'a str]
     found.get_strs(id)
 }
 
-/// The phase that a text names, which is one of the two names.
-fn read_phase(text: &str) -> Phase
+/// The phase that a text names.
+fn read_phase(text: &str) -> Option<Phase>
     ensures { result ≡ phase_of text.now }
 {
     if text == "primary" {
-        Phase::Primary
+        Some(Phase::Primary)
+    } else if text == "secondary" {
+        Some(Phase::Secondary)
     } else {
-        Phase::Secondary
+        None
     }
 }
 
@@ -47,11 +42,40 @@ fn read_number(text: &str) -> Option<u32>
     text.parse().ok()
 }
 
-/// The year that a text writes.
-fn read_year(text: &str) -> u32
-    ensures { result ≡ year_of text.now }
+/// The year that a text writes, from 2000 to 2100.
+fn read_year(text: &str) -> Option<u32>
+    ensures value { result ≡ year_of text.now }
+    ensures in_range { IfSome result (λ year. (2000 ≤ year) × (year ≤ 2100)) }
 {
-    read_number(text).unwrap_or(0)
+    match read_number(text) {
+        Some(year) => {
+            if 2000 <= year && year <= 2100 {
+                Some(year)
+            } else {
+                None
+            }
+        }
+        None => None,
+    }
+}
+
+fn phase_in(found: &ArgMatches<'_>) -> Option<Phase>
+    ensures { result ≡ phase_in (rows_of (found_of found.now)) }
+{
+    match text_of(found, "phase") {
+        Some(text) => read_phase(text),
+        None => None,
+    }
+}
+
+fn year_in(found: &ArgMatches<'_>) -> Option<u32>
+    ensures value { result ≡ year_in (rows_of (found_of found.now)) }
+    ensures in_range { IfSome result (λ year. (2000 ≤ year) × (year ≤ 2100)) }
+{
+    match text_of(found, "year") {
+        Some(text) => read_year(text),
+        None => None,
+    }
 }
 
 /// The days that texts name.
@@ -68,16 +92,48 @@ fn read_days(alloc: Global, texts: &[&str]) -> Result<Seq<Day>, WordsFault>
     Ok(Seq::from_vec(days))
 }
 
-fn init<'a>(alloc: Global, found: &ArgMatches<'a>) -> Result<Action<'a>, WordsFault>
-    ensures { Reads (init_in (rows_of (found_of found.now))) result }
+fn holidays_in(alloc: Global, found: &ArgMatches<'_>) -> Result<Seq<Day>, WordsFault>
+    ensures { ReadsDays (holidays_in (rows_of (found_of found.now))) result }
 {
-    let holidays = read_days(alloc, texts_of(found, "holiday").unwrap_or(&[]))?;
-    Ok(Action::Init {
-        file: value_of(found, "file"),
-        phase: read_phase(value_of(found, "phase")),
-        year: read_year(value_of(found, "year")),
-        holidays,
-    })
+    read_days(alloc, texts_of(found, "holiday").unwrap_or(&[]))
+}
+
+/// The line `init`, whose values are there.
+fn init<'a>(alloc: Global, found: &ArgMatches<'a>) -> Result<Action<'a>, WordsFault>
+    requires { IsLine (init_in (rows_of (found_of found.now))) }
+    ensures reads { ReadsLine (init_in (rows_of (found_of found.now))) result }
+    ensures year { IfOk result HasYear }
+{
+    let Some(file) = text_of(found, "file") else {
+        unreachable!()
+    };
+    let Some(phase) = phase_in(found) else {
+        unreachable!()
+    };
+    let Some(year) = year_in(found) else {
+        unreachable!()
+    };
+    match holidays_in(alloc, found) {
+        Ok(holidays) => Ok(Action::Init {
+            file,
+            phase,
+            year,
+            holidays,
+        }),
+        Err(fault) => Err(fault),
+    }
+}
+
+/// The line `do`, whose file is there.
+fn do_lines<'a>(found: &ArgMatches<'a>) -> Result<Action<'a>, WordsFault>
+    requires { IsLine (do_in (rows_of (found_of found.now))) }
+    ensures reads { ReadsLine (do_in (rows_of (found_of found.now))) result }
+    ensures year { IfOk result HasYear }
+{
+    match text_of(found, "file") {
+        Some(file) => Ok(Action::Do { file }),
+        None => unreachable!(),
+    }
 }
 
 /// What the line of this name asks for, with the values that clap found.
@@ -86,13 +142,15 @@ pub(crate) fn read_line<'a>(
     name: &str,
     found: &ArgMatches<'a>,
 ) -> Result<Action<'a>, WordsFault>
-    ensures { Reads (line_in name.now (rows_of (found_of found.now))) result }
+    requires { IsLine (line_in name.now (rows_of (found_of found.now))) }
+    ensures reads { ReadsLine (line_in name.now (rows_of (found_of found.now))) result }
+    ensures year { IfOk result HasYear }
 {
     if name == "init" {
         init(alloc, found)
+    } else if name == "do" {
+        do_lines(found)
     } else {
-        Ok(Action::Do {
-            file: value_of(found, "file"),
-        })
+        unreachable!()
     }
 }

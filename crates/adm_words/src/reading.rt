@@ -1,6 +1,6 @@
 // The reader of the words: clap takes or refuses them, and the line is read from what it found.
-ghost use Rattle.std.specs.Prelude.{map};
-ghost use Rattle.adm_words.specs.Lines.{ReadsWords};
+ghost use Rattle.std.specs.Prelude.{map, IfOk};
+ghost use Rattle.adm_words.specs.Lines.{HasYear, ReadsWords};
 
 use crate::command::program;
 use crate::lines::read_line;
@@ -15,7 +15,8 @@ use std::alloc::Global;
 /// comes where `clap` refuses them, a request for help included; BadDate where a HOLIDAY is no day
 /// YYYY-MM-DD from 1990-01-01 to 2110-12-31. It costs what the length of the words costs.
 pub fn action<'a>(alloc: Global, words: &'a [&'a str]) -> Result<Action<'a>, WordsFault>
-    ensures { ReadsWords (map (λ w. w.now) words.entry.now) result }
+    ensures reads { ReadsWords (map (λ w. w.now) words.entry.now) result }
+    ensures year { IfOk result HasYear }
 {
     let command = program(alloc)?;
     match command.try_get_matches_from(words) {

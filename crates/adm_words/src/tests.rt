@@ -95,7 +95,7 @@ fn years_are_from_2000_to_2100(rt: HostRuntime) {
     }
 }
 
-const WRONG: [&[&str]; 13] = [
+const WRONG: [&[&str]; 16] = [
     &[],
     &["admissions"],
     &["admissions", "open", "f"],
@@ -108,7 +108,10 @@ const WRONG: [&[&str]; 13] = [
     &["admissions", "init", "f", "Secondary", "2025"],
     &["admissions", "init", "f", "2025", "secondary"],
     &["admissions", "--help"],
+    &["admissions", "help"],
+    &["admissions", "--version"],
     &["admissions", "init", "f", "secondary", "2025", "--help"],
+    &["admissions", "init", "f", "secondary", "2025", "--version"],
 ];
 
 #[test]
@@ -161,11 +164,24 @@ fn faults_are_told(rt: HostRuntime) -> Result<(), Fail> {
         Err(fault) => {
             let text = fault_text(alloc, &fault)?;
             assert!(rt;
-                text.as_str()
-                    .starts_with("Usage: admissions <COMMAND>\n\nCommands:\n")
+                text.as_str().starts_with(
+                    "A register for coordinated school admissions\n\nUsage: admissions <COMMAND>\n\nCommands:\n",
+                )
             );
         }
         Ok(_) => Err("a fault")?,
     }
     Ok(())
+}
+
+#[test]
+fn the_version_is_told(rt: HostRuntime) -> Result<(), Fail> {
+    let alloc = rt.alloc();
+    match action(alloc, &["admissions", "--version"]) {
+        Err(fault) => {
+            assert!(rt; fault_text(alloc, &fault)?.as_str() == "admissions 0.1.0\n");
+            Ok(())
+        }
+        Ok(_) => Err("a fault")?,
+    }
 }

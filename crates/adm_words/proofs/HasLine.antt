@@ -1,0 +1,224 @@
+-- In words that clap takes, the program's line is `init` or `do`, and has all of its values.
+use Rattle.std.proofs.Common.{◌≡◌, ◌∙◌, ◌≤◌, ◌<◌, ◌^◌, ℕ, Bool, true, false, true≢false, cond, zero, suc, refl, sym, ap, subst, arith, List, [], ◌∷◌, length, Option, Some, None, inl, inr, leb-true}
+use Rattle.std.specs.Prelude.{if◌then◌else◌, ◌&&◌, ◌||◌, not, codes, drop, int_le, neg_ℤ, nat_le, pos, option_and_then, option_map, is_some}
+use Rattle.std.specs.List.{list_any}
+use Rattle.std.specs.Option.{option_map_or}
+use Rattle.std.specs.Str.{bytes_eq}
+use Rattle.std.specs.Str.Parse.{IsNumeral, digits_value, signed_digits_value, starts_with_minus, without_leading_plus, without_leading_sign}
+use Rattle.std.proofs.lemmas.Slice.Eq.{bytes_eq-Decides}
+use Rattle.clap.specs.Kinds.{range_kinds, value_kinds}
+use Rattle.clap.specs.Simple.{Shape, built, entered, names_of, argument_words, rows_at, new_rule, new_shape}
+use Rattle.clap.specs.Faults.{entered_fault, level_fault, repeat_fault, walk_fault, fault_of}
+use Rattle.clap.specs.Walk.{Row, Rule, Text, has_row, first_of, more_values, rows_after, walk, walk_from, nothing_held}
+use Rattle.clap.specs.Words.{subcommand_of}
+use Rattle.clap.specs.ValueTests.{accepts, fits_i64, is_numeral}
+use Rattle.clap.specs.declared.error.kind.ErrorKind.TheVariants as kind
+use Rattle.clap.specs.declared.error.kind.ErrorKind.{ErrorKind}
+use Rattle.clap.specs.declared.builder.action.ArgAction.TheVariants.{Set}
+use Rattle.clap.specs.declared.builder.value_parser.ValueParser.{ValueParser}
+use Rattle.clap.specs.declared.builder.value_parser.ValueParser.TheVariants as parser
+use Rattle.clap.specs.declared.parser.matches.ValueSource.TheVariants.{CommandLine}
+use Rattle.clap.proofs.WalkLemmas.{list_any-map}
+use Rattle.clap.proofs.ValueTestLemmas.{accepts-Accepts}
+use Rattle.adm_types.specs.declared.seasons.Phase.{Phase}
+use Rattle.adm_types.specs.declared.seasons.Phase.TheVariants.{Primary, Secondary}
+use Rattle.adm_words.specs.Program.{IsPhases, program_app}
+use Rattle.adm_words.specs.Lines.{IsLine, init_line, do_line, phase_of, number_of, year_in_range, year_of, init_of, init_in, do_in, holidays_in, line_in}
+use Rattle.adm_words.proofs.Numbers.{decided}
+use Rattle.adm_words.proofs.FoundRows.{nonempty, both_empty, row_passes, fresh, either_false}
+use Rattle.clap.specs.Takes.{is_given}
+use Rattle.adm_words.proofs.NoHelp.{IsNoHelp, no_help_met}
+use Rattle.adm_words.proofs.Faultless.{UsesWell, level_good, given_first}
+
+-- ---- an argument that takes one value
+
+abbrev taken : Text → ℕ → ValueParser → Rule
+taken id i p = record (new_rule id) { index = Some i; action = Some Set; range = Some (record { start_inclusive = 1; end_inclusive = 1 }); value_names = 1; parser = Some p; required = true }
+
+unrepeated : (b : Bool) → (if b && not false then kind.ArgumentConflict ∷ [] else []) ≡ [] → b ≡ false
+unrepeated true e = absurd (nonempty _ refl e)
+unrepeated false e = refl
+
+passed : (b : Bool) (k : ErrorKind) → (if b then [] else k ∷ []) ≡ [] → b ≡ true
+passed true k e = refl
+passed false k e = absurd (nonempty _ refl e)
+
+taken_uses : (id : Text) (i : ℕ) (p : ValueParser) → bytes_eq id id ≡ true → UsesWell false (taken id i p)
+taken_uses id i p same [] rows none good = absurd (nonempty (kind.InvalidValue ∷ []) refl none)
+taken_uses id i p same (v ∷ vs) rows none good =
+    let parts = both_empty (range_kinds 1 1 (length (v ∷ vs))) _ none in
+    let inner = both_empty (repeat_fault false id rows) _ parts.1 in
+    let value = both_empty (value_kinds false p v) _ inner.1 in
+    ap (row_passes (taken id i p)) (fresh id (more_values CommandLine (v ∷ vs)) _ rows same (unrepeated (has_row id rows) inner.0))
+    ∙ passed (accepts false p v) _ value.0
+
+-- ---- what is required is given
+
+wanted : (b : Bool) → (if b then kind.MissingRequiredArgument ∷ [] else []) ≡ [] → b ≡ false
+wanted true e = absurd (nonempty _ refl e)
+wanted false e = refl
+
+given_if : (b : Bool) → not b ≡ false → b ≡ true
+given_if true e = refl
+given_if false e = absurd (true≢false e)
+
+-- ---- values
+
+named : (v : Text) → (bytes_eq (codes "primary") v || (bytes_eq (codes "secondary") v || false)) ≡ true → (phase : Phase) × (phase_of v ≡ Some phase)
+named v e = go (bytes_eq (codes "primary") v) (bytes_eq (codes "secondary") v) refl refl e
+  where
+    go : (a b : Bool) → bytes_eq (codes "primary") v ≡ a → bytes_eq (codes "secondary") v ≡ b → (a || (b || false)) ≡ true → (phase : Phase) × (phase_of v ≡ Some phase)
+    go true b first second h = subst (λ (t : Text). (phase : Phase) × (phase_of t ≡ Some phase)) ((bytes_eq-Decides (codes "primary") v).0 first) (Primary, refl)
+    go false true first second h = subst (λ (t : Text). (phase : Phase) × (phase_of t ≡ Some phase)) ((bytes_eq-Decides (codes "secondary") v).0 second) (Secondary, refl)
+    go false false first second h = absurd (true≢false (sym h))
+
+phase_named : (phases : ValueParser) → IsPhases phases → (v : Text) → accepts false phases v ≡ true → (phase : Phase) × (phase_of v ≡ Some phase)
+phase_named (parser.Names given) is v e =
+    named v (ap (list_any (λ n. bytes_eq n v)) (sym is) ∙ sym (list_any-map (λ n. bytes_eq n v) (λ n. n.now) given.now) ∙ e)
+phase_named _ is v e = absurd is
+
+-- a number that is no less than 2000 is none with a minus
+not_minus : (d : ℕ) → int_le (pos 2000) (neg_ℤ (pos d)) ≡ true → ⊥
+not_minus zero e = true≢false (sym e)
+not_minus (suc n) e = true≢false (sym e)
+
+year_read : (v : Text) (d : ℕ) → number_of v ≡ Some d → nat_le 2000 d ≡ true → nat_le d 2100 ≡ true → (year : ℕ) × (year_of v ≡ Some year)
+year_read v d is least most = (d, ap (option_and_then year_in_range) is ∙ rw (least, most) refl)
+
+year_named : (v : Text) → accepts false (parser.Signed (pos 2000) (pos 2100)) v ≡ true → (year : ℕ) × (year_of v ≡ Some year)
+year_named v e =
+    let z = signed_digits_value 10 v in
+    let both = bounds (is_numeral (without_leading_sign v)) (fits_i64 z) (int_le (pos 2000) z) (int_le z (pos 2100)) e in
+    go (starts_with_minus v) (accepts-Accepts false (parser.Signed (pos 2000) (pos 2100)) v e).0 both.0 both.1
+  where
+    bounds : (a b c d : Bool) → (a && (b && (c && d))) ≡ true → (c ≡ true) × (d ≡ true)
+    bounds true true true d h = (refl, h)
+    bounds true true false d h = absurd (true≢false (sym h))
+    bounds true false c d h = absurd (true≢false (sym h))
+    bounds false b c d h = absurd (true≢false (sym h))
+
+    go : (m : Bool) → IsNumeral 10 (cond m (drop 1 v) (without_leading_plus v))
+        → int_le (pos 2000) (cond m (neg_ℤ (pos (digits_value 10 (cond m (drop 1 v) (without_leading_plus v))))) (pos (digits_value 10 (cond m (drop 1 v) (without_leading_plus v))))) ≡ true
+        → int_le (cond m (neg_ℤ (pos (digits_value 10 (cond m (drop 1 v) (without_leading_plus v))))) (pos (digits_value 10 (cond m (drop 1 v) (without_leading_plus v))))) (pos 2100) ≡ true
+        → (year : ℕ) × (year_of v ≡ Some year)
+    go true numeral least most = absurd (not_minus _ least)
+    go false numeral least most =
+        let d : ℕ = digits_value 10 (without_leading_plus v) in
+        let below : d ≤ 2100 = leb-true _ _ most in
+        let fits : d < 2 ^ 32 = omega arith in
+        year_read v d (rw ((decided (without_leading_plus v)).1 (numeral, fits)) refl) least most
+
+-- ---- the lines
+
+made : (file : Option Text) (phase : Option Phase) (year : Option ℕ) (holidays : List Text) (a : Text) (b : Phase) (c : ℕ)
+    → file ≡ Some a → phase ≡ Some b → year ≡ Some c → IsLine (init_of file phase year holidays)
+made file phase year holidays a b c f p y =
+    (init_line a b c holidays, ap (λ o. init_of o phase year holidays) f ∙ ap (λ o. init_of (Some a) o year holidays) p ∙ ap (λ o. init_of (Some a) (Some b) o holidays) y)
+
+abbrev head_shape : List Shape → Shape
+head_shape [] = new_shape []
+head_shape (s ∷ ss) = s
+
+abbrev tail_shapes : List Shape → List Shape
+tail_shapes [] = []
+tail_shapes (s ∷ ss) = ss
+
+-- the subcommands as they are built
+abbrev subs_of : ValueParser → List Shape
+subs_of phases = (built (program_app phases)).subs
+
+abbrev init_shape : ValueParser → Shape
+init_shape phases = head_shape (subs_of phases)
+
+abbrev do_shape : ValueParser → Shape
+do_shape phases = head_shape (tail_shapes (subs_of phases))
+
+abbrev help_of : ValueParser → Shape
+help_of phases = head_shape (tail_shapes (tail_shapes (subs_of phases)))
+
+-- a required argument of a level without a fault has a value, which passes
+abbrev HasValue : Text → ValueParser → List Row → Type 0
+HasValue id p rows = (v : Text) × (first_of id rows ≡ Some v) × (accepts false p v ≡ true)
+
+init_values : (phases : ValueParser) (words : List Text) → level_fault (init_shape phases) [] nothing_held words false [] ≡ []
+    → let rows = rows_after (init_shape phases).rules [] words in
+    HasValue (codes "file") parser.String rows × HasValue (codes "phase") phases rows × HasValue (codes "year") (parser.Signed (pos 2000) (pos 2100)) rows
+init_values phases words none =
+    let rows = rows_after (init_shape phases).rules [] words in
+    let file_rule = taken (codes "file") 1 parser.String in
+    let phase_rule = taken (codes "phase") 2 phases in
+    let year_rule = taken (codes "year") 3 (parser.Signed (pos 2000) (pos 2100)) in
+    let file = level_good (init_shape phases) file_rule (inl refl, (inr refl, (inr refl, (inr refl, (inr refl, tt))))) (taken_uses (codes "file") 1 parser.String refl)
+    (refl, (refl, (refl, (refl, (refl, tt))))) [] words false [] none in
+    let phase = level_good (init_shape phases) phase_rule (inr refl, (inl refl, (inr refl, (inr refl, (inr refl, tt))))) (taken_uses (codes "phase") 2 phases refl)
+    (refl, (refl, (refl, (refl, (refl, tt))))) [] words false [] none in
+    let year = level_good (init_shape phases) year_rule (inr refl, (inr refl, (inl refl, (inr refl, (inr refl, tt))))) (taken_uses (codes "year") 3 (parser.Signed (pos 2000) (pos 2100)) refl)
+    (refl, (refl, (refl, (refl, (refl, tt))))) [] words false [] none in
+    let missing = wanted _ file.1 in
+    let first = either_false (not (is_given (codes "file") rows)) _ missing in
+    let second = either_false (not (is_given (codes "phase") rows)) _ first.1 in
+    let third = either_false (not (is_given (codes "year") rows)) _ second.1 in
+    (given_first file_rule rows file.0 (given_if _ first.0), given_first phase_rule rows phase.0 (given_if _ second.0), given_first year_rule rows year.0 (given_if _ third.0))
+
+init_there : (phases : ValueParser) → IsPhases phases → (words : List Text) → level_fault (init_shape phases) [] nothing_held words false [] ≡ []
+    → IsLine (init_in (rows_after (init_shape phases).rules [] words))
+init_there phases is words none =
+    let rows = rows_after (init_shape phases).rules [] words in
+    let values = init_values phases words none in
+    let phase = phase_named phases is values.1.0 values.1.2 in
+    let year = year_named values.2.0 values.2.2 in
+    made _ _ _ (holidays_in rows) values.0.0 phase.0 year.0 values.0.1
+    (ap (option_and_then phase_of) values.1.1 ∙ phase.1) (ap (option_and_then year_of) values.2.1 ∙ year.1)
+
+do_there : (phases : ValueParser) (words : List Text) → level_fault (do_shape phases) [] nothing_held words false [] ≡ []
+    → IsLine (do_in (rows_after (do_shape phases).rules [] words))
+do_there phases words none =
+    let rows = rows_after (do_shape phases).rules [] words in
+    let file_rule = taken (codes "file") 1 parser.String in
+    let file = level_good (do_shape phases) file_rule (inl refl, (inr refl, tt)) (taken_uses (codes "file") 1 parser.String refl) (refl, (refl, tt)) [] words false [] none in
+    let missing = either_false (not (is_given (codes "file") rows)) _ (wanted _ file.1) in
+    let value = given_first file_rule rows file.0 (given_if _ missing.0) in
+    (do_line value.0, ap (option_map do_line) value.1)
+
+-- ---- the subcommand
+
+abbrev LineOf : Option (Text × List Row) → Type 0
+LineOf None = Unit {0}
+LineOf (Some p) = IsLine (line_in p.0 p.1)
+
+flipped : (x y : Text) → bytes_eq x y ≡ false → (bytes_eq y x || false) ≡ false
+flipped x y apart = go (bytes_eq y x) refl
+  where
+    go : (b : Bool) → bytes_eq y x ≡ b → (b || false) ≡ false
+    go false e = refl
+    go true e = absurd (true≢false (sym ((bytes_eq-Decides x y).1 (sym ((bytes_eq-Decides y x).0 e))) ∙ apart))
+
+entered_line : (phases : ValueParser) → IsPhases phases → (name : Text) (rows : List Row) (stop : Option (Text × List Text)) → IsNoHelp stop
+    → entered_fault (built (program_app phases)) stop ≡ [] → entered (built (program_app phases)) stop ≡ Some (name, rows) → IsLine (line_in name rows)
+entered_line phases is name rows None no_help none found = absurd (none_is_some found)
+  where
+    none_is_some : {X : Type 0} {x : X} → None ≡ Some x → ⊥
+    none_is_some e = true≢false (sym (ap is_some e))
+entered_line phases is name rows (Some q) no_help none found =
+    go (bytes_eq (codes "init") q.0 || false) (bytes_eq (codes "do") q.0 || false) (bytes_eq (codes "help") q.0 || false) (flipped q.0 (codes "help") no_help) none found
+  where
+    chosen : Bool → Bool → Bool → Option Shape
+    chosen a b c = cond a (Some (init_shape phases)) (cond b (Some (do_shape phases)) (cond c (Some (help_of phases)) None))
+
+    go : (a b c : Bool) → c ≡ false → option_map_or (λ s. level_fault s [] nothing_held q.1 false []) (chosen a b c) [] ≡ []
+        → option_map (λ s. rows_at s q.1) (chosen a b c) ≡ Some (name, rows) → IsLine (line_in name rows)
+    go true b c apart f e = subst LineOf e (init_there phases is q.1 f)
+    go false true c apart f e = subst LineOf e (do_there phases q.1 f)
+    go false false true apart f e = absurd (true≢false apart)
+    go false false false apart f e = absurd (true≢false (sym (ap is_some e)))
+
+-- words that clap takes are those of a line
+pub has_line : (phases : ValueParser) → IsPhases phases → (words : List Text) (name : Text) (rows : List Row) → fault_of (program_app phases) words ≡ []
+    → subcommand_of (program_app phases) words ≡ Some (name, rows) → IsLine (line_in name rows)
+has_line phases is words name rows none found =
+    let app = built (program_app phases) in
+    let after = argument_words (program_app phases) words in
+    let stop = (walk app.top.rules (names_of app) nothing_held after).stopped in
+    let parts = both_empty (walk_fault app.top (names_of app) (walk_from nothing_held) after) _ none in
+    let inner = both_empty (entered_fault app stop) _ parts.1 in
+    entered_line phases is name rows stop (no_help_met app.top refl (names_of app) (walk_from nothing_held) after parts.0 tt) inner.0 found
