@@ -1,22 +1,16 @@
-// What is done to a register, and how far it came where a disk stops.
+// What is done to a register, and how far it comes where a disk stops.
 ghost use Rattle.std.specs.Prelude.{◌≡◌, false};
 ghost use Rattle.sqlite.specs.Held.{state};
 ghost use Rattle.adm_store.specs.StandsFor.{IsStarted};
 
-use crate::desks::{closed, connected};
+use crate::desks::{asked, given_back, opened};
 use adm_desk::{Answer, Desk};
-use adm_store::{CreateFault, OpenFault, create};
+use adm_store::{CreateFault, OpenFault};
 use adm_types::{Command, Season};
-use sqlite::{Alter, Connection, Files};
-use sqlite_disk::Disk;
+use run_disks::{Work, created};
+use run_steps::Act;
+use sqlite::{Alter, Connection};
 use std::alloc::Global;
-
-/// What is done to a register.
-#[derive(Drop)]
-pub(crate) enum Act {
-    Create(Season),
-    Handle(Command),
-}
 
 /// How far an act came.
 #[derive(Clone, Copy, Debug)]
@@ -32,24 +26,20 @@ pub(crate) enum Came {
     WentOn,
 }
 
-fn created<S: Alter>(
-    alloc: Global,
-    mut conn: Connection<S>,
-    season: &Season,
-) -> (Came, Connection<S>)
+fn made<S: Alter>(alloc: Global, conn: Connection<S>, season: &Season) -> (Came, Connection<S>)
     requires { conn.in_transaction ≡ false }
 {
-    match create(alloc, &mut conn, season) {
-        Ok(()) => (Came::Done, conn),
-        Err(fault) => (Came::NotCreated(fault), conn),
+    match created(alloc, conn, season) {
+        (Ok(()), conn) => (Came::Done, conn),
+        (Err(fault), conn) => (Came::NotCreated(fault), conn),
     }
 }
 
 /// How far a command came. Where the answer is Failed, it comes a second time.
 fn answer<S: Alter>(desk: &mut Desk<S>, command: &Command) -> Came {
-    match desk.handle(command) {
+    match asked(desk, command) {
         Answer::Done(_) => Came::Done,
-        Answer::Failed => match desk.handle(command) {
+        Answer::Failed => match asked(desk, command) {
             Answer::Failed => Came::Failed,
             _ => Came::WentOn,
         },
@@ -61,32 +51,28 @@ fn handled<S: Alter>(alloc: Global, conn: Connection<S>, command: &Command) -> (
     requires ended { conn.in_transaction ≡ false }
     requires started { IsStarted (state S.Store conn) }
 {
-    match Desk::open(alloc, conn) {
+    match opened(alloc, conn) {
         Err((fault, conn)) => (Came::NotOpened(fault), conn),
         Ok(mut desk) => {
             let came = answer(&mut desk, command);
-            (came, desk.into_connection())
+            (came, given_back(desk))
         }
     }
 }
 
-fn done_over<S: Alter>(alloc: Global, conn: Connection<S>, act: &Act) -> (Came, Connection<S>)
-    requires ended { conn.in_transaction ≡ false }
-    requires started { IsStarted (state S.Store conn) }
-{
-    match act {
-        Act::Create(season) => created(alloc, conn, season),
-        Act::Handle(command) => handled(alloc, conn, command),
-    }
+/// An act, done with a database.
+#[derive(Drop)]
+pub(crate) struct Doing<'a> {
+    pub(crate) act: &'a Act,
 }
 
-/// Opens the database and does the act.
-pub(crate) fn done<D: Disk + Drop>(alloc: Global, files: Files<D>, act: &Act) -> (Came, Files<D>) {
-    match connected(alloc, files) {
-        Err(files) => (Came::NoDatabase, files),
-        Ok(conn) => {
-            let (came, conn) = done_over(alloc, conn, act);
-            (came, closed(conn))
+impl<'a> Work for Doing<'a> {
+    type Came = Came;
+
+    fn over<S: Alter>(&self, alloc: Global, conn: Connection<S>) -> (Came, Connection<S>) {
+        match self.act {
+            Act::Create(season) => made(alloc, conn, season),
+            Act::Handle(command) => handled(alloc, conn, command),
         }
     }
 }

@@ -1,12 +1,11 @@
 // The disks and the input as the steps before left them, and what each step does.
-use crate::acts::{Act, Came, done};
-use crate::desks::{Ran, changed};
-use crate::disks::Disks;
+use crate::acts::{Came, Doing};
+use crate::desks::Ran;
 use crate::lines::Lines;
-use crate::step::{Step, Which};
 use crate::stops::stops;
-use adm_register::{Register, Rows};
-use adm_types::School;
+use crate::sweeps::sweeps;
+use run_disks::Disks;
+use run_steps::{Act, Step, Sweep, Which, print_register};
 use std::alloc::Global;
 use std::io;
 
@@ -60,6 +59,7 @@ impl Bench {
                 Ok(())
             }
             Step::Run => self.run(rt),
+            Step::Sweep(sweep) => self.sweep(rt, sweep),
             Step::Stop(disk, calls, act) => self.act(rt, act, Some((*disk, *calls))),
             Step::Stops(act) => stops(rt, self.alloc, &self.disks, act, act),
             Step::Mistake(act, other) => stops(rt, self.alloc, &self.disks, act, other),
@@ -68,14 +68,14 @@ impl Bench {
 
     /// Does an act, over disks of which one may stop.
     fn act(&mut self, rt: &impl Print, act: &Act, stop: Option<(Which, u64)>) -> io::Result<()> {
-        let (came, files) = done(self.alloc, self.disks.files(self.alloc, stop)?, act);
-        self.disks = Disks::of(self.alloc, files)?;
-        println!(rt; "  {came:?}")
+        let (came, disks) = self.disks.after(self.alloc, stop, &Doing { act })?;
+        self.disks = disks;
+        println!(rt; "  {:?}", came.unwrap_or(Came::NoDatabase))
     }
 
     fn sql(&mut self, rt: &impl Print, text: &str) -> io::Result<()> {
-        let (ran, files) = changed(self.alloc, self.disks.files(self.alloc, None)?, text);
-        self.disks = Disks::of(self.alloc, files)?;
+        let (ran, disks) = self.disks.after_sql(self.alloc, text)?;
+        self.disks = disks;
         match ran {
             Some(Ok(())) => Ok(()),
             Some(Err(error)) => println!(rt; "  {error}"),
@@ -85,8 +85,8 @@ impl Bench {
 
     /// Prints what an open answers. It leaves the disks as they are.
     fn open(&mut self, rt: &impl Print) -> io::Result<()> {
-        let (fault, left) = self.disks.opened(self.alloc)?;
-        match fault {
+        let (found, left) = self.disks.opened(self.alloc)?;
+        match found.err() {
             None => println!(rt; "  opened")?,
             Some(fault) => println!(rt; "  {fault:?}")?,
         }
@@ -114,43 +114,21 @@ impl Bench {
         }
     }
 
+    /// Has desks answer the lines that were given, over a stream that stops at each call in turn.
+    fn sweep(&self, rt: &impl Print, sweep: &Sweep) -> io::Result<()> {
+        sweeps(
+            rt,
+            self.alloc,
+            &self.disks,
+            self.lines.input.as_slice(),
+            sweep,
+        )
+    }
+
     /// Has one desk answer the lines that were given.
     fn run(&mut self, rt: &impl Print) -> io::Result<()> {
         let ran = self.lines.run(rt, self.alloc, &mut self.disks)?;
         self.lines = Lines::new(self.alloc);
         println!(rt; "  {ran:?}")
     }
-}
-
-fn print_counts(rt: &impl Print, rows: &Rows) -> io::Result<()> {
-    println!(rt;
-        "  {} schools, {} children, {} applications, {} places",
-        rows.schools.len(),
-        rows.children.len(),
-        rows.applications.len(),
-        rows.places.len()
-    )
-}
-
-fn print_school(rt: &impl Print, register: &Register, school: &School) -> io::Result<()> {
-    println!(rt;
-        "  {} has {} of {} places left",
-        school.code.as_str(),
-        register.vacancies(school.code).unwrap_or(0),
-        school.pan
-    )
-}
-
-fn print_schools(rt: &impl Print, register: &Register, schools: &[School]) -> io::Result<()> {
-    for school in schools {
-        print_school(rt, register, school)?;
-    }
-    Ok(())
-}
-
-/// Prints how many rows a register has, and its schools with the places that are left.
-fn print_register(rt: &impl Print, alloc: Global, register: &Register) -> io::Result<()> {
-    let rows = register.rows(alloc)?;
-    print_counts(rt, &rows)?;
-    print_schools(rt, register, rows.schools.as_slice())
 }

@@ -5,18 +5,14 @@
 mod acts;
 mod bench;
 mod desks;
-mod disks;
-mod ends;
 mod lines;
-mod same;
-mod step;
 mod stops;
-mod streams;
+mod sweeps;
 
 use bench::Bench;
+use run_steps::Step;
 use std::alloc::Global;
 use std::io::{self, BufRead, BufReader};
-use step::Step;
 
 /// Prints a line, and below it what the step that it is comes to.
 fn take(rt: &impl Print, alloc: Global, bench: &mut Bench, line: &str) -> io::Result<()> {

@@ -1,9 +1,9 @@
 // An act over disks that stop at each of their calls in turn. Opened again, also after a loss of power,
 // they have the register before the act or the one after it.
-use crate::acts::{Act, Came, done};
-use crate::disks::Disks;
-use crate::ends::{Ends, Left};
-use crate::step::Which;
+use crate::acts::{Came, Doing};
+use adm_store::{CreateFault, OpenFault};
+use run_disks::{Disks, Ends, Left};
+use run_steps::{Act, Which};
 use std::alloc::Global;
 use std::io;
 
@@ -30,12 +30,13 @@ impl Stop {
     }
 }
 
-/// Whether an act that came so far may leave this. Done is kept; what failed was done or was not.
+/// Whether an act that came so far may leave this. Done is kept; what failed was done or was not. A disk that
+/// stops is told as Disk, and as no other fault.
 fn may_leave(came: Came, left: Left) -> bool {
     match (came, left) {
         (Came::Done, Left::After) => true,
-        (Came::NotCreated(_) | Came::Failed, Left::Before | Left::After) => true,
-        (Came::NoDatabase | Came::NotOpened(_), Left::Before) => true,
+        (Came::NotCreated(CreateFault::Disk) | Came::Failed, Left::Before | Left::After) => true,
+        (Came::NoDatabase | Came::NotOpened(OpenFault::Disk), Left::Before) => true,
         _ => false,
     }
 }
@@ -64,6 +65,18 @@ impl Counts {
     }
 }
 
+/// How far an act comes where a disk passes so many calls, and the disks after it: as they were written, and after a loss
+/// of power.
+fn came_to(
+    alloc: Global,
+    disks: &Disks,
+    act: &Act,
+    stop: (Which, u64),
+) -> io::Result<(Came, Disks, Disks)> {
+    let (came, written, synced) = disks.after_stop(alloc, stop, &Doing { act })?;
+    Ok((came.unwrap_or(Came::NoDatabase), written, synced))
+}
+
 /// What the act comes to where a disk passes so many calls.
 fn stopped(
     alloc: Global,
@@ -72,8 +85,7 @@ fn stopped(
     ends: &Ends,
     stop: (Which, u64),
 ) -> io::Result<Stop> {
-    let (came, files) = done(alloc, disks.files(alloc, Some(stop))?, act);
-    let (written, synced) = Disks::with_and_without_loss(alloc, files)?;
+    let (came, written, synced) = came_to(alloc, disks, act, stop)?;
     Ok(Stop {
         came,
         written: ends.left_on(alloc, &written)?,

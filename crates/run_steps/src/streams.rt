@@ -1,29 +1,47 @@
 // Readers and writers that stop.
-use std::io::{self, Read, Write};
+use std::io::{self, ErrorKind, Read, Write};
 
 /// How far a stream goes: it passes so many calls, each of so many bytes at most, and fails from then on.
 #[derive(Clone, Copy)]
-pub(crate) struct Limits {
-    pub(crate) calls: u64,
-    pub(crate) bytes: usize,
+pub struct Limits {
+    pub calls: usize,
+    pub bytes: usize,
+    /// Before each of these calls, and before the one that fails, so many are interrupted.
+    pub interrupts: usize,
 }
 
 /// No stop, and any number of bytes a call.
-pub(crate) const NO_LIMITS: Limits = Limits {
-    calls: u64::MAX,
+pub const NO_LIMITS: Limits = Limits {
+    calls: usize::MAX,
     bytes: usize::MAX,
+    interrupts: 0,
 };
 
 /// A stream that goes so far.
 #[derive(Drop)]
-pub(crate) struct Limited<S> {
-    pub(crate) stream: S,
-    pub(crate) limits: Limits,
+pub struct Limited<S> {
+    pub stream: S,
+    limits: Limits,
+    interrupted: usize,
 }
 
 impl<S> Limited<S> {
+    /// The stream, which goes so far from here on.
+    pub fn new(stream: S, limits: Limits) -> Self {
+        Limited {
+            stream,
+            limits,
+            interrupted: 0,
+        }
+    }
+
     /// How many bytes the next call takes.
     fn room(&mut self, len: usize) -> io::Result<usize> {
+        if self.interrupted < self.limits.interrupts {
+            self.interrupted += 1;
+            return Err(io::Error::from(ErrorKind::Interrupted));
+        }
+        self.interrupted = 0;
         if self.limits.calls == 0 {
             return Err(io::Error::other("stopped"));
         }

@@ -1,18 +1,20 @@
 // Two disks in memory, a database's and its log's. Between steps they are kept as bytes.
-use crate::desks::{NotFound, not_found, register_of};
-use crate::step::Which;
+use crate::database::done;
+use crate::found::{NotFound, found};
+use crate::work::{Opening, Text, Work};
 use adm_register::Register;
-use sqlite::Files;
+use run_steps::Which;
+use sqlite::{Error, Files};
 use sqlite_disk::{Crash, Disk, Fuse, Memory};
 use std::alloc::{AllocError, Global};
 use std::io;
 
 /// A disk in memory that passes so many calls, and then none.
-pub(crate) type Fused = Fuse<Memory>;
+type Fused = Fuse<Memory>;
 
 /// What the two disks hold.
 #[derive(Drop)]
-pub(crate) struct Disks {
+pub struct Disks {
     log: Vec<u8>,
     db: Vec<u8>,
 }
@@ -31,7 +33,7 @@ fn disk(alloc: Global, bytes: &[u8], calls: u64) -> io::Result<Fused> {
 
 impl Disks {
     /// Empty disks.
-    pub(crate) fn new(alloc: Global) -> Disks {
+    pub fn new(alloc: Global) -> Disks {
         Disks {
             log: Vec::new(alloc),
             db: Vec::new(alloc),
@@ -46,7 +48,7 @@ impl Disks {
     }
 
     /// What these files hold.
-    pub(crate) fn of(alloc: Global, files: Files<Fused>) -> Result<Disks, AllocError> {
+    fn of(alloc: Global, files: Files<Fused>) -> Result<Disks, AllocError> {
         Disks::held_by(alloc, &files)
     }
 
@@ -58,7 +60,7 @@ impl Disks {
     }
 
     /// What these files hold, and what they hold after a loss of power.
-    pub(crate) fn with_and_without_loss(
+    fn with_and_without_loss(
         alloc: Global,
         files: Files<Fused>,
     ) -> Result<(Disks, Disks), AllocError> {
@@ -68,7 +70,7 @@ impl Disks {
     }
 
     /// The same.
-    pub(crate) fn copy(&self, alloc: Global) -> Result<Disks, AllocError> {
+    pub fn copy(&self, alloc: Global) -> Result<Disks, AllocError> {
         Ok(Disks {
             log: Vec::from_slice(alloc, &self.log)?,
             db: Vec::from_slice(alloc, &self.db)?,
@@ -76,11 +78,7 @@ impl Disks {
     }
 
     /// Files that hold the same, of which one may stop after so many calls.
-    pub(crate) fn files(
-        &self,
-        alloc: Global,
-        stop: Option<(Which, u64)>,
-    ) -> io::Result<Files<Fused>> {
+    fn files(&self, alloc: Global, stop: Option<(Which, u64)>) -> io::Result<Files<Fused>> {
         let (log, db) = match stop {
             None => (u64::MAX, u64::MAX),
             Some((Which::Log, calls)) => (calls, u64::MAX),
@@ -92,20 +90,54 @@ impl Disks {
         })
     }
 
-    /// The register that an open finds on them.
-    pub(crate) fn register(&self, alloc: Global) -> io::Result<Result<Register, NotFound>> {
-        Ok(register_of(alloc, self.files(alloc, None)?))
+    /// Does a work with the database on files that hold the same, of which one may stop after so many calls.
+    /// `None`: it was not opened. Also the disks after it.
+    pub fn after<W: Work>(
+        &self,
+        alloc: Global,
+        stop: Option<(Which, u64)>,
+        work: &W,
+    ) -> io::Result<(Option<W::Came>, Disks)> {
+        let (came, files) = done(alloc, self.files(alloc, stop)?, work);
+        let disks = Disks::of(alloc, files)?;
+        Ok((came, disks))
     }
 
-    /// Why an open finds no register on them, if it finds none, and the disks after it.
-    pub(crate) fn opened(&self, alloc: Global) -> io::Result<(Option<NotFound>, Disks)> {
-        let (fault, files) = not_found(alloc, self.files(alloc, None)?);
-        let left = Disks::of(alloc, files)?;
-        Ok((fault, left))
+    /// The same, with the disks after it as they were written, and after a loss of power.
+    pub fn after_stop<W: Work>(
+        &self,
+        alloc: Global,
+        stop: (Which, u64),
+        work: &W,
+    ) -> io::Result<(Option<W::Came>, Disks, Disks)> {
+        let (came, files) = done(alloc, self.files(alloc, Some(stop))?, work);
+        let (written, synced) = Disks::with_and_without_loss(alloc, files)?;
+        Ok((came, written, synced))
+    }
+
+    /// What comes of a text that is run on the database, if it was opened, and the disks after it.
+    pub fn after_sql(
+        &self,
+        alloc: Global,
+        sql: &str,
+    ) -> io::Result<(Option<Result<(), Error>>, Disks)> {
+        self.after(alloc, None, &Text { sql })
+    }
+
+    /// What an open finds on them, and the disks after it.
+    pub fn opened(&self, alloc: Global) -> io::Result<(Result<Register, NotFound>, Disks)> {
+        let (came, disks) = self.after(alloc, None, &Opening)?;
+        Ok((found(came), disks))
+    }
+
+    /// The register that an open finds on them.
+    pub fn register(&self, alloc: Global) -> io::Result<Result<Register, NotFound>> {
+        let (found, _disks) = self.opened(alloc)?;
+        Ok(found)
     }
 
     /// Whether both disks hold the same.
-    pub(crate) fn is_same(&self, other: &Disks) -> bool {
+    pub fn is_same(&self, other: &Disks) -> bool {
         self.log.as_slice() == other.log.as_slice() && self.db.as_slice() == other.db.as_slice()
     }
 }

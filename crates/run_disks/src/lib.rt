@@ -1,0 +1,14 @@
+//! Two disks in memory, a database's and its log's: made of bytes, stopped after some calls, opened as a database and
+//! as a register, and compared with the registers before and after an act. No desk is needed for it.
+#![tactic(auto)]
+
+mod database;
+mod disks;
+mod ends;
+mod found;
+mod work;
+
+pub use disks::Disks;
+pub use ends::{Ends, Left};
+pub use found::NotFound;
+pub use work::{Work, created};
