@@ -51,6 +51,7 @@ pub fn create<S: Alter>(
     ensures ok { OnOk result (LeavesOnly (only_season season.now) (state S.Store conn.new)) }
     ensures started { OnOk result (IsStarted (state S.Store conn.new)) }
     ensures in_use { result ≡ Err CreateFault.InUse → (conn.old.schema ≢ no_schema) × (conn.new ≡ conn.old) }
+    ensures taken { conn.old.schema ≢ no_schema → result ≡ Err CreateFault.InUse }
     ensures err { OnErr result (LeavesOldOrNew season.now (state S.Store conn.old) (state S.Store conn.new)) }
 {
     if !creation::is_empty(conn.schema()) {
