@@ -1,8 +1,12 @@
 // The program: it reads the words, opens the file and runs the desk on real streams.
 #![tactic(auto)]
 
+mod ended;
+mod exit;
+mod fault;
 mod run;
 
+use sqlite::Unknown;
 use std::process::ExitCode;
 use std::{env, io};
 
@@ -18,6 +22,7 @@ fn main(rt: HostRuntime) -> io::Result<ExitCode> {
     Ok(ExitCode::from(run::run_words(
         &rt,
         words.as_slice(),
+        Unknown,
         rt.stdin(),
         rt.stdout(),
         &mut rt.stderr(),

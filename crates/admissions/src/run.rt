@@ -1,210 +1,200 @@
 // What each line of the command line does, over a reader and two writers.
-ghost use Rattle.std.specs.Prelude.{◌≡◌, false, IfOk};
+ghost use Rattle.std.specs.Prelude.{◌≡◌, false, map, IfOk};
+ghost use Rattle.sqlite_wal.specs.Files.{image_at};
 ghost use Rattle.sqlite.specs.Files.{file_state};
 ghost use Rattle.adm_store.specs.StandsFor.{IsStarted};
+ghost use Rattle.admissions.specs.Exits.{told_of, RunsWords};
+ghost use Rattle.admissions.specs.Runs.{Answers, Creates, CreatesIn, IsFound, Runs};
 
-use adm_desk::{Desk, Run, RunFault};
-use adm_store::{CreateFault, OpenFault, create};
-use adm_types::{Day, Phase, Season, SeasonFault};
-use adm_wire::Watched;
+use crate::ended::{Ended, ending};
+use crate::exit::Exit;
+use crate::fault::Fault;
+use adm_desk::Desk;
+use adm_store::create;
+use adm_types::Season;
+use adm_wire::{Input, Output, Watched};
 use adm_words::{Action, WordsFault, action, fault_text};
-use sqlite::{Connection, Error, ErrorCode, File, FileStore};
+use sqlite::{Connection, FileFrom, FileStore, Start};
+use sqlite_disk::Disk;
+use std::alloc::Global;
 use std::fs;
 use std::io::{Read, Write};
-
-/// Done.
-const DONE: u8 = 0;
-/// A fault, whose name was printed.
-const FAULT: u8 = 1;
-/// Words that ask for nothing.
-const WORDS: u8 = 2;
-/// Some line was refused, faulty or met want of memory.
-const REFUSED: u8 = 3;
-/// The store failed, and the desk answered Failed from then on.
-const FAILED: u8 = 4;
-
-/// Why a line of the command line came to nothing.
-#[derive(Clone, Copy, Debug, PartialEq, Eq)]
-enum Fault {
-    TooManyHolidays,
-    YearRange,
-    InUse,
-    NotOurs,
-    Version,
-    BadRow,
-    Disk,
-    Memory,
-    Read,
-    Write,
-}
-
-impl Fault {
-    /// The name that is printed after `fault: `.
-    fn name(self) -> &'static str {
-        match self {
-            Fault::TooManyHolidays => "TooManyHolidays",
-            Fault::YearRange => "YearRange",
-            Fault::InUse => "InUse",
-            Fault::NotOurs => "NotOurs",
-            Fault::Version => "Version",
-            Fault::BadRow => "BadRow",
-            Fault::Disk => "Disk",
-            Fault::Memory => "Memory",
-            Fault::Read => "Read",
-            Fault::Write => "Write",
-        }
-    }
-}
-
-impl From<SeasonFault> for Fault {
-    fn from(fault: SeasonFault) -> Fault {
-        match fault {
-            SeasonFault::YearRange => Fault::YearRange,
-            SeasonFault::TooManyHolidays => Fault::TooManyHolidays,
-            SeasonFault::Memory => Fault::Memory,
-        }
-    }
-}
-
-impl From<CreateFault> for Fault {
-    fn from(fault: CreateFault) -> Fault {
-        match fault {
-            CreateFault::InUse => Fault::InUse,
-            CreateFault::Disk => Fault::Disk,
-            CreateFault::Memory => Fault::Memory,
-        }
-    }
-}
-
-impl From<OpenFault> for Fault {
-    fn from(fault: OpenFault) -> Fault {
-        match fault {
-            OpenFault::NotOurs => Fault::NotOurs,
-            OpenFault::Version => Fault::Version,
-            OpenFault::BadRow => Fault::BadRow,
-            OpenFault::Disk => Fault::Disk,
-            OpenFault::Memory => Fault::Memory,
-        }
-    }
-}
-
-impl From<RunFault> for Fault {
-    fn from(fault: RunFault) -> Fault {
-        match fault {
-            RunFault::Read => Fault::Read,
-            RunFault::Write => Fault::Write,
-            RunFault::Memory => Fault::Memory,
-        }
-    }
-}
-
-impl From<Error> for Fault {
-    fn from(error: Error) -> Fault {
-        match error {
-            Error::SqliteFailure(ErrorCode::OutOfMemory) => Fault::Memory,
-            _ => Fault::Disk,
-        }
-    }
-}
 
 /// Does what the words ask for, with the program's name first, and gives the exit status:
 /// 0 done; 1 a fault, printed to `errors` as `fault: ` and its name; 2 words that ask for nothing;
 /// 3 some line was refused, faulty or met want of memory; 4 the store failed.
-pub fn run_words<I: Read + Drop, O: Write + Drop, E: Write>(
+pub fn run_words<S: Start, I: Read + Drop, O: Write + Drop, E: Write>(
     rt: &HostRuntime,
     words: &[&str],
+    start: S,
     input: I,
     output: O,
     errors: &mut E,
-) -> u8 {
-    let done = match action(rt.alloc(), words) {
-        Ok(
-            Action::Init {
+) -> u8
+    ensures { RunsWords (map (λ w. w.now) words.entry.now) result }
+{
+    match action(rt.alloc(), words) {
+        Ok(action) => run_action(rt, action, start, input, output, errors).code(),
+        Err(WordsFault::Memory) => tell(Err(Fault::Memory), errors).code(),
+        Err(fault) => refuse_words(rt, &fault, errors).code(),
+    }
+}
+
+/// Does what a line of the command line asks for.
+fn run_action<S: Start, I: Read + Drop, O: Write + Drop, E: Write>(
+    rt: &HostRuntime,
+    action: Action<'_>,
+    start: S,
+    input: I,
+    output: O,
+    errors: &mut E,
+) -> Exit {
+    let ended = match action {
+        Action::Init {
+            file,
+            phase,
+            year,
+            holidays,
+        } => match Season::new(rt.alloc(), phase, year, holidays.as_slice()) {
+            Ok(season) => init(rt, file, start, &season),
+            Err(fault) => Err(Fault::from(fault)),
+        },
+        Action::Do { file } => {
+            do_lines(
+                rt,
                 file,
-                phase,
-                year,
-                holidays,
-            },
-        ) => init(rt, file, phase, year, holidays.as_slice()),
-        Ok(Action::Do { file }) => do_lines(rt, file, input, output),
-        Err(WordsFault::Memory) => Err(Fault::Memory),
-        Err(fault) => return refuse_words(rt, &fault, errors),
-    };
-    match done {
-        Ok(status) => status,
-        Err(fault) => {
-            let _ = writeln!(errors, "fault: {}", fault.name());
-            FAULT
+                start,
+                &mut Watched::new(input),
+                &mut Watched::new(output),
+            )
         }
+    };
+    match ended {
+        Ok(ended) => tell(ending(ended), errors),
+        Err(fault) => tell(Err(fault), errors),
     }
 }
 
 /// Prints what is wrong with the words, or the help that they ask for.
-fn refuse_words<E: Write>(rt: &HostRuntime, fault: &WordsFault, errors: &mut E) -> u8 {
+fn refuse_words<E: Write>(rt: &HostRuntime, fault: &WordsFault, errors: &mut E) -> Exit
+    ensures { result ≡ Exit.Words }
+{
     if let Ok(text) = fault_text(rt.alloc(), fault) {
         let _ = errors.write_all(text.as_bytes());
     }
-    WORDS
+    Exit::Words
 }
 
-/// Creates the register of a season.
-fn init(
+/// Prints a fault. Where that fails, it is passed over.
+fn tell<E: Write>(ended: Result<Exit, Fault>, errors: &mut E) -> Exit
+    ensures { result ≡ told_of ended }
+{
+    match ended {
+        Ok(exit) => exit,
+        Err(fault) => {
+            let _ = fault.print(errors);
+            Exit::Fault
+        }
+    }
+}
+
+/// Creates the register of a season in the file.
+fn init<S: Start>(
     rt: &HostRuntime,
     file: &str,
-    phase: Phase,
-    year: u32,
-    holidays: &[Day],
-) -> Result<u8, Fault> {
-    let season = Season::new(rt.alloc(), phase, year, holidays)?;
-    let mut conn = Connection::open(rt, file)?;
-    let created = create(rt.alloc(), &mut conn, &season);
-    let closed = conn.close();
-    created?;
-    closed?;
-    Ok(DONE)
+    start: S,
+    season: &Season,
+) -> Result<Ended<FileFrom<S>>, Fault>
+    ensures { IfOk result (λ ended. Creates (image_at S.Start) season.now ended.exit ended.closed) }
+{
+    let conn = open_file(rt, file, start)?;
+    Ok(create_register(rt.alloc(), conn, season))
 }
 
-/// Opens a file that is there: an open makes no file.
-fn open_file(rt: &HostRuntime, file: &str) -> Result<Connection<FileStore<File>>, Fault>
+/// Creates the register of a season, and closes the connection, whatever comes.
+fn create_register<D: Disk + Drop>(
+    alloc: Global,
+    mut conn: Connection<FileStore<D>>,
+    season: &Season,
+) -> Ended<D>
+    requires { conn.in_transaction ≡ false }
+    ensures { CreatesIn conn season.now result.exit result.closed }
+{
+    match create(alloc, &mut conn, season) {
+        Ok(()) => Ended {
+            exit: Ok(Exit::Done),
+            closed: conn.close_files(),
+        },
+        Err(fault) => Ended {
+            exit: Err(Fault::from(fault)),
+            closed: conn.close_files(),
+        },
+    }
+}
+
+/// Opens the file, or makes it.
+fn open_file<S: Start>(
+    rt: &HostRuntime,
+    file: &str,
+    start: S,
+) -> Result<Connection<FileStore<FileFrom<S>>>, Fault>
     ensures ended { IfOk result (λ c. c.in_transaction ≡ false) }
     ensures started { IfOk result (λ c. IsStarted (file_state c)) }
+    ensures found { IfOk result (IsFound (image_at S.Start)) }
 {
-    match fs::exists(rt, file) {
-        Ok(true) => Ok(Connection::open(rt, file)?),
-        _ => Err(Fault::Disk),
+    match Connection::open_from(rt, file, false, start) {
+        Ok(conn) => Ok(conn),
+        Err((error, _left)) => Err(Fault::from(error)),
     }
 }
 
-/// Answers the lines of the input over the register in the file.
-fn do_lines<I: Read + Drop, O: Write + Drop>(
+/// Answers the lines of the input over the register in the file, which is there: an open makes no
+/// file here.
+fn do_lines<S: Start, I: Input, O: Output>(
     rt: &HostRuntime,
     file: &str,
-    input: I,
-    output: O,
-) -> Result<u8, Fault> {
-    let conn = open_file(rt, file)?;
-    let mut desk = match Desk::open(rt.alloc(), conn) {
-        Ok(desk) => desk,
-        Err((fault, conn)) => {
-            let _ = conn.close();
-            return Err(Fault::from(fault));
-        }
-    };
-    let run = desk.run_lines(&mut Watched::new(input), &mut Watched::new(output));
-    let closed = desk.into_connection().close();
-    let status = status_of(run?);
-    if status != FAILED {
-        closed?;
+    start: S,
+    input: &mut I,
+    output: &mut O,
+) -> Result<Ended<FileFrom<S>>, Fault>
+    ensures { IfOk result (λ ended. Answers (image_at S.Start)
+        (record { old = I.remaining input.old; new = I.remaining input.new; has_failed = I.has_failed input.new })
+        (record { old = O.contents output.old; new = O.contents output.new; has_failed = O.has_failed output.new })
+        ended.exit ended.closed) }
+{
+    match fs::exists(rt, file) {
+        Ok(true) => {}
+        _ => return Err(Fault::Disk),
     }
-    Ok(status)
+    let conn = open_file(rt, file, start)?;
+    match Desk::open(rt.alloc(), conn) {
+        Ok(desk) => Ok(run_desk(desk, input, output)),
+        Err((fault, conn)) => Ok(Ended {
+            exit: Err(Fault::from(fault)),
+            closed: conn.close_files(),
+        }),
+    }
 }
 
-fn status_of(run: Run) -> u8 {
-    if run.failed {
-        FAILED
-    } else if run.refused > 0 {
-        REFUSED
-    } else {
-        DONE
+/// Answers the lines of the input, and closes the connection, whatever comes.
+fn run_desk<D: Disk + Drop, I: Input, O: Output>(
+    mut desk: Desk<FileStore<D>>,
+    input: &mut I,
+    output: &mut O,
+) -> Ended<D>
+    ensures { Runs desk
+        (record { old = I.remaining input.old; new = I.remaining input.new; has_failed = I.has_failed input.new })
+        (record { old = O.contents output.old; new = O.contents output.new; has_failed = O.has_failed output.new })
+        result.exit result.closed }
+{
+    match desk.run_lines(input, output) {
+        Ok(run) => Ended {
+            exit: Ok(Exit::of(run)),
+            closed: desk.into_connection().close_files(),
+        },
+        Err(fault) => Ended {
+            exit: Err(Fault::from(fault)),
+            closed: desk.into_connection().close_files(),
+        },
     }
 }

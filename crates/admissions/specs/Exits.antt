@@ -1,0 +1,105 @@
+-- What is printed of a fault, and the exit status.
+use Rattle.std.specs.Prelude.{◌≡◌, ℕ, List, codes, nat_lt, if◌then◌else◌, Result, Ok, Err, Option, Some, None}
+use Rattle.adm_types.specs.declared.seasons.SeasonFault.{SeasonFault}
+use Rattle.adm_types.specs.declared.seasons.SeasonFault.TheVariants as season
+use Rattle.adm_words.specs.Lines.{ReadsWords}
+use Rattle.adm_words.specs.declared.actions.Action.{Action}
+use Rattle.adm_words.specs.declared.faults.WordsFault.{WordsFault}
+use Rattle.adm_words.specs.declared.faults.WordsFault.TheVariants as words
+use Rattle.adm_store.specs.declared.fault.CreateFault.{CreateFault}
+use Rattle.adm_store.specs.declared.fault.CreateFault.TheVariants as create
+use Rattle.adm_store.specs.declared.fault.OpenFault.{OpenFault}
+use Rattle.adm_store.specs.declared.fault.OpenFault.TheVariants as opened
+use Rattle.adm_desk.specs.declared.run.Run.{Run}
+use Rattle.adm_desk.specs.declared.run.RunFault.{RunFault}
+use Rattle.adm_desk.specs.declared.run.RunFault.TheVariants as run
+use Rattle.sqlite.specs.declared.error.Error.{Error}
+use Rattle.sqlite.specs.declared.error.Error.TheVariants as error
+use Rattle.sqlite.specs.declared.error.ErrorCode.TheVariants as code
+use Rattle.admissions.specs.declared.fault.Fault.{Fault}
+use Rattle.admissions.specs.declared.fault.Fault.TheVariants.{TooManyHolidays, YearRange, InUse, NotOurs, Version, BadRow, Disk, Memory, Read, Write}
+use Rattle.admissions.specs.declared.exit.Exit.{Exit}
+use Rattle.admissions.specs.declared.exit.Exit.TheVariants as exit
+
+-- `fault: `, the fault's name and LF
+abbrev pub text_of : Fault → List ℕ
+text_of TooManyHolidays = codes "fault: TooManyHolidays\n"
+text_of YearRange = codes "fault: YearRange\n"
+text_of InUse = codes "fault: InUse\n"
+text_of NotOurs = codes "fault: NotOurs\n"
+text_of Version = codes "fault: Version\n"
+text_of BadRow = codes "fault: BadRow\n"
+text_of Disk = codes "fault: Disk\n"
+text_of Memory = codes "fault: Memory\n"
+text_of Read = codes "fault: Read\n"
+text_of Write = codes "fault: Write\n"
+
+-- ---- each fault keeps its name
+
+abbrev pub of_season : SeasonFault → Fault
+of_season season.YearRange = YearRange
+of_season season.TooManyHolidays = TooManyHolidays
+of_season season.Memory = Memory
+
+abbrev pub of_create : CreateFault → Fault
+of_create create.InUse = InUse
+of_create create.Disk = Disk
+of_create create.Memory = Memory
+
+abbrev pub of_open : OpenFault → Fault
+of_open opened.NotOurs = NotOurs
+of_open opened.Version = Version
+of_open opened.BadRow = BadRow
+of_open opened.Disk = Disk
+of_open opened.Memory = Memory
+
+abbrev pub of_run : RunFault → Fault
+of_run run.Read = Read
+of_run run.Write = Write
+of_run run.Memory = Memory
+
+-- want of memory of the store; all else that it tells is of the disk
+abbrev pub of_error : Error → Fault
+of_error (error.SqliteFailure code.OutOfMemory) = Memory
+of_error _ = Disk
+
+-- ---- exits
+
+-- 4 before 3: some answer was Failed; some line was refused, faulty or met want of memory; or all were done
+abbrev pub exit_of : Run → Exit
+exit_of r = if r.failed then exit.Failed else (if nat_lt 0 r.refused then exit.Refused else exit.Done)
+
+-- a fault before all else; a close that failed is one, but after a Failed
+abbrev pub closing_of : Exit → Option Error → Result Exit Fault
+closing_of exit.Failed closed = Ok exit.Failed
+closing_of e None = Ok e
+closing_of e (Some error) = Err (of_error error)
+
+abbrev pub ending_of : Result Exit Fault → Option Error → Result Exit Fault
+ending_of (Err fault) closed = Err fault
+ending_of (Ok e) closed = closing_of e closed
+
+abbrev pub code_of : Exit → ℕ
+code_of exit.Done = 0
+code_of exit.Fault = 1
+code_of exit.Words = 2
+code_of exit.Refused = 3
+code_of exit.Failed = 4
+
+abbrev pub told_of : Result Exit Fault → Exit
+told_of (Ok e) = e
+told_of (Err fault) = exit.Fault
+
+-- why a close failed
+abbrev pub error_of : {X Y : Type 0} → Result X (Error × Y) → Option Error
+error_of (Ok files) = None
+error_of (Err e) = Some e.0
+
+-- what the words were read as, and 2 where they ask for nothing
+abbrev pub ExitsBy : Result Action WordsFault → ℕ → Type 0
+ExitsBy (Ok action) status = Unit {0}
+ExitsBy (Err words.Memory) status = status ≡ 1
+ExitsBy (Err _) status = status ≡ 2
+
+abbrev pub RunsWords : List (List ℕ) → ℕ → Type 0
+RunsWords given status = (read : Result Action WordsFault) × ReadsWords given read × ExitsBy read status

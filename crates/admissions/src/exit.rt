@@ -1,0 +1,48 @@
+// The exit status of a run.
+ghost use Rattle.std.specs.Prelude.{◌≡◌, OnOk};
+ghost use Rattle.admissions.specs.Exits.{code_of, exit_of};
+
+use adm_desk::Run;
+
+/// How the program exits.
+#[derive(Clone, Copy, Debug, PartialEq, Eq)]
+pub enum Exit {
+    /// Done.
+    Done,
+    /// A fault, whose name was printed.
+    Fault,
+    /// Words that ask for nothing.
+    Words,
+    /// Some line was refused, faulty or met want of memory.
+    Refused,
+    /// The store failed, and the desk answered Failed from then on.
+    Failed,
+}
+
+impl Exit {
+    /// The exit of a run of lines.
+    pub fn of(run: Run) -> Exit
+        ensures { result ≡ exit_of run }
+    {
+        if run.failed {
+            Exit::Failed
+        } else if run.refused > 0 {
+            Exit::Refused
+        } else {
+            Exit::Done
+        }
+    }
+
+    /// The exit status.
+    pub fn code(self) -> u8
+        ensures { result ≡ code_of self }
+    {
+        match self {
+            Exit::Done => 0,
+            Exit::Fault => 1,
+            Exit::Words => 2,
+            Exit::Refused => 3,
+            Exit::Failed => 4,
+        }
+    }
+}
