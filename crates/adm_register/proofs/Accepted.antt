@@ -30,12 +30,13 @@ use Rattle.adm_register.specs.Apply as apply
 use Rattle.adm_register.proofs.Keeps.{all_pass, len-insert_room}
 use Rattle.adm_register.proofs.Maps.{both_true, not_true, not_contains_key-removed}
 use Rattle.adm_register.proofs.Tidy.{IsTidy, tidy_none, tidy_put, tidy_cut}
-use Rattle.adm_register.proofs.Fits.{BasePut, PlacesPut}
+use Rattle.adm_register.proofs.Fits.{BasePut, PlacesPut, LeftPut}
 
 -- what a command puts fits
 pub record Fit (old : State) (change : Difference) : Type 0 where
   pub base : BasePut old change
   pub places : PlacesPut old change
+  pub left : LeftPut old change
   pub tidy : IsTidy change
 
 -- a change of places and of what ends asks nothing of the schools, the children and the applications
@@ -60,7 +61,8 @@ add_school-fit old school kept passes =
         applications = tt;
       };
       places = places_stay old (school ∷ []) [];
-      tidy = record { schools = tidy_put _ _ school; children = tidy_none _ _; applications = tidy_none _ _; places = tidy_none _ _ };
+      left = record { left = tt; places = tt };
+      tidy = record { schools = tidy_put _ _ school; children = tidy_none _ _; applications = tidy_none _ _; places = tidy_none _ _; left = tidy_none _ _ };
     }
 
 -- a child that fits is put
@@ -68,7 +70,8 @@ put_child-fit : (old : State) (child : Child) → ChildFits old.schools child.no
 put_child-fit old child fits few = record {
   base = record { schools = tt; new_schools = tt; few_schools = tt; children = (fits, tt); few_children = few; applications = tt };
   places = places_stay old [] (child ∷ []);
-  tidy = record { schools = tidy_none _ _; children = tidy_put _ _ child; applications = tidy_none _ _; places = tidy_none _ _ };
+  left = record { left = tt; places = tt };
+  tidy = record { schools = tidy_none _ _; children = tidy_put _ _ child; applications = tidy_none _ _; places = tidy_none _ _; left = tidy_none _ _ };
 }
 
 add_child-fit : (old : State) (child : Child) → KeptByChild child → first_failing (add_child.tests old child) ≡ None → Fit old (put_child child)
@@ -93,7 +96,8 @@ name_plan-fit old child school passes =
     record {
       base = base_stays old (row ∷ []) (child ∷ []);
       places = record { places = (record { own_number = refl; child = pass.0; school = pass.1.0; plan = refl; no_application = not_contains_key-removed nat_cmp_total old.applications child }, tt); unplaced = tt };
-      tidy = record { schools = tidy_none _ _; children = tidy_none _ _; applications = tidy_cut _ _ child; places = tidy_put _ _ row };
+      left = record { left = tt; places = (refl, tt) };
+      tidy = record { schools = tidy_none _ _; children = tidy_none _ _; applications = tidy_cut _ _ child; places = tidy_put _ _ row; left = tidy_none _ _ };
     }
 
 -- each place is a plan, so a child without a plan has no place
@@ -120,7 +124,8 @@ apply-fit old application since well passes =
         applications = (record { own_number = refl; child = pass.0; day = λ i. since i && by i; list_length = preferences.0; without_repeat = preferences.1; known = pass.1.1.1.1.1.0 }, tt);
       };
       places = record { places = tt; unplaced = (no_place old application.child well (not_true _ pass.1.0), tt) };
-      tidy = record { schools = tidy_none _ _; children = tidy_none _ _; applications = tidy_put _ _ application; places = tidy_none _ _ };
+      left = record { left = tt; places = tt };
+      tidy = record { schools = tidy_none _ _; children = tidy_none _ _; applications = tidy_put _ _ application; places = tidy_none _ _; left = tidy_none _ _ };
     }
 
 tests-fit : (old : State) (command : Command) → KeptByTypes command → WellFormed old → first_failing (tests_of old command) ≡ None → Fit old (change_of old command)

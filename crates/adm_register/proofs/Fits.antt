@@ -1,11 +1,11 @@
 -- What a change of rows that fit leaves is a register.
-use Rattle.std.proofs.Common.{◌≡◌, ap, sym, subst, refl, Bool, true, false, ℕ, ◌≤◌, List, [], ◌∷◌, Some, None}
-use Rattle.std.specs.Prelude.{⊤, not, is_some}
+use Rattle.std.proofs.Common.{◌≡◌, ◌∙◌, ap, sym, subst, refl, Bool, true, false, ℕ, ◌≤◌, List, [], ◌∷◌, Some, None}
+use Rattle.std.specs.Prelude.{⊤, ◌&&◌, ◌||◌, not, is_some, nat_eq, Option}
 use Rattle.std.specs.Ordering.{nat_cmp}
 use Rattle.std.specs.declared.cmp.Ordering.{Ordering}
 use Rattle.std.specs.List.{AllByRecursion}
 use Rattle.std.specs.Cmp.{nat_cmp_total}
-use Rattle.std.specs.Cmp.Lexicographic.{nat_list_cmp_total}
+use Rattle.std.specs.Cmp.Lexicographic.{nat_list_cmp_total, pointwise, bytes_decides}
 use Rattle.std.specs.FinMap.{FinMap, get, len, contains_key, nat_cmp-IsAntisymmetric}
 use Rattle.adm_types.specs.Limits.{most_schools, most_children}
 use Rattle.adm_types.specs.Seasons.{lists_end}
@@ -13,12 +13,13 @@ use Rattle.adm_types.specs.declared.rows.School.{School}
 use Rattle.adm_types.specs.declared.rows.Child.{Child}
 use Rattle.adm_types.specs.declared.rows.Application.{Application}
 use Rattle.adm_types.specs.declared.rows.PlaceRow.{PlaceRow}
+use Rattle.adm_types.specs.declared.rows.LeftPair.{LeftPair}
 use Rattle.adm_register.specs.declared.difference.Difference.{Difference}
-use Rattle.adm_register.specs.State.{State, code_cmp}
+use Rattle.adm_register.specs.State.{State, code_cmp, is_plan}
 use Rattle.adm_register.specs.Change.{put_all, cut_all, after}
 use Rattle.adm_register.specs.Extends.{Extends, KeepsSchools}
-use Rattle.adm_register.specs.WellFormed.{WellFormed, BaseFits, PlacesFit, SchoolFits, ChildFits, ApplicationFits, PlaceFits}
-use Rattle.adm_register.proofs.Maps.{code_cmp-IsAntisymmetric}
+use Rattle.adm_register.specs.WellFormed.{WellFormed, BaseFits, PlacesFit, LeftFits, SchoolFits, ChildFits, ApplicationFits, PlaceFits, LeftPairFits, is_held}
+use Rattle.adm_register.proofs.Maps.{code_cmp-IsAntisymmetric, left_cmp-total, left_cmp-IsAntisymmetric}
 use Rattle.adm_register.proofs.Puts.{Grows, put_all-grows, there_before, all_stay, AllRows-put_all, are_schools-grows}
 
 -- there are at most so many rows where one was put
@@ -39,6 +40,11 @@ pub record BasePut (old : State) (change : Difference) : Type 0 where
 pub record PlacesPut (old : State) (change : Difference) : Type 0 where
   pub places : AllByRecursion (λ (p : PlaceRow). PlaceFits (after old change).schools (after old change).children (after old change).applications p.child p) change.places
   pub unplaced : AllByRecursion (λ (a : Application). contains_key (after old change).places a.child ≡ false) change.applications
+
+-- what is put into the left pairs fits the rows after the change, and each place that is put is that of a plan, or at a school that its child has not left
+pub record LeftPut (old : State) (change : Difference) : Type 0 where
+  pub left : AllByRecursion (λ (p : LeftPair). LeftPairFits (after old change).schools (after old change).children (after old change).places p p) change.left
+  pub places : AllByRecursion (λ (p : PlaceRow). (is_plan p.place.state || not (contains_key old.left (record { child = p.child; school = p.place.school }))) ≡ true) change.places
 
 -- rows fit still where the rows that they name are there still
 ChildFits-grows : (schools new_schools : FinMap code_cmp School) → Grows schools new_schools → (number : ℕ) (child : Child) → ChildFits schools number child → ChildFits new_schools number child
@@ -131,13 +137,68 @@ module _ (old : State) (change : Difference) where
       absent true e = cc
       absent false e = refl
 
+  -- a child's place is not at a school that it had left
+  not_held : LeftFits old.schools old.children old.places old.left → LeftPut old change → (number : ℕ) (row : PlaceRow) → get new.places number ≡ Some row
+      → (school : List ℕ) → contains_key old.left (record { child = number; school = school }) ≡ true → is_held (Some row) school ≡ false
+  not_held left put = AllRows-put_all nat_cmp_total nat_cmp-IsAntisymmetric (λ (p : PlaceRow). p.child) (λ number row. (school : List ℕ) → contains_key old.left (record { child = number; school = school }) ≡ true → is_held (Some row) school ≡ false)
+      (cut_all old.places change.vacated) change.places
+      (λ number row there still school gone. was number row (there_before nat_cmp_total old.places change.vacated number row there) school gone) (each change.places put.places)
+    where
+      absent : (b : Bool) → not b ≡ true → b ≡ false
+      absent true e = cc
+      absent false e = refl
+
+      was : (number : ℕ) (row : PlaceRow) → get old.places number ≡ Some row → (school : List ℕ) → contains_key old.left (record { child = number; school = school }) ≡ true → is_held (Some row) school ≡ false
+      was number row there school gone =
+          let pair : LeftPair = record { child = number; school = school } in
+          elim (get old.left pair) as (λ o. get old.left pair ≡ o → is_some o ≡ true → is_held (Some row) school ≡ false) [
+            | None ↦ λ is some. cc
+            | Some other ↦ λ is some.
+                let fits = left pair other is in
+                let none = subst (λ (p : LeftPair). not (is_held (get old.places p.child) p.school) ≡ true) fits.own_key fits.no_place in
+                absent _ (subst (λ o. not (is_held o school) ≡ true) there none)
+          ] refl gone
+
+      new_one : (row : PlaceRow) → (is_plan row.place.state || not (contains_key old.left (record { child = row.child; school = row.place.school }))) ≡ true
+          → (school : List ℕ) → contains_key old.left (record { child = row.child; school = school }) ≡ true → is_held (Some row) school ≡ false
+      new_one row apart school gone =
+          elim (pointwise nat_eq row.place.school school) as (λ b. pointwise nat_eq row.place.school school ≡ b → (b && not (is_plan row.place.state)) ≡ false) [
+            | false ↦ λ is. refl
+            | true ↦ λ is.
+                let same = (bytes_decides row.place.school school).0 is in
+                let there = subst (λ code. contains_key old.left (record { child = row.child; school = code }) ≡ true) (sym same) gone in
+                planned (is_plan row.place.state) _ apart there
+          ] refl
+        where
+          planned : (plan left : Bool) → (plan || not left) ≡ true → left ≡ true → not plan ≡ false
+          planned true left one other = refl
+          planned false true one other = cc
+          planned false false one other = cc
+
+      each : (them : List PlaceRow) → AllByRecursion (λ (p : PlaceRow). (is_plan p.place.state || not (contains_key old.left (record { child = p.child; school = p.place.school }))) ≡ true) them
+          → AllByRecursion (λ (p : PlaceRow). (school : List ℕ) → contains_key old.left (record { child = p.child; school = school }) ≡ true → is_held (Some p) school ≡ false) them
+      each [] all = tt
+      each (row ∷ them) all = (new_one row all.0, each them all.1)
+
+  -- the left pairs fit after the change
+  left_fit : LeftFits old.schools old.children old.places old.left → LeftPut old change → LeftFits new.schools new.children new.places new.left
+  left_fit left put = AllRows-put_all left_cmp-total left_cmp-IsAntisymmetric (λ (p : LeftPair). p) (LeftPairFits new.schools new.children new.places) old.left change.left
+      (λ key pair there still.
+      let fits = left key pair there in
+      let here : contains_key old.left pair ≡ true = subst (λ k. contains_key old.left k ≡ true) (sym fits.own_key) (ap is_some there) in
+      record { own_key = fits.own_key; child = more_children pair.child fits.child; school = more_schools pair.school fits.school; no_place = free pair here (get new.places pair.child) refl }) put.left
+    where
+      free : (pair : LeftPair) → contains_key old.left pair ≡ true → (o : Option PlaceRow) → get new.places pair.child ≡ o → not (is_held (get new.places pair.child) pair.school) ≡ true
+      free pair here None is = ap (λ o. not (is_held o pair.school)) is
+      free pair here (Some row) is = ap (λ o. not (is_held o pair.school)) is ∙ ap not (not_held left put pair.child row is pair.school here)
+
   -- so the state after the change is a register
-  pub after-keeps : WellFormed old → BasePut old change → PlacesPut old change → WellFormed new
-  after-keeps well base places = record { base = base_fits well.base base; places = places_fit well.places places }
+  pub after-keeps : WellFormed old → BasePut old change → PlacesPut old change → LeftPut old change → WellFormed new
+  after-keeps well base places left = record { base = base_fits well.base base; places = places_fit well.places places; left = left_fit well.left left }
 
   -- and what every command leaves is as it was
   pub after-extends : Extends old new
-  after-extends = record { season = refl; schools = more_schools; children = more_children }
+  after-extends = record { season = refl; schools = more_schools; children = more_children; left = put_all-grows left_cmp-total (λ (p : LeftPair). p) old.left change.left }
 
   -- no school is changed where those that are put are new
   pub after-keeps_schools : BasePut old change → KeepsSchools old new

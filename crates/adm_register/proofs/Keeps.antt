@@ -8,8 +8,8 @@ use Rattle.adm_types.specs.Seasons.{SeasonFacts, IsSeason, lists_end}
 use Rattle.adm_types.specs.declared.rows.School.{School}
 use Rattle.adm_types.specs.declared.rows.Child.{Child}
 use Rattle.adm_types.specs.declared.commands.Refusal.{Refusal}
-use Rattle.adm_register.specs.State.{code_cmp, only_season}
-use Rattle.adm_register.specs.WellFormed.{WellFormed, SchoolFits, ChildFits, ApplicationFits, PlaceFits}
+use Rattle.adm_register.specs.State.{code_cmp, left_cmp, only_season}
+use Rattle.adm_register.specs.WellFormed.{WellFormed, SchoolFits, ChildFits, ApplicationFits, PlaceFits, LeftPairFits}
 use Rattle.adm_register.specs.Tests.{first_failing, AllPass}
 use Rattle.adm_register.proofs.Maps.{AllRows-empty}
 
@@ -24,6 +24,7 @@ only_season-WellFormed season is = record {
     applications_fit = AllRows-empty nat_cmp (ApplicationFits (lists_end season) empty empty);
   };
   places = AllRows-empty nat_cmp (PlaceFits empty empty empty);
+  left = AllRows-empty left_cmp (LeftPairFits empty empty empty);
 }
 
 -- where no test is the first that fails, all pass

@@ -13,6 +13,7 @@ pub mod SchoolChecks
 pub mod ChildChecks
 pub mod ApplicationChecks
 pub mod PlaceChecks
+pub mod LeftChecks
 pub mod RowsAgain
 pub mod SameLemmas
 pub mod Tidy

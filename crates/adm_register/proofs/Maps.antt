@@ -3,15 +3,34 @@ use Rattle.std.proofs.Common.{◌≡◌, ◌∙◌, ap, sym, refl, cond, Bool, t
 use Rattle.std.specs.Prelude.{Option, is_some, not, ◌&&◌}
 use Rattle.std.specs.declared.cmp.Ordering.{Ordering}
 use Rattle.std.specs.declared.cmp.Ordering.TheVariants.{Less, Equal, Greater}
-use Rattle.std.specs.Ordering.{eq_by_cmp, is_eq}
+use Rattle.std.specs.Ordering.{eq_by_cmp, is_eq, ordering_then}
 use Rattle.std.specs.List.{list_all}
-use Rattle.std.specs.Cmp.{IsTotalOrder, eq_by_cmp_equiv}
+use Rattle.std.specs.Cmp.{IsTotalOrder, eq_by_cmp_equiv, nat_cmp_total, on_total, then_total}
+use Rattle.std.specs.Cmp.Lexicographic.{nat_list_cmp_total}
 use Rattle.std.specs.FinMap.{FinMap, get, insert, remove, empty, contains_key, get-empty, get-insert, get-remove, IsAntisymmetric, nat_cmp-IsAntisymmetric, slice_cmp-IsAntisymmetric}
-use Rattle.adm_register.specs.State.{code_cmp}
+use Rattle.adm_types.specs.declared.rows.LeftPair.{LeftPair}
+use Rattle.adm_register.specs.State.{code_cmp, left_cmp}
 use Rattle.adm_register.specs.WellFormed.{AllRows}
 
 pub code_cmp-IsAntisymmetric : IsAntisymmetric code_cmp
 code_cmp-IsAntisymmetric = slice_cmp-IsAntisymmetric nat_cmp-IsAntisymmetric
+
+-- two that tie by one and then by the other tie by both
+then_first : (r s : Ordering) → ordering_then r s ≡ Equal → r ≡ Equal
+then_first Less s e = cc
+then_first Equal s e = refl
+then_first Greater s e = cc
+
+then_second : (r s : Ordering) → ordering_then r s ≡ Equal → s ≡ Equal
+then_second Less s e = cc
+then_second Equal s e = e
+then_second Greater s e = cc
+
+pub left_cmp-total : IsTotalOrder left_cmp
+left_cmp-total = then_total (on_total (λ (p : LeftPair). p.child) nat_cmp_total) (on_total (λ (p : LeftPair). p.school) nat_list_cmp_total)
+
+pub left_cmp-IsAntisymmetric : IsAntisymmetric left_cmp
+left_cmp-IsAntisymmetric x y e = λ i. record { child = nat_cmp-IsAntisymmetric x.child y.child (then_first _ _ e) i; school = code_cmp-IsAntisymmetric x.school y.school (then_second _ _ e) i }
 
 not_Some : {A : Type 0} (x : A) → None ≡ Some x → ⊥
 not_Some x e = cc

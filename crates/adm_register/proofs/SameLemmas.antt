@@ -13,9 +13,10 @@ use Rattle.adm_types.specs.declared.rows.School.{School}
 use Rattle.adm_types.specs.declared.rows.Child.{Child}
 use Rattle.adm_types.specs.declared.rows.Application.{Application}
 use Rattle.adm_types.specs.declared.rows.PlaceRow.{PlaceRow}
+use Rattle.adm_types.specs.declared.rows.LeftPair.{LeftPair}
 use Rattle.adm_types.specs.contracts.rows.CriterionPartialEq.TheImpl.{eq-value as criterion_eq}
 use Rattle.adm_types.specs.contracts.rows.PlaceStatePartialEq.TheImpl.{eq-value as state_eq}
-use Rattle.adm_table.specs.Same.{is_same_school, is_same_child, is_same_application, is_same_place, is_other}
+use Rattle.adm_table.specs.Same.{is_same_school, is_same_child, is_same_application, is_same_place, is_same_left, is_other}
 
 not_true : {A : Type 0} → false ≡ true → A
 not_true e = absurd (true≢false (sym e))
@@ -160,6 +161,11 @@ same_place = decided is_same_place
       place = record { school = (bytes_decides x.place.school y.place.school).0 school.0 i; state = (same_state x.place.state y.place.state).0 school.1 i };
     })
     (λ x i. (same_nat x.child x.child).1 refl i && ((bytes_decides x.place.school x.place.school).1 refl i && (same_state x.place.state x.place.state).1 refl i))
+
+pub same_left : (x y : LeftPair) → (is_same_left x y ≡ true) ↔ (x ≡ y)
+same_left = decided is_same_left
+    (λ x y e i. let parts = split _ _ e in record { child = (same_nat x.child y.child).0 parts.0 i; school = (bytes_decides x.school y.school).0 parts.1 i })
+    (λ x i. (same_nat x.child x.child).1 refl i && (bytes_decides x.school x.school).1 refl i)
 
 same_Some : {A : Type 0} (x y : A) → Some x ≡ Some y → x ≡ y
 same_Some x y e = cc

@@ -8,8 +8,9 @@ use Rattle.adm_types.specs.declared.rows.School.{School}
 use Rattle.adm_types.specs.declared.rows.Child.{Child}
 use Rattle.adm_types.specs.declared.rows.Application.{Application}
 use Rattle.adm_types.specs.declared.rows.PlaceRow.{PlaceRow}
+use Rattle.adm_types.specs.declared.rows.LeftPair.{LeftPair}
 use Rattle.adm_register.specs.declared.difference.Difference.{Difference}
-use Rattle.adm_register.specs.State.{code_cmp}
+use Rattle.adm_register.specs.State.{code_cmp, left_cmp}
 
 -- what is put is in the order of its keys, and so is what is cut; nothing is both put and cut
 pub record IsTidyIn {K V : Type 0} (R : K → K → Ordering) (key : V → K) (cut : List K) (put : List V) : Type 0 where
@@ -22,6 +23,7 @@ pub record IsTidy (change : Difference) : Type 0 where
   pub children : IsTidyIn nat_cmp (λ (c : Child). c.no) [] change.children
   pub applications : IsTidyIn nat_cmp (λ (a : Application). a.child) change.ended change.applications
   pub places : IsTidyIn nat_cmp (λ (p : PlaceRow). p.child) change.vacated change.places
+  pub left : IsTidyIn left_cmp (λ (p : LeftPair). p) [] change.left
 
 -- nothing is tidy, and so is one row, or one key
 module _ {K V : Type 0} (R : K → K → Ordering) (key : V → K) where

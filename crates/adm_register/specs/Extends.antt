@@ -2,13 +2,15 @@
 use Rattle.std.specs.Prelude.{◌≡◌, ℕ, List, Some, IsTrue}
 use Rattle.std.specs.FinMap.{get, contains_key}
 use Rattle.adm_types.specs.declared.rows.School.{School}
+use Rattle.adm_types.specs.declared.rows.LeftPair.{LeftPair}
 use Rattle.adm_register.specs.State.{State}
 
--- the season is the same, and each school and each child of the old register is still there
+-- the season is the same, and each school, each child and each left pair of the old register is still there
 pub record Extends (old new : State) : Type 0 where
   pub season : new.season ≡ old.season
   pub schools : (code : List ℕ) → IsTrue (contains_key old.schools code) → IsTrue (contains_key new.schools code)
   pub children : (number : ℕ) → IsTrue (contains_key old.children number) → IsTrue (contains_key new.children number)
+  pub left : (pair : LeftPair) → IsTrue (contains_key old.left pair) → IsTrue (contains_key new.left pair)
 
 -- each school of the old register is in the new one as it was
 abbrev pub KeepsSchools : State → State → Type 0

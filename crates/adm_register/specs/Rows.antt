@@ -16,6 +16,7 @@ rows_in_order s = record {
   children = values s.children;
   applications = values s.applications;
   places = values s.places;
+  left = values s.left;
 }
 
 -- these are the rows of the state, in any order
@@ -25,6 +26,7 @@ pub record AreRowsOf (rows : Rows) (s : State) : Type 0 where
   pub children : IsPermutation rows.children (values s.children)
   pub applications : IsPermutation rows.applications (values s.applications)
   pub places : IsPermutation rows.places (values s.places)
+  pub left : IsPermutation rows.left (values s.left)
 
 -- the child's place
 abbrev pub place_of : State → ℕ → Option Place

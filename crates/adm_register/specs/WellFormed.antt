@@ -1,5 +1,5 @@
 -- Which states are registers.
-use Rattle.std.specs.Prelude.{◌≡◌, ℕ, ◌≤◌, Bool, not, ◌&&◌, nat_eq, nat_lt, List, length, IsTrue, Some}
+use Rattle.std.specs.Prelude.{◌≡◌, ℕ, ◌≤◌, Bool, false, not, ◌&&◌, nat_eq, nat_lt, List, length, IsTrue, Option, Some, None}
 use Rattle.std.specs.List.{list_all}
 use Rattle.std.specs.Cmp.Lexicographic.{pointwise}
 use Rattle.std.specs.Ordering.{nat_cmp}
@@ -13,7 +13,9 @@ use Rattle.adm_types.specs.declared.rows.School.{School}
 use Rattle.adm_types.specs.declared.rows.Child.{Child}
 use Rattle.adm_types.specs.declared.rows.Application.{Application}
 use Rattle.adm_types.specs.declared.rows.PlaceRow.{PlaceRow}
-use Rattle.adm_register.specs.State.{State, code_cmp, is_plan}
+use Rattle.adm_types.specs.declared.rows.LeftPair.{LeftPair}
+use Rattle.adm_register.specs.State.{State, code_cmp, left_cmp, is_plan}
+use Rattle.adm_table.specs.Same.{is_same_left}
 
 -- P holds of each row and its key
 abbrev pub AllRows : {K V : Type 0} {R : K → K → Ordering} → (K → V → Type 0) → FinMap R V → Type 0
@@ -90,6 +92,25 @@ is_place schools children applications row =
 abbrev pub fits_place : FinMap code_cmp School → FinMap nat_cmp Child → FinMap nat_cmp Application → ℕ → PlaceRow → Bool
 fits_place schools children applications number row = nat_eq row.child number && is_place schools children applications row
 
+-- whether this is a place at the school, and not that of a plan
+abbrev pub is_held : Option PlaceRow → List ℕ → Bool
+is_held None school = false
+is_held (Some row) school = pointwise nat_eq row.place.school school && not (is_plan row.place.state)
+
+-- the child and the school are there, and the child has no place at the school that it left, but one of a plan
+pub record LeftPairFits (schools : FinMap code_cmp School) (children : FinMap nat_cmp Child) (places : FinMap nat_cmp PlaceRow) (key : LeftPair) (pair : LeftPair) : Type 0 where
+  pub own_key : pair ≡ key
+  pub child : IsTrue (contains_key children pair.child)
+  pub school : IsTrue (contains_key schools pair.school)
+  pub no_place : IsTrue (not (is_held (get places pair.child) pair.school))
+
+-- the test of all but its key
+abbrev pub is_left : FinMap code_cmp School → FinMap nat_cmp Child → FinMap nat_cmp PlaceRow → LeftPair → Bool
+is_left schools children places pair = contains_key children pair.child && contains_key schools pair.school && not (is_held (get places pair.child) pair.school)
+
+abbrev pub fits_left : FinMap code_cmp School → FinMap nat_cmp Child → FinMap nat_cmp PlaceRow → LeftPair → LeftPair → Bool
+fits_left schools children places key pair = is_same_left pair key && is_left schools children places pair
+
 -- the season and the values are in their limits, each child and school that a row names is there, and there are at most 200 schools and 2,000 children
 pub record BaseFits (season : SeasonFacts) (schools : FinMap code_cmp School) (children : FinMap nat_cmp Child) (applications : FinMap nat_cmp Application) : Type 0 where
   pub season_is : IsSeason season
@@ -103,7 +124,12 @@ pub record BaseFits (season : SeasonFacts) (schools : FinMap code_cmp School) (c
 abbrev pub PlacesFit : FinMap code_cmp School → FinMap nat_cmp Child → FinMap nat_cmp Application → FinMap nat_cmp PlaceRow → Type 0
 PlacesFit schools children applications places = AllRows (PlaceFits schools children applications) places
 
+-- each left pair fits the rows that it names
+abbrev pub LeftFits : FinMap code_cmp School → FinMap nat_cmp Child → FinMap nat_cmp PlaceRow → FinMap left_cmp LeftPair → Type 0
+LeftFits schools children places left = AllRows (LeftPairFits schools children places) left
+
 -- each group of rows fits, and what they read of the others
 pub record WellFormed (s : State) : Type 0 where
   pub base : BaseFits s.season s.schools s.children s.applications
   pub places : PlacesFit s.schools s.children s.applications s.places
+  pub left : LeftFits s.schools s.children s.places s.left

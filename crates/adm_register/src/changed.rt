@@ -28,6 +28,7 @@ impl Tables {
             places: self
                 .places
                 .with_all(alloc, change.vacated.as_slice(), change.places.as_slice())?,
+            left: self.left.with_all(alloc, &[], change.left.as_slice())?,
         })
     }
 
@@ -44,6 +45,7 @@ impl Tables {
             children,
             applications,
             places,
+            left,
             ended,
             vacated,
         } = change;
@@ -52,6 +54,7 @@ impl Tables {
             children: self.children.lacked(alloc, children)?,
             applications: self.applications.lacked(alloc, applications)?,
             places: self.places.lacked(alloc, places)?,
+            left: self.left.lacked(alloc, left)?,
             ended: self.applications.known(alloc, ended)?,
             vacated: self.places.known(alloc, vacated)?,
         })

@@ -1,20 +1,20 @@
 // Whether rows are a register's.
 ghost use Rattle.std.specs.Prelude.{◌≡◌, ◌≤◌, ◌↔◌, IsTrue};
 ghost use Rattle.std.specs.List.{list_all};
-ghost use Rattle.std.specs.FinMap.{len};
+ghost use Rattle.std.specs.FinMap.{get, len};
 ghost use Rattle.adm_types.specs.Limits.{most_schools, most_children};
 ghost use Rattle.adm_types.specs.Seasons.{lists_end};
 ghost use Rattle.adm_table.specs.Pieces.{rows_of_pieces};
 ghost use Rattle.adm_register.specs.State.{is_plan};
-ghost use Rattle.adm_register.specs.WellFormed.{AllRows, SchoolFits, ChildFits, ApplicationFits, PlaceFits, WellFormed};
-ghost use Rattle.adm_register.specs.WellFormed.{fits_school, is_school, fits_child, is_child, fits_application, is_application, fits_place, is_place};
+ghost use Rattle.adm_register.specs.WellFormed.{AllRows, SchoolFits, ChildFits, ApplicationFits, PlaceFits, LeftPairFits, WellFormed};
+ghost use Rattle.adm_register.specs.WellFormed.{fits_school, is_school, fits_child, is_child, fits_application, is_application, fits_place, is_place, fits_left, is_left, is_held};
 
 use crate::tables::Tables;
 use adm_table::{Piece, Shared};
 use adm_types::limits::{
     MOST_CHILDREN, MOST_SCHOOLS, is_child_in_range, is_name, is_school_in_range, is_without_repeat,
 };
-use adm_types::{Application, Child, ChildNo, PlaceRow, PlaceState, School, SchoolCode};
+use adm_types::{Application, Child, ChildNo, LeftPair, PlaceRow, PlaceState, School, SchoolCode};
 
 /// Whether the rows are a register's.
 pub(crate) fn is_well_formed(tables: &Tables) -> bool
@@ -26,6 +26,7 @@ pub(crate) fn is_well_formed(tables: &Tables) -> bool
         && children_fit(tables)
         && applications_fit(tables)
         && places_fit(tables)
+        && left_fit(tables)
 }
 
 /// Whether there are at most 200 schools and 2,000 children.
@@ -207,5 +208,50 @@ fn is_plan(state: &PlaceState) -> bool
     match state {
         PlaceState::Offered { .. } | PlaceState::Accepted => false,
         PlaceState::Plan => true,
+    }
+}
+
+/// Whether each left pair is of a child and a school that are there, and of none at which the child
+/// has a place.
+fn left_fit(tables: &Tables) -> bool
+    ensures { IsTrue result ↔ AllRows (LeftPairFits tables.now.schools tables.now.children tables.now.places) tables.now.left }
+{
+    all_left_fit(tables, tables.left())
+}
+
+fn all_left_fit(tables: &Tables, pieces: &[Piece<LeftPair, LeftPair>]) -> bool
+    ensures { result ≡ list_all (λ piece. list_all (λ entry. fits_left tables.now.schools tables.now.children tables.now.places entry.0 entry.1) piece.rows.value.entries) pieces.now }
+{
+    pieces.iter().all(|piece| left_of_piece_fit(tables, piece))
+}
+
+fn left_of_piece_fit(tables: &Tables, left: &Piece<LeftPair, LeftPair>) -> bool
+    ensures { result ≡ list_all (λ entry. fits_left tables.now.schools tables.now.children tables.now.places entry.0 entry.1) left.now.rows.value.entries }
+{
+    left.rows()
+        .iter()
+        .all(|(key, pair)| fits_left(tables, key, pair))
+}
+
+fn fits_left(tables: &Tables, key: &LeftPair, pair: &LeftPair) -> bool
+    ensures { result ≡ fits_left tables.now.schools tables.now.children tables.now.places key.now pair.now }
+{
+    pair == key && is_left(tables, pair)
+}
+
+/// Whether the child and the school are there, and the child has no place there but one of a plan.
+fn is_left(tables: &Tables, pair: &LeftPair) -> bool
+    ensures { result ≡ is_left tables.now.schools tables.now.children tables.now.places pair.now }
+{
+    tables.has_child(pair.child) && tables.has_school(pair.school) && !is_held(tables, pair)
+}
+
+/// Whether the child has a place at the school that is not that of a plan.
+fn is_held(tables: &Tables, pair: &LeftPair) -> bool
+    ensures { result ≡ is_held (get tables.now.places pair.now.child) pair.now.school }
+{
+    match tables.place_row(pair.child) {
+        None => false,
+        Some(row) => row.place.school == pair.school && !is_plan(&row.place.state),
     }
 }

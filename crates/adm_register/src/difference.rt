@@ -4,7 +4,8 @@ ghost use Rattle.adm_register.specs.Change.{no_change};
 
 use adm_table::Shared;
 use adm_types::{
-    Application, Child, ChildNo, Day, Place, PlaceRow, PlaceState, School, SchoolCode, Seq,
+    Application, Child, ChildNo, Day, LeftPair, Place, PlaceRow, PlaceState, School, SchoolCode,
+    Seq,
 };
 use std::alloc::{AllocError, Global};
 
@@ -16,6 +17,7 @@ pub struct Difference {
     pub children: Seq<Shared<Child>>,
     pub applications: Seq<Shared<Application>>,
     pub places: Seq<PlaceRow>,
+    pub left: Seq<LeftPair>,
     /// The children that had an application and have none.
     pub ended: Seq<ChildNo>,
     /// The children that had a place and have none.
@@ -32,6 +34,7 @@ impl Difference {
             children: Seq::new(alloc),
             applications: Seq::new(alloc),
             places: Seq::new(alloc),
+            left: Seq::new(alloc),
             ended: Seq::new(alloc),
             vacated: Seq::new(alloc),
         }

@@ -1,5 +1,5 @@
 // The rows of a register, as lists.
-use adm_types::{Application, Child, PlaceRow, School, Season, Seq};
+use adm_types::{Application, Child, LeftPair, PlaceRow, School, Season, Seq};
 
 /// The rows of a register: its season, and each table's rows.
 #[derive(Drop)]
@@ -13,4 +13,6 @@ pub struct Rows {
     pub applications: Seq<Application>,
     /// The places, by their children's numbers.
     pub places: Seq<PlaceRow>,
+    /// The schools that children left, by the child's number and then by the school's code.
+    pub left: Seq<LeftPair>,
 }

@@ -27,6 +27,7 @@ impl Tables {
             children,
             applications,
             places,
+            left,
         } = rows;
         let Some(schools) = shared_table(alloc, schools)? else {
             return Ok(None);
@@ -40,12 +41,16 @@ impl Tables {
         let Some(places) = Table::of_rows(alloc, places.into_vec())? else {
             return Ok(None);
         };
+        let Some(left) = Table::of_rows(alloc, left.into_vec())? else {
+            return Ok(None);
+        };
         Ok(Some(Tables {
             season,
             schools,
             children,
             applications,
             places,
+            left,
         }))
     }
 
@@ -59,6 +64,7 @@ impl Tables {
             children: copied_rows(alloc, &self.children)?,
             applications: copied_rows(alloc, &self.applications)?,
             places: Seq::from_vec(self.places.to_vec(alloc)?),
+            left: Seq::from_vec(self.left.to_vec(alloc)?),
         })
     }
 }

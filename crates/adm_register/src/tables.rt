@@ -7,13 +7,13 @@ ghost use Rattle.std.specs.Ordering.{nat_cmp};
 ghost use Rattle.std.specs.Cmp.Lexicographic.{pointwise};
 ghost use Rattle.adm_register.specs.Plans.{has_plan};
 ghost use Rattle.adm_register.specs.Rows.{place_of, places_at, vacancies};
-ghost use Rattle.adm_register.specs.State.{code_cmp, only_season};
+ghost use Rattle.adm_register.specs.State.{code_cmp, left_cmp, only_season};
 ghost use Rattle.adm_table.specs.Pieces.{rows_of_pieces};
 ghost use Rattle.adm_register.specs.WellFormed.{are_schools};
 
 use adm_table::{Keyed, Piece, Shared, Table};
 use adm_types::{
-    Application, Child, ChildNo, Place, PlaceRow, PlaceState, School, SchoolCode, Season,
+    Application, Child, ChildNo, LeftPair, Place, PlaceRow, PlaceState, School, SchoolCode, Season,
 };
 use std::alloc::AllocError;
 use std::marker::Model;
@@ -26,6 +26,7 @@ pub(crate) struct Tables {
     pub(crate) children: Table<ChildNo, Shared<Child>>,
     pub(crate) applications: Table<ChildNo, Shared<Application>>,
     pub(crate) places: Table<ChildNo, PlaceRow>,
+    pub(crate) left: Table<LeftPair, LeftPair>,
 }
 
 impl Model for Tables {
@@ -42,6 +43,7 @@ impl Model for Tables {
       children = from_entries r.children;
       applications = from_entries r.applications;
       places = from_entries r.places;
+      left = from_entries r.left;
     } };
 }
 
@@ -55,6 +57,7 @@ impl Tables {
             children: Table::new(),
             applications: Table::new(),
             places: Table::new(),
+            left: Table::new(),
         }
     }
 
@@ -68,6 +71,7 @@ impl Tables {
             children: self.children.share()?,
             applications: self.applications.share()?,
             places: self.places.share()?,
+            left: self.left.share()?,
         })
     }
 
@@ -95,7 +99,7 @@ impl Tables {
         self.applications.row(&number)
     }
 
-    fn place_row(&self, child: ChildNo) -> Option<&PlaceRow>
+    pub(crate) fn place_row(&self, child: ChildNo) -> Option<&PlaceRow>
         ensures { option_copied result ≡ map.get self.now.places child }
     {
         self.places.get(&child)
@@ -191,6 +195,14 @@ impl Tables {
         ensures ordered { IsStrictlySortedBy nat_cmp (keys_of (rows_of_pieces result.now)) }
     {
         self.places.pieces()
+    }
+
+    /// The left pairs in their pieces, in order.
+    pub(crate) fn left(&self) -> &[Piece<LeftPair, LeftPair>]
+        ensures rows { map.from_entries (rows_of_pieces result.now) ≡ self.now.left }
+        ensures ordered { IsStrictlySortedBy left_cmp (keys_of (rows_of_pieces result.now)) }
+    {
+        self.left.pieces()
     }
 
     /// How many places there are at the school.

@@ -39,6 +39,10 @@ pub asks_places : Asks register_schema text.select_places 5 text.place_columns t
 unfolding understood everything
 asks_places = record { names = _; command = refl; unlisted = refl; plain = (refl, refl); whole = (omega arith, refl); answered = λ db e. answered _ db e 5 text.place_columns text.by_child (λ h. absurd (let wrong = h.1 in cc)) }
 
+pub inserts_left_list : (command_of (understood register_schema text.insert_left_list) ≡ Insert 5 (Values text.left_list_terms 3)) × IsPlain (understood register_schema text.insert_left_list)
+unfolding understood everything
+inserts_left_list = (refl, (refl, refl))
+
 pub asks_left_list : Asks register_schema text.select_left_list 6 text.left_list_columns []
 unfolding understood everything
 asks_left_list = record { names = _; command = refl; unlisted = refl; plain = (refl, refl); whole = (omega arith, refl); answered = λ db e. answered _ db e 6 text.left_list_columns [] (λ h. absurd (let wrong = h.1 in cc)) }

@@ -57,6 +57,12 @@ by_child = (col 1 0, record { collation = Binary; descending = false }) ∷ []
 
 -- ---- the tables to which no command writes yet
 
+abbrev pub insert_left_list : List ℕ
+insert_left_list = codes "INSERT INTO left_list (child, school) VALUES (?1, ?2)"
+
+abbrev pub left_list_terms : List Term
+left_list_terms = lit Null ∷ col 0 0 ∷ col 0 1 ∷ []
+
 abbrev pub select_left_list : List ℕ
 select_left_list = codes "SELECT child, school FROM left_list"
 

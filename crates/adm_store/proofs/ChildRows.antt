@@ -1,4 +1,4 @@
--- Which rows are those of no child, no application and no place.
+-- Which rows are those of no child, no application, no place and no left pair.
 use Rattle.std.proofs.Common.{◌≡◌, ℕ, zero, suc, List, ◌<◌, ◌^◌, Bool, Option, true, false, [], ◌∷◌, length, Some, None, pos, nat_le, refl, sym, ap, ◌∙◌, drop, arith}
 use Rattle.std.specs.Prelude.{◌&&◌, nat_lt, nat_eq}
 use Rattle.std.specs.Option.{unwrap_or}
@@ -12,10 +12,11 @@ use Rattle.adm_types.specs.Limits.{is_on_map, is_without_repeat}
 use Rattle.adm_types.specs.declared.rows.Child.{Child}
 use Rattle.adm_types.specs.declared.rows.Application.{Application}
 use Rattle.adm_types.specs.declared.rows.PlaceRow.{PlaceRow}
+use Rattle.adm_types.specs.declared.rows.LeftPair.{LeftPair}
 use Rattle.adm_types.specs.declared.rows.PlaceState.{PlaceState}
 use Rattle.adm_types.specs.declared.rows.PlaceState.TheVariants.{Offered, Accepted, Plan}
 use Rattle.adm_register.specs.State.{is_plan}
-use Rattle.adm_store.specs.Forms.{truth_code, day_value, state_columns, child_row, application_row, place_row}
+use Rattle.adm_store.specs.Forms.{truth_code, day_value, state_columns, child_row, application_row, place_row, left_row}
 use Rattle.adm_store.specs.Faults.{IsChild, AreReadAgain, IsPlaceRow, HasPlaceColumns, is_day, is_day_or_none, are_days}
 use Rattle.adm_store.proofs.RowLemmas.{number_in, text_in}
 
@@ -116,3 +117,12 @@ has_place_columns row x fits is = go x.place.state fits.days is
 pub last_columns : (row : Row) (x : PlaceRow) (child kind : ℕ) (school : List ℕ) (day reminded : Option ℕ) → row ≡ Int (pos child) ∷ Text school ∷ Int (pos kind) ∷ day_value day ∷ day_value reminded ∷ [] → row ≡ place_row x
     → state_columns x.place.state ≡ Int (pos kind) ∷ day_value day ∷ day_value reminded ∷ []
 last_columns row x child kind school day reminded read is = ap (drop 2) (sym is ∙ read)
+
+-- ---- left pairs
+
+-- a left pair from its row
+abbrev pub left_from : Row → LeftPair
+left_from cells = record { child = number_in (column cells 0); school = text_in (column cells 1) }
+
+pub left_back : (p : LeftPair) → left_from (left_row p) ≡ p
+left_back p = refl

@@ -1,12 +1,14 @@
 -- What a transaction of the store leaves.
-use Rattle.std.proofs.Common.{◌≡◌, ◌≤◌, ◌<◌, ◌+◌, length, inl, inr, List, [], ◌∷◌, ◌++◌, map, refl, sym, ap, ◌∙◌, subst, IsTrue, true, false, Ok, Err, Result, OnOk, arith}
-use Rattle.std.proofs.lemmas.List.{map-append, length-map}
+use Rattle.std.proofs.Common.{◌≡◌, ◌≤◌, ◌<◌, ◌+◌, length, inl, inr, List, [], ◌∷◌, map, refl, sym, ap, ◌∙◌, subst, IsTrue, true, false, Ok, Err, Result, OnOk, arith}
+use Rattle.std.proofs.lemmas.List.{length-map}
 use Rattle.std.specs.List.Sorted.{IsPermutation}
-use Rattle.std.proofs.lemmas.List.Sorted.{length_permutation, IsPermutation-refl, IsPermutation-map, IsPermutation-trans, IsPermutation-append_left, IsPermutation-sym}
-use Rattle.std.specs.FinMap.{values}
+use Rattle.std.proofs.lemmas.List.Sorted.{length_permutation, IsPermutation-refl, IsPermutation-trans}
+use Rattle.std.specs.Cmp.Lexicographic.{nat_list_cmp_total}
 use Rattle.adm_types.specs.declared.rows.Child.{Child}
 use Rattle.adm_types.specs.declared.rows.Application.{Application}
 use Rattle.adm_types.specs.declared.rows.PlaceRow.{PlaceRow}
+use Rattle.adm_types.specs.declared.rows.LeftPair.{LeftPair}
+use Rattle.adm_types.specs.declared.rows.School.{School}
 use Rattle.adm_types.specs.contracts.rows.Child.{the_row as child_code}
 use Rattle.adm_types.specs.contracts.rows.Application.{the_row as application_code}
 use Rattle.adm_types.specs.contracts.rows.PlaceRow.{the_row as place_code}
@@ -29,16 +31,16 @@ use Rattle.sqlite_catalog.proofs.ReadLemmas.{lists_once}
 use Rattle.sqlite_rules.specs.Lists.{Has}
 use Rattle.sqlite.proofs.Callers.{one_permutation}
 use Rattle.adm_schema.specs.Rows.{rows_of}
-use Rattle.adm_schema.specs.Schema.{left_list, draw, offer, lot, imported, register_schema}
-use Rattle.adm_store.specs.Forms.{season_row, school_row, child_row, application_row, place_row}
+use Rattle.adm_schema.specs.Schema.{draw, offer, lot, imported, register_schema}
+use Rattle.adm_store.specs.Forms.{season_row, school_row, child_row, application_row, place_row, left_row}
 use Rattle.adm_store.specs.StandsFor.{StandsFor, HasRows, HoldsRegister, LeavesOnly, LeavesEither, written_in, written_tables}
 use Rattle.adm_store.specs.Changes.{IsStep, written_school, written_child, written_application}
 use Rattle.adm_store.specs.Writes.{Write, Leaves, Writes, after, are_keyed, count_of, key_row, writes_of}
 use Rattle.adm_store.specs.declared.rows.Changes.{Changes}
 use Rattle.adm_store.proofs.LogLemmas.{after_none, keyed_none, no_rows}
-use Rattle.adm_store.proofs.RegisterRows.{each_table}
+use Rattle.adm_store.proofs.RegisterRows.{each_table, same_code, left_total, left_same}
 use Rattle.adm_store.proofs.MapLemmas.{coded_stable}
-use Rattle.adm_store.proofs.SchoolMaps.{old_and_new}
+use Rattle.adm_store.proofs.AddedRows.{added_rows, keys_kept}
 use Rattle.adm_store.proofs.TurnLemmas.{put_over, cut_and_put}
 
 -- outside a transaction, what a connection sees of a file that stands for a register
@@ -49,17 +51,6 @@ holds_now s r before stays settled live clean is_open =
     let trees = ap (λ (d : Database). d.trees) (settled is_open) in
     let listed = subst (λ (db : Trees). Lists (db catalog_tree) register_schema) (sym trees) file.sound.lists in
     (lists_once (s.now.trees catalog_tree) s.now.schema register_schema ((live is_open).0).lists listed, subst (λ (db : Trees). HoldsRegister db r) (sym trees) file.holds)
-
--- the schools of the new register are those of the old one and the new ones
-school_rows : (old new : Register) (changes : Changes) → IsStep old new changes → (was now : List Row) → IsPermutation (map school_row (values old.schools)) was
-    → IsPermutation (was ++ map written_school changes.schools) now → IsPermutation (map school_row (values new.schools)) now
-school_rows old new changes step was now held adds =
-    let news = step.changes_are.difference.schools in
-    let more = IsPermutation-map school_row _ _ (IsPermutation-sym _ _ (old_and_new old new news step.formed step.schools step.changes_are.differs.schools)) in
-    let parts = map-append school_row (values old.schools) news in
-    let each = subst (λ xs. IsPermutation (map school_row (values new.schools)) xs) parts more in
-    let put = subst (λ xs. IsPermutation (map school_row (values new.schools)) (map school_row (values old.schools) ++ xs)) (sym step.changes_are.schools) each in
-    IsPermutation-trans _ _ _ put (IsPermutation-trans _ _ _ (IsPermutation-append_left (map written_school changes.schools) _ _ held) adds)
 
 -- a table in which nothing is written, before and after
 still_empty : (t : Table) (was now : List Row) → IsPermutation [] was → (IsTrue (are_keyed t was) → IsPermutation was now) → IsPermutation [] now
@@ -92,14 +83,17 @@ new_trees was now old new changes step held sound moves = let are = step.changes
       each = λ t listed. each_table (Becomes was now old new changes) (
         λ had turn. season_rows old.season new.season step.extends.season _ _ had turn,
         (
-          λ had turn. school_rows old new changes step _ _ had (turn refl),
+          λ had turn. added_rows nat_list_cmp_total same_code (λ (s : School). s.code) old.schools new.schools (λ k v is. (step.formed.base.schools_fit k v is).own_code) step.schools _ differs.schools school_row _ _ _ are.schools had (turn refl),
           (
             λ had turn. put_over (λ (c : Child). c.no) child_row (λ _. refl) (coded_stable child_code.coded) old.children new.children (λ k v is. (held.formed.base.children_fit k v is).own_number) (λ k v is. (step.formed.base.children_fit k v is).own_number) _ differs.children _ _ _ are.children had step.extends.children turn,
             (
               λ had turn. cut_and_put (λ (a : Application). a.child) application_row (λ _. refl) (coded_stable application_code.coded) old.applications new.applications (λ k v is. (held.formed.base.applications_fit k v is).own_number) (λ k v is. (step.formed.base.applications_fit k v is).own_number) _ differs.applications _ _ _ are.applications had changes.ended (are.ended ∙ differs.ended) turn,
               (
                 λ had turn. cut_and_put (λ (p : PlaceRow). p.child) place_row (λ _. refl) (coded_stable place_code.coded) old.places new.places (λ k v is. (held.formed.places k v is).own_number) (λ k v is. (step.formed.places k v is).own_number) _ differs.places _ _ _ (ap (map place_row) are.places) had changes.vacated (are.vacated ∙ differs.vacated) turn,
-                (still_empty left_list _ _, (still_empty draw _ _, (still_empty offer _ _, (still_empty lot _ _, (still_empty imported _ _, tt))))),
+                (
+                  λ had turn. added_rows left_total left_same (λ (p : LeftPair). p) old.left new.left (λ k v is. (step.formed.left k v is).own_key) (keys_kept old.left new.left (λ k v is. (held.formed.left k v is).own_key) (λ k v is. (step.formed.left k v is).own_key) step.extends.left) _ differs.left left_row _ _ _ (ap (map left_row) are.left) had (turn refl),
+                  (still_empty draw _ _, (still_empty offer _ _, (still_empty lot _ _, (still_empty imported _ _, tt)))),
+                ),
               ),
             ),
           ),
@@ -139,8 +133,8 @@ wrote g start begun last old new changes is stays settled live step before clean
     stands (state g begun) last old new changes step (holds early written.was_open) written
 
 -- the rows and keys of a commit, counted
-pub count_is : (c : Changes) → count_of (writes_of c) ≡ (length c.schools + length c.children + length c.applications + length c.places) + (length c.ended + length c.vacated)
-count_is c = omega (arith, length-map c.schools written_school, length-map c.children written_child, length-map c.applications written_application, length-map c.places place_row, length-map c.ended key_row, length-map c.vacated key_row)
+pub count_is : (c : Changes) → count_of (writes_of c) ≡ (length c.schools + length c.children + length c.applications + length c.places + length c.left) + (length c.ended + length c.vacated)
+count_is c = omega (arith, length-map c.schools written_school, length-map c.children written_child, length-map c.applications written_application, length-map c.places place_row, length-map c.left left_row, length-map c.ended key_row, length-map c.vacated key_row)
 
 -- a file that stands for the old register stands for the new one, where nothing changed
 pub no_change : (old new : Register) (changes : Changes) → IsStep old new changes → count_of (writes_of changes) ≡ 0 → (db : Trees) → StandsFor db old → StandsFor db new

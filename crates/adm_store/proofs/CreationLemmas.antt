@@ -14,7 +14,7 @@ use Rattle.sqlite_rules.specs.Lists.{Has}
 use Rattle.adm_types.specs.Seasons.{SeasonFacts, IsSeason}
 use Rattle.adm_types.specs.declared.rows.School.{School}
 use Rattle.adm_types.specs.declared.rows.Child.{Child}
-use Rattle.adm_register.specs.State.{only_season, code_cmp}
+use Rattle.adm_register.specs.State.{only_season, code_cmp, left_cmp}
 use Rattle.adm_register.specs.WellFormed.{WellFormed, AllRows}
 use Rattle.adm_schema.specs.Rows.{columns_of, rows_of}
 use Rattle.adm_schema.specs.Effects.{SeesNoRows}
@@ -50,11 +50,12 @@ formed_new season fits = record {
     applications_fit = none_wrong nat_cmp _;
   };
   places = none_wrong nat_cmp _;
+  left = none_wrong left_cmp _;
 }
 
 -- the rows of a register that has only its season
-only_rows : (season : SeasonFacts) → rows_in_order (only_season season) ≡ record { season = season; schools = []; children = []; applications = []; places = [] }
-only_rows season = λ k. record { season = season; schools = no_values code_cmp k; children = no_values nat_cmp k; applications = no_values nat_cmp k; places = no_values nat_cmp k }
+only_rows : (season : SeasonFacts) → rows_in_order (only_season season) ≡ record { season = season; schools = []; children = []; applications = []; places = []; left = [] }
+only_rows season = λ k. record { season = season; schools = no_values code_cmp k; children = no_values nat_cmp k; applications = no_values nat_cmp k; places = no_values nat_cmp k; left = no_values left_cmp k }
 
 pub stands_for_new : (made last : State) (season : SeasonFacts) (row : SeasonRow) → IsRowOf season row → SeesNoRows register_schema made → Leaves (write_of Adds meta written_season (row ∷ []) ∷ []) made last → StandsFor last.now.trees (only_season season)
 stands_for_new made last season row it none wrote = record {
@@ -66,14 +67,14 @@ stands_for_new made last season row it none wrote = record {
 }
   where
     -- each table was empty, and the writes are the one row
-    table : (t : Table) → Has register_schema.tables t → HasRows t (written_in (written_tables (record { season = season; schools = []; children = []; applications = []; places = [] })) t) last.now.trees
+    table : (t : Table) → Has register_schema.tables t → HasRows t (written_in (written_tables (record { season = season; schools = []; children = []; applications = []; places = []; left = [] })) t) last.now.trees
     table t listed =
         let was : rows_of t made.now.trees ≡ [] = ap (map (columns_of t)) (recursion_had (λ (t : Table). made.now.trees t.tree ≡ []) register_schema.tables t none.empty listed) in
         let moved = subst (λ rows. IsTrue (are_keyed t rows) → IsPermutation (after t (write_of Adds meta written_season (row ∷ []) ∷ []) rows) (rows_of t last.now.trees)) was (wrote.rows t listed) (keyed_none t) in
         subst (λ rows. IsPermutation rows (rows_of t last.now.trees)) (written t listed) moved
       where
-        written : (t : Table) → Has register_schema.tables t → after t (write_of Adds meta written_season (row ∷ []) ∷ []) [] ≡ written_in (written_tables (record { season = season; schools = []; children = []; applications = []; places = [] })) t
-        written = each_table (λ t. after t (write_of Adds meta written_season (row ∷ []) ∷ []) [] ≡ written_in (written_tables (record { season = season; schools = []; children = []; applications = []; places = [] })) t) (ap (λ cells. cells ∷ []) it.written, (refl, (refl, (refl, (refl, (refl, (refl, (refl, (refl, (refl, tt))))))))))
+        written : (t : Table) → Has register_schema.tables t → after t (write_of Adds meta written_season (row ∷ []) ∷ []) [] ≡ written_in (written_tables (record { season = season; schools = []; children = []; applications = []; places = []; left = [] })) t
+        written = each_table (λ t. after t (write_of Adds meta written_season (row ∷ []) ∷ []) [] ≡ written_in (written_tables (record { season = season; schools = []; children = []; applications = []; places = []; left = [] })) t) (ap (λ cells. cells ∷ []) it.written, (refl, (refl, (refl, (refl, (refl, (refl, (refl, (refl, (refl, tt))))))))))
 
 -- what the transaction of a creation leaves stands for the new register
 pub created : {S : Type 0} (g : store.Ghosts S) (start begun : Held S) (made last : State) (season : SeasonFacts) (row : SeasonRow) → IsRowOf season row → begun ≡ record start { in_transaction = true } → start.schema ≡ no_schema → IsLive (state g start)

@@ -2,7 +2,7 @@ pub mod SeasonLemmas
 pub mod SchoolLemmas
 pub mod Entries
 pub mod MapLemmas
-pub mod SchoolMaps
+pub mod AddedRows
 pub mod TurnLemmas
 pub mod LoopLemmas
 pub mod LogLemmas

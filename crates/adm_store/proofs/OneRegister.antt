@@ -12,7 +12,7 @@ use Rattle.adm_schema.specs.Schema.{meta}
 use Rattle.adm_schema.proofs.Listed.{has_meta}
 use Rattle.adm_store.specs.StandsFor.{OneRegister}
 use Rattle.adm_store.proofs.Entries.{has_value, value_at}
-use Rattle.adm_store.proofs.RegisterRows.{rows_held, read_back, season_back}
+use Rattle.adm_store.proofs.RegisterRows.{rows_held, read_back, season_back, left_total, left_same}
 
 -- maps whose rows stand at their own keys, and which have the same rows, are the same
 module _ {K V : Type 0} {R : K → K → Ordering} (total : IsTotalOrder R) (exact : IsAntisymmetric R) (key : V → K) where
@@ -39,4 +39,5 @@ one_register_lem db r s one two =
     let children = same_by_rows nat_cmp_total nat_cmp-IsAntisymmetric (λ x. x.no) r.children s.children (λ k x there. (a.base.children_fit k x there).own_number) (λ k x there. (b.base.children_fit k x there).own_number) rows.children in
     let applications = same_by_rows nat_cmp_total nat_cmp-IsAntisymmetric (λ x. x.child) r.applications s.applications (λ k x there. (a.base.applications_fit k x there).own_number) (λ k x there. (b.base.applications_fit k x there).own_number) rows.applications in
     let places = same_by_rows nat_cmp_total nat_cmp-IsAntisymmetric (λ x. x.child) r.places s.places (λ k x there. (a.places k x there).own_number) (λ k x there. (b.places k x there).own_number) rows.places in
-    λ i. record { season = season i; schools = schools i; children = children i; applications = applications i; places = places i }
+    let left = same_by_rows left_total left_same (λ x. x) r.left s.left (λ k x there. (a.left k x there).own_key) (λ k x there. (b.left k x there).own_key) rows.left in
+    λ i. record { season = season i; schools = schools i; children = children i; applications = applications i; places = places i; left = left i }

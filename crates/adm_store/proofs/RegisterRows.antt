@@ -3,7 +3,10 @@ use Rattle.std.proofs.Common.{refl, ◌≡◌, ℕ, true, List, [], ◌∷◌, m
 use Rattle.std.specs.Prelude.{◌&&◌}
 use Rattle.std.specs.List.{AllByRecursion, list_all}
 use Rattle.std.specs.List.Sorted.{IsPermutation}
-use Rattle.std.specs.Cmp.{nat_cmp_total}
+use Rattle.std.specs.Cmp.{IsTotalOrder, nat_cmp_total, on_total, then_total}
+use Rattle.std.specs.declared.cmp.Ordering.{Ordering}
+use Rattle.std.specs.declared.cmp.Ordering.TheVariants.{Less, Equal, Greater}
+use Rattle.std.specs.Ordering.{ordering_then}
 use Rattle.std.specs.Cmp.Lexicographic.{nat_list_cmp_total}
 use Rattle.std.specs.FinMap.{FinMap, values, contains_key, IsAntisymmetric, slice_cmp-IsAntisymmetric, nat_cmp-IsAntisymmetric}
 use Rattle.std.proofs.lemmas.Bool.{and_parts}
@@ -11,12 +14,12 @@ use Rattle.adm_types.specs.Code.{is_code}
 use Rattle.adm_types.specs.Limits.{is_from, is_child_number, first_day}
 use Rattle.adm_types.specs.Seasons.{SeasonFacts, IsSeason, lists_end}
 use Rattle.adm_types.specs.declared.rows.School.{School}
-use Rattle.adm_types.specs.declared.rows.PlaceRow.{PlaceRow}
-use Rattle.adm_register.specs.State.{code_cmp}
+use Rattle.adm_types.specs.declared.rows.LeftPair.{LeftPair}
+use Rattle.adm_register.specs.State.{code_cmp, left_cmp}
 use Rattle.adm_register.specs.State.{State as Register}
 use Rattle.adm_register.specs.WellFormed.{WellFormed, AllRows, SchoolFits, are_schools}
-use Rattle.adm_schema.specs.Schema.{meta, school, child, application, place, register_schema}
-use Rattle.adm_schema.proofs.Listed.{has_meta, has_school, has_child, has_application, has_place}
+use Rattle.adm_schema.specs.Schema.{meta, school, child, application, place, left_list, register_schema}
+use Rattle.adm_schema.proofs.Listed.{has_meta, has_school, has_child, has_application, has_place, has_left_list}
 use Rattle.sqlite.specs.Table.{Table}
 use Rattle.sqlite_rules.specs.Lists.{Has}
 use Rattle.std.specs.declared.convert.Infallible.{Infallible}
@@ -25,21 +28,33 @@ use Rattle.sqlite.specs.Order.{Row}
 use Rattle.sqlite.specs.Tree.{Trees}
 use Rattle.sqlite.proofs.Callers.{one_permutation}
 use Rattle.std.proofs.lemmas.List.Sorted.{IsPermutation-sym, IsPermutation-map, IsPermutation-trans}
-use Rattle.adm_store.specs.Forms.{season_row, school_row, child_row, application_row, place_row}
+use Rattle.adm_store.specs.Forms.{season_row, school_row, child_row, application_row, place_row, left_row}
 use Rattle.adm_store.specs.StandsFor.{HasRows, HoldsRows, HoldsRegister, written_in, written_tables}
 use Rattle.adm_store.specs.Reads.{Holds, AreReadBack}
 use Rattle.adm_register.specs.declared.register_rows.Rows.{Rows}
 use Rattle.adm_register.specs.Rows.{AreRowsOf, rows_in_order}
-use Rattle.adm_store.specs.Faults.{IsSchool, IsReadAgain, IsChild, IsApplication, IsPlaceRow, AreReadAgain}
+use Rattle.adm_store.specs.Faults.{IsSchool, IsReadAgain, IsChild, IsApplication, IsPlaceRow, IsLeftRow, AreReadAgain}
 use Rattle.adm_store.proofs.SeasonRows.{same_season}
 use Rattle.adm_store.proofs.RowLemmas.{values_back, recursion_had, recursion_map}
 use Rattle.adm_store.proofs.SchoolRows.{school_from, from_row, reads_again}
-use Rattle.adm_store.proofs.ChildRows.{child_from, child_back, application_from, application_back, place_from, place_back, plan_days}
+use Rattle.adm_store.proofs.ChildRows.{child_from, child_back, application_from, application_back, place_from, place_back, plan_days, left_from, left_back}
 use Rattle.adm_store.proofs.CodeLemmas.{codes_again}
 use Rattle.adm_store.proofs.MapRows.{each_value, row_there}
 
-same_code : IsAntisymmetric code_cmp
+pub same_code : IsAntisymmetric code_cmp
 same_code = slice_cmp-IsAntisymmetric nat_cmp-IsAntisymmetric
+
+-- two pairs tie where they tie by the child, and by the code
+both_tie : (r s : Ordering) → ordering_then r s ≡ Equal → (r ≡ Equal) × (s ≡ Equal)
+both_tie Less s e = cc
+both_tie Equal s e = (refl, e)
+both_tie Greater s e = cc
+
+pub left_total : IsTotalOrder left_cmp
+left_total = then_total (on_total (λ (p : LeftPair). p.child) nat_cmp_total) (on_total (λ (p : LeftPair). p.school) nat_list_cmp_total)
+
+pub left_same : IsAntisymmetric left_cmp
+left_same x y e = λ i. record { child = nat_cmp-IsAntisymmetric x.child y.child (both_tie _ _ e).0 i; school = same_code x.school y.school (both_tie _ _ e).1 i }
 
 -- the schools of a register are in their limits
 pub schools_fit : (r : Register) → WellFormed r → AllByRecursion IsSchool (values r.schools)
@@ -87,6 +102,9 @@ places_fit r formed = each_value nat_cmp_total nat_cmp-IsAntisymmetric IsPlaceRo
   days = plan_days row.place.state fits.plan;
 })
 
+pub left_fit : (r : Register) → WellFormed r → AllByRecursion IsLeftRow (values r.left)
+left_fit r formed = each_value left_total left_same IsLeftRow r.left (λ key pair is. let fits = formed.left key pair is in record { number_form = number_there r formed pair.child fits.child; code_form = code_there r.schools formed.base.schools_fit pair.school fits.school })
+
 -- ---- the rows of a file, and the register that it holds
 
 -- table by table
@@ -110,7 +128,7 @@ holds_register db r rows held are formed = record {
         λ h. moved school_row _ _ _ are.schools h,
         (
           λ h. moved child_row _ _ _ are.children h,
-          (λ h. moved application_row _ _ _ are.applications h, (λ h. moved place_row _ _ _ are.places h, (λ h. h, (λ h. h, (λ h. h, (λ h. h, (λ h. h, tt))))))),
+          (λ h. moved application_row _ _ _ are.applications h, (λ h. moved place_row _ _ _ are.places h, (λ h. moved left_row _ _ _ are.left h, (λ h. h, (λ h. h, (λ h. h, (λ h. h, tt))))))),
         ),
       ),
     ) t listed (held.each t listed);
@@ -118,7 +136,7 @@ holds_register db r rows held are formed = record {
   formed = formed;
 }
 
-no_condition : (xs : List PlaceRow) → AllByRecursion (λ _. Unit {0}) xs
+no_condition : {X : Type 0} (xs : List X) → AllByRecursion (λ _. Unit {0}) xs
 no_condition [] = tt
 no_condition (x ∷ xs) = (tt, no_condition xs)
 
@@ -129,6 +147,7 @@ rows_held db r rows file held again season = record {
   children = values_back child_row child_from (λ x. AreReadAgain x.siblings) IsChild child_back (λ x fits. codes_again x.siblings fits.codes) _ _ _ again.children (children_fit r file.formed) (held.each child has_child) (file.rows.each child has_child);
   applications = values_back application_row application_from (λ x. AreReadAgain x.list) (IsApplication (lists_end r.season)) application_back (λ x fits. codes_again x.list fits.codes) _ _ _ again.applications (applications_fit r (lists_end r.season) file.formed refl) (held.each application has_application) (file.rows.each application has_application);
   places = values_back place_row place_from (λ _. Unit {0}) IsPlaceRow (λ x _. place_back x) (λ _ _. tt) _ _ _ (no_condition rows.places) (places_fit r file.formed) (held.each place has_place) (file.rows.each place has_place);
+  left = values_back left_row left_from (λ _. Unit {0}) IsLeftRow (λ x _. left_back x) (λ _ _. tt) _ _ _ (no_condition rows.left) (left_fit r file.formed) (held.each left_list has_left_list) (file.rows.each left_list has_left_list);
 }
 
 first_row : (a b : Row) → a ∷ [] ≡ b ∷ [] → a ≡ b

@@ -1,31 +1,37 @@
 -- What the statements do on the tables whose rows are written by their keys.
-use Rattle.std.proofs.Common.{◌≡◌, ℕ, pos, Bool, true, false, ◌∷◌, [], Ok, refl, ap, ◌∙◌, ◌≤◌, arith}
+use Rattle.std.proofs.Common.{◌≡◌, ℕ, pos, Bool, true, false, List, ◌∷◌, [], Ok, refl, ap, ◌∙◌, ◌≤◌, arith}
 use Rattle.std.specs.Prelude.{Option, Some, None, if◌then◌else◌}
 use Rattle.sqlite.specs.declared.types.Value.TheVariants.{Null, Int, Text}
 use Rattle.sqlite.specs.Cast.{cast_row}
 use Rattle.sqlite.specs.Order.{Row}
 use Rattle.sqlite.specs.Rows.{mended}
+use Rattle.sqlite.specs.Edit.{next_rowid, with_rowid}
+use Rattle.sqlite.specs.Rowids.TheVariants.{Chosen}
 use Rattle.sqlite.specs.Values.{bound_value, or_null}
 use Rattle.sqlite.specs.Effect.{value_rows}
 use Rattle.sqlite_schema.specs.declared.command.Conflict.TheVariants.{Replace}
 use Rattle.adm_schema.specs.Rows.{columns_of}
 use Rattle.sqlite.specs.State.{State, HasCleanDisk, ExecutesInside}
 use Rattle.adm_types.specs.declared.rows.PlaceRow.{PlaceRow}
+use Rattle.adm_types.specs.declared.rows.LeftPair.{LeftPair}
 use Rattle.adm_types.specs.declared.rows.PlaceState.{PlaceState}
 use Rattle.adm_types.specs.declared.rows.PlaceState.TheVariants.{Offered, Accepted, Plan}
 use Rattle.sqlite_trees.specs.View.{doubt}
-use Rattle.adm_schema.specs.Schema.{child, application, place, register_schema}
+use Rattle.adm_schema.specs.Schema.{child, application, place, left_list, register_schema}
 use Rattle.adm_schema.specs.RowTexts as text
-use Rattle.adm_schema.proofs.Listed.{has_child, has_application, has_place}
+use Rattle.adm_schema.specs.Texts.{insert_left_list, left_list_terms}
+use Rattle.adm_schema.proofs.Listed.{has_child, has_application, has_place, has_left_list}
 use Rattle.adm_schema.proofs.Casts.{cast_null, cast_int}
 use Rattle.adm_schema.proofs.OneRow.{puts_row, cuts_row}
+use Rattle.adm_schema.proofs.Statements.{inserted, adds}
+use Rattle.adm_schema.proofs.Texts.{inserts_left_list}
 use Rattle.adm_schema.proofs.RowTexts.{puts_child, puts_application, puts_place, cuts_application, cuts_place}
 use Rattle.adm_store.specs.declared.rows.ChildRow.{ChildRow}
 use Rattle.adm_store.specs.declared.rows.ApplicationRow.{ApplicationRow}
 use Rattle.adm_store.specs.Changes.{written_child, written_application}
-use Rattle.adm_store.specs.Forms.{place_row, state_columns, truth_code}
-use Rattle.adm_store.specs.Writes.{Puts, Cuts, Writes, write_of, key_row}
-use Rattle.adm_store.proofs.LogLemmas.{put_one, cut_one}
+use Rattle.adm_store.specs.Forms.{place_row, left_row, state_columns, truth_code}
+use Rattle.adm_store.specs.Writes.{Adds, Puts, Cuts, Writes, write_of, key_row}
+use Rattle.adm_store.proofs.LogLemmas.{add_one, put_one, cut_one}
 
 -- a truth value as SQL has it
 pub truth_is : (b : Bool) → Int (if b then pos 1 else pos 0) ≡ Int (pos (truth_code b))
@@ -116,3 +122,13 @@ cuts_place_out old new count number later ran = cut_one place has_place old new 
     let early : HasCleanDisk old = omega (arith, later, clean) in
     let h = ran clean in
     cuts_row register_schema place 4 refl refl refl (λ _ _. refl) (λ _. refl) text.cut_place (pos number) old new count cuts_place.0 cuts_place.1 refl (sees early h.1.was_open) h)
+
+given_left : (it : LeftPair) (rows : List Row) → with_rowid Chosen rows (cast_row left_list (Null ∷ left_row it)) ≡ Int (next_rowid rows) ∷ left_row it
+given_left it rows = rw (cast_null, cast_int (pos it.child))
+
+pub adds_left : (old new : State) (count : ℕ) (it : LeftPair) → doubt old.is_clean ≤ doubt new.is_clean → (HasCleanDisk new → ExecutesInside 0 insert_left_list (left_row it) old new (Ok count)) → Writes (write_of Adds left_list left_row (it ∷ []) ∷ []) old new
+adds_left old new count it later ran = add_one left_list has_left_list old new later refl (left_row it) (λ clean sees.
+    let early : HasCleanDisk old = omega (arith, later, clean) in
+    let h = ran clean in
+    adds register_schema left_list 5 refl refl refl (λ _ _. refl) old new (Null ∷ left_row it) (left_row it) (λ rows. ap (columns_of left_list) (given_left it rows))
+    (inserted register_schema left_list 5 refl refl refl (λ _ _. refl) left_list_terms 3 insert_left_list (left_row it) (Null ∷ left_row it) old new count inserts_left_list.0 inserts_left_list.1 refl (sees early h.1.was_open) h))

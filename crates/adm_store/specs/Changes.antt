@@ -49,6 +49,7 @@ pub record IsChanges (old new : Register) (changes : Changes) : Type 0 where
   pub children : map written_child changes.children ≡ map child_row difference.children
   pub applications : map written_application changes.applications ≡ map application_row difference.applications
   pub places : changes.places ≡ difference.places
+  pub left : changes.left ≡ difference.left
   pub ended : changes.ended ≡ difference.ended
   pub vacated : changes.vacated ≡ difference.vacated
 

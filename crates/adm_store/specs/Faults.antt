@@ -10,6 +10,7 @@ use Rattle.adm_types.specs.declared.rows.School.{School}
 use Rattle.adm_types.specs.declared.rows.Child.{Child}
 use Rattle.adm_types.specs.declared.rows.Application.{Application}
 use Rattle.adm_types.specs.declared.rows.PlaceRow.{PlaceRow}
+use Rattle.adm_types.specs.declared.rows.LeftPair.{LeftPair}
 use Rattle.adm_types.specs.declared.rows.PlaceState.{PlaceState}
 use Rattle.adm_types.specs.declared.rows.PlaceState.TheVariants.{Offered, Accepted, Plan}
 use Rattle.adm_types.specs.Numbers.{last_day}
@@ -70,6 +71,11 @@ pub record IsApplication (last : ℕ) (application : Application) : Type 0 where
   pub number_form : IsTrue (is_child_number application.child)
   pub day : IsTrue (is_from first_day last application.day)
   pub codes : IsTrue (list_all is_code application.list)
+
+-- a left pair with a child's number and a code
+pub record IsLeftRow (pair : LeftPair) : Type 0 where
+  pub number_form : IsTrue (is_child_number pair.child)
+  pub code_form : IsTrue (is_code pair.school)
 
 -- a day in its range
 abbrev pub is_day : ℕ → Bool

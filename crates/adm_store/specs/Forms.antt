@@ -12,6 +12,7 @@ use Rattle.adm_types.specs.declared.rows.School.{School}
 use Rattle.adm_types.specs.declared.rows.Child.{Child}
 use Rattle.adm_types.specs.declared.rows.Application.{Application}
 use Rattle.adm_types.specs.declared.rows.PlaceRow.{PlaceRow}
+use Rattle.adm_types.specs.declared.rows.LeftPair.{LeftPair}
 use Rattle.adm_types.specs.declared.rows.PlaceState.{PlaceState}
 use Rattle.adm_types.specs.declared.rows.PlaceState.TheVariants.{Offered, Accepted, Plan}
 use Rattle.sqlite.specs.declared.types.Value.{Value}
@@ -64,6 +65,9 @@ state_columns Plan = Int (pos 3) ∷ Null ∷ Null ∷ []
 
 abbrev pub place_row : PlaceRow → Row
 place_row p = Int (pos p.child) ∷ Text p.place.school ∷ state_columns p.place.state
+
+abbrev pub left_row : LeftPair → Row
+left_row p = Int (pos p.child) ∷ Text p.school ∷ []
 
 -- ---- what such a text is read as
 

@@ -13,8 +13,8 @@ use Rattle.sqlite.specs.State.{State, HasCleanDisk}
 use Rattle.sqlite_catalog.specs.Listing.{IsSound}
 use Rattle.sqlite_rules.specs.Lists.{Has}
 use Rattle.adm_schema.specs.Rows.{rows_of}
-use Rattle.adm_schema.specs.Schema.{meta, school, child, application, place, no_schema, register_schema}
-use Rattle.adm_store.specs.Forms.{season_row, school_row, child_row, application_row, place_row}
+use Rattle.adm_schema.specs.Schema.{meta, school, child, application, place, left_list, no_schema, register_schema}
+use Rattle.adm_store.specs.Forms.{season_row, school_row, child_row, application_row, place_row, left_row}
 
 -- as after a start: on a clean disk the connection is open
 abbrev pub IsStarted : State → Type 0
@@ -32,6 +32,7 @@ written_tables rows =
     ∷ (child, map child_row rows.children)
     ∷ (application, map application_row rows.applications)
     ∷ (place, map place_row rows.places)
+    ∷ (left_list, map left_row rows.left)
     ∷ []
 
 -- what is written in a table: nothing where it is not in use

@@ -1,13 +1,12 @@
--- The tables to which no command writes yet.
+-- The tables of which the register knows nothing yet.
 use Rattle.std.specs.declared.convert.Infallible.{Infallible}
 use Rattle.sqlite.specs.Order.{Row}
 use Rattle.sqlite.specs.Table.{Table}
-use Rattle.adm_schema.specs.Schema.{left_list, draw, offer, lot, imported}
+use Rattle.adm_schema.specs.Schema.{draw, offer, lot, imported}
 use Rattle.adm_store.specs.declared.reading.unused.Unused.{Unused}
-use Rattle.adm_store.specs.declared.reading.unused.Unused.TheVariants.{LeftList, Draw, Offer, Lot, Imported}
+use Rattle.adm_store.specs.declared.reading.unused.Unused.TheVariants.{Draw, Offer, Lot, Imported}
 
 abbrev pub unused_table : Unused → Table
-unused_table LeftList = left_list
 unused_table Draw = draw
 unused_table Offer = offer
 unused_table Lot = lot

@@ -9,10 +9,10 @@ use Rattle.sqlite.specs.declared.types.Value.TheVariants.{Int}
 use Rattle.sqlite_rules.specs.Lists.{Has}
 use Rattle.adm_schema.specs.Rows.{rows_of}
 use Rattle.adm_schema.specs.Effects.{Sees, SeesDatabase, GoesOn, key_of, put_each}
-use Rattle.adm_schema.specs.Schema.{school, child, application, place, register_schema}
+use Rattle.adm_schema.specs.Schema.{school, child, application, place, left_list, register_schema}
 use Rattle.adm_store.specs.declared.rows.Changes.{Changes}
 use Rattle.adm_store.specs.Changes.{written_school, written_child, written_application}
-use Rattle.adm_store.specs.Forms.{place_row}
+use Rattle.adm_store.specs.Forms.{place_row, left_row}
 
 -- rows that are more, rows in place of those of their keys, or keys alone, of which no row is left
 pub data Kind : Type 0 where
@@ -76,4 +76,5 @@ writes_of c =
     ∷ write_of Puts application written_application c.applications
     ∷ write_of Cuts place key_row c.vacated
     ∷ write_of Puts place place_row c.places
+    ∷ write_of Adds left_list left_row c.left
     ∷ []

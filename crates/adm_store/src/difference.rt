@@ -124,6 +124,7 @@ pub fn changes(alloc: Global, difference: Difference) -> Result<Changes, AllocEr
         children: Seq::from_vec(children),
         applications: Seq::from_vec(applications),
         places: difference.places,
+        left: difference.left,
         ended: difference.ended,
         vacated: difference.vacated,
     })

@@ -7,6 +7,7 @@ mod creation;
 mod difference;
 mod fault;
 mod laws;
+mod left_list;
 mod lists;
 mod places;
 mod reading;

@@ -15,6 +15,7 @@ mod applications;
 mod children;
 mod codes;
 mod columns;
+mod left_list;
 mod places;
 mod queries;
 mod reader;
@@ -25,6 +26,7 @@ mod unused;
 use crate::OpenFault;
 use crate::reading::applications::ApplicationReader;
 use crate::reading::children::ChildReader;
+use crate::reading::left_list::LeftReader;
 use crate::reading::places::PlaceReader;
 use crate::reading::reader::Readers;
 use crate::reading::schools::SchoolReader;
@@ -52,16 +54,19 @@ fn rows_in<S: Alter>(
 {
     let last = season.lists_end();
     let unused = (Unused::Offer, (Unused::Lot, (Unused::Imported, ())));
-    let unused = (Unused::LeftList, (Unused::Draw, unused));
-    let readers = (ApplicationReader { last }, (PlaceReader, unused));
+    let readers = (LeftReader, (Unused::Draw, unused));
+    let readers = (ApplicationReader { last }, (PlaceReader, readers));
     let readers = (SchoolReader, (ChildReader, readers));
-    let (schools, (children, (applications, (places, _unused)))) = readers.read_all(alloc, tx)?;
+    let (schools, (children, (applications, (places, (left, _unused))))) = readers.read_all(
+        alloc, tx,
+    )?;
     Ok(Rows {
         season,
         schools,
         children,
         applications,
         places,
+        left,
     })
 }
 

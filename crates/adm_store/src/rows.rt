@@ -1,7 +1,7 @@
 // The rows that a commit writes, table by table.
 ghost use Rattle.std.specs.Prelude.{◌≡◌, ◌+◌, length};
 
-use adm_types::{ChildNo, Day, Phase, PlaceRow, SchoolCode, Seq, Text};
+use adm_types::{ChildNo, Day, LeftPair, Phase, PlaceRow, SchoolCode, Seq, Text};
 
 /// The number of a day, as it is written.
 pub(crate) fn number_of(day: Day) -> u32
@@ -67,6 +67,7 @@ pub struct Changes {
     pub children: Seq<ChildRow>,
     pub applications: Seq<ApplicationRow>,
     pub places: Seq<PlaceRow>,
+    pub left: Seq<LeftPair>,
     /// The children whose applications ended.
     pub ended: Seq<ChildNo>,
     /// The children whose places ended.
@@ -76,13 +77,14 @@ pub struct Changes {
 impl Changes {
     /// How many rows are written. It takes no memory.
     pub fn put(&self) -> u64
-        ensures { result ≡ length self.now.schools + length self.now.children + length self.now.applications + length self.now.places }
+        ensures { result ≡ length self.now.schools + length self.now.children + length self.now.applications + length self.now.places + length self.now.left }
     {
         let schools = self.schools.as_slice();
         let children = self.children.as_slice();
         let applications = self.applications.as_slice();
         let places = self.places.as_slice();
-        (schools.len() + children.len() + applications.len() + places.len()) as u64
+        let left = self.left.as_slice();
+        (schools.len() + children.len() + applications.len() + places.len() + left.len()) as u64
     }
 
     /// How many keys are deleted. It takes no memory.

@@ -15,6 +15,7 @@ ghost use Rattle.adm_store.specs.Writes.{count_of, writes_of, Writes};
 use crate::applications::{CutApplication, PutApplication};
 use crate::children::PutChild;
 use crate::difference::ToRow;
+use crate::left_list::AddLeft;
 use crate::places::{CutPlace, PutPlace};
 use crate::rows::Changes;
 use crate::schools::AddSchool;
@@ -173,6 +174,7 @@ fn write_rows<S: Alter>(tx: &mut Transaction<'_, S>, changes: &Changes) -> Resul
     run_each::<PutApplication, S>(tx, changes.applications.as_slice())?;
     run_each::<CutPlace, S>(tx, changes.vacated.as_slice())?;
     run_each::<PutPlace, S>(tx, changes.places.as_slice())?;
+    run_each::<AddLeft, S>(tx, changes.left.as_slice())?;
     Ok(())
 }
 

@@ -6,6 +6,7 @@ use Rattle.adm_types.specs.declared.rows.School.{School}
 use Rattle.adm_types.specs.declared.rows.Child.{Child}
 use Rattle.adm_types.specs.declared.rows.Application.{Application}
 use Rattle.adm_types.specs.declared.rows.PlaceRow.{PlaceRow}
+use Rattle.adm_types.specs.declared.rows.LeftPair.{LeftPair}
 use Rattle.adm_types.specs.contracts.rows.CriterionPartialEq.TheImpl.{eq-value as criterion_eq}
 use Rattle.adm_types.specs.contracts.rows.PlaceStatePartialEq.TheImpl.{eq-value as state_eq}
 
@@ -22,6 +23,9 @@ is_same_application x y = nat_eq x.child y.child && (nat_eq x.day y.day && point
 
 abbrev pub is_same_place : PlaceRow → PlaceRow → Bool
 is_same_place x y = nat_eq x.child y.child && (pointwise nat_eq x.place.school y.place.school && state_eq.it x.place.state y.place.state)
+
+abbrev pub is_same_left : LeftPair → LeftPair → Bool
+is_same_left x y = nat_eq x.child y.child && pointwise nat_eq x.school y.school
 
 -- whether a row is not the one that is there
 abbrev pub is_other : {V : Type 0} → (V → V → Bool) → Option V → V → Bool

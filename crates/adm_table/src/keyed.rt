@@ -1,7 +1,7 @@
 // Rows that have their keys in them, and where.
 ghost use Rattle.std.specs.Prelude.{◌≡◌};
 
-use adm_types::{Application, Child, ChildNo, PlaceRow, School, SchoolCode};
+use adm_types::{Application, Child, ChildNo, LeftPair, PlaceRow, School, SchoolCode};
 
 /// A row that has its key in it.
 pub trait Keyed<K> {
@@ -41,5 +41,13 @@ impl Keyed<ChildNo> for PlaceRow {
 
     fn key(&self) -> ChildNo {
         self.child
+    }
+}
+
+impl Keyed<LeftPair> for LeftPair {
+    ghost key = { λ pair. pair };
+
+    fn key(&self) -> LeftPair {
+        *self
     }
 }

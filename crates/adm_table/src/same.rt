@@ -1,9 +1,9 @@
 // Whether two rows are the same.
 ghost use Rattle.std.specs.Prelude.{◌≡◌, Bool};
-ghost use Rattle.adm_table.specs.Same.{is_same_school, is_same_child, is_same_application, is_same_place};
+ghost use Rattle.adm_table.specs.Same.{is_same_school, is_same_child, is_same_application, is_same_place, is_same_left};
 
 use crate::Shared;
-use adm_types::{Application, Child, PlaceRow, School};
+use adm_types::{Application, Child, LeftPair, PlaceRow, School};
 
 /// A row that can be compared with another.
 pub trait Same {
@@ -53,6 +53,14 @@ impl Same for PlaceRow {
     ghost same = { is_same_place };
 
     fn is_same(&self, other: &PlaceRow) -> bool {
+        self == other
+    }
+}
+
+impl Same for LeftPair {
+    ghost same = { is_same_left };
+
+    fn is_same(&self, other: &LeftPair) -> bool {
         self == other
     }
 }

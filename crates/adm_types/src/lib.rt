@@ -22,7 +22,9 @@ pub use days::Day;
 pub use exact::Exact;
 pub use fields::plain;
 pub use flags::{Flag, flag_bits};
-pub use rows::{Application, Child, Criterion, Place, PlaceRow, PlaceState, Point, School};
+pub use rows::{
+    Application, Child, Criterion, LeftPair, Place, PlaceRow, PlaceState, Point, School,
+};
 pub use school_code::SchoolCode;
 pub use seasons::{Phase, Season, SeasonFault};
 pub use seq::Seq;

@@ -1,4 +1,4 @@
-// The tables to which no command writes yet: a row in one of them is that of no register.
+// The tables of which the register knows nothing yet: a row in one of them is that of no register.
 ghost use Rattle.adm_store.specs.Unused.{unused_table, no_row};
 
 use crate::OpenFault;
@@ -9,11 +9,10 @@ use std::convert::Infallible;
 
 #[derive(Clone, Copy)]
 pub(super) enum Unused {
-    LeftList = 1,
-    Draw = 2,
-    Offer = 3,
-    Lot = 4,
-    Imported = 5,
+    Draw = 1,
+    Offer = 2,
+    Lot = 3,
+    Imported = 4,
 }
 
 impl Reader for Unused {
@@ -29,7 +28,6 @@ impl Reader for Unused {
 
     fn select(&self) -> &'static str {
         match self {
-            Unused::LeftList => "SELECT child, school FROM left_list",
             Unused::Draw => "SELECT draw, round, school, day FROM draw",
             Unused::Offer => "SELECT draw, child, school, fresh FROM offer",
             Unused::Lot => "SELECT draw, school, child, lot FROM lot",

@@ -3,10 +3,10 @@ use Rattle.std.proofs.lemmas.Result.{err_from_is_err_and}
 use Rattle.std.specs.FinMap.{values}
 use Rattle.sqlite.specs.Held.{state}
 use Rattle.adm_types.specs.Seasons.{lists_end}
-use Rattle.adm_schema.specs.Schema.{left_list, draw, offer, lot, imported}
+use Rattle.adm_schema.specs.Schema.{draw, offer, lot, imported}
 use Rattle.adm_schema.proofs.Listed.{has_school, has_child, has_application, has_place, has_left_list, has_draw, has_offer, has_lot, has_imported}
 use Rattle.adm_store.specs.StandsFor.{HasRows, written_in, written_tables}
-use Rattle.adm_store.proofs.RegisterRows.{each_table, none_read, schools_fit, children_fit, applications_fit, places_fit}
+use Rattle.adm_store.proofs.RegisterRows.{each_table, none_read, schools_fit, children_fit, applications_fit, places_fit, left_fit}
 use Rattle.adm_store.proofs.reading.rows_in.Goals as goal
 
 -- the tables in the order of the schema, which is that of the readers
@@ -16,7 +16,7 @@ returns-clause-ok g c clean has first =
     let it = c.in_ok-schools.ensures.ok clean has in
     let unused = it.1.1.1.1 in
     record {
-      each = each_table (λ t. HasRows t (written_in (written_tables (record { season = c.args.season; schools = c.in_ok-schools.schools; children = c.in_ok-schools.children; applications = c.in_ok-schools.applications; places = c.in_ok-schools.places })) t) db) (
+      each = each_table (λ t. HasRows t (written_in (written_tables (record { season = c.args.season; schools = c.in_ok-schools.schools; children = c.in_ok-schools.children; applications = c.in_ok-schools.applications; places = c.in_ok-schools.places; left = c.in_ok-schools.left })) t) db) (
         first,
         (
           it.0,
@@ -26,7 +26,7 @@ returns-clause-ok g c clean has first =
               it.1.1.0,
               (
                 it.1.1.1.0,
-                (none_read left_list _ db unused.0, (none_read draw _ db unused.1.0, (none_read offer _ db unused.1.1.0, (none_read lot _ db unused.1.1.1.0, (none_read imported _ db unused.1.1.1.1.0, tt))))),
+                (unused.0, (none_read draw _ db unused.1.0, (none_read offer _ db unused.1.1.0, (none_read lot _ db unused.1.1.1.0, (none_read imported _ db unused.1.1.1.1.0, tt))))),
               ),
             ),
           ),
@@ -44,8 +44,8 @@ returns-in_err-schools-clause-bad g c =
     let each = held.rows.each in
     let last = c.lists_end-last.ensures ∙ sym (ap lists_end same) in
     c.in_err-schools.ensures.bad structural
-    (values r.schools, (values r.children, (values r.applications, (values r.places, ([], ([], ([], ([], ([], tt)))))))))
-    (schools_fit r held.formed, (children_fit r held.formed, (applications_fit r _ held.formed last, (places_fit r held.formed, (tt, (tt, (tt, (tt, (tt, tt)))))))))
+    (values r.schools, (values r.children, (values r.applications, (values r.places, (values r.left, ([], ([], ([], ([], tt)))))))))
+    (schools_fit r held.formed, (children_fit r held.formed, (applications_fit r _ held.formed last, (places_fit r held.formed, (left_fit r held.formed, (tt, (tt, (tt, (tt, tt)))))))))
     clean has
     (each _ has_school, (each _ has_child, (each _ has_application, (each _ has_place, (each _ has_left_list, (each _ has_draw, (each _ has_offer, (each _ has_lot, (each _ has_imported, tt))))))))))
 

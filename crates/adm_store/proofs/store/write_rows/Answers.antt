@@ -9,4 +9,5 @@ returns-clause-writes g c =
     let applications : Ran _ _ _ = record { survives = c.run_each-4.ensures.survives; leaves = rw c.as_slice-4.ensures at c.in_ok-run_each-4.ensures.writes } in
     let vacated : Ran _ _ _ = record { survives = c.run_each-5.ensures.survives; leaves = rw c.as_slice-5.ensures at c.in_ok-run_each-5.ensures.writes } in
     let places : Ran _ _ _ = record { survives = c.run_each-6.ensures.survives; leaves = rw c.as_slice-6.ensures at c.in_ok-run_each-6.ensures.writes } in
-    (ran_then (ran_then (ran_then (ran_then (ran_then schools children) ended) applications) vacated) places).leaves
+    let left : Ran _ _ _ = record { survives = c.run_each-7.ensures.survives; leaves = rw c.as_slice-7.ensures at c.in_ok-run_each-7.ensures.writes } in
+    (ran_then (ran_then (ran_then (ran_then (ran_then (ran_then schools children) ended) applications) vacated) places) left).leaves

@@ -5,9 +5,10 @@ use Rattle.std.specs.FinMap.{from_entries, nat_cmp-IsAntisymmetric}
 use Rattle.adm_types.specs.declared.rows.Application.{Application}
 use Rattle.adm_types.specs.declared.rows.Child.{Child}
 use Rattle.adm_types.specs.declared.rows.PlaceRow.{PlaceRow}
+use Rattle.adm_types.specs.declared.rows.LeftPair.{LeftPair}
 use Rattle.adm_types.specs.declared.rows.School.{School}
 use Rattle.adm_register.specs.Change.{after, put_all, cut_all}
-use Rattle.adm_register.proofs.Maps.{code_cmp-IsAntisymmetric}
+use Rattle.adm_register.proofs.Maps.{code_cmp-IsAntisymmetric, left_cmp-total, left_cmp-IsAntisymmetric}
 use Rattle.adm_register.proofs.Puts.{changed_rows}
 use Rattle.adm_register.proofs.tables.Tables.after.Goals as goal
 
@@ -24,5 +25,7 @@ returns c =
     ∙ (λ i. put_all (λ (s : Application). s.child) (cut_all (from_entries inside.applications) (c.as_slice-3.ensures i)) (c.as_slice-4.ensures i)) ∙ ap (λ s. s.applications) was in
     let places = changed_rows nat_cmp_total nat_cmp-IsAntisymmetric (λ (s : PlaceRow). s.child) inside.places c.in_ok-with_all-4.field-0 c.as_slice-5.result.now c.as_slice-6.result.now c.in_ok-with_all-4.ensures
     ∙ (λ i. put_all (λ (s : PlaceRow). s.child) (cut_all (from_entries inside.places) (c.as_slice-5.ensures i)) (c.as_slice-6.ensures i)) ∙ ap (λ s. s.places) was in
+    let left = changed_rows left_cmp-total left_cmp-IsAntisymmetric (λ (s : LeftPair). s) inside.left c.in_ok-with_all-5.field-0 [] c.as_slice-7.result.now c.in_ok-with_all-5.ensures
+    ∙ ap (put_all (λ (s : LeftPair). s) (from_entries inside.left)) c.as_slice-7.ensures ∙ ap (λ s. s.left) was in
     let season = c.in_ok-clone.ensures.cases ∙ ap (λ s. s.season) was in
-    λ i. record { season = season i; schools = schools i; children = children i; applications = applications i; places = places i }
+    λ i. record { season = season i; schools = schools i; children = children i; applications = applications i; places = places i; left = left i }

@@ -9,11 +9,13 @@ use Rattle.std.specs.List.{IsDistinct}
 use Rattle.std.specs.Ordering.{eq_by_cmp}
 use Rattle.adm_types.specs.declared.rows.Application.{Application}
 use Rattle.adm_types.specs.declared.rows.Child.{Child}
+use Rattle.adm_types.specs.declared.rows.LeftPair.{LeftPair}
 use Rattle.adm_types.specs.declared.rows.PlaceRow.{PlaceRow}
 use Rattle.adm_types.specs.declared.rows.School.{School}
-use Rattle.adm_register.proofs.Maps.{code_cmp-IsAntisymmetric}
+use Rattle.adm_register.proofs.Maps.{code_cmp-IsAntisymmetric, left_cmp-total, left_cmp-IsAntisymmetric}
 use Rattle.adm_register.proofs.SameRows.{distinct_keys}
 use Rattle.adm_register.proofs.RowsAgain.{rows_of_table, same_as_table}
+use Rattle.adm_register.specs.State.{left_cmp}
 use Rattle.adm_register.proofs.tables.Tables.of_rows.Goals as goal
 
 pub returns-in_default-clause-repeated : goal.returns-in_default-clause-repeated
@@ -36,6 +38,11 @@ returns-in_default-4-clause-repeated c state well same =
     let repeated = rw c.in_default-4.is at c.in_ok-places.ensures.repeated in
     repeated (subst (λ rows. IsDistinct (eq_by_cmp nat_cmp) (map (λ (s : PlaceRow). s.child) rows)) (sym c.into_vec.ensures) (distinct_keys nat_cmp_total nat_cmp-IsAntisymmetric (λ (s : PlaceRow). s.child) state.places c.args.rows.places (λ key row there. (well.places key row there).own_number) same.places))
 
+pub returns-in_default-5-clause-repeated : goal.returns-in_default-5-clause-repeated
+returns-in_default-5-clause-repeated c state well same =
+    let repeated = rw c.in_default-5.is at c.in_ok-left.ensures.repeated in
+    repeated (subst (λ rows. IsDistinct (eq_by_cmp left_cmp) (map (λ (s : LeftPair). s) rows)) (sym c.into_vec-2.ensures) (distinct_keys left_cmp-total left_cmp-IsAntisymmetric (λ (s : LeftPair). s) state.left c.args.rows.left (λ key row there. (well.left key row there).own_key) same.left))
+
 pub returns-clause-made : goal.returns-clause-made
 returns-clause-made c =
     let schools = rw c.in-Some.is at c.in_ok-schools.ensures.made in
@@ -43,18 +50,23 @@ returns-clause-made c =
     let applications = rw c.in-Some-3.is at c.in_ok-applications.ensures.made in
     let listed = rw c.in-Some-4.is at c.in_ok-places.ensures.made in
     let table = c.in-Some-4.places in
-    let places = subst (λ rows. IsPermutation rows (values_of table) × (map (λ (s : PlaceRow). s.child) (values_of table) ≡ keys_of table) × IsStrictlySortedBy nat_cmp (keys_of table)) c.into_vec.ensures listed in (
+    let places = subst (λ rows. IsPermutation rows (values_of table) × (map (λ (s : PlaceRow). s.child) (values_of table) ≡ keys_of table) × IsStrictlySortedBy nat_cmp (keys_of table)) c.into_vec.ensures listed in
+    let pairs = rw c.in-Some-5.is at c.in_ok-left.ensures.made in
+    let shown = c.in-Some-5.left in
+    let left = subst (λ rows. IsPermutation rows (values_of shown) × (map (λ (s : LeftPair). s) (values_of shown) ≡ keys_of shown) × IsStrictlySortedBy left_cmp (keys_of shown)) c.into_vec-2.ensures pairs in (
       record {
         season = refl;
         schools = rows_of_table nat_list_cmp_total code_cmp-IsAntisymmetric (λ (s : School). s.code) c.args.rows.schools c.in-Some.schools schools;
         children = rows_of_table nat_cmp_total nat_cmp-IsAntisymmetric (λ (s : Child). s.no) c.args.rows.children c.in-Some-2.children children;
         applications = rows_of_table nat_cmp_total nat_cmp-IsAntisymmetric (λ (s : Application). s.child) c.args.rows.applications c.in-Some-3.applications applications;
         places = rows_of_table nat_cmp_total nat_cmp-IsAntisymmetric (λ (s : PlaceRow). s.child) c.args.rows.places c.in-Some-4.places places;
+        left = rows_of_table left_cmp-total left_cmp-IsAntisymmetric (λ (s : LeftPair). s) c.args.rows.left c.in-Some-5.left left;
       },
       λ state well same.
           let same_schools = same_as_table nat_list_cmp_total code_cmp-IsAntisymmetric (λ (s : School). s.code) c.args.rows.schools c.in-Some.schools schools state.schools (λ key row there. (well.base.schools_fit key row there).own_code) same.schools in
           let same_children = same_as_table nat_cmp_total nat_cmp-IsAntisymmetric (λ (s : Child). s.no) c.args.rows.children c.in-Some-2.children children state.children (λ key row there. (well.base.children_fit key row there).own_number) same.children in
           let same_applications = same_as_table nat_cmp_total nat_cmp-IsAntisymmetric (λ (s : Application). s.child) c.args.rows.applications c.in-Some-3.applications applications state.applications (λ key row there. (well.base.applications_fit key row there).own_number) same.applications in
           let same_places = same_as_table nat_cmp_total nat_cmp-IsAntisymmetric (λ (s : PlaceRow). s.child) c.args.rows.places c.in-Some-4.places places state.places (λ key row there. (well.places key row there).own_number) same.places in
-          λ i. record { season = sym same.season i; schools = same_schools i; children = same_children i; applications = same_applications i; places = same_places i },
+          let same_left = same_as_table left_cmp-total left_cmp-IsAntisymmetric (λ (s : LeftPair). s) c.args.rows.left c.in-Some-5.left left state.left (λ key row there. (well.left key row there).own_key) same.left in
+          λ i. record { season = sym same.season i; schools = same_schools i; children = same_children i; applications = same_applications i; places = same_places i; left = same_left i },
     )

@@ -2,6 +2,7 @@ use Rattle.std.proofs.Common.{◌∙◌, ap, sym}
 use Rattle.std.specs.Cmp.{nat_cmp_total}
 use Rattle.std.specs.Cmp.Lexicographic.{nat_list_cmp_total}
 use Rattle.std.specs.FinMap.{values}
+use Rattle.adm_register.proofs.Maps.{left_cmp-total}
 use Rattle.adm_register.proofs.TableMaps.{values_rows}
 use Rattle.adm_register.proofs.tables.Tables.rows.Goals as goal
 
@@ -13,4 +14,5 @@ returns c =
     let children = c.in_ok-copied_rows-2.ensures.rows ∙ sym (values_rows nat_cmp_total inside.children c.copied_rows-2.ensures.ordered) ∙ ap (λ s. values s.children) c.self.view_is in
     let applications = c.in_ok-copied_rows-3.ensures.rows ∙ sym (values_rows nat_cmp_total inside.applications c.copied_rows-3.ensures.ordered) ∙ ap (λ s. values s.applications) c.self.view_is in
     let places = c.from_vec.ensures ∙ c.in_ok-to_vec.ensures.rows ∙ sym (values_rows nat_cmp_total inside.places c.to_vec.ensures.ordered) ∙ ap (λ s. values s.places) c.self.view_is in
-    λ i. record { season = season i; schools = schools i; children = children i; applications = applications i; places = places i }
+    let left = c.from_vec-2.ensures ∙ c.in_ok-to_vec-2.ensures.rows ∙ sym (values_rows left_cmp-total inside.left c.to_vec-2.ensures.ordered) ∙ ap (λ s. values s.left) c.self.view_is in
+    λ i. record { season = season i; schools = schools i; children = children i; applications = applications i; places = places i; left = left i }

@@ -1,9 +1,6 @@
 use Rattle.std.proofs.Common.{refl, arith}
-use Rattle.adm_schema.proofs.Texts.{asks_left_list, asks_draws, asks_offers, asks_lots, asks_imported}
+use Rattle.adm_schema.proofs.Texts.{asks_draws, asks_offers, asks_lots, asks_imported}
 use Rattle.adm_store.proofs.reading.unused.UnusedReader.select.Goals as goal
-
-pub returns-in-LeftList : goal.returns-in-LeftList
-returns-in-LeftList c = rw c.in-LeftList.is (record { project = _; order = _; asks = asks_left_list; columns = λ _. refl; few = omega arith })
 
 pub returns-in-Draw : goal.returns-in-Draw
 returns-in-Draw c = rw c.in-Draw.is (record { project = _; order = _; asks = asks_draws; columns = λ _. refl; few = omega arith })
