@@ -2,31 +2,83 @@
 ghost use Rattle.std.specs.Prelude.{◌≡◌, ◌≤◌, ◌↔◌, IsTrue};
 ghost use Rattle.std.specs.List.{list_all};
 ghost use Rattle.std.specs.FinMap.{get, len};
+ghost use Rattle.std.specs.List.Sorted.{IsStrictlySortedBy};
+ghost use Rattle.std.specs.Map.{keys_of};
 ghost use Rattle.adm_types.specs.Limits.{most_schools, most_children};
 ghost use Rattle.adm_types.specs.Seasons.{lists_end};
-ghost use Rattle.adm_table.specs.Pieces.{rows_of_pieces};
 ghost use Rattle.adm_register.specs.State.{is_plan};
-ghost use Rattle.adm_register.specs.WellFormed.{AllRows, SchoolFits, ChildFits, ApplicationFits, PlaceFits, LeftPairFits, WellFormed};
+ghost use Rattle.adm_register.specs.WellFormed.{WellFormed};
 ghost use Rattle.adm_register.specs.WellFormed.{fits_school, is_school, fits_child, is_child, fits_application, is_application, fits_place, is_place, fits_left, is_left, is_held};
 
 use crate::tables::Tables;
-use adm_table::{Piece, Shared};
+use adm_table::{Piece, Shared, Table};
 use adm_types::limits::{
     MOST_CHILDREN, MOST_SCHOOLS, is_child_in_range, is_name, is_school_in_range, is_without_repeat,
 };
 use adm_types::{Application, Child, ChildNo, LeftPair, PlaceRow, PlaceState, School, SchoolCode};
+
+/// A row that is tested beside the other rows of its register.
+trait Checked<K> {
+    ghost use Rattle.std.specs.Prelude.{Bool};
+    ghost use Rattle.adm_register.specs.State.{State};
+
+    ghost fits: { State → K → Self → Bool };
+
+    /// Whether the row fits its key and the other rows.
+    fn fits_in(&self, tables: &Tables, key: &K) -> bool
+        ensures { result ≡ fits tables.now key.now self.now };
+}
 
 /// Whether the rows are a register's.
 pub(crate) fn is_well_formed(tables: &Tables) -> bool
     ensures { IsTrue result ↔ WellFormed tables.now }
 {
     let _year = tables.season().year();
-    are_few(tables)
-        && schools_fit(tables)
-        && children_fit(tables)
-        && applications_fit(tables)
-        && places_fit(tables)
-        && left_fit(tables)
+    all_hold(&[
+        are_few(tables),
+        all_fit(tables, &tables.schools),
+        all_fit(tables, &tables.children),
+        all_fit(tables, &tables.applications),
+        all_fit(tables, &tables.places),
+        all_fit(tables, &tables.left),
+    ])
+}
+
+fn all_hold(tests: &[bool]) -> bool
+    ensures { result ≡ list_all (λ test. test) tests.now }
+{
+    tests.iter().all(|test| *test)
+}
+
+/// Whether each row of a table fits.
+fn all_fit<K: Ord, V: Checked<K>>(tables: &Tables, rows: &Table<K, V>) -> bool
+    ensures tested { result ≡ list_all (λ entry. V.fits tables.now entry.0 entry.1) rows.now }
+    ensures ordered { IsStrictlySortedBy K.cmp (keys_of rows.now) }
+{
+    all_pieces_fit(tables, rows.pieces())
+}
+
+fn all_pieces_fit<K: Ord, V: Checked<K>>(tables: &Tables, pieces: &[Piece<K, V>]) -> bool
+    ensures { result ≡ list_all (λ piece. list_all (λ entry. V.fits tables.now entry.0 entry.1) piece.rows.value.entries) pieces.now }
+{
+    pieces.iter().all(|piece| all_of_piece_fit(tables, piece))
+}
+
+fn all_of_piece_fit<K: Ord, V: Checked<K>>(tables: &Tables, piece: &Piece<K, V>) -> bool
+    ensures { result ≡ list_all (λ entry. V.fits tables.now entry.0 entry.1) piece.now.rows.value.entries }
+{
+    piece
+        .rows()
+        .iter()
+        .all(|(key, row)| row.fits_in(tables, key))
+}
+
+impl<K, T: Checked<K>> Checked<K> for Shared<T> {
+    ghost fits = { T.Checked.fits };
+
+    fn fits_in(&self, tables: &Tables, key: &K) -> bool {
+        self.as_ref().fits_in(tables, key)
+    }
 }
 
 /// Whether there are at most 200 schools and 2,000 children.
@@ -36,32 +88,12 @@ fn are_few(tables: &Tables) -> bool
     tables.school_count() <= MOST_SCHOOLS && tables.child_count() <= MOST_CHILDREN
 }
 
-/// Whether each school is in its limits.
-fn schools_fit(tables: &Tables) -> bool
-    ensures { IsTrue result ↔ AllRows SchoolFits tables.now.schools }
-{
-    all_schools_fit(tables.schools())
-}
+impl Checked<SchoolCode> for School {
+    ghost fits = { λ _. fits_school };
 
-fn all_schools_fit(pieces: &[Piece<SchoolCode, Shared<School>>]) -> bool
-    ensures { result ≡ list_all (λ piece. list_all (λ entry. fits_school entry.0 entry.1) piece.rows.value.entries) pieces.now }
-{
-    pieces.iter().all(|piece| schools_of_piece_fit(piece))
-}
-
-fn schools_of_piece_fit(schools: &Piece<SchoolCode, Shared<School>>) -> bool
-    ensures { result ≡ list_all (λ entry. fits_school entry.0 entry.1) schools.now.rows.value.entries }
-{
-    schools
-        .rows()
-        .iter()
-        .all(|(code, school)| fits_school(code, school.as_ref()))
-}
-
-fn fits_school(code: &SchoolCode, school: &School) -> bool
-    ensures { result ≡ fits_school code.now school.now }
-{
-    school.code == *code && is_school(school)
+    fn fits_in(&self, _tables: &Tables, code: &SchoolCode) -> bool {
+        self.code == *code && is_school(self)
+    }
 }
 
 /// Whether a school's name and numbers are in their limits.
@@ -73,31 +105,12 @@ fn is_school(school: &School) -> bool
     is_name(&school.name) && is_school_in_range(school)
 }
 
-/// Whether each child is in its limits, with siblings at schools that are there.
-fn children_fit(tables: &Tables) -> bool
-    ensures { IsTrue result ↔ AllRows (ChildFits tables.now.schools) tables.now.children }
-{
-    all_children_fit(tables, tables.children())
-}
+impl Checked<ChildNo> for Child {
+    ghost fits = { λ s. fits_child s.schools };
 
-fn all_children_fit(tables: &Tables, pieces: &[Piece<ChildNo, Shared<Child>>]) -> bool
-    ensures { result ≡ list_all (λ piece. list_all (λ entry. fits_child tables.now.schools entry.0 entry.1) piece.rows.value.entries) pieces.now }
-{
-    pieces
-        .iter()
-        .all(|piece| children_of_piece_fit(tables, piece))
-}
-
-fn children_of_piece_fit(tables: &Tables, children: &Piece<ChildNo, Shared<Child>>) -> bool
-    ensures { result ≡ list_all (λ entry. fits_child tables.now.schools entry.0 entry.1) children.now.rows.value.entries }
-{
-    children.rows().iter().all(|(number, child)| fits_child(tables, number, child.as_ref()))
-}
-
-fn fits_child(tables: &Tables, number: &ChildNo, child: &Child) -> bool
-    ensures { result ≡ fits_child tables.now.schools number.now child.now }
-{
-    child.no == *number && is_child(tables, child)
+    fn fits_in(&self, tables: &Tables, number: &ChildNo) -> bool {
+        self.no == *number && is_child(tables, self)
+    }
 }
 
 /// Whether a child's name and numbers are in their limits, and its siblings' schools are there.
@@ -112,38 +125,12 @@ fn is_child(tables: &Tables, child: &Child) -> bool
         && tables.are_schools(child.siblings.as_slice())
 }
 
-/// Whether each application is in its limits, for a child and schools that are there.
-fn applications_fit(tables: &Tables) -> bool
-    ensures { IsTrue result ↔ AllRows (ApplicationFits (lists_end tables.now.season) tables.now.schools tables.now.children) tables.now.applications }
-{
-    all_applications_fit(tables, tables.applications())
-}
+impl Checked<ChildNo> for Application {
+    ghost fits = { λ s. fits_application (lists_end s.season) s.schools s.children };
 
-fn all_applications_fit(tables: &Tables, pieces: &[Piece<ChildNo, Shared<Application>>]) -> bool
-    ensures { result ≡ list_all (λ piece. list_all (λ entry. fits_application (lists_end tables.now.season) tables.now.schools tables.now.children entry.0 entry.1) piece.rows.value.entries) pieces.now }
-{
-    pieces
-        .iter()
-        .all(|piece| applications_of_piece_fit(tables, piece))
-}
-
-fn applications_of_piece_fit(
-    tables: &Tables,
-    applications: &Piece<ChildNo, Shared<Application>>,
-) -> bool
-    ensures { result ≡ list_all (λ entry. fits_application (lists_end tables.now.season) tables.now.schools tables.now.children entry.0 entry.1) applications.now.rows.value.entries }
-{
-    applications.rows().iter().all(|(number, application)| fits_application(
-        tables,
-        number,
-        application.as_ref(),
-    ))
-}
-
-fn fits_application(tables: &Tables, number: &ChildNo, application: &Application) -> bool
-    ensures { result ≡ fits_application (lists_end tables.now.season) tables.now.schools tables.now.children number.now application.now }
-{
-    application.child == *number && is_application(tables, application)
+    fn fits_in(&self, tables: &Tables, number: &ChildNo) -> bool {
+        self.child == *number && is_application(tables, self)
+    }
 }
 
 /// Whether the child is there, the day is one of the lists, and there are 1 to 6 schools that are
@@ -161,34 +148,12 @@ fn is_application(tables: &Tables, application: &Application) -> bool
         && tables.are_schools(list)
 }
 
-/// Whether each place is that of a plan, for a child and a school that are there.
-fn places_fit(tables: &Tables) -> bool
-    ensures { IsTrue result ↔ AllRows (PlaceFits tables.now.schools tables.now.children tables.now.applications) tables.now.places }
-{
-    all_places_fit(tables, tables.places())
-}
+impl Checked<ChildNo> for PlaceRow {
+    ghost fits = { λ s. fits_place s.schools s.children s.applications };
 
-fn all_places_fit(tables: &Tables, pieces: &[Piece<ChildNo, PlaceRow>]) -> bool
-    ensures { result ≡ list_all (λ piece. list_all (λ entry. fits_place tables.now.schools tables.now.children tables.now.applications entry.0 entry.1) piece.rows.value.entries) pieces.now }
-{
-    pieces
-        .iter()
-        .all(|piece| places_of_piece_fit(tables, piece))
-}
-
-fn places_of_piece_fit(tables: &Tables, places: &Piece<ChildNo, PlaceRow>) -> bool
-    ensures { result ≡ list_all (λ entry. fits_place tables.now.schools tables.now.children tables.now.applications entry.0 entry.1) places.now.rows.value.entries }
-{
-    places
-        .rows()
-        .iter()
-        .all(|(number, row)| fits_place(tables, number, row))
-}
-
-fn fits_place(tables: &Tables, number: &ChildNo, row: &PlaceRow) -> bool
-    ensures { result ≡ fits_place tables.now.schools tables.now.children tables.now.applications number.now row.now }
-{
-    row.child == *number && is_place(tables, row)
+    fn fits_in(&self, tables: &Tables, number: &ChildNo) -> bool {
+        self.child == *number && is_place(tables, self)
+    }
 }
 
 /// Whether the child and the school are there, the place is that of a plan, and the child has no
@@ -211,32 +176,12 @@ fn is_plan(state: &PlaceState) -> bool
     }
 }
 
-/// Whether each left pair is of a child and a school that are there, and of none at which the child
-/// has a place.
-fn left_fit(tables: &Tables) -> bool
-    ensures { IsTrue result ↔ AllRows (LeftPairFits tables.now.schools tables.now.children tables.now.places) tables.now.left }
-{
-    all_left_fit(tables, tables.left())
-}
+impl Checked<LeftPair> for LeftPair {
+    ghost fits = { λ s. fits_left s.schools s.children s.places };
 
-fn all_left_fit(tables: &Tables, pieces: &[Piece<LeftPair, LeftPair>]) -> bool
-    ensures { result ≡ list_all (λ piece. list_all (λ entry. fits_left tables.now.schools tables.now.children tables.now.places entry.0 entry.1) piece.rows.value.entries) pieces.now }
-{
-    pieces.iter().all(|piece| left_of_piece_fit(tables, piece))
-}
-
-fn left_of_piece_fit(tables: &Tables, left: &Piece<LeftPair, LeftPair>) -> bool
-    ensures { result ≡ list_all (λ entry. fits_left tables.now.schools tables.now.children tables.now.places entry.0 entry.1) left.now.rows.value.entries }
-{
-    left.rows()
-        .iter()
-        .all(|(key, pair)| fits_left(tables, key, pair))
-}
-
-fn fits_left(tables: &Tables, key: &LeftPair, pair: &LeftPair) -> bool
-    ensures { result ≡ fits_left tables.now.schools tables.now.children tables.now.places key.now pair.now }
-{
-    pair == key && is_left(tables, pair)
+    fn fits_in(&self, tables: &Tables, key: &LeftPair) -> bool {
+        self == key && is_left(tables, self)
+    }
 }
 
 /// Whether the child and the school are there, and the child has no place there but one of a plan.

@@ -1,14 +1,11 @@
 // The rows of a register, of which nothing is asked.
 ghost use Rattle.std.specs.Prelude.{◌≡◌, IfOk, option_copied, count_by, nat_eq};
 ghost use Rattle.std.specs.FinMap as map;
-ghost use Rattle.std.specs.Map.{keys_of, values_of};
-ghost use Rattle.std.specs.List.Sorted.{IsStrictlySortedBy};
-ghost use Rattle.std.specs.Ordering.{nat_cmp};
+ghost use Rattle.std.specs.Map.{values_of};
 ghost use Rattle.std.specs.Cmp.Lexicographic.{pointwise};
 ghost use Rattle.adm_register.specs.Plans.{has_plan};
 ghost use Rattle.adm_register.specs.Rows.{place_of, places_at, vacancies};
-ghost use Rattle.adm_register.specs.State.{code_cmp, left_cmp, only_season};
-ghost use Rattle.adm_table.specs.Pieces.{rows_of_pieces};
+ghost use Rattle.adm_register.specs.State.{only_season};
 ghost use Rattle.adm_register.specs.WellFormed.{are_schools};
 
 use adm_table::{Keyed, Piece, Shared, Table};
@@ -163,46 +160,6 @@ impl Tables {
         ensures { result ≡ map.len self.now.children }
     {
         self.children.len()
-    }
-
-    /// The schools in their pieces, in order.
-    pub(crate) fn schools(&self) -> &[Piece<SchoolCode, Shared<School>>]
-        ensures rows { map.from_entries (rows_of_pieces result.now) ≡ self.now.schools }
-        ensures ordered { IsStrictlySortedBy code_cmp (keys_of (rows_of_pieces result.now)) }
-    {
-        self.schools.pieces()
-    }
-
-    /// The children in their pieces, in order.
-    pub(crate) fn children(&self) -> &[Piece<ChildNo, Shared<Child>>]
-        ensures rows { map.from_entries (rows_of_pieces result.now) ≡ self.now.children }
-        ensures ordered { IsStrictlySortedBy nat_cmp (keys_of (rows_of_pieces result.now)) }
-    {
-        self.children.pieces()
-    }
-
-    /// The applications in their pieces, in order.
-    pub(crate) fn applications(&self) -> &[Piece<ChildNo, Shared<Application>>]
-        ensures rows { map.from_entries (rows_of_pieces result.now) ≡ self.now.applications }
-        ensures ordered { IsStrictlySortedBy nat_cmp (keys_of (rows_of_pieces result.now)) }
-    {
-        self.applications.pieces()
-    }
-
-    /// The places in their pieces, in order.
-    pub(crate) fn places(&self) -> &[Piece<ChildNo, PlaceRow>]
-        ensures rows { map.from_entries (rows_of_pieces result.now) ≡ self.now.places }
-        ensures ordered { IsStrictlySortedBy nat_cmp (keys_of (rows_of_pieces result.now)) }
-    {
-        self.places.pieces()
-    }
-
-    /// The left pairs in their pieces, in order.
-    pub(crate) fn left(&self) -> &[Piece<LeftPair, LeftPair>]
-        ensures rows { map.from_entries (rows_of_pieces result.now) ≡ self.now.left }
-        ensures ordered { IsStrictlySortedBy left_cmp (keys_of (rows_of_pieces result.now)) }
-    {
-        self.left.pieces()
     }
 
     /// How many places there are at the school.

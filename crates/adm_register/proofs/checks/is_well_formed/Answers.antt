@@ -1,38 +1,52 @@
-use Rattle.std.proofs.Common.{◌≡◌, ◌∙◌, sym, Bool, true, false, subst}
-use Rattle.adm_types.specs.Seasons.{IsSeason}
+use Rattle.std.proofs.Common.{◌∙◌, ap, sym, subst, true}
+use Rattle.std.specs.Prelude.{◌&&◌}
+use Rattle.std.specs.Cmp.{nat_cmp_total}
+use Rattle.std.specs.Cmp.Lexicographic.{nat_list_cmp_total}
+use Rattle.std.specs.FinMap.{nat_cmp-IsAntisymmetric}
+use Rattle.adm_types.specs.Seasons.{IsSeason, lists_end}
+use Rattle.adm_register.specs.WellFormed.{fits_school, SchoolFits, fits_child, ChildFits, fits_application, ApplicationFits, fits_place, PlaceFits, fits_left, LeftPairFits}
+use Rattle.adm_register.proofs.ApplicationChecks.{application_decided}
+use Rattle.adm_register.proofs.ChildChecks.{child_decided}
+use Rattle.adm_register.proofs.EachRow.{rows_decided}
+use Rattle.adm_register.proofs.LeftChecks.{left_decided}
+use Rattle.adm_register.proofs.Maps.{both_true, code_cmp-IsAntisymmetric, left_cmp-total, left_cmp-IsAntisymmetric}
+use Rattle.adm_register.proofs.PlaceChecks.{place_decided}
+use Rattle.adm_register.proofs.SchoolChecks.{school_decided}
 use Rattle.adm_register.proofs.checks.is_well_formed.Goals as goal
-use Rattle.adm_register.proofs.checks.is_well_formed.Goals.{then-are_few, else-are_few, then-schools_fit, else-schools_fit, then-children_fit, else-children_fit, then-applications_fit, else-applications_fit}
 
-not_both : {A : Type 0} (b : Bool) → b ≡ true → b ≡ false → A
-not_both b one other = cc
-
-pub returns-then-places_fit : goal.returns-then-places_fit
-returns-then-places_fit c = (
-  λ fit. elim c.if-applications_fit.branch [
-    | else-applications_fit x ↦ not_both _ c.if-places_fit.true (x.value-is ∙ x.if-applications_fit.false)
-    | then-applications_fit x ↦ elim c.if-children_fit.branch [
-      | else-children_fit w ↦ not_both _ x.if-applications_fit.true (w.value-is ∙ w.if-children_fit.false)
-      | then-children_fit w ↦ elim c.if-schools_fit.branch [
-        | else-schools_fit v ↦ not_both _ w.if-children_fit.true (v.value-is ∙ v.if-schools_fit.false)
-        | then-schools_fit v ↦ elim c.if-are_few.branch [
-          | else-are_few u ↦ not_both _ v.if-schools_fit.true (u.value-is ∙ u.if-are_few.false)
-          | then-are_few u ↦
-              let few = c.are_few.ensures.0 u.if-are_few.true in
-              record {
-                base = record {
-                  season_is = subst IsSeason c.season.ensures c.year-year.ensures.season;
-                  few_schools = few.0;
-                  schools_fit = u.schools_fit.ensures.0 (sym u.value-is ∙ v.if-schools_fit.true);
-                  few_children = few.1;
-                  children_fit = v.children_fit.ensures.0 (sym v.value-is ∙ w.if-children_fit.true);
-                  applications_fit = w.applications_fit.ensures.0 (sym w.value-is ∙ x.if-applications_fit.true);
-                };
-                places = x.places_fit.ensures.0 (sym x.value-is ∙ c.if-places_fit.true);
-                left = c.left_fit.ensures.0 fit;
-              }
-        ]
-      ]
-    ]
-  ],
-  λ well. c.left_fit.ensures.1 well.left,
-)
+-- the tests in their order, each with what it decides
+pub returns : goal.returns
+returns c =
+    let s = c.args.tables.now in
+    let rows = c.tables.inside in
+    let view = c.tables.view_is in
+    let last = lists_end s.season in
+    let schools = rows_decided fits_school SchoolFits nat_list_cmp_total code_cmp-IsAntisymmetric school_decided rows.schools s.schools c.all_fit.result (ap (λ s. s.schools) view) c.all_fit.ensures.ordered c.all_fit.ensures.tested in
+    let children = rows_decided (fits_child s.schools) (ChildFits s.schools) nat_cmp_total nat_cmp-IsAntisymmetric (child_decided s.schools) rows.children s.children c.all_fit-2.result (ap (λ s. s.children) view) c.all_fit-2.ensures.ordered c.all_fit-2.ensures.tested in
+    let applications = rows_decided (fits_application last s.schools s.children) (ApplicationFits last s.schools s.children) nat_cmp_total nat_cmp-IsAntisymmetric (application_decided last s.schools s.children) rows.applications s.applications c.all_fit-3.result (ap (λ s. s.applications) view) c.all_fit-3.ensures.ordered c.all_fit-3.ensures.tested in
+    let places = rows_decided (fits_place s.schools s.children s.applications) (PlaceFits s.schools s.children s.applications) nat_cmp_total nat_cmp-IsAntisymmetric (place_decided s.schools s.children s.applications) rows.places s.places c.all_fit-4.result (ap (λ s. s.places) view) c.all_fit-4.ensures.ordered c.all_fit-4.ensures.tested in
+    let left = rows_decided (fits_left s.schools s.children s.places) (LeftPairFits s.schools s.children s.places) left_cmp-total left_cmp-IsAntisymmetric (left_decided s.schools s.children s.places) rows.left s.left c.all_fit-5.result (ap (λ s. s.left) view) c.all_fit-5.ensures.ordered c.all_fit-5.ensures.tested in (
+      λ fit.
+          let a = both_true c.are_few.result _ (sym c.all_hold.ensures ∙ fit) in
+          let b = both_true c.all_fit.result _ a.1 in
+          let d = both_true c.all_fit-2.result _ b.1 in
+          let e = both_true c.all_fit-3.result _ d.1 in
+          let f = both_true c.all_fit-4.result _ e.1 in
+          let g = both_true c.all_fit-5.result _ f.1 in
+          let few = c.are_few.ensures.0 a.0 in
+          record {
+            base = record {
+              season_is = subst IsSeason c.season.ensures c.year-year.ensures.season;
+              few_schools = few.0;
+              schools_fit = schools.0 b.0;
+              few_children = few.1;
+              children_fit = children.0 d.0;
+              applications_fit = applications.0 e.0;
+            };
+            places = places.0 f.0;
+            left = left.0 g.0;
+          },
+      λ well.
+          c.all_hold.ensures
+          ∙ (λ i. c.are_few.ensures.1 (well.base.few_schools, well.base.few_children) i && (schools.1 well.base.schools_fit i && (children.1 well.base.children_fit i && (applications.1 well.base.applications_fit i && (places.1 well.places i && (left.1 well.left i && true)))))),
+    )
