@@ -15,6 +15,7 @@ fn are_same_rows(one: &Rows, other: &Rows) -> bool {
         && are_same(one.children.as_slice(), other.children.as_slice())
         && are_same(one.applications.as_slice(), other.applications.as_slice())
         && are_same(one.places.as_slice(), other.places.as_slice())
+        && are_same(one.left.as_slice(), other.left.as_slice())
 }
 
 /// Whether the register has the season and the rows of this one.

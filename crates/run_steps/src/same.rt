@@ -1,5 +1,5 @@
 // Whether two lists of rows are the same.
-use adm_types::{Application, Child, PlaceRow, School};
+use adm_types::{Application, Child, LeftPair, PlaceRow, School};
 
 /// A row that can be compared with another.
 pub(crate) trait Row {
@@ -37,6 +37,12 @@ impl Row for Application {
 
 impl Row for PlaceRow {
     fn is_same(&self, other: &PlaceRow) -> bool {
+        self == other
+    }
+}
+
+impl Row for LeftPair {
+    fn is_same(&self, other: &LeftPair) -> bool {
         self == other
     }
 }
