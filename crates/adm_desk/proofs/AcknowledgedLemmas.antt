@@ -1,5 +1,5 @@
 -- A run keeps what it acknowledged.
-use Rattle.std.proofs.Common.{◌≡◌, ◌∙◌, ℕ, List, [], ◌∷◌, true, false, Result, refl, sym, ap, subst, zip}
+use Rattle.std.proofs.Common.{◌≡◌, ◌∙◌, ℕ, List, [], ◌∷◌, true, false, Result, Some, refl, sym, ap, subst, zip}
 use Rattle.sqlite.specs.State.{State as Disk}
 use Rattle.adm_types.specs.declared.commands.Command.{Command}
 use Rattle.adm_wire.specs.declared.fault.WireFault.{WireFault}
@@ -13,7 +13,7 @@ use Rattle.adm_desk.specs.declared.answer.LineAnswer.TheVariants.{Handled, Fault
 use Rattle.adm_desk.specs.Steps.{IsRun}
 use Rattle.adm_desk.specs.Lines.{AnswersLine, AnswersLines}
 use Rattle.adm_desk.specs.Standing.{Standing, Handles}
-use Rattle.adm_desk.specs.Acknowledged.{KeepsAcknowledged, AreAccepted, IsAccepted, acknowledged, after_one, after_all, handled, with_command}
+use Rattle.adm_desk.specs.Acknowledged.{KeepsAcknowledged, LeavesAcknowledged, in_work, AreAccepted, IsAccepted, acknowledged, after_one, after_all, handled, with_command}
 
 -- ---- a run over commands with their answers
 
@@ -72,7 +72,7 @@ module _ {C : Type 0} (disk : C → Disk) where
     accepted = tt;
     register = ap (λ (s : Standing C). s.register) same;
     failed = ap (λ (s : Standing C). s.failed) same ∙ alive;
-    leaves = subst (λ (s : Standing C). LeavesOnly s.register (disk s.conn)) (sym same) leaves;
+    leaves = subst (λ (s : Standing C). LeavesOnly old.register (disk s.conn)) (sym same) leaves;
   }
 
   after_work : (old mid new : Standing C) (c : Command) (more : List (Command × Answer)) → Handles disk old c Failed mid → old.failed ≡ false → RunsOver (Handles disk) mid more new → KeepsAcknowledged disk old new ((c, Failed) ∷ more)
@@ -87,7 +87,7 @@ module _ {C : Type 0} (disk : C → Disk) where
         accepted = subst (λ cs. AreAccepted old.register cs) (sym rest.1) tt;
         register = register ∙ ap (after_all old.register) (sym rest.1);
         failed = ap (λ (s : Standing C). s.failed) rest.0 ∙ by.0;
-        leaves = subst (λ (r : Register). IsAccepted r c × LeavesEither r (after_one r c) (disk new.conn)) (sym register) (it.accepted.0, now);
+        leaves = subst (λ cs. LeavesAcknowledged (after_all old.register cs) (Some c) (disk new.conn)) (sym rest.1) (it.accepted.0, now);
       }
 
   pub keeps : (old new : Standing C) (answered : List (Command × Answer)) → old.failed ≡ false → LeavesOnly old.register (disk old.conn) → RunsOver (Handles disk) old answered new → KeepsAcknowledged disk old new answered
@@ -100,7 +100,7 @@ module _ {C : Type 0} (disk : C → Disk) where
         accepted = (by.1.0, subst (λ (r : Register). AreAccepted r (acknowledged more)) is rest.accepted);
         register = rest.register ∙ ap (λ (r : Register). after_all r (acknowledged more)) is;
         failed = rest.failed;
-        leaves = rest.leaves;
+        leaves = subst (λ (r : Register). LeavesAcknowledged (after_all r (acknowledged more)) (in_work more) (disk new.conn)) is rest.leaves;
       }
   keeps old new ((c, Refused refusal row) ∷ more) alive leaves run =
       let rest = keeps old new more alive leaves (from_same (Handles disk) old run.0 new more run.1.2 run.2) in

@@ -22,10 +22,6 @@ module _ (before started opened : Disk) (reopens : Reopens before started) (surv
   clean_before : HasCleanDisk before
   clean_before = omega (arith, reopens.clean, clean_started)
 
-  -- the one thing that may be left
-  pub the_file : Trees
-  the_file = started.committed.trees
-
   could_be_left : before.may_leave started.committed.trees
   could_be_left = reopens.found clean_started
 
@@ -40,12 +36,12 @@ module _ (before started opened : Disk) (reopens : Reopens before started) (surv
     found_one one found r leaves stands =
         ∥∥₁_elim some (Coded-set coded_state found r) (λ left. one started.committed.trees found r (subst (λ (t : Trees). StandsFor t found) (is_the_file left.0 left.1) (leaves clean left.0 left.1)) stands)
 
-    finds : ((db : Trees) (r s : Register) → StandsFor db r → StandsFor db s → r ≡ s) → (r : Register) (work : Option Command) (found : Register) → LeavesAcknowledged r work before → LeavesOnly found opened → FindsAgain r work found
+    pub finds : ((db : Trees) (r s : Register) → StandsFor db r → StandsFor db s → r ≡ s) → (r : Register) (work : Option Command) (found : Register) → LeavesAcknowledged r work before → LeavesOnly found opened → FindsAgain r work found
     finds one r None found left leaves = found_one one found r leaves (left clean_before started.committed.trees could_be_left)
     finds one r (Some command) found left leaves = elim (left.1 clean_before started.committed.trees could_be_left)
         [ inl stands ↦ inl (found_one one found r leaves stands) | inr stands ↦ inr (left.0, found_one one found (after_one r command) leaves stands) ]
 
-    holds_one : (r : Register) (work : Option Command) → LeavesAcknowledged r work before → LeavesNone opened → ⊥
+    pub holds_one : (r : Register) (work : Option Command) → LeavesAcknowledged r work before → LeavesNone opened → ⊥
     holds_one r work left none = ∥∥₁_elim some (λ x y. absurd x) (λ it. go work left it.0 it.1)
       where
         go : (work : Option Command) → LeavesAcknowledged r work before → (db : Trees) → opened.may_leave db → ⊥
@@ -53,26 +49,10 @@ module _ (before started opened : Disk) (reopens : Reopens before started) (surv
         go (Some command) left db may = elim (left.1 clean_before db (was_left db may)) [ inl stands ↦ none clean db may r stands | inr stands ↦ none clean db may (after_one r command) stands ]
 
 -- what is left stands for the same registers
-still_leaves : (before started opened : Disk) → Reopens before started → Survives started opened (λ _. ⊥) → (r : Register) (work : Option Command) → LeavesAcknowledged r work before → LeavesAcknowledged r work opened
+pub still_leaves : (before started opened : Disk) → Reopens before started → Survives started opened (λ _. ⊥) → (r : Register) (work : Option Command) → LeavesAcknowledged r work before → LeavesAcknowledged r work opened
 still_leaves before started opened reopens survives r None left = λ clean db may. left (clean_before before started opened reopens survives clean) db (was_left before started opened reopens survives clean db may)
 still_leaves before started opened reopens survives r (Some command) left =
     (left.0, λ clean db may. left.1 (clean_before before started opened reopens survives clean) db (was_left before started opened reopens survives clean db may))
-
--- ---- after a run
-
-module _ {C : Type 0} (disk : C → Disk) (old mid : Standing C) (answered : List (Command × Answer)) (kept : KeepsAcknowledged disk old mid answered) where
-  left_by_run : LeavesAcknowledged (after_all old.register (acknowledged answered)) (in_work answered) (disk mid.conn)
-  left_by_run = subst (λ (r : Register). LeavesAcknowledged r (in_work answered) (disk mid.conn)) kept.register kept.leaves
-
-  module _ (started opened : Disk) (reopens : Reopens (disk mid.conn) started) (survives : Survives started opened (λ _. ⊥)) where
-    pub finds_acknowledged : ((db : Trees) (r s : Register) → StandsFor db r → StandsFor db s → r ≡ s) → LeavesSome opened → (found : Register) → LeavesOnly found opened → HasCleanDisk opened → FindsAgain (after_all old.register (acknowledged answered)) (in_work answered) found
-    finds_acknowledged one some found leaves clean = finds (disk mid.conn) started opened reopens survives clean some one _ (in_work answered) found left_by_run leaves
-
-    pub never_none : LeavesSome opened → HasCleanDisk opened → LeavesNone opened → ⊥
-    never_none some clean none = holds_one (disk mid.conn) started opened reopens survives clean some _ (in_work answered) left_by_run none
-
-    pub leaves_acknowledged : LeavesAcknowledged (after_all old.register (acknowledged answered)) (in_work answered) opened
-    leaves_acknowledged = still_leaves (disk mid.conn) started opened reopens survives _ (in_work answered) left_by_run
 
 -- ---- no answer
 

@@ -83,7 +83,7 @@ pub record KeepsAcknowledged {C : Type 0} (disk : C → Disk) (old new : Standin
   pub accepted : AreAccepted old.register (acknowledged answered)
   pub register : new.register ≡ after_all old.register (acknowledged answered)
   pub failed : new.failed ≡ is_some (in_work answered)
-  pub leaves : LeavesAcknowledged new.register (in_work answered) (disk new.conn)
+  pub leaves : LeavesAcknowledged (after_all old.register (acknowledged answered)) (in_work answered) (disk new.conn)
 
 -- ---- for a private clause
 

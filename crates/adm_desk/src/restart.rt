@@ -1,11 +1,13 @@
 // A run of commands, a crash, and the start after it.
-ghost use Rattle.std.specs.Prelude.{◌≡◌, ◌⊎◌, false, zip, IfOk, IfErr, OnOk, IfSome, MatchOption};
+ghost use Rattle.std.specs.Prelude.{◌≡◌, ◌⊎◌, false, zip, Option, IfOk, IfErr, OnOk, IfSome, MatchOption};
 ghost use Rattle.sqlite.specs.Held.{Held, state};
 ghost use Rattle.sqlite.specs.State.{HasCleanDisk};
 ghost use Rattle.adm_store.specs.Faults.{IsNoRegister};
 ghost use Rattle.adm_store.specs.StandsFor.{IsStarted, LeavesOnly};
 ghost use Rattle.adm_desk.specs.Steps.{IsRun};
 ghost use Rattle.adm_desk.specs.Standing.{Handles, Standing};
+ghost use Rattle.adm_register.specs.State.{State as Register};
+ghost use Rattle.adm_types.specs.declared.commands.Command.{Command as Asked};
 ghost use Rattle.adm_desk.specs.Acknowledged.{acknowledged, after_all, in_work, FindsAgain, LeavesAcknowledged, Reopens};
 
 use crate::{Answer, Desk};
@@ -70,9 +72,35 @@ fn start_again<S: Alter + Reopen + Drop>(
     }
 }
 
+/// Lets a crash come to the disk under the desk, starts the store again and opens what it holds.
+fn reopen<S: Alter + Reopen + Drop>(
+    alloc: Global,
+    desk: Desk<S>,
+) -> Result<Desk<S>, (OpenFault, Option<Connection<S>>)>
+    ensures alive { IfOk result (λ new. (new.failed ≡ false) × LeavesOnly new.register (state S.Store new.conn)) }
+    ensures finds { IfOk result (λ new. HasCleanDisk (state S.Store new.conn) → (r : Register) (work : Option Asked)
+        → LeavesAcknowledged r work (state S.Store desk.conn) → FindsAgain r work new.register) }
+    ensures kept { IfErr result (λ e. IfSome e.1 (λ conn. (r : Register) (work : Option Asked)
+        → LeavesAcknowledged r work (state S.Store desk.conn) → LeavesAcknowledged r work (state S.Store conn))) }
+    ensures never { IfErr result (λ e. (r : Register) (work : Option Asked) → LeavesAcknowledged r work (state S.Store desk.conn)
+        → MatchOption e.1 (¬ IsNoRegister e.0) (λ conn. HasCleanDisk (state S.Store conn) → ¬ IsNoRegister e.0)) }
+{
+    let conn = match start_again(alloc, desk) {
+        Ok(conn) => conn,
+        Err(fault) => return Err((fault, None)),
+    };
+    // that a file stands for one register, a call of the law says
+    one_register();
+    match Desk::open(alloc, conn) {
+        Ok(desk) => Ok(desk),
+        Err((fault, conn)) => Err((fault, Some(conn))),
+    }
+}
+
 /// Answers the commands, lets a crash come to the disk, starts the store again and opens what it
-/// holds. Disk and Memory may come where the store or memory is wanting; where there is no room for
-/// the answers, no command was handled.
+/// holds. A crash within a command is a store that fails from some call on: the command is answered
+/// Failed. Disk and Memory come where the store or memory is wanting; where there is no room for the
+/// answers, no command was handled and there is no crash.
 pub fn run_and_reopen<S: Alter + Reopen + Drop>(
     alloc: Global,
     mut desk: Desk<S>,
@@ -100,25 +128,14 @@ pub fn run_and_reopen<S: Alter + Reopen + Drop>(
             };
         }
     };
-    let conn = match start_again(alloc, desk) {
-        Ok(conn) => conn,
-        Err(fault) => {
-            return Restarted {
-                answers,
-                opened: Err((fault, None)),
-            };
-        }
-    };
-    // that a file stands for one register, a call of the law says
-    one_register();
-    match Desk::open(alloc, conn) {
+    match reopen(alloc, desk) {
         Ok(desk) => Restarted {
             answers,
             opened: Ok(desk),
         },
         Err((fault, conn)) => Restarted {
             answers,
-            opened: Err((fault, Some(conn))),
+            opened: Err((fault, conn)),
         },
     }
 }
