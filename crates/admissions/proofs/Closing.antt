@@ -1,5 +1,5 @@
 -- What the close of a connection left, from its clauses; how an outcome is told.
-use Rattle.std.proofs.Common.{◌≡◌, ◌≢◌, ◌<◌, ◌-◌, ◌^◌, ℕ, true, refl, List, length, take, Option, Result, Ok, Err}
+use Rattle.std.proofs.Common.{◌≡◌, ◌≢◌, ◌<◌, ◌-◌, ◌^◌, ℕ, true, refl, List, length, Option, Result, Ok, Err}
 use Rattle.std.specs.Prelude.{IfOk, IfErr, IfSome}
 use Rattle.std.specs.Io.KnownBytes.{Consumes}
 use Rattle.sqlite_disk.specs.declared.Disk as disk
@@ -11,8 +11,7 @@ use Rattle.sqlite.specs.Held.{Held}
 use Rattle.sqlite.specs.Files.{file_state, IsClosed}
 use Rattle.sqlite.specs.Closing.{IsCopied}
 use Rattle.adm_desk.specs.Standing.{Handles, Standing}
-use Rattle.adm_desk.specs.Lines.{lines_of}
-use Rattle.adm_desk.specs.Written.{AnsweredUpTo, Stopped}
+use Rattle.adm_desk.specs.Written.{AnsweredUpTo, StoppedWithin}
 use Rattle.adm_desk.specs.declared.run.RunFault.{RunFault}
 use Rattle.adm_desk.specs.declared.run.RunFault.TheVariants as run
 use Rattle.admissions.specs.Exits.{of_run}
@@ -29,8 +28,8 @@ module _ {D : Type 0} {g : disk.Ghosts D} where
       → (e ≡ run.Read → IfSome input.old (λ bytes. length bytes < 2 ^ 64 - 1 → input.has_failed ≡ true))
       → (e ≡ run.Read → (bytes : List ℕ) × Consumes input.old input.new bytes × AnsweredUpTo (Handles file_state) old new output.old output.new bytes)
       → (e ≡ run.Write → output.has_failed ≡ true)
-      → (e ≢ run.Read → IfSome input.old (λ bytes. (k : ℕ) × Stopped (Handles file_state) old new output.old output.new (take k (lines_of bytes))))
+      → (e ≢ run.Read → (bytes : List ℕ) × Consumes input.old input.new bytes × StoppedWithin (Handles file_state) old new output.old output.new bytes input.new)
       → EndsAs old new input output (Err (of_run e))
   stops old new input output run.Read failed read wrote stopped = let r = read refl in (failed refl, r.0, r.1, r.2)
-  stops old new input output run.Write failed read wrote stopped = (wrote refl, stopped (λ e. cc))
+  stops old new input output run.Write failed read wrote stopped = let s = stopped (λ e. cc) in (wrote refl, s.0, s.1, s.2)
   stops old new input output run.Memory failed read wrote stopped = stopped (λ e. cc)

@@ -1,5 +1,5 @@
 -- What a line of the command line does to the files at a path, from the open to the close.
-use Rattle.std.specs.Prelude.{◌≡◌, ◌≢◌, ◌-◌, ◌^◌, ◌<◌, ◌⊎◌, ℕ, Bool, true, false, List, length, take, Option, Result, Ok, Err, IfSome, MatchResult}
+use Rattle.std.specs.Prelude.{◌≡◌, ◌≢◌, ◌-◌, ◌^◌, ◌<◌, ◌⊎◌, ℕ, Bool, true, false, List, length, Option, Result, Ok, Err, IfSome, MatchResult}
 use Rattle.std.specs.Io.KnownBytes.{Consumes, IsAtEnd}
 use Rattle.sqlite_disk.specs.declared.Disk as disk
 use Rattle.sqlite_disk.specs.declared.Files.{Files}
@@ -24,7 +24,7 @@ use Rattle.adm_store.specs.declared.fault.CreateFault.TheVariants as create
 use Rattle.adm_store.specs.declared.fault.OpenFault.{OpenFault}
 use Rattle.adm_desk.specs.Standing.{Handles, Standing}
 use Rattle.adm_desk.specs.Lines.{lines_of}
-use Rattle.adm_desk.specs.Written.{Finished, AnsweredUpTo, Stopped}
+use Rattle.adm_desk.specs.Written.{Finished, AnsweredUpTo, StoppedWithin}
 use Rattle.adm_desk.specs.declared.run.Run.{Run}
 use Rattle.admissions.specs.Exits.{exit_of, of_create, of_open}
 use Rattle.admissions.specs.declared.exit.Exit.{Exit}
@@ -50,12 +50,13 @@ module _ {D : Type 0} {g : disk.Ghosts D} where
   -- how a run of lines ended, from the desk as it was to the desk as it is
   abbrev pub EndsAs : Standing (Held (FileStore D g)) → Standing (Held (FileStore D g)) → Stream → Stream → Result Exit Fault → Type 0
   EndsAs old new input output (Ok e) = (run : Run) × (e ≡ exit_of run) × IsAtEnd input.new
-      × IfSome input.old (λ bytes. Finished (Handles file_state) old new output.old output.new run (lines_of bytes))
+      × (bytes : List ℕ) × Consumes input.old input.new bytes × Finished (Handles file_state) old new output.old output.new run (lines_of bytes)
   EndsAs old new input output (Err fault.Read) = IfSome input.old (λ bytes. length bytes < 2 ^ 64 - 1 → input.has_failed ≡ true)
       × (bytes : List ℕ) × Consumes input.old input.new bytes × AnsweredUpTo (Handles file_state) old new output.old output.new bytes
   EndsAs old new input output (Err fault.Write) = (output.has_failed ≡ true)
-      × IfSome input.old (λ bytes. (k : ℕ) × Stopped (Handles file_state) old new output.old output.new (take k (lines_of bytes)))
-  EndsAs old new input output (Err fault.Memory) = IfSome input.old (λ bytes. (k : ℕ) × Stopped (Handles file_state) old new output.old output.new (take k (lines_of bytes)))
+      × (bytes : List ℕ) × Consumes input.old input.new bytes × StoppedWithin (Handles file_state) old new output.old output.new bytes input.new
+  EndsAs old new input output (Err fault.Memory) = (bytes : List ℕ) × Consumes input.old input.new bytes
+      × StoppedWithin (Handles file_state) old new output.old output.new bytes input.new
   EndsAs old new input output (Err _) = ⊥
 
   -- the lines are run over the desk, and then its connection is closed

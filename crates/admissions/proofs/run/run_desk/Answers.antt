@@ -9,7 +9,7 @@ pub returns-in-Ok : goal.returns-in-Ok
 returns-in-Ok g c =
     record {
       after = c.run_lines.new.self;
-      ends = (c.in-Ok.run', c.of.ensures, c.in-Ok.ensures.end, c.in-Ok.ensures.ok);
+      ends = (c.in-Ok.run', c.of.ensures, c.in-Ok.ensures.end, c.in-Ok.ensures.ok.0, c.in-Ok.ensures.ok.1, c.in-Ok.ensures.ok.2);
       closes = subst (λ (h : Held _). Closes h c.close_files.result) c.into_connection.ensures.same
           (closes c.into_connection.result c.close_files.result _ c.close_files.ensures.copied c.close_files.ensures.err);
     }
