@@ -40,8 +40,7 @@ fn secondary_of_a_leap_year(rt: HostRuntime) -> Result<(), Fail> {
     let season = Season::new(rt.alloc(), Phase::Secondary, 2024, &[])?;
     assert_eq!(rt; Some(season.offer_day()), Day::from_number(19783));
     let leap_day = Day::from_number(19782).ok_or("a day")?;
-    let text = format!(in rt.alloc(); "{leap_day}")?;
-    assert_eq!(rt; text.as_str(), "2024-02-29");
+    assert_eq!(rt; leap_day.text().as_str(), "2024-02-29");
     Ok(())
 }
 

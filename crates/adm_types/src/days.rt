@@ -11,7 +11,6 @@ use arrayvec::ArrayString;
 use jiff::civil::Date;
 use jiff::fmt::temporal;
 use jiff_core::civil;
-use std::fmt;
 use std::marker::Model;
 
 /// The number of 1990-01-01.
@@ -123,12 +122,5 @@ impl Day {
             Ok(date) => date.weekday().index() < 5,
             Err(_) => unreachable!(),
         }
-    }
-}
-
-/// As `text` says, YYYY-MM-DD.
-impl fmt::Display for Day {
-    fn fmt<W: fmt::Write>(&self, f: &mut fmt::Formatter<W>) -> fmt::Result {
-        f.write_str(self.text().as_str())
     }
 }
