@@ -14,7 +14,6 @@ use Rattle.adm_types.specs.declared.rows.PlaceState.TheVariants.{Plan}
 use Rattle.adm_types.specs.declared.commands.Refusal.{Refusal}
 use Rattle.adm_types.specs.declared.commands.Command.{Command}
 use Rattle.adm_types.specs.declared.commands.Command.TheVariants.{AddSchool, AddChild, Amend, NamePlan, Apply}
-use Rattle.adm_register.specs.declared.difference.Difference.{Difference}
 use Rattle.adm_register.specs.State.{State}
 use Rattle.adm_register.specs.Change.{no_change, put_child}
 use Rattle.adm_register.specs.Plans.{has_plan, is_plan_row}
@@ -29,15 +28,8 @@ use Rattle.adm_register.specs.NamePlan as name_plan
 use Rattle.adm_register.specs.Apply as apply
 use Rattle.adm_register.proofs.Keeps.{all_pass, len-insert_room}
 use Rattle.adm_register.proofs.Maps.{both_true, not_true, not_contains_key-removed}
-use Rattle.adm_register.proofs.Tidy.{IsTidy, tidy_none, tidy_put, tidy_cut}
-use Rattle.adm_register.proofs.Fits.{BasePut, PlacesPut, LeftPut}
-
--- what a command puts fits
-pub record Fit (old : State) (change : Difference) : Type 0 where
-  pub base : BasePut old change
-  pub places : PlacesPut old change
-  pub left : LeftPut old change
-  pub tidy : IsTidy change
+use Rattle.adm_register.proofs.Tidy.{tidy_none, tidy_put, tidy_cut}
+use Rattle.adm_register.proofs.Fits.{BasePut, PlacesPut, Fit}
 
 -- a change of places and of what ends asks nothing of the schools, the children and the applications
 base_stays : (old : State) (places : List PlaceRow) (ended : List ℕ) → BasePut old (record no_change { places = places; ended = ended })

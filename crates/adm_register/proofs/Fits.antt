@@ -20,6 +20,7 @@ use Rattle.adm_register.specs.Change.{put_all, cut_all, after}
 use Rattle.adm_register.specs.Extends.{Extends, KeepsSchools}
 use Rattle.adm_register.specs.WellFormed.{WellFormed, BaseFits, PlacesFit, LeftFits, SchoolFits, ChildFits, ApplicationFits, PlaceFits, LeftPairFits, is_held}
 use Rattle.adm_register.proofs.Maps.{code_cmp-IsAntisymmetric, left_cmp-total, left_cmp-IsAntisymmetric}
+use Rattle.adm_register.proofs.Tidy.{IsTidy}
 use Rattle.adm_register.proofs.Puts.{Grows, put_all-grows, there_before, all_stay, AllRows-put_all, are_schools-grows}
 
 -- there are at most so many rows where one was put
@@ -45,6 +46,13 @@ pub record PlacesPut (old : State) (change : Difference) : Type 0 where
 pub record LeftPut (old : State) (change : Difference) : Type 0 where
   pub left : AllByRecursion (λ (p : LeftPair). LeftPairFits (after old change).schools (after old change).children (after old change).places p p) change.left
   pub places : AllByRecursion (λ (p : PlaceRow). (is_plan p.place.state || not (contains_key old.left (record { child = p.child; school = p.place.school }))) ≡ true) change.places
+
+-- a change whose rows fit
+pub record Fit (old : State) (change : Difference) : Type 0 where
+  pub base : BasePut old change
+  pub places : PlacesPut old change
+  pub left : LeftPut old change
+  pub tidy : IsTidy change
 
 -- rows fit still where the rows that they name are there still
 ChildFits-grows : (schools new_schools : FinMap code_cmp School) → Grows schools new_schools → (number : ℕ) (child : Child) → ChildFits schools number child → ChildFits new_schools number child
@@ -193,8 +201,8 @@ module _ (old : State) (change : Difference) where
       free pair here (Some row) is = ap (λ o. not (is_held o pair.school)) is ∙ ap not (not_held left put pair.child row is pair.school here)
 
   -- so the state after the change is a register
-  pub after-keeps : WellFormed old → BasePut old change → PlacesPut old change → LeftPut old change → WellFormed new
-  after-keeps well base places left = record { base = base_fits well.base base; places = places_fit well.places places; left = left_fit well.left left }
+  pub after-keeps : WellFormed old → Fit old change → WellFormed new
+  after-keeps well fit = record { base = base_fits well.base fit.base; places = places_fit well.places fit.places; left = left_fit well.left fit.left }
 
   -- and what every command leaves is as it was
   pub after-extends : Extends old new

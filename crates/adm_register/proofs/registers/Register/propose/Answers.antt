@@ -15,7 +15,7 @@ invariant_of-result c =
     let change = change_of old c.args.command.now in
     let fit = command-fit old c.args.command.now c.kept_by_types.ensures c.self.invariant (sym c.refused.ensures ∙ c.in-None.is) in
     let is = c.in_ok-tables-in-None.ensures ∙ ap (after old) c.in_ok-change-in-None.ensures in
-    subst WellFormed (sym is) (after-keeps old change c.self.invariant fit.base fit.places fit.left)
+    subst WellFormed (sym is) (after-keeps old change c.self.invariant fit)
 
 pub returns-in_ok-change-in-None-2-clause-extends : goal.returns-in_ok-change-in-None-2-clause-extends
 returns-in_ok-change-in-None-2-clause-extends c =
@@ -24,7 +24,7 @@ returns-in_ok-change-in-None-2-clause-extends c =
     let fit = command-fit old c.args.command.now c.kept_by_types.ensures c.self.invariant (sym c.refused.ensures ∙ c.in-None.is) in
     let is = c.in_ok-tables-in-None.ensures ∙ ap (after old) c.in_ok-change-in-None.ensures in (
       subst (λ s. Extends s c.in_ok-tables-in-None.tables) c.self.view_is (subst (Extends old) (sym is) (after-extends old change)),
-      subst WellFormed (sym is) (after-keeps old change c.self.invariant fit.base fit.places fit.left),
+      subst WellFormed (sym is) (after-keeps old change c.self.invariant fit),
     )
 
 pub returns-in_ok-change-in-None-2-clause-schools : goal.returns-in_ok-change-in-None-2-clause-schools
