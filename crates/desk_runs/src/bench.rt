@@ -1,5 +1,6 @@
 // The disks and the input as the steps before left them, and what each step does.
 use crate::acts::{Came, Doing};
+use crate::crashes::crash;
 use crate::desks::Ran;
 use crate::lines::Lines;
 use crate::stops::stops;
@@ -60,6 +61,7 @@ impl Bench {
             }
             Step::Run => self.run(rt),
             Step::Sweep(sweep) => self.sweep(rt, sweep),
+            Step::Crash(disk, calls) => self.crash(rt, (*disk, *calls)),
             Step::Stop(disk, calls, act) => self.act(rt, act, Some((*disk, *calls))),
             Step::Stops(act) => stops(rt, self.alloc, &self.disks, act, act),
             Step::Mistake(act, other) => stops(rt, self.alloc, &self.disks, act, other),
@@ -122,6 +124,17 @@ impl Bench {
             &self.disks,
             self.lines.input.as_slice(),
             sweep,
+        )
+    }
+
+    /// Has a desk answer the commands that were given, up to a crash.
+    fn crash(&self, rt: &impl Print, stop: (Which, u64)) -> io::Result<()> {
+        crash(
+            rt,
+            self.alloc,
+            &self.disks,
+            self.lines.input.as_slice(),
+            stop,
         )
     }
 

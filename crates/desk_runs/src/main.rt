@@ -4,6 +4,7 @@
 
 mod acts;
 mod bench;
+mod crashes;
 mod desks;
 mod lines;
 mod stops;

@@ -1,7 +1,7 @@
 // Two disks in memory, a database's and its log's. Between steps they are kept as bytes.
-use crate::database::done;
+use crate::database::{done, restarted};
 use crate::found::{NotFound, found};
-use crate::work::{Opening, Text, Work};
+use crate::work::{Opening, Restart, Text, Work};
 use adm_register::Register;
 use run_steps::Which;
 use sqlite::{Error, Files};
@@ -113,6 +113,17 @@ impl Disks {
         let (came, files) = done(alloc, self.files(alloc, Some(stop))?, work);
         let (written, synced) = Disks::with_and_without_loss(alloc, files)?;
         Ok((came, written, synced))
+    }
+
+    /// Does a work that crashes with the database on files that hold the same, of which one may stop after so many calls
+    /// up to the crash. `None`: it was not opened.
+    pub fn restarted<W: Restart>(
+        &self,
+        alloc: Global,
+        stop: Option<(Which, u64)>,
+        work: &W,
+    ) -> io::Result<Option<W::Came>> {
+        Ok(restarted(alloc, self.files(alloc, stop)?, work))
     }
 
     /// What comes of a text that is run on the database, if it was opened, and the disks after it.

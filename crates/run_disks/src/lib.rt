@@ -11,4 +11,4 @@ mod work;
 pub use disks::Disks;
 pub use ends::{Ends, Left};
 pub use found::NotFound;
-pub use work::{Work, created};
+pub use work::{Restart, Work, created};

@@ -7,6 +7,7 @@ use adm_register::Register;
 use adm_store::{CreateFault, OpenFault, Store, create, open};
 use adm_types::Season;
 use sqlite::{Alter, Connection, Error};
+use sqlite_trees::store::Reopen;
 use std::alloc::Global;
 
 /// What is done with a database that was opened.
@@ -16,6 +17,17 @@ pub trait Work {
 
     /// Does it.
     fn over<S: Alter>(&self, alloc: Global, conn: Connection<S>) -> (Self::Came, Connection<S>)
+        requires ended { conn.in_transaction ≡ false }
+        requires started { IsStarted (state S.Store conn) };
+}
+
+/// What is done with a database whose store crashes and starts again.
+pub trait Restart {
+    /// What it comes to.
+    type Came: Drop;
+
+    /// Does it.
+    fn over<S: Alter + Reopen + Drop>(&self, alloc: Global, conn: Connection<S>) -> Self::Came
         requires ended { conn.in_transaction ≡ false }
         requires started { IsStarted (state S.Store conn) };
 }

@@ -46,6 +46,9 @@ pub enum Step<'a> {
     /// `mistake reads BYTES for OTHER`: the same, judged as a reader of so many other bytes a call. What it
     /// prints is to be a PROBLEM.
     Sweep(Sweep),
+    /// `crash log|database CALLS`: the commands of the input of the next `run`, answered by a desk over disks of which one passes so many
+    /// calls; then both crash, are started again and opened. The disks and the input stay.
+    Crash(Which, u64),
     /// `stop log|database CALLS ACT`: the act over disks of which one passes so many calls.
     Stop(Which, u64, Act),
     /// `stops ACT`: the act, stopped at each call of each disk in turn. The disks stay as they are.
@@ -107,6 +110,14 @@ fn calls_of(word: &str) -> Option<u64> {
     word.parse().ok()
 }
 
+fn crash<'a>(words: &str) -> Option<Step<'a>> {
+    let (disk, calls) = words.split_once(' ')?;
+    match (which_of(disk), calls_of(calls)) {
+        (Some(disk), Some(calls)) => Some(Step::Crash(disk, calls)),
+        _ => None,
+    }
+}
+
 fn stop<'a>(alloc: Global, words: &str) -> Option<Step<'a>> {
     let (disk, words) = words.split_once(' ')?;
     let (calls, words) = words.split_once(' ')?;
@@ -150,6 +161,7 @@ impl<'a> Step<'a> {
             "run" => Some(Step::Run),
             "reads" => right_sweep(Side::Reader, rest),
             "writes" => right_sweep(Side::Writer, rest),
+            "crash" => crash(rest),
             "stop" => stop(alloc, rest),
             "stops" => stops(alloc, rest),
             "mistake" => mistake(alloc, rest),
