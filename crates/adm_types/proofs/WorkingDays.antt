@@ -1,10 +1,15 @@
 -- How far the next working day can be.
-use Rattle.std.proofs.Common.{◌≡◌, refl, ℕ, ◌+◌, ◌-◌, ◌*◌, ◌%◌, ◌<◌, ◌≤◌, Bool, true, false, cond, not, List, [], ◌∷◌, length, pos, arith}
+use Rattle.std.proofs.Common.{◌≡◌, ◌∙◌, ap, refl, sym, subst, zero, suc, ℕ, ◌+◌, ◌-◌, ◌*◌, ◌%◌, ◌<◌, ◌≤◌, Bool, true, false, cond, not, List, [], ◌∷◌, length, pos, arith}
 use Rattle.std.specs.Prelude.{◌==◌, nat_lt, nat_le, ◌&&◌, ◌||◌}
 use Rattle.std.specs.List.{list_any}
+use Rattle.std.specs.Ordering.{nat_cmp, is_le}
+use Rattle.std.specs.Cmp.{nat_cmp_is}
+use Rattle.std.specs.declared.cmp.Ordering.TheVariants.{Less, Equal, Greater}
+use mathlib.Core.Logic.{⊎_elim}
+use Rattle.std.proofs.lemmas.Bool.{le-ltb, lt-ltb, cases_lt}
 use Rattle.std.proofs.lemmas.Bool.Decides.{nat_tests}
 use Rattle.jiff_core.specs.Calendar.{weekday_number}
-use Rattle.adm_types.specs.Seasons.{is_working_day}
+use Rattle.adm_types.specs.Seasons.{is_working_day, has_working_day}
 
 weekday_number-pos : (day : ℕ) → weekday_number (pos day) ≡ (day + 3) % 7
 unfolding weekday_number
@@ -64,3 +69,20 @@ wait_left-falls holidays day rests =
     nearer (weekday_number (pos day)) (weekday_number (pos (day + 1))) _ _ (list_any (λ holiday. holiday == day) holidays)
     (omega (arith, here)) (λ early. omega (arith, here, next, after.0 (omega (arith, here)))) (λ last. omega (arith, here, next, after.1 (omega (arith, here))))
     (holidays_from-le day holidays) (holidays_from-lt day holidays) rests
+
+-- the days from the first on reach the first working day where they go past it
+pub has_working_day-reaches : (holidays : List ℕ) (first day : ℕ) → first ≤ day → is_working_day holidays day ≡ true → ((earlier : ℕ) → first ≤ earlier → earlier < day → is_working_day holidays earlier ≡ false)
+    → (days : ℕ) → has_working_day holidays first days ≡ nat_lt day (first + days)
+has_working_day-reaches holidays first day since works none zero = sym (le-ltb day (first + 0) (omega (arith, since)))
+has_working_day-reaches holidays first day since works none (suc days) =
+    let rest = has_working_day-reaches holidays first day since works none days in
+    let before : first + days < day → is_working_day holidays (first + days) ≡ false = λ less. none (first + days) (omega arith) less in
+    let at : first + days ≡ day → is_working_day holidays (first + days) ≡ true = λ e. subst (λ d. is_working_day holidays d ≡ true) (sym e) works in
+    grind (arith, nat_tests)
+
+-- a day is not before another where it is less than what goes past that one
+pub not_before : (a b first : ℕ) → first ≤ a → is_le (nat_cmp a b) ≡ nat_lt a (first + (b + 1 - first))
+not_before a b first since =
+    ⊎_elim (λ less. ap is_le (sym (nat_cmp_is a b Less less)) ∙ sym (lt-ltb a (first + (b + 1 - first)) (omega (arith, since, less))))
+    (λ le. ⊎_elim (λ past. ap is_le (sym (nat_cmp_is a b Greater past)) ∙ sym (le-ltb a (first + (b + 1 - first)) (omega (arith, since, past))))
+    (λ most. let same : a ≡ b = omega (arith, le, most) in ap is_le (sym (nat_cmp_is a b Equal same)) ∙ sym (lt-ltb a (first + (b + 1 - first)) (omega (arith, since, same)))) (cases_lt b a)) (cases_lt a b)

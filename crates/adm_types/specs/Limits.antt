@@ -3,7 +3,7 @@ use Rattle.std.specs.Prelude.{ℕ, Bool, true, not, ◌&&◌, List, [], ◌∷�
 use Rattle.std.specs.List.{list_any, list_all}
 use Rattle.std.specs.Str.{chars}
 use Rattle.std.specs.Char.{is_control}
-pub use Rattle.adm_types.specs.Numbers.{is_from, is_child_number, first_day}
+pub use Rattle.adm_types.specs.Numbers.{is_from, is_child_number, first_day, last_day}
 use Rattle.std.specs.Cmp.Lexicographic.{pointwise}
 use Rattle.adm_types.specs.declared.rows.Point.{Point}
 use Rattle.adm_types.specs.declared.rows.Criterion.{Criterion}
@@ -17,6 +17,13 @@ most_schools = 200
 
 abbrev pub most_children : ℕ
 most_children = 2000
+
+-- how many draws, and how many lots of all draws together, it has at the most
+abbrev pub most_draws : ℕ
+most_draws = 10000
+
+abbrev pub most_lots : ℕ
+most_lots = 1000000
 
 -- 1 to 80 bytes without control characters
 abbrev pub is_name : List ℕ → Bool

@@ -1,5 +1,5 @@
 -- A season and its days, as day numbers.
-use Rattle.std.specs.Prelude.{◌≡◌, ℕ, ◌≤◌, ◌<◌, ◌-◌, ◌==◌, Bool, false, not, ◌&&◌, nat_lt, List, length, All, IsTrue, pos, unsigned_abs}
+use Rattle.std.specs.Prelude.{◌≡◌, ℕ, zero, suc, ◌≤◌, ◌<◌, ◌+◌, ◌-◌, ◌==◌, Bool, false, not, ◌&&◌, ◌||◌, nat_lt, List, length, All, IsTrue, pos, unsigned_abs}
 use Rattle.std.specs.List.{list_any}
 use Rattle.std.specs.List.Sorted.{IsStrictlyIncreasing}
 use Rattle.jiff_core.specs.Calendar.{days_from_civil, weekday_number}
@@ -55,6 +55,15 @@ pub record IsOfferDay (season : SeasonFacts) (day : ℕ) : Type 0 where
   pub not_before : national_day_of season.phase season.year ≤ day
   pub working : IsTrue (is_working_day season.holidays day)
   pub first : (earlier : ℕ) → national_day_of season.phase season.year ≤ earlier → earlier < day → is_working_day season.holidays earlier ≡ false
+
+-- whether one of so many days, from the first on, is a working day
+abbrev pub has_working_day : List ℕ → ℕ → ℕ → Bool
+has_working_day holidays first zero = false
+has_working_day holidays first (suc days) = is_working_day holidays (first + days) || has_working_day holidays first days
+
+-- whether the day is the offer day or a later one: from the national day to it there is a working day
+abbrev pub reaches_offer_day : SeasonFacts → ℕ → Bool
+reaches_offer_day season day = let first = national_day_of season.phase season.year in has_working_day season.holidays first (day + 1 - first)
 
 -- 31 December of the entry year
 abbrev pub lists_end : SeasonFacts → ℕ

@@ -13,6 +13,12 @@ pub const MOST_SCHOOLS: usize = 200;
 /// How many children a register has at the most.
 pub const MOST_CHILDREN: usize = 2000;
 
+/// How many draws a register has at the most.
+pub const MOST_DRAWS: u32 = 10_000;
+
+/// How many lots the draws of a register have together at the most.
+pub const MOST_LOTS: usize = 1_000_000;
+
 /// Whether a text has a control character.
 fn has_control(text: &str) -> bool
     ensures { result ≡ list_any is_control (chars text.now) }

@@ -7,7 +7,7 @@ ghost use Rattle.std.specs.Prelude.{pos, ◌==◌, ◌&&◌, nat_lt, length, All
 ghost use Rattle.adm_types.specs.Limits.{is_from};
 ghost use Rattle.adm_types.specs.Seasons.{IsRising, IsSeason, IsDay};
 ghost use Rattle.std.specs.List.{list_any};
-ghost use Rattle.adm_types.specs.Seasons.{national_day_of, is_working_day, IsOfferDay};
+ghost use Rattle.adm_types.specs.Seasons.{national_day_of, is_working_day, IsOfferDay, reaches_offer_day};
 ghost use Rattle.jiff_core.specs.Calendar.{days_in_month};
 
 use crate::{Day, Exact, Seq};
@@ -169,6 +169,13 @@ impl Season {
             day = day.next();
         }
         day
+    }
+
+    /// Whether the day is the offer day or a later one.
+    pub fn reaches_offer_day(&self, day: Day) -> bool
+        ensures { result ≡ reaches_offer_day self.now day }
+    {
+        self.offer_day() <= day
     }
 
     /// The last day on which waiting lists are kept.
