@@ -57,6 +57,10 @@ abbrev pub Step : State → Command → Result Reply (Refusal × ℕ) → State 
 Step old command (Ok reply) new = (refused old command ≡ None) × Effect old command reply new
 Step old command (Err refusal) new = (refused old command ≡ Some refusal) × (new ≡ old)
 
+-- the command is accepted, and leaves new
+abbrev pub Accepts : State → Command → State → Type 0
+Accepts old command new = (reply : Reply) × Step old command (Ok reply) new
+
 -- a new state and its reply by an accepted step, the refusal of a refused one, or want of memory
 abbrev pub Decides : State → Command → Result (State × Reply) NotDone → Type 0
 Decides old command (Ok done) = Step old command (Ok done.1) done.0
@@ -73,3 +77,7 @@ abbrev pub RepeatSafe : Type 0
 RepeatSafe =
     (old mid new : State) (command : Command) (first second : Result Reply (Refusal × ℕ)) → WellFormed old
     → Step old command first mid → Step mid command second new → new ≡ mid
+
+-- an accepted command leaves one register
+abbrev pub OneStep : Type 0
+OneStep = (old a b : State) (command : Command) → Accepts old command a → Accepts old command b → a ≡ b

@@ -21,7 +21,7 @@ mod rows_in;
 mod tables;
 
 pub use difference::Difference;
-pub use laws::repeat_safe;
+pub use laws::{one_step, repeat_safe};
 pub use not_done::NotDone;
 pub use register_rows::Rows;
 pub use registers::{Proposal, Register};
