@@ -1,19 +1,19 @@
 -- A run keeps what it acknowledged.
-use Rattle.std.proofs.Common.{◌≡◌, ◌∙◌, ℕ, List, [], ◌∷◌, true, false, Result, Some, refl, sym, ap, subst, zip}
+use Rattle.std.proofs.Common.{◌≡◌, ◌∙◌, ℕ, List, [], ◌∷◌, true, false, Result, refl, sym, ap, subst, zip}
 use Rattle.sqlite.specs.State.{State as Disk}
 use Rattle.adm_types.specs.declared.commands.Command.{Command}
 use Rattle.adm_wire.specs.declared.fault.WireFault.{WireFault}
 use Rattle.adm_wire.specs.declared.fault.WireFault.TheVariants as fault
 use Rattle.adm_register.specs.State.{State as Register}
-use Rattle.adm_store.specs.StandsFor.{LeavesOnly, LeavesEither}
+use Rattle.adm_store.specs.StandsFor.{LeavesOnly}
 use Rattle.adm_desk.specs.declared.answer.Answer.{Answer}
 use Rattle.adm_desk.specs.declared.answer.Answer.TheVariants.{Done, Refused, Memory, Failed}
 use Rattle.adm_desk.specs.declared.answer.LineAnswer.{LineAnswer}
 use Rattle.adm_desk.specs.declared.answer.LineAnswer.TheVariants.{Handled, Faulty}
 use Rattle.adm_desk.specs.Steps.{IsRun}
 use Rattle.adm_desk.specs.Lines.{AnswersLine, AnswersLines}
-use Rattle.adm_desk.specs.Standing.{Standing, Handles}
-use Rattle.adm_desk.specs.Acknowledged.{KeepsAcknowledged, LeavesAcknowledged, in_work, AreAccepted, IsAccepted, acknowledged, after_one, after_all, handled, with_command}
+use Rattle.adm_desk.specs.Standing.{Standing, Handles, InWork}
+use Rattle.adm_desk.specs.Acknowledged.{After, KeepsAcknowledged, acknowledged, handled, with_command}
 
 -- ---- a run over commands with their answers
 
@@ -69,25 +69,20 @@ module _ {C : Type 0} (disk : C → Disk) where
 
   at_same : (old new : Standing C) → new ≡ old → old.failed ≡ false → LeavesOnly old.register (disk old.conn) → KeepsAcknowledged disk old new []
   at_same old new same alive leaves = record {
-    accepted = tt;
-    register = ap (λ (s : Standing C). s.register) same;
+    run = ap (λ (s : Standing C). s.register) same;
     failed = ap (λ (s : Standing C). s.failed) same ∙ alive;
-    leaves = subst (λ (s : Standing C). LeavesOnly old.register (disk s.conn)) (sym same) leaves;
+    leaves = subst (λ (s : Standing C). LeavesOnly s.register (disk s.conn)) (sym same) leaves;
   }
 
   after_work : (old mid new : Standing C) (c : Command) (more : List (Command × Answer)) → Handles disk old c Failed mid → old.failed ≡ false → RunsOver (Handles disk) mid more new → KeepsAcknowledged disk old new ((c, Failed) ∷ more)
   after_work old mid new c more by alive run =
       let rest = all_failed mid new more by.0 run in
-      let it = by.3 alive in
       let register : new.register ≡ old.register = ap (λ (s : Standing C). s.register) rest.0 ∙ by.1 in
-      let conn : new.conn ≡ mid.conn = ap (λ (s : Standing C). s.conn) rest.0 in
-      let either : LeavesEither old.register (after_one old.register c) (disk mid.conn) = subst (λ (r : Register). LeavesEither old.register r (disk mid.conn)) it.accepted.1.1 it.leaves in
-      let now : LeavesEither old.register (after_one old.register c) (disk new.conn) = subst (λ (d : C). LeavesEither old.register (after_one old.register c) (disk d)) (sym conn) either in
+      let at_mid : InWork mid.register c (disk mid.conn) = subst (λ (r : Register). InWork r c (disk mid.conn)) (sym by.1) (by.3 alive) in
       record {
-        accepted = subst (λ cs. AreAccepted old.register cs) (sym rest.1) tt;
-        register = register ∙ ap (after_all old.register) (sym rest.1);
+        run = subst (λ cs. After old.register cs new.register) (sym rest.1) register;
         failed = ap (λ (s : Standing C). s.failed) rest.0 ∙ by.0;
-        leaves = subst (λ cs. LeavesAcknowledged (after_all old.register cs) (Some c) (disk new.conn)) (sym rest.1) (it.accepted.0, now);
+        leaves = subst (λ (s : Standing C). InWork s.register c (disk s.conn)) (sym rest.0) at_mid;
       }
 
   pub keeps : (old new : Standing C) (answered : List (Command × Answer)) → old.failed ≡ false → LeavesOnly old.register (disk old.conn) → RunsOver (Handles disk) old answered new → KeepsAcknowledged disk old new answered
@@ -95,19 +90,13 @@ module _ {C : Type 0} (disk : C → Disk) where
   keeps old new ((c, Done reply) ∷ more) alive leaves run =
       let by = run.1 in
       let rest = keeps run.0 new more by.2 by.3 run.2 in
-      let is = by.1.1.1 in
-      record {
-        accepted = (by.1.0, subst (λ (r : Register). AreAccepted r (acknowledged more)) is rest.accepted);
-        register = rest.register ∙ ap (λ (r : Register). after_all r (acknowledged more)) is;
-        failed = rest.failed;
-        leaves = subst (λ (r : Register). LeavesAcknowledged (after_all r (acknowledged more)) (in_work more) (disk new.conn)) is rest.leaves;
-      }
+      record { run = (run.0.register, (reply, by.1), rest.run); failed = rest.failed; leaves = rest.leaves }
   keeps old new ((c, Refused refusal row) ∷ more) alive leaves run =
       let rest = keeps old new more alive leaves (from_same (Handles disk) old run.0 new more run.1.2 run.2) in
-      record { accepted = rest.accepted; register = rest.register; failed = rest.failed; leaves = rest.leaves }
+      record { run = rest.run; failed = rest.failed; leaves = rest.leaves }
   keeps old new ((c, Memory) ∷ more) alive leaves run =
       let rest = keeps old new more alive leaves (from_same (Handles disk) old run.0 new more run.1.1 run.2) in
-      record { accepted = rest.accepted; register = rest.register; failed = rest.failed; leaves = rest.leaves }
+      record { run = rest.run; failed = rest.failed; leaves = rest.leaves }
   keeps old new ((c, Failed) ∷ more) alive leaves run = after_work old run.0 new c more run.1 alive run.2
 
   pub keeps_commands : (old new : Standing C) (commands : List Command) (answers : List Answer) → old.failed ≡ false → LeavesOnly old.register (disk old.conn)

@@ -6,10 +6,10 @@ use Rattle.sqlite.specs.State.{State as Disk, HasCleanDisk, Survives}
 use Rattle.sqlite.specs.Tree.{Trees}
 use Rattle.adm_types.specs.declared.commands.Command.{Command}
 use Rattle.adm_register.specs.State.{State as Register, coded_state}
+use Rattle.adm_register.specs.Outcome.{Accepts}
 use Rattle.adm_store.specs.StandsFor.{StandsFor, LeavesOnly, LeavesNone}
 use Rattle.adm_desk.specs.declared.answer.Answer.{Answer}
-use Rattle.adm_desk.specs.Standing.{Standing}
-use Rattle.adm_desk.specs.Acknowledged.{KeepsAcknowledged, LeavesAcknowledged, FindsAgain, Reopens, after_one, after_all, acknowledged, in_work}
+use Rattle.adm_desk.specs.Acknowledged.{After, LeavesAcknowledged, FindsAgain, Reopens, acknowledged, in_work}
 
 -- a crash leaves something
 abbrev pub LeavesSome : Disk → Type 0
@@ -38,21 +38,26 @@ module _ (before started opened : Disk) (reopens : Reopens before started) (surv
 
     pub finds : ((db : Trees) (r s : Register) → StandsFor db r → StandsFor db s → r ≡ s) → (r : Register) (work : Option Command) (found : Register) → LeavesAcknowledged r work before → LeavesOnly found opened → FindsAgain r work found
     finds one r None found left leaves = found_one one found r leaves (left clean_before started.committed.trees could_be_left)
-    finds one r (Some command) found left leaves = elim (left.1 clean_before started.committed.trees could_be_left)
-        [ inl stands ↦ inl (found_one one found r leaves stands) | inr stands ↦ inr (left.0, found_one one found (after_one r command) leaves stands) ]
+    finds one r (Some command) found left leaves = elim (left.leaves clean_before started.committed.trees could_be_left) [
+      | inl stands ↦ inl (found_one one found r leaves stands)
+      | inr stands ↦ inr (subst (λ (x : Register). Accepts r command x) (sym (found_one one found left.next leaves stands)) left.accepted)
+    ]
 
     pub holds_one : (r : Register) (work : Option Command) → LeavesAcknowledged r work before → LeavesNone opened → ⊥
     holds_one r work left none = ∥∥₁_elim some (λ x y. absurd x) (λ it. go work left it.0 it.1)
       where
         go : (work : Option Command) → LeavesAcknowledged r work before → (db : Trees) → opened.may_leave db → ⊥
         go None left db may = none clean db may r (left clean_before db (was_left db may))
-        go (Some command) left db may = elim (left.1 clean_before db (was_left db may)) [ inl stands ↦ none clean db may r stands | inr stands ↦ none clean db may (after_one r command) stands ]
+        go (Some command) left db may = elim (left.leaves clean_before db (was_left db may)) [ inl stands ↦ none clean db may r stands | inr stands ↦ none clean db may left.next stands ]
 
 -- what is left stands for the same registers
 pub still_leaves : (before started opened : Disk) → Reopens before started → Survives started opened (λ _. ⊥) → (r : Register) (work : Option Command) → LeavesAcknowledged r work before → LeavesAcknowledged r work opened
 still_leaves before started opened reopens survives r None left = λ clean db may. left (clean_before before started opened reopens survives clean) db (was_left before started opened reopens survives clean db may)
-still_leaves before started opened reopens survives r (Some command) left =
-    (left.0, λ clean db may. left.1 (clean_before before started opened reopens survives clean) db (was_left before started opened reopens survives clean db may))
+still_leaves before started opened reopens survives r (Some command) left = record {
+  next = left.next;
+  accepted = left.accepted;
+  leaves = λ clean db may. left.leaves (clean_before before started opened reopens survives clean) db (was_left before started opened reopens survives clean db may);
+}
 
 -- ---- no answer
 
@@ -61,6 +66,7 @@ no_exchange [] answers none = refl
 no_exchange (c ∷ commands) answers none = ap (zip (c ∷ commands)) none
 
 pub none_answered : (disk : Disk) (r : Register) (commands : List Command) (answers : List Answer) → answers ≡ [] → LeavesOnly r disk
-    → LeavesAcknowledged (after_all r (acknowledged (zip commands answers))) (in_work (zip commands answers)) disk
+    → (kept : Register) × After r (acknowledged (zip commands answers)) kept × LeavesAcknowledged kept (in_work (zip commands answers)) disk
 none_answered disk r commands answers none leaves =
-    subst (λ (x : List (Command × Answer)). LeavesAcknowledged (after_all r (acknowledged x)) (in_work x) disk) (sym (no_exchange commands answers none)) leaves
+    let P : List (Command × Answer) → Type 0 = λ x. (kept : Register) × After r (acknowledged x) kept × LeavesAcknowledged kept (in_work x) disk in
+    subst P (sym (no_exchange commands answers none)) (r, refl, leaves)

@@ -11,18 +11,18 @@ use Rattle.adm_desk.specs.declared.answer.Answer.TheVariants.{Done, Refused, Mem
 use Rattle.adm_desk.specs.Standing.{Standing, Handles, Keeps}
 
 -- an accepted step that was kept, or not, is handled
-pub handles : {C : Type 0} (disk : C → Disk) (old new : Standing C) (command : Command) (after : Register) (reply : Reply) (answer : Answer)
-    → old.failed ≡ false → Step old.register command (Ok reply) after → Keeps disk old after reply answer new → Handles disk old command answer new
-handles disk old new command after reply (Done r) alive step keeps = (
+pub handles : {C : Type 0} (disk : C → Disk) (old new : Standing C) (command : Command) (next : Register) (reply : Reply) (answer : Answer)
+    → old.failed ≡ false → Step old.register command (Ok reply) next → Keeps disk old next reply answer new → Handles disk old command answer new
+handles disk old new command next reply (Done r) alive step keeps = (
   alive,
   subst (λ (x : Reply). Step old.register command (Ok x) new.register) (sym keeps.0) (subst (λ (x : Register). Step old.register command (Ok reply) x) (sym keeps.1) step),
   keeps.2,
   subst (λ (x : Register). LeavesOnly x (disk new.conn)) (sym keeps.1) keeps.3,
 )
-handles disk old new command after reply (Refused refusal row) alive step keeps = absurd keeps
-handles disk old new command after reply Memory alive step keeps = (alive, keeps)
-handles disk old new command after reply Failed alive step keeps =
-    (keeps.0, keeps.1, λ dead. absurd (differ (sym dead ∙ alive)), λ _. record { after = after; reply = reply; accepted = step; leaves = keeps.2 })
+handles disk old new command next reply (Refused refusal row) alive step keeps = absurd keeps
+handles disk old new command next reply Memory alive step keeps = (alive, keeps)
+handles disk old new command next reply Failed alive step keeps =
+    (keeps.0, keeps.1, λ dead. absurd (differ (sym dead ∙ alive)), λ _. record { next = next; accepted = (reply, step); leaves = keeps.2 })
   where
     differ : true ≡ false → ⊥
     differ e = cc

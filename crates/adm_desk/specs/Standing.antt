@@ -5,7 +5,7 @@ use Rattle.sqlite.specs.State.{State as Disk}
 use Rattle.adm_types.specs.declared.commands.Command.{Command}
 use Rattle.adm_types.specs.declared.commands.Reply.{Reply}
 use Rattle.adm_register.specs.State.{State as Register, coded_state}
-use Rattle.adm_register.specs.Outcome.{Step}
+use Rattle.adm_register.specs.Outcome.{Step, Accepts}
 use Rattle.adm_store.specs.StandsFor.{LeavesOnly, LeavesEither}
 use Rattle.adm_desk.specs.declared.answer.Answer.{Answer}
 use Rattle.adm_desk.specs.declared.answer.Answer.TheVariants.{Done, Refused, Memory, Failed}
@@ -24,13 +24,12 @@ coded_standing {C} conn =
     (λ p. record { register = p.0; failed = p.1.0; conn = p.1.1 })
     (λ _. refl)
 
--- The command in work: accepted, it would leave the register `after`, and each thing that a crash may leave stands for
+-- The command in work: accepted, it would leave the register `next`, and each thing that a crash may leave stands for
 -- the register before it or for that one.
 pub record InWork (register : Register) (command : Command) (left : Disk) : Type 0 where
-  pub after : Register
-  pub reply : Reply
-  pub accepted : Step register command (Ok reply) after
-  pub leaves : LeavesEither register after left
+  pub next : Register
+  pub accepted : Accepts register command next
+  pub leaves : LeavesEither register next left
 
 -- A command is answered, where `disk` is what a connection's file may be.
 -- Done: an accepted step, and all that a crash may leave stands for the register after it.
@@ -47,7 +46,7 @@ Handles disk old command Failed new = (new.failed ≡ true) × (new.register ≡
 
 -- the new register was written, or memory ran out before, or the commit failed
 abbrev pub Keeps : {C : Type 0} → (C → Disk) → Standing C → Register → Reply → Answer → Standing C → Type 0
-Keeps disk old after reply (Done r) new = (r ≡ reply) × (new.register ≡ after) × (new.failed ≡ false) × LeavesOnly after (disk new.conn)
-Keeps disk old after reply (Refused refusal row) new = ⊥
-Keeps disk old after reply Memory new = new ≡ old
-Keeps disk old after reply Failed new = (new.failed ≡ true) × (new.register ≡ old.register) × LeavesEither old.register after (disk new.conn)
+Keeps disk old next reply (Done r) new = (r ≡ reply) × (new.register ≡ next) × (new.failed ≡ false) × LeavesOnly next (disk new.conn)
+Keeps disk old next reply (Refused refusal row) new = ⊥
+Keeps disk old next reply Memory new = new ≡ old
+Keeps disk old next reply Failed new = (new.failed ≡ true) × (new.register ≡ old.register) × LeavesEither old.register next (disk new.conn)

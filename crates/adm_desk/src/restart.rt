@@ -8,7 +8,7 @@ ghost use Rattle.adm_desk.specs.Steps.{IsRun};
 ghost use Rattle.adm_desk.specs.Standing.{Handles, Standing};
 ghost use Rattle.adm_register.specs.State.{State as Register};
 ghost use Rattle.adm_types.specs.declared.commands.Command.{Command as Asked};
-ghost use Rattle.adm_desk.specs.Acknowledged.{acknowledged, after_all, in_work, FindsAgain, LeavesAcknowledged, Reopens};
+ghost use Rattle.adm_desk.specs.Acknowledged.{After, acknowledged, in_work, FindsAgain, LeavesAcknowledged, Reopens};
 
 use crate::{Answer, Desk};
 use adm_store::{OpenFault, one_register};
@@ -106,15 +106,16 @@ pub fn run_and_reopen<S: Alter + Reopen + Drop>(
     mut desk: Desk<S>,
     commands: &[Command],
 ) -> Restarted<S>
-    // The register is the one after the acknowledged commands, or also the one after the command in work.
+    // The register is one after the acknowledged commands, or one that the command in work leaves after these.
     ensures register { desk.failed ≡ false → IfOk result.opened (λ new. HasCleanDisk (state S.Store new.conn)
-        → FindsAgain (after_all desk.register (acknowledged (zip commands.now result.answers.items))) (in_work (zip commands.now result.answers.items)) new.register) }
+        → (kept : Register) × After desk.register (acknowledged (zip commands.now result.answers.items)) kept × FindsAgain kept (in_work (zip commands.now result.answers.items)) new.register) }
     ensures alive { IfOk result.opened (λ new. (new.failed ≡ false) × LeavesOnly new.register (state S.Store new.conn)) }
     ensures run { OnOk result.opened ((mid : Standing (Held S)) × IsRun (Handles (state S.Store)) desk commands.now result.answers.items mid) }
 
     // What was started stands for such a register also where it was not opened, so no NotOurs, Version or BadRow comes.
     ensures kept { desk.failed ≡ false → IfErr result.opened (λ e. IfSome e.1 (λ conn.
-        LeavesAcknowledged (after_all desk.register (acknowledged (zip commands.now result.answers.items))) (in_work (zip commands.now result.answers.items)) (state S.Store conn))) }
+        (kept : Register) × After desk.register (acknowledged (zip commands.now result.answers.items)) kept
+        × LeavesAcknowledged kept (in_work (zip commands.now result.answers.items)) (state S.Store conn))) }
     ensures never { desk.failed ≡ false → IfErr result.opened (λ e. MatchOption e.1 (¬ IsNoRegister e.0) (λ conn. HasCleanDisk (state S.Store conn) → ¬ IsNoRegister e.0)) }
 {
     // that a crash leaves its register, a call of it says

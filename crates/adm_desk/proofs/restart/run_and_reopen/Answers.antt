@@ -1,4 +1,5 @@
-use Rattle.std.proofs.Common.{◌≡◌, ◌∙◌, ap, sym, subst}
+use Rattle.std.proofs.Common.{◌∙◌, ap, sym, subst}
+use Rattle.std.proofs.lemmas.Option.{IfSome_then}
 use Rattle.sqlite.specs.Held.{Held, state}
 use Rattle.adm_store.specs.StandsFor.{LeavesOnly}
 use Rattle.adm_desk.specs.Standing.{Standing}
@@ -10,3 +11,13 @@ returns-in-Err-clause-kept g c = λ alive.
     let same = c.into_connection.ensures.same ∙ ap (λ (s : Standing _). s.conn) c.in-Err.ensures.err in
     none_answered (state g.S.Store c.into_connection.result) c.args.desk.register c.args.commands.now c.new.result.items c.new.ensures.items
     (subst (λ (h : Held _). LeavesOnly c.args.desk.register (state g.S.Store h)) (sym same) (c.register-register.ensures.leaves alive))
+
+pub returns-in-Ok-reopen-clause-register : goal.returns-in-Ok-reopen-clause-register
+returns-in-Ok-reopen-clause-register g c = λ alive clean.
+    let keeps = c.in-Ok.ensures.kept alive in
+    (c.handle_all.new.self.register, keeps.run, c.in-Ok-reopen.ensures.finds clean _ _ keeps.leaves)
+
+pub returns-in-Err-reopen-clause-kept : goal.returns-in-Err-reopen-clause-kept
+returns-in-Err-reopen-clause-kept g c = λ alive.
+    let keeps = c.in-Ok.ensures.kept alive in
+    IfSome_then c.in-Err-reopen.conn c.in-Err-reopen.ensures.kept (λ _ left. (c.handle_all.new.self.register, keeps.run, left _ _ keeps.leaves))
