@@ -5,6 +5,7 @@ use Rattle.adm_types.specs.declared.commands.Command.{Command}
 use Rattle.adm_wire.specs.declared.fault.WireFault.{WireFault}
 use Rattle.adm_wire.specs.declared.fault.WireFault.TheVariants as fault
 use Rattle.adm_register.specs.State.{State as Register}
+use Rattle.adm_register.specs.Outcome.{OneStep}
 use Rattle.adm_store.specs.StandsFor.{LeavesOnly}
 use Rattle.adm_desk.specs.declared.answer.Answer.{Answer}
 use Rattle.adm_desk.specs.declared.answer.Answer.TheVariants.{Done, Refused, Memory, Failed}
@@ -13,7 +14,7 @@ use Rattle.adm_desk.specs.declared.answer.LineAnswer.TheVariants.{Handled, Fault
 use Rattle.adm_desk.specs.Steps.{IsRun}
 use Rattle.adm_desk.specs.Lines.{AnswersLine, AnswersLines}
 use Rattle.adm_desk.specs.Standing.{Standing, Handles, InWork}
-use Rattle.adm_desk.specs.Acknowledged.{After, KeepsAcknowledged, acknowledged, handled, with_command}
+use Rattle.adm_desk.specs.Acknowledged.{After, OneAfter, KeepsAcknowledged, acknowledged, handled, with_command}
 
 -- ---- a run over commands with their answers
 
@@ -106,3 +107,11 @@ module _ {C : Type 0} (disk : C → Disk) where
   pub keeps_lines : (old new : Standing C) (lines : List (List ℕ)) (answers : List LineAnswer) → old.failed ≡ false → LeavesOnly old.register (disk old.conn)
       → AnswersLines (Handles disk) old lines answers new → KeepsAcknowledged disk old new (handled lines answers)
   keeps_lines old new lines answers alive leaves run = keeps old new (handled lines answers) alive leaves (over_lines (Handles disk) old new lines answers run)
+
+-- ---- which register that is
+
+pub one_after_lem : OneStep → OneAfter
+one_after_lem step old a b [] one other = one ∙ sym other
+one_after_lem step old a b (c ∷ commands) one other =
+    let same = step old one.0 other.0 c one.1 other.1 in
+    one_after_lem step one.0 a b commands one.2 (subst (λ (r : Register). After r commands b) (sym same) other.2)

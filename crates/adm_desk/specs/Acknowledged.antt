@@ -22,6 +22,10 @@ abbrev pub After : Register → List Command → Register → Type 0
 After old [] new = new ≡ old
 After old (command ∷ commands) new = (mid : Register) × Accepts old command mid × After mid commands new
 
+-- accepted commands, one after another, leave one register
+abbrev pub OneAfter : Type 0
+OneAfter = (old a b : Register) (commands : List Command) → After old commands a → After old commands b → a ≡ b
+
 -- ---- commands with their answers
 
 -- the acknowledged commands: those that were answered Done, in their order

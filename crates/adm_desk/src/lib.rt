@@ -4,11 +4,13 @@
 mod answer;
 mod desk;
 mod handler;
+mod laws;
 mod lines;
 mod restart;
 mod run;
 
 pub use answer::{Answer, LineAnswer};
 pub use desk::Desk;
+pub use laws::one_after;
 pub use restart::{Restarted, run_and_reopen};
 pub use run::{Run, RunFault};
