@@ -1,12 +1,12 @@
 -- What a change of rows that fit leaves is a register.
 use Rattle.std.proofs.Common.{◌≡◌, ◌∙◌, ap, sym, subst, refl, Bool, true, false, ℕ, ◌≤◌, List, [], ◌∷◌, Some, None}
-use Rattle.std.specs.Prelude.{⊤, ◌&&◌, ◌||◌, not, is_some, nat_eq, Option}
+use Rattle.std.specs.Prelude.{⊤, ◌&&◌, ◌||◌, not, is_some, nat_eq, Option, if◌then◌else◌}
 use Rattle.std.specs.Ordering.{nat_cmp}
 use Rattle.std.specs.declared.cmp.Ordering.{Ordering}
 use Rattle.std.specs.List.{AllByRecursion}
 use Rattle.std.specs.Cmp.{nat_cmp_total}
 use Rattle.std.specs.Cmp.Lexicographic.{nat_list_cmp_total, pointwise, bytes_decides}
-use Rattle.std.specs.FinMap.{FinMap, get, len, contains_key, nat_cmp-IsAntisymmetric}
+use Rattle.std.specs.FinMap.{FinMap, get, len, values, contains_key, nat_cmp-IsAntisymmetric}
 use Rattle.adm_types.specs.Limits.{most_schools, most_children}
 use Rattle.adm_types.specs.Seasons.{lists_end}
 use Rattle.adm_types.specs.declared.rows.School.{School}
@@ -14,12 +14,15 @@ use Rattle.adm_types.specs.declared.rows.Child.{Child}
 use Rattle.adm_types.specs.declared.rows.Application.{Application}
 use Rattle.adm_types.specs.declared.rows.PlaceRow.{PlaceRow}
 use Rattle.adm_types.specs.declared.rows.LeftPair.{LeftPair}
+use Rattle.adm_types.specs.declared.draws.Draw.{Draw}
 use Rattle.adm_register.specs.declared.difference.Difference.{Difference}
 use Rattle.adm_register.specs.State.{State, code_cmp, is_plan}
 use Rattle.adm_register.specs.Change.{put_all, cut_all, after}
 use Rattle.adm_register.specs.Extends.{Extends, KeepsSchools}
-use Rattle.adm_register.specs.WellFormed.{WellFormed, BaseFits, PlacesFit, LeftFits, SchoolFits, ChildFits, ApplicationFits, PlaceFits, LeftPairFits, is_held}
-use Rattle.adm_register.proofs.Maps.{code_cmp-IsAntisymmetric, left_cmp-total, left_cmp-IsAntisymmetric}
+use Rattle.adm_register.specs.WellFormed.{WellFormed, AllRows, BaseFits, PlacesFit, LeftFits, DrawsFit, has_round, held_at, is_entitled, lists_school, SchoolFits, ChildFits, ApplicationFits, PlaceFits, LeftPairFits, is_held}
+use Rattle.adm_register.proofs.Maps.{both_true, code_cmp-IsAntisymmetric, left_cmp-total, left_cmp-IsAntisymmetric}
+use Rattle.adm_register.specs.Draws.{DrawFits, are_in_order, no_draws, with_draws}
+use Rattle.adm_register.proofs.DrawLemmas.{DrawFits-grows, values_put, new_draws, are_in_order-append}
 use Rattle.adm_register.proofs.Tidy.{IsTidy}
 use Rattle.adm_register.proofs.Puts.{Grows, put_all-grows, there_before, all_stay, AllRows-put_all, are_schools-grows}
 
@@ -37,21 +40,28 @@ pub record BasePut (old : State) (change : Difference) : Type 0 where
   pub few_children : FewAfter most_children (after old change).children change.children
   pub applications : AllByRecursion (λ (a : Application). ApplicationFits (lists_end old.season) (after old change).schools (after old change).children a.child a) change.applications
 
--- what is put into the places fits the rows after the change, and a child whose application is put has no place
+-- What is put into the places fits the rows after the change. A child that keeps its place keeps its application, if it has one. There is room at each school.
 pub record PlacesPut (old : State) (change : Difference) : Type 0 where
-  pub places : AllByRecursion (λ (p : PlaceRow). PlaceFits (after old change).schools (after old change).children (after old change).applications p.child p) change.places
-  pub unplaced : AllByRecursion (λ (a : Application). contains_key (after old change).places a.child ≡ false) change.applications
+  pub places : AllByRecursion (λ (p : PlaceRow). PlaceFits (after old change).schools (after old change).children (after old change).applications (has_round (after old change).draws) p.child p) change.places
+  pub kept : (number : ℕ) (row : PlaceRow) → get old.places number ≡ Some row → get (after old change).places number ≡ Some row → get (after old change).applications number ≡ get old.applications number
+  pub room : AllRows (λ code (school : School). held_at (after old change).places code ≤ school.pan) (after old change).schools
 
 -- what is put into the left pairs fits the rows after the change, and each place that is put is that of a plan, or at a school that its child has not left
 pub record LeftPut (old : State) (change : Difference) : Type 0 where
   pub left : AllByRecursion (λ (p : LeftPair). LeftPairFits (after old change).schools (after old change).children (after old change).places p p) change.left
   pub places : AllByRecursion (λ (p : PlaceRow). (is_plan p.place.state || not (contains_key old.left (record { child = p.child; school = p.place.school }))) ≡ true) change.places
 
+-- the draws that are put fit the rows after the change, and each is the next after those before it
+pub record DrawsPut (old : State) (change : Difference) : Type 0 where
+  pub each : AllByRecursion (λ (d : Draw). DrawFits (after old change).schools (after old change).children d.number d) change.draws
+  pub in_order : are_in_order old.season (with_draws no_draws (values old.draws)) change.draws ≡ true
+
 -- a change whose rows fit
 pub record Fit (old : State) (change : Difference) : Type 0 where
   pub base : BasePut old change
   pub places : PlacesPut old change
   pub left : LeftPut old change
+  pub draws : DrawsPut old change
   pub tidy : IsTidy change
 
 -- rows fit still where the rows that they name are there still
@@ -77,14 +87,23 @@ module _ (schools new_schools : FinMap code_cmp School) (children new_children :
     known = are_schools-grows schools new_schools more_schools a.list fits.known;
   }
 
-  PlaceFits-grows : (applications new_applications : FinMap nat_cmp Application) (number : ℕ) (row : PlaceRow) → not (contains_key new_applications row.child) ≡ true → PlaceFits schools children applications number row → PlaceFits new_schools new_children new_applications number row
-  PlaceFits-grows applications new_applications number row none fits = record {
+  PlaceFits-grows : (applications new_applications : FinMap nat_cmp Application) (held new_held : Bool) → (held ≡ true → new_held ≡ true) → (number : ℕ) (row : PlaceRow) → get new_applications row.child ≡ get applications row.child
+      → PlaceFits schools children applications held number row → PlaceFits new_schools new_children new_applications new_held number row
+  PlaceFits-grows applications new_applications held new_held more number row same fits = record {
     own_number = fits.own_number;
     child = more_children row.child fits.child;
     school = more_schools row.place.school fits.school;
-    plan = fits.plan;
-    no_application = none;
+    state = fits.state;
+    entitled = entitled-grows held new_held more (get new_applications row.child) row (subst (λ o. is_entitled held o row.place ≡ true) (sym same) fits.entitled);
   }
+    where
+      entitled-grows : (held new_held : Bool) → (held ≡ true → new_held ≡ true) → (o : Option Application) (row : PlaceRow) → is_entitled held o row.place ≡ true → is_entitled new_held o row.place ≡ true
+      entitled-grows held new_held more o row is =
+          by (is_plan row.place.state) is
+        where
+          by : (plan : Bool) → (if plan then not (is_some o) else held && lists_school o row.place.school) ≡ true → (if plan then not (is_some o) else new_held && lists_school o row.place.school) ≡ true
+          by true is = is
+          by false is = let both = both_true held (lists_school o row.place.school) is in λ i. more both.0 i && both.1 i
 
 module _ (old : State) (change : Difference) where
   abbrev new : State
@@ -114,36 +133,31 @@ module _ (old : State) (change : Difference) where
         (base.applications_fit number row (there_before nat_cmp_total old.applications change.ended number row there))) put.applications;
   }
 
-  -- a child that keeps its place has no application that was not there
-  unplaced_new : PlacesPut old change → (number : ℕ) (a : Application) → get new.applications number ≡ Some a → contains_key old.applications number ≡ false → contains_key new.places number ≡ false
-  unplaced_new put = AllRows-put_all nat_cmp_total nat_cmp-IsAntisymmetric (λ (a : Application). a.child) (λ number a. contains_key old.applications number ≡ false → contains_key new.places number ≡ false) (cut_all old.applications change.ended) change.applications
-      (λ number a there still none. let was = ap is_some (there_before nat_cmp_total old.applications change.ended number a there) in cc) (each change.applications put.unplaced)
-    where
-      each : (them : List Application) → AllByRecursion (λ (a : Application). contains_key new.places a.child ≡ false) them
-          → AllByRecursion (λ (a : Application). contains_key old.applications a.child ≡ false → contains_key new.places a.child ≡ false) them
-      each [] all = tt
-      each (a ∷ them) all = (λ none. all.0, each them all.1)
-
-  no_application : PlacesPut old change → (number : ℕ) (row : PlaceRow) → contains_key old.applications number ≡ false → get new.places number ≡ Some row → not (contains_key new.applications number) ≡ true
-  no_application put number row none there =
-      elim (get new.applications number) as (λ o. get new.applications number ≡ o → not (is_some o) ≡ true) [
-        | Some a ↦ λ is. let gone = unplaced_new put number a is none in let here = ap is_some there in cc
-        | None ↦ λ is. refl
-      ] refl
+  more_rounds : has_round old.draws ≡ true → has_round new.draws ≡ true
+  more_rounds = put_all-grows nat_cmp_total (λ (d : Draw). d.number) old.draws change.draws 1
 
   -- the places fit after the change
-  places_fit : PlacesFit old.schools old.children old.applications old.places → PlacesPut old change → PlacesFit new.schools new.children new.applications new.places
-  places_fit places put = AllRows-put_all nat_cmp_total nat_cmp-IsAntisymmetric (λ (p : PlaceRow). p.child) (PlaceFits new.schools new.children new.applications) (cut_all old.places change.vacated) change.places
-      (λ number row there still.
-      let fits = places number row (there_before nat_cmp_total old.places change.vacated number row there) in
-      let own = fits.own_number in
-      let was : contains_key old.applications number ≡ false = subst (λ n. contains_key old.applications n ≡ false) own (absent _ fits.no_application) in
-      let none = subst (λ n. not (contains_key new.applications n) ≡ true) (sym own) (no_application put number row was still) in
-      PlaceFits-grows old.schools new.schools old.children new.children more_schools more_children old.applications new.applications number row none fits) put.places
-    where
-      absent : (b : Bool) → not b ≡ true → b ≡ false
-      absent true e = cc
-      absent false e = refl
+  places_fit : PlacesFit old.schools old.children old.applications old.places (has_round old.draws) → PlacesPut old change → PlacesFit new.schools new.children new.applications new.places (has_round new.draws)
+  places_fit places put = record {
+    each = AllRows-put_all nat_cmp_total nat_cmp-IsAntisymmetric (λ (p : PlaceRow). p.child) (PlaceFits new.schools new.children new.applications (has_round new.draws)) (cut_all old.places change.vacated) change.places
+        (λ number row there still.
+        let before = there_before nat_cmp_total old.places change.vacated number row there in
+        let fits = places.each number row before in
+        let same : get new.applications row.child ≡ get old.applications row.child = subst (λ n. get new.applications n ≡ get old.applications n) (sym fits.own_number) (put.kept number row before still) in
+        PlaceFits-grows old.schools new.schools old.children new.children more_schools more_children old.applications new.applications (has_round old.draws) (has_round new.draws) more_rounds number row same fits) put.places;
+    room = put.room;
+  }
+
+  -- the draws fit after the change
+  draws_fit : DrawsFit old.season old.schools old.children old.draws → DrawsPut old change → DrawsFit new.season new.schools new.children new.draws
+  draws_fit draws put =
+      let own : AllRows (λ number (d : Draw). d.number ≡ number) old.draws = λ number draw there. (draws.each number draw there).own_number in
+      record {
+        each = AllRows-put_all nat_cmp_total nat_cmp-IsAntisymmetric (λ (d : Draw). d.number) (DrawFits new.schools new.children) old.draws change.draws
+            (λ number draw there still. DrawFits-grows old.schools new.schools old.children new.children more_schools more_children number draw (draws.each number draw there)) put.each;
+        in_order = ap (are_in_order old.season no_draws) (values_put old.draws old.season change.draws own draws.in_order put.in_order)
+            ∙ are_in_order-append old.season no_draws (values old.draws) change.draws draws.in_order put.in_order;
+      }
 
   -- a child's place is not at a school that it had left
   not_held : LeftFits old.schools old.children old.places old.left → LeftPut old change → (number : ℕ) (row : PlaceRow) → get new.places number ≡ Some row
@@ -202,11 +216,18 @@ module _ (old : State) (change : Difference) where
 
   -- so the state after the change is a register
   pub after-keeps : WellFormed old → Fit old change → WellFormed new
-  after-keeps well fit = record { base = base_fits well.base fit.base; places = places_fit well.places fit.places; left = left_fit well.left fit.left }
+  after-keeps well fit = record { base = base_fits well.base fit.base; places = places_fit well.places fit.places; left = left_fit well.left fit.left; draws = draws_fit well.draws fit.draws }
 
   -- and what every command leaves is as it was
-  pub after-extends : Extends old new
-  after-extends = record { season = refl; schools = more_schools; children = more_children; left = put_all-grows left_cmp-total (λ (p : LeftPair). p) old.left change.left }
+  pub after-extends : WellFormed old → Fit old change → Extends old new
+  after-extends well fit = record {
+    season = refl;
+    schools = more_schools;
+    children = more_children;
+    left = put_all-grows left_cmp-total (λ (p : LeftPair). p) old.left change.left;
+    draws = all_stay nat_cmp_total nat_cmp-IsAntisymmetric (λ (d : Draw). d.number) old.draws change.draws
+        (new_draws old.draws old.season change.draws (λ number draw there. (well.draws.each number draw there).own_number) well.draws.in_order fit.draws.in_order);
+  }
 
   -- no school is changed where those that are put are new
   pub after-keeps_schools : BasePut old change → KeepsSchools old new

@@ -1,5 +1,5 @@
 -- Commands keep a register well formed.
-use Rattle.std.proofs.Common.{◌≡◌, refl, cond, Bool, true, false, ℕ, ◌≤◌, ◌<◌, ◌+◌, List, [], ◌∷◌, None, arith}
+use Rattle.std.proofs.Common.{◌≡◌, ap, refl, cond, Bool, true, false, ℕ, ◌≤◌, ◌<◌, ◌+◌, List, [], ◌∷◌, None, arith}
 use Rattle.std.specs.declared.cmp.Ordering.{Ordering}
 use Rattle.std.specs.Ordering.{nat_cmp}
 use Rattle.std.specs.Cmp.{IsTotalOrder}
@@ -9,9 +9,11 @@ use Rattle.adm_types.specs.declared.rows.School.{School}
 use Rattle.adm_types.specs.declared.rows.Child.{Child}
 use Rattle.adm_types.specs.declared.commands.Refusal.{Refusal}
 use Rattle.adm_register.specs.State.{code_cmp, left_cmp, only_season}
-use Rattle.adm_register.specs.WellFormed.{WellFormed, SchoolFits, ChildFits, ApplicationFits, PlaceFits, LeftPairFits}
+use Rattle.adm_register.specs.WellFormed.{WellFormed, SchoolFits, ChildFits, ApplicationFits, PlaceFits, LeftPairFits, has_round, held_at}
+use Rattle.adm_register.specs.Draws.{DrawFits, are_in_order, no_draws}
+use Rattle.adm_types.specs.declared.draws.Draw.{Draw}
 use Rattle.adm_register.specs.Tests.{first_failing, AllPass}
-use Rattle.adm_register.proofs.Maps.{AllRows-empty}
+use Rattle.adm_register.proofs.Maps.{AllRows-empty, values-empty}
 
 pub only_season-WellFormed : (season : SeasonFacts) → IsSeason season → WellFormed (only_season season)
 only_season-WellFormed season is = record {
@@ -23,8 +25,9 @@ only_season-WellFormed season is = record {
     children_fit = AllRows-empty nat_cmp (ChildFits empty);
     applications_fit = AllRows-empty nat_cmp (ApplicationFits (lists_end season) empty empty);
   };
-  places = AllRows-empty nat_cmp (PlaceFits empty empty empty);
+  places = record { each = AllRows-empty nat_cmp (PlaceFits empty empty empty (has_round empty)); room = AllRows-empty code_cmp (λ code (school : School). held_at empty code ≤ school.pan) };
   left = AllRows-empty left_cmp (LeftPairFits empty empty empty);
+  draws = record { each = AllRows-empty nat_cmp (DrawFits empty empty); in_order = ap (are_in_order season no_draws) (values-empty nat_cmp Draw) };
 }
 
 -- where no test is the first that fails, all pass

@@ -2,6 +2,8 @@ pub mod TableMaps
 pub mod PieceRows
 pub mod Maps
 pub mod Puts
+pub mod DrawLemmas
+pub mod HeldLemmas
 pub mod Fits
 pub mod Accepted
 pub mod Keeps
@@ -14,6 +16,7 @@ pub mod ChildChecks
 pub mod ApplicationChecks
 pub mod PlaceChecks
 pub mod LeftChecks
+pub mod DrawChecks
 pub mod RowsAgain
 pub mod SameLemmas
 pub mod Tidy

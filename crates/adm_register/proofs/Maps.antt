@@ -1,13 +1,13 @@
 -- What holds of each row of a map, before and after a change of one row.
-use Rattle.std.proofs.Common.{◌≡◌, ◌∙◌, ap, sym, refl, cond, Bool, true, false, List, [], ◌∷◌, Some, None}
-use Rattle.std.specs.Prelude.{Option, is_some, not, ◌&&◌}
+use Rattle.std.proofs.Common.{◌≡◌, ◌∙◌, ap, sym, refl, cond, Bool, true, false, length, List, [], ◌∷◌, Some, None, arith}
+use Rattle.std.specs.Prelude.{Option, is_some, not, ◌&&◌, map}
 use Rattle.std.specs.declared.cmp.Ordering.{Ordering}
 use Rattle.std.specs.declared.cmp.Ordering.TheVariants.{Less, Equal, Greater}
 use Rattle.std.specs.Ordering.{eq_by_cmp, is_eq, ordering_then}
 use Rattle.std.specs.List.{list_all}
 use Rattle.std.specs.Cmp.{IsTotalOrder, eq_by_cmp_equiv, nat_cmp_total, on_total, then_total}
 use Rattle.std.specs.Cmp.Lexicographic.{nat_list_cmp_total}
-use Rattle.std.specs.FinMap.{FinMap, get, insert, remove, empty, contains_key, get-empty, get-insert, get-remove, IsAntisymmetric, nat_cmp-IsAntisymmetric, slice_cmp-IsAntisymmetric}
+use Rattle.std.specs.FinMap.{FinMap, get, insert, remove, empty, entries, values, len-entries, len-empty, contains_key, get-empty, get-insert, get-remove, IsAntisymmetric, nat_cmp-IsAntisymmetric, slice_cmp-IsAntisymmetric}
 use Rattle.adm_types.specs.declared.rows.LeftPair.{LeftPair}
 use Rattle.adm_register.specs.State.{code_cmp, left_cmp}
 use Rattle.adm_register.specs.WellFormed.{AllRows}
@@ -85,3 +85,11 @@ list_all-weaker p q weaker (x ∷ xs) all =
       | true ↦ λ here rest. rw (weaker x here) (list_all-weaker p q weaker xs rest)
       | false ↦ λ here rest. cc
     ] refl all
+
+no_length : {A : Type 0} (xs : List A) → length xs ≡ 0 → xs ≡ []
+no_length [] e = refl
+no_length (x ∷ xs) e = absurd (omega arith)
+
+-- a map without rows has no values
+pub values-empty : {K : Type 0} (R : K → K → Ordering) (V : Type 0) → values (empty {X = V} {R = R}) ≡ []
+values-empty R V = ap (map (λ e. e.1)) (no_length (entries (empty {X = V} {R = R})) (sym (len-entries (empty {X = V} {R = R})) ∙ len-empty R V))

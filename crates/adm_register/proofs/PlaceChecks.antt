@@ -1,5 +1,5 @@
 -- The test of a place decides that it fits.
-use Rattle.std.proofs.Common.{◌≡◌, true, ℕ}
+use Rattle.std.proofs.Common.{◌≡◌, Bool, true, ℕ}
 use Rattle.std.specs.Prelude.{nat_eq, ◌&&◌, ◌↔◌}
 use Rattle.std.specs.Ordering.{nat_cmp}
 use Rattle.std.specs.Cmp.{unsigned_Decides}
@@ -12,22 +12,22 @@ use Rattle.adm_register.specs.State.{code_cmp}
 use Rattle.adm_register.specs.WellFormed.{PlaceFits, fits_place, is_place}
 use Rattle.adm_register.proofs.Maps.{both_true}
 
-pub place_decided : (schools : FinMap code_cmp School) (children : FinMap nat_cmp Child) (applications : FinMap nat_cmp Application) (number : ℕ) (row : PlaceRow)
-    → (fits_place schools children applications number row ≡ true) ↔ PlaceFits schools children applications number row
-place_decided schools children applications number row = (
+pub place_decided : (schools : FinMap code_cmp School) (children : FinMap nat_cmp Child) (applications : FinMap nat_cmp Application) (held : Bool) (number : ℕ) (row : PlaceRow)
+    → (fits_place schools children applications held number row ≡ true) ↔ PlaceFits schools children applications held number row
+place_decided schools children applications held number row = (
   λ test.
-      let own = both_true (nat_eq row.child number) (is_place schools children applications row) test in
-      let no_application = both_true _ _ own.1 in
-      let plan = both_true _ _ no_application.0 in
-      let school = both_true _ _ plan.0 in
+      let own = both_true (nat_eq row.child number) (is_place schools children applications held row) test in
+      let entitled = both_true _ _ own.1 in
+      let state = both_true _ _ entitled.0 in
+      let school = both_true _ _ state.0 in
       record {
         own_number = (unsigned_Decides row.child number).0 own.0;
         child = school.0;
         school = school.1;
-        plan = plan.1;
-        no_application = no_application.1;
+        state = state.1;
+        entitled = entitled.1;
       },
   λ fits i.
       (unsigned_Decides row.child number).1 fits.own_number i
-      && (fits.child i && fits.school i && fits.plan i && fits.no_application i),
+      && (fits.child i && fits.school i && fits.state i && fits.entitled i),
 )

@@ -14,9 +14,14 @@ use Rattle.adm_types.specs.declared.rows.Child.{Child}
 use Rattle.adm_types.specs.declared.rows.Application.{Application}
 use Rattle.adm_types.specs.declared.rows.PlaceRow.{PlaceRow}
 use Rattle.adm_types.specs.declared.rows.LeftPair.{LeftPair}
+use Rattle.adm_types.specs.declared.draws.Draw.{Draw}
+use Rattle.adm_types.specs.declared.draws.Outcome.{Outcome}
+use Rattle.adm_types.specs.declared.draws.Lot.{Lot}
+use Rattle.adm_types.specs.contracts.draws.OutcomePartialEq.TheImpl.{eq-value as outcome_eq}
+use Rattle.adm_types.specs.contracts.draws.LotPartialEq.TheImpl.{eq-value as lot_eq}
 use Rattle.adm_types.specs.contracts.rows.CriterionPartialEq.TheImpl.{eq-value as criterion_eq}
 use Rattle.adm_types.specs.contracts.rows.PlaceStatePartialEq.TheImpl.{eq-value as state_eq}
-use Rattle.adm_table.specs.Same.{is_same_school, is_same_child, is_same_application, is_same_place, is_same_left, is_other}
+use Rattle.adm_table.specs.Same.{is_same_school, is_same_child, is_same_application, is_same_place, is_same_left, is_same_draw, is_other}
 
 not_true : {A : Type 0} → false ≡ true → A
 not_true e = absurd (true≢false (sym e))
@@ -166,6 +171,59 @@ pub same_left : (x y : LeftPair) → (is_same_left x y ≡ true) ↔ (x ≡ y)
 same_left = decided is_same_left
     (λ x y e i. let parts = split _ _ e in record { child = (same_nat x.child y.child).0 parts.0 i; school = (bytes_decides x.school y.school).0 parts.1 i })
     (λ x i. (same_nat x.child x.child).1 refl i && (bytes_decides x.school x.school).1 refl i)
+
+same_choice : (x y : Option (List ℕ)) → (option_eq (pointwise nat_eq) x y ≡ true) ↔ (x ≡ y)
+same_choice = decided (option_eq (pointwise nat_eq)) told itself
+  where
+    told : (x y : Option (List ℕ)) → option_eq (pointwise nat_eq) x y ≡ true → x ≡ y
+    told None None e = refl
+    told None (Some y) e = not_true e
+    told (Some x) None e = not_true e
+    told (Some x) (Some y) e = ap Some ((bytes_decides x y).0 e)
+
+    itself : (x : Option (List ℕ)) → option_eq (pointwise nat_eq) x x ≡ true
+    itself None = refl
+    itself (Some x) = (bytes_decides x x).1 refl
+
+same_outcome : (x y : Outcome) → (outcome_eq.it x y ≡ true) ↔ (x ≡ y)
+same_outcome = decided outcome_eq.it
+    (λ x y e.
+    let child = split _ _ e in
+    let school = split _ _ child.1 in
+    λ i. record { child = (same_nat x.child y.child).0 child.0 i; school = (same_choice x.school y.school).0 school.0 i; fresh = (booleans_Decides x.fresh y.fresh).0 school.1 i })
+    (λ x i. (same_nat x.child x.child).1 refl i && ((same_choice x.school x.school).1 refl i && (booleans_Decides x.fresh x.fresh).1 refl i))
+
+same_lot : (x y : Lot) → (lot_eq.it x y ≡ true) ↔ (x ≡ y)
+same_lot = decided lot_eq.it
+    (λ x y e.
+    let school = split _ _ e in
+    let child = split _ _ school.1 in
+    λ i. record { school = (bytes_decides x.school y.school).0 school.0 i; child = (same_nat x.child y.child).0 child.0 i; lot = (same_nat x.lot y.lot).0 child.1 i })
+    (λ x i. (bytes_decides x.school x.school).1 refl i && ((same_nat x.child x.child).1 refl i && (same_nat x.lot x.lot).1 refl i))
+
+pub same_draw : (x y : Draw) → (is_same_draw x y ≡ true) ↔ (x ≡ y)
+same_draw = decided is_same_draw
+    (λ x y e.
+    let number = split _ _ e in
+    let round = split _ _ number.1 in
+    let school = split _ _ round.1 in
+    let day = split _ _ school.1 in
+    let outcomes = split _ _ day.1 in
+    λ i. record {
+      number = (same_nat x.number y.number).0 number.0 i;
+      round = (same_nat x.round y.round).0 round.0 i;
+      school = (same_choice x.school y.school).0 school.0 i;
+      day = (same_nat x.day y.day).0 day.0 i;
+      outcomes = (pointwise_decides same_outcome x.outcomes y.outcomes).0 outcomes.0 i;
+      lots = (pointwise_decides same_lot x.lots y.lots).0 outcomes.1 i;
+    })
+    (λ x i.
+    (same_nat x.number x.number).1 refl i
+    && ((same_nat x.round x.round).1 refl i
+    && ((same_choice x.school x.school).1 refl i
+    && ((same_nat x.day x.day).1 refl i
+    && ((pointwise_decides same_outcome x.outcomes x.outcomes).1 refl i
+    && (pointwise_decides same_lot x.lots x.lots).1 refl i)))))
 
 same_Some : {A : Type 0} (x y : A) → Some x ≡ Some y → x ≡ y
 same_Some x y e = cc

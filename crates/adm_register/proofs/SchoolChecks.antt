@@ -1,9 +1,13 @@
 -- The test of a school decides that it fits.
-use Rattle.std.proofs.Common.{◌≡◌, true, List, ℕ}
-use Rattle.std.specs.Prelude.{nat_eq, ◌&&◌, ◌↔◌}
+use Rattle.std.proofs.Common.{◌≡◌, true, List, ℕ, ◌≤◌}
+use Rattle.std.specs.Prelude.{nat_eq, nat_le, ◌&&◌, ◌↔◌}
 use Rattle.std.specs.Cmp.Lexicographic.{pointwise, bytes_decides}
+use Rattle.std.specs.Ordering.{nat_cmp}
+use Rattle.std.specs.FinMap.{FinMap}
+use borrow.Author.Tests.{le-leb, leb-true}
+use Rattle.adm_types.specs.declared.rows.PlaceRow.{PlaceRow}
 use Rattle.adm_types.specs.declared.rows.School.{School}
-use Rattle.adm_register.specs.WellFormed.{SchoolFits, fits_school, is_school}
+use Rattle.adm_register.specs.WellFormed.{SchoolFits, fits_school, fits_school_with, is_school, held_at}
 use Rattle.adm_register.proofs.Maps.{both_true}
 
 pub school_decided : (code : List ℕ) (school : School) → (fits_school code school ≡ true) ↔ SchoolFits code school
@@ -16,3 +20,16 @@ school_decided code school = (
       record { own_code = (bytes_decides school.code code).0 own.0; code_form = third.0; text = third.1; name = second.1; in_range = first.1 },
   λ fits i. (bytes_decides school.code code).1 fits.own_code i && (fits.code_form i && fits.text i && fits.name i && fits.in_range i),
 )
+
+-- and the test beside the places, that there is room too
+pub school_decided_with : (places : FinMap nat_cmp PlaceRow) (code : List ℕ) (school : School) → (fits_school_with places code school ≡ true) ↔ (SchoolFits code school × (held_at places code ≤ school.pan))
+school_decided_with places code school = (
+  λ test. let both = both_true (fits_school code school) _ test in ((school_decided code school).0 both.0, le_told both.1),
+  λ fits i. (school_decided code school).1 fits.0 i && le_test fits.1 i,
+)
+  where
+    le_told : nat_le (held_at places code) school.pan ≡ true → held_at places code ≤ school.pan
+    le_told e = leb-true _ _ e
+
+    le_test : held_at places code ≤ school.pan → nat_le (held_at places code) school.pan ≡ true
+    le_test h = le-leb _ _ h

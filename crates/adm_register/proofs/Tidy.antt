@@ -9,6 +9,7 @@ use Rattle.adm_types.specs.declared.rows.Child.{Child}
 use Rattle.adm_types.specs.declared.rows.Application.{Application}
 use Rattle.adm_types.specs.declared.rows.PlaceRow.{PlaceRow}
 use Rattle.adm_types.specs.declared.rows.LeftPair.{LeftPair}
+use Rattle.adm_types.specs.declared.draws.Draw.{Draw}
 use Rattle.adm_register.specs.declared.difference.Difference.{Difference}
 use Rattle.adm_register.specs.State.{code_cmp, left_cmp}
 
@@ -24,6 +25,7 @@ pub record IsTidy (change : Difference) : Type 0 where
   pub applications : IsTidyIn nat_cmp (λ (a : Application). a.child) change.ended change.applications
   pub places : IsTidyIn nat_cmp (λ (p : PlaceRow). p.child) change.vacated change.places
   pub left : IsTidyIn left_cmp (λ (p : LeftPair). p) [] change.left
+  pub draws : IsTidyIn nat_cmp (λ (d : Draw). d.number) [] change.draws
 
 -- nothing is tidy, and so is one row, or one key
 module _ {K V : Type 0} (R : K → K → Ordering) (key : V → K) where

@@ -7,6 +7,7 @@ use Rattle.adm_types.specs.declared.rows.Child.{Child}
 use Rattle.adm_types.specs.declared.rows.Application.{Application}
 use Rattle.adm_types.specs.declared.rows.PlaceRow.{PlaceRow}
 use Rattle.adm_types.specs.declared.rows.LeftPair.{LeftPair}
+use Rattle.adm_types.specs.declared.draws.Draw.{Draw}
 use Rattle.adm_register.specs.declared.difference.Difference.{Difference}
 use Rattle.adm_register.specs.State.{State}
 
@@ -22,7 +23,7 @@ cut_all rows (key ∷ more) = cut_all (remove rows key) more
 
 -- nothing is put and nothing is cut
 abbrev pub no_change : Difference
-no_change = record { schools = []; children = []; applications = []; places = []; left = []; ended = []; vacated = [] }
+no_change = record { schools = []; children = []; applications = []; places = []; left = []; draws = []; ended = []; vacated = [] }
 
 -- a child's data are put, in place of those that were there
 abbrev pub put_child : Child → Difference
@@ -37,4 +38,5 @@ after old change = record {
   applications = put_all (λ (a : Application). a.child) (cut_all old.applications change.ended) change.applications;
   places = put_all (λ (p : PlaceRow). p.child) (cut_all old.places change.vacated) change.places;
   left = put_all (λ (p : LeftPair). p) old.left change.left;
+  draws = put_all (λ (d : Draw). d.number) old.draws change.draws;
 }

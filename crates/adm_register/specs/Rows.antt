@@ -1,11 +1,14 @@
 -- The register as lists of rows, and the numbers that are read off them.
-use Rattle.std.specs.Prelude.{◌≡◌, ℕ, ◌-◌, List, Option, count_by, nat_eq}
+use Rattle.std.specs.Prelude.{◌≡◌, ℕ, ◌-◌, List, map, Option, count_by, nat_eq}
+use Rattle.std.specs.List.{flat_map}
 use Rattle.std.specs.Option.{option_map}
 use Rattle.std.specs.Cmp.Lexicographic.{pointwise}
 use Rattle.std.specs.List.Sorted.{IsPermutation}
 use Rattle.std.specs.FinMap.{get, values}
 use Rattle.adm_types.specs.declared.rows.Place.{Place}
 use Rattle.adm_register.specs.declared.register_rows.Rows.{Rows}
+use Rattle.adm_draws.specs.Draws.{row_of, offers_of, lots_of}
+use Rattle.adm_draws.specs.Draws as drawn
 use Rattle.adm_register.specs.State.{State}
 
 -- the rows of a state, each table's in the order of its key
@@ -17,6 +20,9 @@ rows_in_order s = record {
   applications = values s.applications;
   places = values s.places;
   left = values s.left;
+  draws = map row_of (values s.draws);
+  offers = flat_map offers_of (values s.draws);
+  lots = flat_map lots_of (values s.draws);
 }
 
 -- these are the rows of the state, in any order
@@ -27,6 +33,7 @@ pub record AreRowsOf (rows : Rows) (s : State) : Type 0 where
   pub applications : IsPermutation rows.applications (values s.applications)
   pub places : IsPermutation rows.places (values s.places)
   pub left : IsPermutation rows.left (values s.left)
+  pub draws : drawn.AreRowsOf rows.draws rows.offers rows.lots (values s.draws)
 
 -- the child's place
 abbrev pub place_of : State → ℕ → Option Place

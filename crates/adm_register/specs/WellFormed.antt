@@ -1,21 +1,26 @@
 -- Which states are registers.
-use Rattle.std.specs.Prelude.{◌≡◌, ℕ, ◌≤◌, Bool, false, not, ◌&&◌, nat_eq, nat_lt, List, length, IsTrue, Option, Some, None}
+use Rattle.std.specs.Prelude.{◌≡◌, ℕ, ◌+◌, ◌≤◌, Bool, true, false, not, is_some, nat_le, count_by, if◌then◌else◌, ◌&&◌, nat_eq, nat_lt, List, length, IsTrue, Option, Some, None}
 use Rattle.std.specs.List.{list_all}
 use Rattle.std.specs.Cmp.Lexicographic.{pointwise}
 use Rattle.std.specs.Ordering.{nat_cmp}
 use Rattle.std.specs.declared.cmp.Ordering.{Ordering}
-use Rattle.std.specs.FinMap.{FinMap, get, len, contains_key}
+use Rattle.std.specs.FinMap.{FinMap, get, len, values, contains_key}
 use Rattle.std.specs.Str.{is_utf8}
 use Rattle.adm_types.specs.Code.{is_code}
 use Rattle.adm_types.specs.Seasons.{SeasonFacts, IsSeason, lists_end}
-use Rattle.adm_types.specs.Limits.{is_from, is_child_number, first_day, most_schools, most_children, is_name, is_school_in_range, is_child_in_range, is_without_repeat}
+use Rattle.adm_types.specs.Limits.{is_from, is_child_number, first_day, last_day, most_schools, most_children, is_name, is_school_in_range, is_child_in_range, is_listed, is_without_repeat}
 use Rattle.adm_types.specs.declared.rows.School.{School}
 use Rattle.adm_types.specs.declared.rows.Child.{Child}
 use Rattle.adm_types.specs.declared.rows.Application.{Application}
+use Rattle.adm_types.specs.declared.rows.Place.{Place}
+use Rattle.adm_types.specs.declared.rows.PlaceState.{PlaceState}
+use Rattle.adm_types.specs.declared.rows.PlaceState.TheVariants.{Offered, Accepted, Plan}
 use Rattle.adm_types.specs.declared.rows.PlaceRow.{PlaceRow}
 use Rattle.adm_types.specs.declared.rows.LeftPair.{LeftPair}
+use Rattle.adm_types.specs.declared.draws.Draw.{Draw}
 use Rattle.adm_register.specs.State.{State, code_cmp, left_cmp, is_plan}
 use Rattle.adm_table.specs.Same.{is_same_left}
+use Rattle.adm_register.specs.Draws.{DrawFits, are_in_order, no_draws}
 
 -- P holds of each row and its key
 abbrev pub AllRows : {K V : Type 0} {R : K → K → Ordering} → (K → V → Type 0) → FinMap R V → Type 0
@@ -76,21 +81,41 @@ is_application last_day schools children application =
 abbrev pub fits_application : ℕ → FinMap code_cmp School → FinMap nat_cmp Child → ℕ → Application → Bool
 fits_application last_day schools children number application = nat_eq application.child number && is_application last_day schools children application
 
--- the child and the school are there; before the first round each place is that of a plan, and a child with a plan has no application
-pub record PlaceFits (schools : FinMap code_cmp School) (children : FinMap nat_cmp Child) (applications : FinMap nat_cmp Application) (number : ℕ) (row : PlaceRow) : Type 0 where
+-- whether a round was held: the first draw is a round's
+abbrev pub has_round : FinMap nat_cmp Draw → Bool
+has_round draws = contains_key draws 1
+
+-- whether the application lists the school
+abbrev pub lists_school : Option Application → List ℕ → Bool
+lists_school None school = false
+lists_school (Some application) school = is_listed application.list school
+
+-- a child with a plan has no application; any other place is at a school that its child lists, and there was a round
+abbrev pub is_entitled : Bool → Option Application → Place → Bool
+is_entitled held application place = if is_plan place.state then not (is_some application) else held && lists_school application place.school
+
+-- its days are days, and a reminder comes at least 14 days after the offer
+abbrev pub is_state : PlaceState → Bool
+is_state (Offered day None) = is_from first_day last_day day
+is_state (Offered day (Some reminded)) = is_from first_day last_day day && is_from (day + 14) last_day reminded
+is_state Accepted = true
+is_state Plan = true
+
+-- the child and the school are there, and the child is entitled to its place
+pub record PlaceFits (schools : FinMap code_cmp School) (children : FinMap nat_cmp Child) (applications : FinMap nat_cmp Application) (held : Bool) (number : ℕ) (row : PlaceRow) : Type 0 where
   pub own_number : row.child ≡ number
   pub child : IsTrue (contains_key children row.child)
   pub school : IsTrue (contains_key schools row.place.school)
-  pub plan : IsTrue (is_plan row.place.state)
-  pub no_application : IsTrue (not (contains_key applications row.child))
+  pub state : IsTrue (is_state row.place.state)
+  pub entitled : IsTrue (is_entitled held (get applications row.child) row.place)
 
 -- the test of all but its key
-abbrev pub is_place : FinMap code_cmp School → FinMap nat_cmp Child → FinMap nat_cmp Application → PlaceRow → Bool
-is_place schools children applications row =
-    contains_key children row.child && contains_key schools row.place.school && is_plan row.place.state && not (contains_key applications row.child)
+abbrev pub is_place : FinMap code_cmp School → FinMap nat_cmp Child → FinMap nat_cmp Application → Bool → PlaceRow → Bool
+is_place schools children applications held row =
+    contains_key children row.child && contains_key schools row.place.school && is_state row.place.state && is_entitled held (get applications row.child) row.place
 
-abbrev pub fits_place : FinMap code_cmp School → FinMap nat_cmp Child → FinMap nat_cmp Application → ℕ → PlaceRow → Bool
-fits_place schools children applications number row = nat_eq row.child number && is_place schools children applications row
+abbrev pub fits_place : FinMap code_cmp School → FinMap nat_cmp Child → FinMap nat_cmp Application → Bool → ℕ → PlaceRow → Bool
+fits_place schools children applications held number row = nat_eq row.child number && is_place schools children applications held row
 
 -- whether this is a place at the school, and not that of a plan
 abbrev pub is_held : Option PlaceRow → List ℕ → Bool
@@ -120,16 +145,31 @@ pub record BaseFits (season : SeasonFacts) (schools : FinMap code_cmp School) (c
   pub children_fit : AllRows (ChildFits schools) children
   pub applications_fit : AllRows (ApplicationFits (lists_end season) schools children) applications
 
--- each place fits the rows that it names
-abbrev pub PlacesFit : FinMap code_cmp School → FinMap nat_cmp Child → FinMap nat_cmp Application → FinMap nat_cmp PlaceRow → Type 0
-PlacesFit schools children applications places = AllRows (PlaceFits schools children applications) places
+-- how many places at the school are not those of a plan
+abbrev pub held_at : FinMap nat_cmp PlaceRow → List ℕ → ℕ
+held_at places school = count_by (λ row. is_held (Some row) school) (values places)
+
+-- the test of a school beside the places
+abbrev pub fits_school_with : FinMap nat_cmp PlaceRow → List ℕ → School → Bool
+fits_school_with places code school = fits_school code school && nat_le (held_at places code) school.pan
+
+-- each place fits the rows that it names, and at each school those that are not a plan's are at most its admission number
+pub record PlacesFit (schools : FinMap code_cmp School) (children : FinMap nat_cmp Child) (applications : FinMap nat_cmp Application) (places : FinMap nat_cmp PlaceRow) (held : Bool) : Type 0 where
+  pub each : AllRows (PlaceFits schools children applications held) places
+  pub room : AllRows (λ code school. held_at places code ≤ school.pan) schools
 
 -- each left pair fits the rows that it names
 abbrev pub LeftFits : FinMap code_cmp School → FinMap nat_cmp Child → FinMap nat_cmp PlaceRow → FinMap left_cmp LeftPair → Type 0
 LeftFits schools children places left = AllRows (LeftPairFits schools children places) left
 
+-- each draw fits the rows that it names, and is the next after those before it
+pub record DrawsFit (season : SeasonFacts) (schools : FinMap code_cmp School) (children : FinMap nat_cmp Child) (draws : FinMap nat_cmp Draw) : Type 0 where
+  pub each : AllRows (DrawFits schools children) draws
+  pub in_order : IsTrue (are_in_order season no_draws (values draws))
+
 -- each group of rows fits, and what they read of the others
 pub record WellFormed (s : State) : Type 0 where
   pub base : BaseFits s.season s.schools s.children s.applications
-  pub places : PlacesFit s.schools s.children s.applications s.places
+  pub places : PlacesFit s.schools s.children s.applications s.places (has_round s.draws)
   pub left : LeftFits s.schools s.children s.places s.left
+  pub draws : DrawsFit s.season s.schools s.children s.draws

@@ -29,6 +29,7 @@ impl Tables {
                 .places
                 .with_all(alloc, change.vacated.as_slice(), change.places.as_slice())?,
             left: self.left.with_all(alloc, &[], change.left.as_slice())?,
+            draws: self.draws.with_all(alloc, &[], change.draws.as_slice())?,
         })
     }
 
@@ -46,6 +47,7 @@ impl Tables {
             applications,
             places,
             left,
+            draws,
             ended,
             vacated,
         } = change;
@@ -55,6 +57,7 @@ impl Tables {
             applications: self.applications.lacked(alloc, applications)?,
             places: self.places.lacked(alloc, places)?,
             left: self.left.lacked(alloc, left)?,
+            draws: self.draws.lacked(alloc, draws)?,
             ended: self.applications.known(alloc, ended)?,
             vacated: self.places.known(alloc, vacated)?,
         })

@@ -1,21 +1,29 @@
 // Whether rows are a register's.
-ghost use Rattle.std.specs.Prelude.{◌≡◌, ◌≤◌, ◌↔◌, IsTrue};
+ghost use Rattle.std.specs.Prelude.{◌≡◌, ◌≤◌, ◌↔◌, IsTrue, IfOk};
 ghost use Rattle.std.specs.List.{list_all};
 ghost use Rattle.std.specs.FinMap.{get, len};
 ghost use Rattle.std.specs.List.Sorted.{IsStrictlySortedBy};
 ghost use Rattle.std.specs.Map.{keys_of};
 ghost use Rattle.adm_types.specs.Limits.{most_schools, most_children};
 ghost use Rattle.adm_types.specs.Seasons.{lists_end};
-ghost use Rattle.adm_register.specs.State.{is_plan};
 ghost use Rattle.adm_register.specs.WellFormed.{WellFormed};
-ghost use Rattle.adm_register.specs.WellFormed.{fits_school, is_school, fits_child, is_child, fits_application, is_application, fits_place, is_place, fits_left, is_left, is_held};
+ghost use Rattle.adm_register.specs.WellFormed.{fits_school_with, is_school, fits_child, is_child, fits_application, is_application, fits_place, is_place, fits_left, is_left, is_held, is_state, is_entitled, has_round};
+ghost use Rattle.adm_register.specs.Draws.{are_in_order, no_draws, fits_known_draw, is_known_draw, is_choice, is_known_outcome, is_known_lot};
+ghost use Rattle.adm_draws.specs.Draws.{is_draw};
 
-use crate::tables::Tables;
+use crate::draws_so_far::are_in_order;
+use crate::tables::{Tables, is_held_at, is_plan};
+use adm_draws::is_draw;
 use adm_table::{Piece, Shared, Table};
 use adm_types::limits::{
-    MOST_CHILDREN, MOST_SCHOOLS, is_child_in_range, is_name, is_school_in_range, is_without_repeat,
+    MOST_CHILDREN, MOST_SCHOOLS, is_child_in_range, is_listed, is_name, is_school_in_range,
+    is_without_repeat,
 };
-use adm_types::{Application, Child, ChildNo, LeftPair, PlaceRow, PlaceState, School, SchoolCode};
+use adm_types::{
+    Application, Child, ChildNo, Draw, LeftPair, Lot, Outcome, PlaceRow, PlaceState, School,
+    SchoolCode,
+};
+use std::alloc::{AllocError, Global};
 
 /// A row that is tested beside the other rows of its register.
 trait Checked<K> {
@@ -30,18 +38,36 @@ trait Checked<K> {
 }
 
 /// Whether the rows are a register's.
-pub(crate) fn is_well_formed(tables: &Tables) -> bool
-    ensures { IsTrue result ↔ WellFormed tables.now }
+pub(crate) fn is_well_formed(alloc: Global, tables: &Tables) -> Result<bool, AllocError>
+    ensures { IfOk result (λ fits. IsTrue fits ↔ WellFormed tables.now) }
 {
     let _year = tables.season().year();
-    all_hold(&[
+    let draws = tables.draws.to_vec(alloc)?;
+    Ok(all_hold(&[
         are_few(tables),
         all_fit(tables, &tables.schools),
         all_fit(tables, &tables.children),
         all_fit(tables, &tables.applications),
         all_fit(tables, &tables.places),
         all_fit(tables, &tables.left),
-    ])
+        all_fit(tables, &tables.draws),
+        all_formed(alloc, &draws)?,
+        are_in_order(tables.season(), &draws),
+    ]))
+}
+
+/// Whether each draw is that of a round or a fill, with its lots and outcomes in order.
+fn all_formed(alloc: Global, draws: &[Shared<Draw>]) -> Result<bool, AllocError>
+    ensures { IfOk result (λ all. all ≡ list_all is_draw draws.now) }
+{
+    let mut rest = draws;
+    while let Some((draw, others)) = rest.split_first() {
+        if !is_draw(alloc, draw.as_ref())? {
+            return Ok(false);
+        }
+        rest = others;
+    }
+    Ok(true)
 }
 
 fn all_hold(tests: &[bool]) -> bool
@@ -89,10 +115,11 @@ fn are_few(tables: &Tables) -> bool
 }
 
 impl Checked<SchoolCode> for School {
-    ghost fits = { λ _. fits_school };
+    ghost fits = { λ s. fits_school_with s.places };
 
-    fn fits_in(&self, _tables: &Tables, code: &SchoolCode) -> bool {
-        self.code == *code && is_school(self)
+    fn fits_in(&self, tables: &Tables, code: &SchoolCode) -> bool {
+        let pan = self.pan as usize;
+        self.code == *code && is_school(self) && tables.held_at(*code) <= pan
     }
 }
 
@@ -149,30 +176,56 @@ fn is_application(tables: &Tables, application: &Application) -> bool
 }
 
 impl Checked<ChildNo> for PlaceRow {
-    ghost fits = { λ s. fits_place s.schools s.children s.applications };
+    ghost fits = { λ s. fits_place s.schools s.children s.applications (has_round s.draws) };
 
     fn fits_in(&self, tables: &Tables, number: &ChildNo) -> bool {
         self.child == *number && is_place(tables, self)
     }
 }
 
-/// Whether the child and the school are there, the place is that of a plan, and the child has no
-/// application.
+/// Whether the child and the school are there, and the child is entitled to its place.
 fn is_place(tables: &Tables, row: &PlaceRow) -> bool
-    ensures { result ≡ is_place tables.now.schools tables.now.children tables.now.applications row.now }
+    ensures { result ≡ is_place tables.now.schools tables.now.children tables.now.applications (has_round tables.now.draws) row.now }
 {
     tables.has_child(row.child)
         && tables.has_school(row.place.school)
-        && is_plan(&row.place.state)
-        && !tables.has_application(row.child)
+        && is_state(&row.place.state)
+        && is_entitled(tables, row)
 }
 
-fn is_plan(state: &PlaceState) -> bool
-    ensures { result ≡ is_plan state.now }
+/// Whether the days of a place are days, and a reminder comes at least 14 days after the offer.
+fn is_state(state: &PlaceState) -> bool
+    ensures { result ≡ is_state state.now }
 {
     match state {
-        PlaceState::Offered { .. } | PlaceState::Accepted => false,
-        PlaceState::Plan => true,
+        PlaceState::Offered { day, reminded } => match reminded {
+            None => {
+                let _day = day.number();
+                true
+            }
+            Some(reminded) => {
+                let _day = reminded.number();
+                day.number() + 14 <= reminded.number()
+            }
+        },
+        PlaceState::Accepted | PlaceState::Plan => true,
+    }
+}
+
+/// Whether a child with a plan has no application, and any other has its place at a school that it
+/// lists, after a round.
+fn is_entitled(tables: &Tables, row: &PlaceRow) -> bool
+    ensures { result ≡ is_entitled (has_round tables.now.draws) (get tables.now.applications row.now.child) row.now.place }
+{
+    let application = tables.application(row.child);
+    if is_plan(&row.place.state) {
+        return application.is_none();
+    }
+    match application {
+        None => false,
+        Some(application) => {
+            tables.has_round() && is_listed(application.list.as_slice(), &row.place.school)
+        }
     }
 }
 
@@ -197,6 +250,61 @@ fn is_held(tables: &Tables, pair: &LeftPair) -> bool
 {
     match tables.place_row(pair.child) {
         None => false,
-        Some(row) => row.place.school == pair.school && !is_plan(&row.place.state),
+        Some(row) => is_held_at(row, pair.school),
     }
+}
+
+impl Checked<u32> for Draw {
+    ghost fits = { λ s. fits_known_draw s.schools s.children };
+
+    fn fits_in(&self, tables: &Tables, number: &u32) -> bool {
+        self.number == *number && is_known_draw(tables, self)
+    }
+}
+
+/// Whether each school and child that the draw names is there.
+fn is_known_draw(tables: &Tables, draw: &Draw) -> bool
+    ensures { result ≡ is_known_draw tables.now.schools tables.now.children draw.now }
+{
+    let _day = draw.day.number();
+    is_choice(tables, draw.school)
+        && are_known_outcomes(tables, draw.outcomes.as_slice())
+        && are_known_lots(tables, draw.lots.as_slice())
+}
+
+/// Whether this is no school, or one that is there.
+fn is_choice(tables: &Tables, school: Option<SchoolCode>) -> bool
+    ensures { result ≡ is_choice tables.now.schools school }
+{
+    match school {
+        None => true,
+        Some(code) => tables.has_school(code),
+    }
+}
+
+fn is_known_outcome(tables: &Tables, outcome: &Outcome) -> bool
+    ensures { result ≡ is_known_outcome tables.now.schools tables.now.children outcome.now }
+{
+    tables.has_child(outcome.child) && is_choice(tables, outcome.school)
+}
+
+fn are_known_outcomes(tables: &Tables, outcomes: &[Outcome]) -> bool
+    ensures { result ≡ list_all (is_known_outcome tables.now.schools tables.now.children) outcomes.now }
+{
+    outcomes
+        .iter()
+        .all(|outcome| is_known_outcome(tables, outcome))
+}
+
+fn is_known_lot(tables: &Tables, lot: &Lot) -> bool
+    ensures { result ≡ is_known_lot tables.now.schools tables.now.children lot.now }
+{
+    let _lot = lot.lot;
+    tables.has_school(lot.school) && tables.has_child(lot.child)
+}
+
+fn are_known_lots(tables: &Tables, lots: &[Lot]) -> bool
+    ensures { result ≡ list_all (is_known_lot tables.now.schools tables.now.children) lots.now }
+{
+    lots.iter().all(|lot| is_known_lot(tables, lot))
 }

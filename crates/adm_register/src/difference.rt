@@ -4,8 +4,8 @@ ghost use Rattle.adm_register.specs.Change.{no_change};
 
 use adm_table::Shared;
 use adm_types::{
-    Application, Child, ChildNo, Day, LeftPair, Place, PlaceRow, PlaceState, School, SchoolCode,
-    Seq,
+    Application, Child, ChildNo, Day, Draw, LeftPair, Place, PlaceRow, PlaceState, School,
+    SchoolCode, Seq,
 };
 use std::alloc::{AllocError, Global};
 
@@ -18,6 +18,7 @@ pub struct Difference {
     pub applications: Seq<Shared<Application>>,
     pub places: Seq<PlaceRow>,
     pub left: Seq<LeftPair>,
+    pub draws: Seq<Shared<Draw>>,
     /// The children that had an application and have none.
     pub ended: Seq<ChildNo>,
     /// The children that had a place and have none.
@@ -35,6 +36,7 @@ impl Difference {
             applications: Seq::new(alloc),
             places: Seq::new(alloc),
             left: Seq::new(alloc),
+            draws: Seq::new(alloc),
             ended: Seq::new(alloc),
             vacated: Seq::new(alloc),
         }

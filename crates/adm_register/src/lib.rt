@@ -10,6 +10,7 @@ mod checks;
 mod child_values;
 mod commands;
 mod difference;
+mod draws_so_far;
 mod failing;
 mod laws;
 mod name_plan;
@@ -21,6 +22,7 @@ mod rows_in;
 mod tables;
 
 pub use difference::Difference;
+pub use draws_so_far::DrawsSoFar;
 pub use laws::{one_step, repeat_safe};
 pub use not_done::NotDone;
 pub use register_rows::Rows;

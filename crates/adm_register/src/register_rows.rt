@@ -1,5 +1,7 @@
 // The rows of a register, as lists.
-use adm_types::{Application, Child, LeftPair, PlaceRow, School, Season, Seq};
+use adm_types::{
+    Application, Child, DrawRow, LeftPair, LotRow, OfferRow, PlaceRow, School, Season, Seq,
+};
 
 /// The rows of a register: its season, and each table's rows.
 #[derive(Drop)]
@@ -15,4 +17,10 @@ pub struct Rows {
     pub places: Seq<PlaceRow>,
     /// The schools that children left, by the child's number and then by the school's code.
     pub left: Seq<LeftPair>,
+    /// The draws, by their numbers.
+    pub draws: Seq<DrawRow>,
+    /// The outcomes of all draws, by the draw's number and then by the child's.
+    pub offers: Seq<OfferRow>,
+    /// The lots of all draws, by the draw's number, then by the school's code, and then by the child's number.
+    pub lots: Seq<LotRow>,
 }

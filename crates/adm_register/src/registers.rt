@@ -54,7 +54,8 @@ impl Register {
     {
         match Tables::of_rows(alloc, rows)? {
             Some(tables) => {
-                if is_well_formed(&tables) {
+                let fits = is_well_formed(alloc, &tables)?;
+                if fits {
                     Ok(Register { tables })
                 } else {
                     Err(RowsFault::BadRow)

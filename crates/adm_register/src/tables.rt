@@ -1,16 +1,17 @@
 // The rows of a register, of which nothing is asked.
-ghost use Rattle.std.specs.Prelude.{◌≡◌, IfOk, option_copied, count_by, nat_eq};
+ghost use Rattle.std.specs.Prelude.{◌≡◌, IfOk, Some, option_copied, count_by, nat_eq};
 ghost use Rattle.std.specs.FinMap as map;
 ghost use Rattle.std.specs.Map.{values_of};
 ghost use Rattle.std.specs.Cmp.Lexicographic.{pointwise};
 ghost use Rattle.adm_register.specs.Plans.{has_plan};
 ghost use Rattle.adm_register.specs.Rows.{place_of, places_at, vacancies};
-ghost use Rattle.adm_register.specs.State.{only_season};
-ghost use Rattle.adm_register.specs.WellFormed.{are_schools};
+ghost use Rattle.adm_register.specs.State.{only_season, is_plan};
+ghost use Rattle.adm_register.specs.WellFormed.{are_schools, held_at, is_held, has_round};
 
 use adm_table::{Keyed, Piece, Shared, Table};
 use adm_types::{
-    Application, Child, ChildNo, LeftPair, Place, PlaceRow, PlaceState, School, SchoolCode, Season,
+    Application, Child, ChildNo, Draw, LeftPair, Place, PlaceRow, PlaceState, School, SchoolCode,
+    Season,
 };
 use std::alloc::AllocError;
 use std::marker::Model;
@@ -24,6 +25,7 @@ pub(crate) struct Tables {
     pub(crate) applications: Table<ChildNo, Shared<Application>>,
     pub(crate) places: Table<ChildNo, PlaceRow>,
     pub(crate) left: Table<LeftPair, LeftPair>,
+    pub(crate) draws: Table<u32, Shared<Draw>>,
 }
 
 impl Model for Tables {
@@ -41,6 +43,7 @@ impl Model for Tables {
       applications = from_entries r.applications;
       places = from_entries r.places;
       left = from_entries r.left;
+      draws = from_entries r.draws;
     } };
 }
 
@@ -55,6 +58,7 @@ impl Tables {
             applications: Table::new(),
             places: Table::new(),
             left: Table::new(),
+            draws: Table::new(),
         }
     }
 
@@ -69,6 +73,7 @@ impl Tables {
             applications: self.applications.share()?,
             places: self.places.share()?,
             left: self.left.share()?,
+            draws: self.draws.share()?,
         })
     }
 
@@ -174,6 +179,31 @@ impl Tables {
         count
     }
 
+    /// How many places at the school are not those of a plan.
+    pub(crate) fn held_at(&self, code: SchoolCode) -> usize
+        ensures { result ≡ held_at self.now.places code }
+    {
+        let _all = self.places.len();
+        let mut count = 0;
+        for piece in self.places.pieces() {
+            count += held_in(piece, code);
+        }
+        count
+    }
+
+    pub(crate) fn draw(&self, number: u32) -> Option<&Draw>
+        ensures { option_copied result ≡ map.get self.now.draws number }
+    {
+        self.draws.row(&number)
+    }
+
+    /// Whether a round was held.
+    pub(crate) fn has_round(&self) -> bool
+        ensures { result ≡ has_round self.now.draws }
+    {
+        self.draw(1).is_some()
+    }
+
     /// The school's admission number less all places there, not below 0.
     pub(crate) fn vacancies(&self, code: SchoolCode) -> Option<u32>
         ensures { result ≡ vacancies self.now code }
@@ -197,4 +227,31 @@ fn count_at(places: &Piece<ChildNo, PlaceRow>, code: SchoolCode) -> usize
         .values()
         .filter(|row| row.place.school == code)
         .count()
+}
+
+/// How many of the places of a piece are at the school, and not those of a plan.
+fn held_in(places: &Piece<ChildNo, PlaceRow>, code: SchoolCode) -> usize
+    ensures { result ≡ count_by (λ row. is_held (Some row) code) (values_of places.now.rows.value.entries) }
+{
+    places
+        .rows()
+        .values()
+        .filter(|row| is_held_at(row, code))
+        .count()
+}
+
+/// Whether this is a place at the school, and not that of a plan.
+pub(crate) fn is_held_at(row: &PlaceRow, code: SchoolCode) -> bool
+    ensures { result ≡ is_held (Some row.now) code }
+{
+    row.place.school == code && !is_plan(&row.place.state)
+}
+
+pub(crate) fn is_plan(state: &PlaceState) -> bool
+    ensures { result ≡ is_plan state.now }
+{
+    match state {
+        PlaceState::Offered { .. } | PlaceState::Accepted => false,
+        PlaceState::Plan => true,
+    }
 }

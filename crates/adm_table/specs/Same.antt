@@ -1,12 +1,16 @@
 -- Tests that tell whether two rows are the same, and which rows a table has not.
 use Rattle.std.specs.Prelude.{◌&&◌, not, nat_eq, Bool, true, Option, Some, None}
 use mathlib.Core.Bool.{beq}
+use Rattle.std.specs.Option.{option_eq}
 use Rattle.std.specs.Cmp.Lexicographic.{pointwise}
 use Rattle.adm_types.specs.declared.rows.School.{School}
 use Rattle.adm_types.specs.declared.rows.Child.{Child}
 use Rattle.adm_types.specs.declared.rows.Application.{Application}
 use Rattle.adm_types.specs.declared.rows.PlaceRow.{PlaceRow}
 use Rattle.adm_types.specs.declared.rows.LeftPair.{LeftPair}
+use Rattle.adm_types.specs.declared.draws.Draw.{Draw}
+use Rattle.adm_types.specs.contracts.draws.OutcomePartialEq.TheImpl.{eq-value as outcome_eq}
+use Rattle.adm_types.specs.contracts.draws.LotPartialEq.TheImpl.{eq-value as lot_eq}
 use Rattle.adm_types.specs.contracts.rows.CriterionPartialEq.TheImpl.{eq-value as criterion_eq}
 use Rattle.adm_types.specs.contracts.rows.PlaceStatePartialEq.TheImpl.{eq-value as state_eq}
 
@@ -26,6 +30,10 @@ is_same_place x y = nat_eq x.child y.child && (pointwise nat_eq x.place.school y
 
 abbrev pub is_same_left : LeftPair → LeftPair → Bool
 is_same_left x y = nat_eq x.child y.child && pointwise nat_eq x.school y.school
+
+abbrev pub is_same_draw : Draw → Draw → Bool
+is_same_draw x y =
+    nat_eq x.number y.number && (nat_eq x.round y.round && (option_eq (pointwise nat_eq) x.school y.school && (nat_eq x.day y.day && (pointwise outcome_eq.it x.outcomes y.outcomes && pointwise lot_eq.it x.lots y.lots))))
 
 -- whether a row is not the one that is there
 abbrev pub is_other : {V : Type 0} → (V → V → Bool) → Option V → V → Bool

@@ -1,7 +1,7 @@
 // Rows that have their keys in them, and where.
 ghost use Rattle.std.specs.Prelude.{◌≡◌};
 
-use adm_types::{Application, Child, ChildNo, LeftPair, PlaceRow, School, SchoolCode};
+use adm_types::{Application, Child, ChildNo, Draw, LeftPair, PlaceRow, School, SchoolCode};
 
 /// A row that has its key in it.
 pub trait Keyed<K> {
@@ -49,5 +49,13 @@ impl Keyed<LeftPair> for LeftPair {
 
     fn key(&self) -> LeftPair {
         *self
+    }
+}
+
+impl Keyed<u32> for Draw {
+    ghost key = { λ draw. draw.number };
+
+    fn key(&self) -> u32 {
+        self.number
     }
 }

@@ -1,9 +1,9 @@
 // Whether two rows are the same.
 ghost use Rattle.std.specs.Prelude.{◌≡◌, Bool};
-ghost use Rattle.adm_table.specs.Same.{is_same_school, is_same_child, is_same_application, is_same_place, is_same_left};
+ghost use Rattle.adm_table.specs.Same.{is_same_school, is_same_child, is_same_application, is_same_place, is_same_left, is_same_draw};
 
 use crate::Shared;
-use adm_types::{Application, Child, LeftPair, PlaceRow, School};
+use adm_types::{Application, Child, Draw, LeftPair, PlaceRow, School};
 
 /// A row that can be compared with another.
 pub trait Same {
@@ -62,6 +62,19 @@ impl Same for LeftPair {
 
     fn is_same(&self, other: &LeftPair) -> bool {
         self == other
+    }
+}
+
+impl Same for Draw {
+    ghost same = { is_same_draw };
+
+    fn is_same(&self, other: &Draw) -> bool {
+        self.number == other.number
+            && self.round == other.round
+            && self.school == other.school
+            && self.day == other.day
+            && self.outcomes.as_slice() == other.outcomes.as_slice()
+            && self.lots.as_slice() == other.lots.as_slice()
     }
 }
 

@@ -1,17 +1,22 @@
-use Rattle.std.proofs.Common.{◌∙◌, ap, sym, subst, true}
+use Rattle.std.proofs.Common.{◌∙◌, ap, sym, subst, true, ◌≤◌}
 use Rattle.std.specs.Prelude.{◌&&◌}
 use Rattle.std.specs.Cmp.{nat_cmp_total}
 use Rattle.std.specs.Cmp.Lexicographic.{nat_list_cmp_total}
-use Rattle.std.specs.FinMap.{nat_cmp-IsAntisymmetric}
+use Rattle.std.specs.FinMap.{values, nat_cmp-IsAntisymmetric}
+use Rattle.std.specs.List.{list_all}
 use Rattle.adm_types.specs.Seasons.{IsSeason, lists_end}
-use Rattle.adm_register.specs.WellFormed.{fits_school, SchoolFits, fits_child, ChildFits, fits_application, ApplicationFits, fits_place, PlaceFits, fits_left, LeftPairFits}
+use Rattle.adm_register.specs.WellFormed.{fits_school_with, held_at, has_round, SchoolFits, fits_child, ChildFits, fits_application, ApplicationFits, fits_place, PlaceFits, fits_left, LeftPairFits}
 use Rattle.adm_register.proofs.ApplicationChecks.{application_decided}
 use Rattle.adm_register.proofs.ChildChecks.{child_decided}
 use Rattle.adm_register.proofs.EachRow.{rows_decided}
 use Rattle.adm_register.proofs.LeftChecks.{left_decided}
 use Rattle.adm_register.proofs.Maps.{both_true, code_cmp-IsAntisymmetric, left_cmp-total, left_cmp-IsAntisymmetric}
 use Rattle.adm_register.proofs.PlaceChecks.{place_decided}
-use Rattle.adm_register.proofs.SchoolChecks.{school_decided}
+use Rattle.adm_register.proofs.SchoolChecks.{school_decided_with}
+use Rattle.adm_register.proofs.DrawChecks.{IsKnown, draw_known, draws_fit, draws_known, draws_formed}
+use Rattle.adm_register.proofs.TableMaps.{values_rows}
+use Rattle.adm_register.specs.Draws.{fits_known_draw, are_in_order, no_draws}
+use Rattle.adm_draws.specs.Draws.{is_draw}
 use Rattle.adm_register.proofs.checks.is_well_formed.Goals as goal
 
 -- the tests in their order, each with what it decides
@@ -21,11 +26,15 @@ returns c =
     let rows = c.tables.inside in
     let view = c.tables.view_is in
     let last = lists_end s.season in
-    let schools = rows_decided fits_school SchoolFits nat_list_cmp_total code_cmp-IsAntisymmetric school_decided rows.schools s.schools c.all_fit.result (ap (λ s. s.schools) view) c.all_fit.ensures.ordered c.all_fit.ensures.tested in
+    let schools = rows_decided (fits_school_with s.places) (λ code school. SchoolFits code school × (held_at s.places code ≤ school.pan)) nat_list_cmp_total code_cmp-IsAntisymmetric (school_decided_with s.places) rows.schools s.schools c.all_fit.result (ap (λ s. s.schools) view) c.all_fit.ensures.ordered c.all_fit.ensures.tested in
     let children = rows_decided (fits_child s.schools) (ChildFits s.schools) nat_cmp_total nat_cmp-IsAntisymmetric (child_decided s.schools) rows.children s.children c.all_fit-2.result (ap (λ s. s.children) view) c.all_fit-2.ensures.ordered c.all_fit-2.ensures.tested in
     let applications = rows_decided (fits_application last s.schools s.children) (ApplicationFits last s.schools s.children) nat_cmp_total nat_cmp-IsAntisymmetric (application_decided last s.schools s.children) rows.applications s.applications c.all_fit-3.result (ap (λ s. s.applications) view) c.all_fit-3.ensures.ordered c.all_fit-3.ensures.tested in
-    let places = rows_decided (fits_place s.schools s.children s.applications) (PlaceFits s.schools s.children s.applications) nat_cmp_total nat_cmp-IsAntisymmetric (place_decided s.schools s.children s.applications) rows.places s.places c.all_fit-4.result (ap (λ s. s.places) view) c.all_fit-4.ensures.ordered c.all_fit-4.ensures.tested in
-    let left = rows_decided (fits_left s.schools s.children s.places) (LeftPairFits s.schools s.children s.places) left_cmp-total left_cmp-IsAntisymmetric (left_decided s.schools s.children s.places) rows.left s.left c.all_fit-5.result (ap (λ s. s.left) view) c.all_fit-5.ensures.ordered c.all_fit-5.ensures.tested in (
+    let places = rows_decided (fits_place s.schools s.children s.applications (has_round s.draws)) (PlaceFits s.schools s.children s.applications (has_round s.draws)) nat_cmp_total nat_cmp-IsAntisymmetric (place_decided s.schools s.children s.applications (has_round s.draws)) rows.places s.places c.all_fit-4.result (ap (λ s. s.places) view) c.all_fit-4.ensures.ordered c.all_fit-4.ensures.tested in
+    let left = rows_decided (fits_left s.schools s.children s.places) (LeftPairFits s.schools s.children s.places) left_cmp-total left_cmp-IsAntisymmetric (left_decided s.schools s.children s.places) rows.left s.left c.all_fit-5.result (ap (λ s. s.left) view) c.all_fit-5.ensures.ordered c.all_fit-5.ensures.tested in
+    let known = rows_decided (fits_known_draw s.schools s.children) (IsKnown s.schools s.children) nat_cmp_total nat_cmp-IsAntisymmetric (draw_known s.schools s.children) rows.draws s.draws c.all_fit-6.result (ap (λ s. s.draws) view) c.all_fit-6.ensures.ordered c.all_fit-6.ensures.tested in
+    let rows_listed = c.in_ok-draws.ensures.rows ∙ sym (values_rows nat_cmp_total rows.draws c.to_vec.ensures.ordered) ∙ ap (λ s. values s.draws) view in
+    let formed = c.in_ok-all_formed.ensures ∙ ap (list_all is_draw) (c.deref.ensures.value ∙ rows_listed) in
+    let in_order = c.are_in_order.ensures ∙ (λ i. are_in_order (c.season-2.ensures i) no_draws ((c.deref-2.ensures.value ∙ rows_listed) i)) in (
       λ fit.
           let a = both_true c.are_few.result _ (sym c.all_hold.ensures ∙ fit) in
           let b = both_true c.all_fit.result _ a.1 in
@@ -33,20 +42,24 @@ returns c =
           let e = both_true c.all_fit-3.result _ d.1 in
           let f = both_true c.all_fit-4.result _ e.1 in
           let g = both_true c.all_fit-5.result _ f.1 in
+          let h = both_true c.all_fit-6.result _ g.1 in
+          let k = both_true c.in_ok-all_formed.field-0 _ h.1 in
+          let l = both_true c.are_in_order.result _ k.1 in
           let few = c.are_few.ensures.0 a.0 in
           record {
             base = record {
               season_is = subst IsSeason c.season.ensures c.year-year.ensures.season;
               few_schools = few.0;
-              schools_fit = schools.0 b.0;
+              schools_fit = λ code school there. (schools.0 b.0 code school there).0;
               few_children = few.1;
               children_fit = children.0 d.0;
               applications_fit = applications.0 e.0;
             };
-            places = places.0 f.0;
+            places = record { each = places.0 f.0; room = λ code school there. (schools.0 b.0 code school there).1 };
             left = left.0 g.0;
+            draws = record { each = draws_fit s.schools s.children s.draws (known.0 h.0) (sym formed ∙ k.0); in_order = sym in_order ∙ l.0 };
           },
       λ well.
           c.all_hold.ensures
-          ∙ (λ i. c.are_few.ensures.1 (well.base.few_schools, well.base.few_children) i && (schools.1 well.base.schools_fit i && (children.1 well.base.children_fit i && (applications.1 well.base.applications_fit i && (places.1 well.places i && (left.1 well.left i && true)))))),
+          ∙ (λ i. c.are_few.ensures.1 (well.base.few_schools, well.base.few_children) i && (schools.1 (λ code school there. (well.base.schools_fit code school there, well.places.room code school there)) i && (children.1 well.base.children_fit i && (applications.1 well.base.applications_fit i && (places.1 well.places.each i && (left.1 well.left i && (known.1 (draws_known s.schools s.children s.draws well.draws.each) i && ((formed ∙ draws_formed s.schools s.children s.draws well.draws.each) i && ((in_order ∙ well.draws.in_order) i && true))))))))),
     )

@@ -5,10 +5,10 @@ use Rattle.adm_register.proofs.registers.Register.from_rows.Goals as goal
 not_both : (b : Bool) → b ≡ true → b ≡ false → ⊥
 not_both b one other = cc
 
-pub returns-else-is_well_formed-clause-bad_row : goal.returns-else-is_well_formed-clause-bad_row
-returns-else-is_well_formed-clause-bad_row c fault state well same =
+pub returns-else-fits-clause-bad_row : goal.returns-else-fits-clause-bad_row
+returns-else-fits-clause-bad_row c fault state well same =
     let made = rw c.in-Some.is at c.in_ok-tables.ensures.made in
-    not_both c.is_well_formed.result (c.is_well_formed.ensures.1 (subst WellFormed (made.1 state well same) well)) c.if-is_well_formed.false
+    not_both c.in_ok-fits-in-Some.fits (c.in_ok-fits-in-Some.ensures.1 (subst WellFormed (made.1 state well same) well)) c.if-fits.false
 
 pub returns-in-None-clause-bad_row : goal.returns-in-None-clause-bad_row
 returns-in-None-clause-bad_row c fault state well same =

@@ -23,7 +23,7 @@ returns-in_ok-change-in-None-2-clause-extends c =
     let change = change_of old c.args.command.now in
     let fit = command-fit old c.args.command.now c.kept_by_types.ensures c.self.invariant (sym c.refused.ensures ∙ c.in-None.is) in
     let is = c.in_ok-tables-in-None.ensures ∙ ap (after old) c.in_ok-change-in-None.ensures in (
-      subst (λ s. Extends s c.in_ok-tables-in-None.tables) c.self.view_is (subst (Extends old) (sym is) (after-extends old change)),
+      subst (λ s. Extends s c.in_ok-tables-in-None.tables) c.self.view_is (subst (Extends old) (sym is) (after-extends old change c.self.invariant fit)),
       subst WellFormed (sym is) (after-keeps old change c.self.invariant fit),
     )
 

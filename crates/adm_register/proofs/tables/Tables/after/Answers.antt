@@ -6,6 +6,7 @@ use Rattle.adm_types.specs.declared.rows.Application.{Application}
 use Rattle.adm_types.specs.declared.rows.Child.{Child}
 use Rattle.adm_types.specs.declared.rows.PlaceRow.{PlaceRow}
 use Rattle.adm_types.specs.declared.rows.LeftPair.{LeftPair}
+use Rattle.adm_types.specs.declared.draws.Draw.{Draw}
 use Rattle.adm_types.specs.declared.rows.School.{School}
 use Rattle.adm_register.specs.Change.{after, put_all, cut_all}
 use Rattle.adm_register.proofs.Maps.{code_cmp-IsAntisymmetric, left_cmp-total, left_cmp-IsAntisymmetric}
@@ -27,5 +28,7 @@ returns c =
     ∙ (λ i. put_all (λ (s : PlaceRow). s.child) (cut_all (from_entries inside.places) (c.as_slice-5.ensures i)) (c.as_slice-6.ensures i)) ∙ ap (λ s. s.places) was in
     let left = changed_rows left_cmp-total left_cmp-IsAntisymmetric (λ (s : LeftPair). s) inside.left c.in_ok-with_all-5.field-0 [] c.as_slice-7.result.now c.in_ok-with_all-5.ensures
     ∙ ap (put_all (λ (s : LeftPair). s) (from_entries inside.left)) c.as_slice-7.ensures ∙ ap (λ s. s.left) was in
+    let draws = changed_rows nat_cmp_total nat_cmp-IsAntisymmetric (λ (s : Draw). s.number) inside.draws c.in_ok-with_all-6.field-0 [] c.as_slice-8.result.now c.in_ok-with_all-6.ensures
+    ∙ ap (put_all (λ (s : Draw). s.number) (from_entries inside.draws)) c.as_slice-8.ensures ∙ ap (λ s. s.draws) was in
     let season = c.in_ok-clone.ensures.cases ∙ ap (λ s. s.season) was in
-    λ i. record { season = season i; schools = schools i; children = children i; applications = applications i; places = places i; left = left i }
+    λ i. record { season = season i; schools = schools i; children = children i; applications = applications i; places = places i; left = left i; draws = draws i }

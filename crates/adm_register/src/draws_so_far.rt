@@ -1,0 +1,109 @@
+// How far the draws of a register have come, and which draw may come next.
+ghost use Rattle.std.specs.Prelude.{◌≡◌, ◌<◌, ◌≤◌, ◌+◌, length};
+ghost use Rattle.adm_types.specs.Limits.{most_draws, most_lots};
+ghost use Rattle.adm_register.specs.Draws.{no_draws, is_round, with_draw, is_due, is_numbered, is_next, are_in_order, IsWithin};
+
+use adm_table::Shared;
+use adm_types::limits::{MOST_DRAWS, MOST_LOTS};
+use adm_types::{Day, Draw, Season};
+
+/// How many draws there were, how many of them were rounds', how many lots they have together, and
+/// the day of the last one, if there was one.
+#[derive(Clone, Copy, Debug)]
+pub struct DrawsSoFar {
+    pub draws: u32,
+    pub rounds: u32,
+    pub lots: usize,
+    pub day: Option<Day>,
+}
+
+impl DrawsSoFar {
+    fn none() -> DrawsSoFar
+        ensures { result ≡ no_draws }
+    {
+        DrawsSoFar {
+            draws: 0,
+            rounds: 0,
+            lots: 0,
+            day: None,
+        }
+    }
+
+    /// With one more draw.
+    fn with(&self, draw: &Draw) -> DrawsSoFar
+        requires draws { self.now.draws < most_draws }
+        requires rounds { self.now.rounds ≤ self.now.draws }
+        requires lots { self.now.lots + length draw.now.lots ≤ most_lots }
+        ensures { result ≡ with_draw self.now draw.now }
+    {
+        DrawsSoFar {
+            draws: self.draws + 1,
+            rounds: if is_round(draw) {
+                self.rounds + 1
+            } else {
+                self.rounds
+            },
+            lots: self.lots + draw.lots.len(),
+            day: Some(draw.day),
+        }
+    }
+
+    /// Whether the draw has the next number, and a round the next number of a round.
+    fn is_number_of(&self, draw: &Draw) -> bool
+        requires { IsWithin self.now }
+        ensures { result ≡ is_numbered self.now draw.now }
+    {
+        let numbered = if is_round(draw) {
+            draw.round == self.rounds + 1
+        } else {
+            0 < self.rounds
+        };
+        draw.number == self.draws + 1 && numbered
+    }
+
+    /// Whether the draw may come next.
+    fn allows(&self, season: &Season, draw: &Draw) -> bool
+        requires { IsWithin self.now }
+        ensures { result ≡ is_next season.now self.now draw.now }
+    {
+        let most = MOST_LOTS - self.lots;
+        let day = draw.day;
+        self.is_number_of(draw)
+            && self.draws < MOST_DRAWS
+            && is_due(season, self.day, day)
+            && day <= season.lists_end()
+            && draw.lots.len() <= most
+    }
+}
+
+/// Whether a day is not before that of the last draw, nor, where there was none, before the offer day.
+pub(crate) fn is_due(season: &Season, last: Option<Day>, day: Day) -> bool
+    ensures { result ≡ is_due season.now last day }
+{
+    match last {
+        None => season.reaches_offer_day(day),
+        Some(last) => last <= day,
+    }
+}
+
+fn is_round(draw: &Draw) -> bool
+    ensures { result ≡ is_round draw.now }
+{
+    0 < draw.round
+}
+
+/// Whether each of the draws may come after those before it.
+pub(crate) fn are_in_order(season: &Season, draws: &[Shared<Draw>]) -> bool
+    ensures { result ≡ are_in_order season.now no_draws draws.now }
+{
+    let mut before = DrawsSoFar::none();
+    let mut rest = draws;
+    while let Some((draw, others)) = rest.split_first() {
+        if !before.allows(season, draw.as_ref()) {
+            return false;
+        }
+        before = before.with(draw.as_ref());
+        rest = others;
+    }
+    true
+}
