@@ -1,5 +1,5 @@
 // What a register is asked to do, what it answers, and why it refuses.
-use crate::{Application, Child, ChildNo, School, SchoolCode};
+use crate::{Application, Child, ChildNo, Day, School, SchoolCode, Seq};
 
 /// A command to the register.
 #[derive(Drop)]
@@ -11,9 +11,42 @@ pub enum Command {
     /// Replaces a child's data.
     Amend(Child),
     /// Names a school in a child's plan: the child has its place there, and its application ends.
-    NamePlan { child: ChildNo, school: SchoolCode },
+    NamePlan {
+        child: ChildNo,
+        school: SchoolCode,
+    },
     /// Applies for a child on a day, with the schools in the order of its preference.
     Apply(Application),
+    /// Holds a round: the number of its draw, its day, and its lots in the order of the schools'
+    /// codes and then of the children's numbers.
+    Round {
+        draw: u32,
+        day: Day,
+        lots: Seq<u32>,
+    },
+    /// Accepts the place that a child was offered at a school.
+    Accept {
+        child: ChildNo,
+        school: SchoolCode,
+    },
+    /// Declines the place that a child was offered at a school.
+    Decline {
+        child: ChildNo,
+        school: SchoolCode,
+    },
+    /// Reminds, on a day, of an offer that was not answered, and tells that it may be withdrawn.
+    Remind {
+        child: ChildNo,
+        school: SchoolCode,
+        day: Day,
+    },
+    /// Withdraws an offer that was not answered, on a day 14 days after its reminder at the
+    /// earliest.
+    Lapse {
+        child: ChildNo,
+        school: SchoolCode,
+        day: Day,
+    },
 }
 
 /// What an accepted command answers.
