@@ -10,7 +10,7 @@ use Rattle.adm_wire.specs.declared.fault.WireFault.{WireFault}
 use Rattle.adm_wire.specs.declared.fault.WireFault.TheVariants.{NotJson, UnknownCommand, WrongKind}
 use Rattle.adm_wire.specs.declared.name.Name.{Name}
 use Rattle.adm_wire.specs.declared.name.Name.TheVariants as n
-use Rattle.adm_wire.specs.Forms.{school_form, child_form, pair_form, application_form}
+use Rattle.adm_wire.specs.Forms.{school_form, child_form, pair_form, notice_form, draw_form, application_form}
 use Rattle.adm_wire.specs.Kinds.{a_text}
 use Rattle.adm_wire.specs.Names.{name_of}
 use Rattle.adm_wire.specs.Reading.{◌>>=◌, some_or, field_at}
@@ -32,6 +32,21 @@ form_of n.NamePlan d = do
 form_of n.Apply d = do
   a ← application_form d
   Ok (c.Apply a)
+form_of n.Round d = do
+  r ← draw_form d
+  Ok (c.Round r.0 r.1 r.2)
+form_of n.Accept d = do
+  p ← pair_form d
+  Ok (c.Accept p.0 p.1)
+form_of n.Decline d = do
+  p ← pair_form d
+  Ok (c.Decline p.0 p.1)
+form_of n.Remind d = do
+  p ← notice_form d
+  Ok (c.Remind p.0 p.1 p.2)
+form_of n.Lapse d = do
+  p ← notice_form d
+  Ok (c.Lapse p.0 p.1 p.2)
 
 -- what JSON data says
 unfoldable pub command_in : Data → Result Command WireFault

@@ -40,6 +40,22 @@ pair_form d = do
   s ← field_at a_code (codes "school") d
   only (codes "cmd" ∷ codes "child" ∷ codes "school" ∷ []) d (c, s)
 
+-- a notice of an offer: its child, its school and the day of the notice
+unfoldable pub notice_form : Data → Result (ℕ × List ℕ × ℕ) WireFault
+notice_form d = do
+  c ← field_at a_child (codes "child") d
+  s ← field_at a_code (codes "school") d
+  t ← field_at a_day (codes "day") d
+  only (codes "cmd" ∷ codes "child" ∷ codes "school" ∷ codes "day" ∷ []) d (c, s, t)
+
+-- a draw of lots: its number, its day and its lots
+unfoldable pub draw_form : Data → Result (ℕ × ℕ × List ℕ) WireFault
+draw_form d = do
+  n ← field_at a_number (codes "draw") d
+  t ← field_at a_day (codes "day") d
+  ls ← field_at (a_list a_number) (codes "lots") d
+  only (codes "cmd" ∷ codes "draw" ∷ codes "day" ∷ codes "lots" ∷ []) d (n, t, ls)
+
 -- an application: a child, a day and the schools of its preference
 unfoldable pub application_form : Data → Result Application WireFault
 application_form d = do

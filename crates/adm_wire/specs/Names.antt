@@ -2,7 +2,7 @@
 use Rattle.std.specs.Prelude.{ℕ, List, codes, Option, Some, None, if◌then◌else◌}
 use Rattle.std.specs.Str.{bytes_eq}
 use Rattle.adm_wire.specs.declared.name.Name.{Name}
-use Rattle.adm_wire.specs.declared.name.Name.TheVariants.{AddSchool, AddChild, Amend, NamePlan, Apply}
+use Rattle.adm_wire.specs.declared.name.Name.TheVariants.{AddSchool, AddChild, Amend, NamePlan, Apply, Round, Accept, Decline, Remind, Lapse}
 
 -- the command that a text names
 unfoldable pub name_of : List ℕ → Option Name
@@ -11,4 +11,9 @@ name_of s =
     if bytes_eq s (codes "add_child") then Some AddChild else (
     if bytes_eq s (codes "amend") then Some Amend else (
     if bytes_eq s (codes "name_plan") then Some NamePlan else (
-    if bytes_eq s (codes "apply") then Some Apply else None))))
+    if bytes_eq s (codes "apply") then Some Apply else (
+    if bytes_eq s (codes "round") then Some Round else (
+    if bytes_eq s (codes "accept") then Some Accept else (
+    if bytes_eq s (codes "decline") then Some Decline else (
+    if bytes_eq s (codes "remind") then Some Remind else (
+    if bytes_eq s (codes "lapse") then Some Lapse else None)))))))))

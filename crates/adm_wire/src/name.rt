@@ -10,6 +10,11 @@ pub(crate) enum Name {
     Amend,
     NamePlan,
     Apply,
+    Round,
+    Accept,
+    Decline,
+    Remind,
+    Lapse,
 }
 
 /// The command that a text names.
@@ -17,17 +22,17 @@ pub(crate) enum Name {
 pub(crate) fn read_name(text: &str) -> Option<Name>
     ensures { result ≡ name_of text.now }
 {
-    if text == "add_school" {
-        Some(Name::AddSchool)
-    } else if text == "add_child" {
-        Some(Name::AddChild)
-    } else if text == "amend" {
-        Some(Name::Amend)
-    } else if text == "name_plan" {
-        Some(Name::NamePlan)
-    } else if text == "apply" {
-        Some(Name::Apply)
-    } else {
-        None
+    match text {
+        "add_school" => Some(Name::AddSchool),
+        "add_child" => Some(Name::AddChild),
+        "amend" => Some(Name::Amend),
+        "name_plan" => Some(Name::NamePlan),
+        "apply" => Some(Name::Apply),
+        "round" => Some(Name::Round),
+        "accept" => Some(Name::Accept),
+        "decline" => Some(Name::Decline),
+        "remind" => Some(Name::Remind),
+        "lapse" => Some(Name::Lapse),
+        _ => None,
     }
 }

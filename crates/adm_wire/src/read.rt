@@ -1,7 +1,7 @@
 // The reader of a command: bytes to JSON, JSON to a command.
 ghost use Rattle.serde_json.specs.View.{view};
 ghost use Rattle.adm_wire.specs.Commands.{form_of, command_in, command_of, json_of};
-ghost use Rattle.adm_wire.specs.Forms.{school_form, child_form, pair_form, application_form};
+ghost use Rattle.adm_wire.specs.Forms.{school_form, child_form, pair_form, notice_form, draw_form, application_form};
 ghost use Rattle.adm_wire.specs.Reading.{Gives, GivesSeen, some_or};
 ghost use Rattle.adm_wire.specs.declared.fault.WireFault.TheVariants.{NotJson};
 
@@ -10,7 +10,8 @@ use crate::field::field;
 use crate::keys::only;
 use crate::name::{Name, read_name};
 use adm_types::{
-    Application, Child, ChildNo, Command, Flag, Point, School, SchoolCode, Seq, Text, flag_bits,
+    Application, Child, ChildNo, Command, Day, Flag, Point, School, SchoolCode, Seq, Text,
+    flag_bits,
 };
 use serde_json::Value;
 use std::alloc::Global;
@@ -81,6 +82,30 @@ fn pair(alloc: Global, object: &Value) -> Result<(ChildNo, SchoolCode), WireFaul
     Ok((child, school))
 }
 
+/// A notice of an offer: its child, its school and the day of the notice.
+#[tactic(auto, unfolding(crate::specs::Forms::notice_form))]
+fn notice(alloc: Global, object: &Value) -> Result<(ChildNo, SchoolCode, Day), WireFault>
+    ensures { Gives result (notice_form (view object.now)) }
+{
+    let child = field(alloc, object, "child")?;
+    let school = field(alloc, object, "school")?;
+    let day = field(alloc, object, "day")?;
+    only(object, &["cmd", "child", "school", "day"])?;
+    Ok((child, school, day))
+}
+
+/// A draw of lots: its number, its day and its lots.
+#[tactic(auto, unfolding(crate::specs::Forms::draw_form))]
+fn draw(alloc: Global, object: &Value) -> Result<(u32, Day, Seq<u32>), WireFault>
+    ensures { Gives result (draw_form (view object.now)) }
+{
+    let number = field(alloc, object, "draw")?;
+    let day = field(alloc, object, "day")?;
+    let lots = field(alloc, object, "lots")?;
+    only(object, &["cmd", "draw", "day", "lots"])?;
+    Ok((number, day, lots))
+}
+
 /// An application: a child, a day and the schools of its preference.
 #[tactic(auto, unfolding(crate::specs::Forms::application_form))]
 fn application(alloc: Global, object: &Value) -> Result<Application, WireFault>
@@ -102,10 +127,24 @@ fn command(alloc: Global, name: Name, object: &Value) -> Result<Command, WireFau
         Name::AddChild => Ok(Command::AddChild(child(alloc, object)?)),
         Name::Amend => Ok(Command::Amend(child(alloc, object)?)),
         Name::NamePlan => {
-            let (child, school) = pair(alloc, object)?;
-            Ok(Command::NamePlan { child, school })
+            pair(alloc, object).map(|(child, school)| Command::NamePlan { child, school })
         }
         Name::Apply => Ok(Command::Apply(application(alloc, object)?)),
+        Name::Round => {
+            draw(alloc, object).map(|(draw, day, lots)| Command::Round { draw, day, lots })
+        }
+        Name::Accept => {
+            pair(alloc, object).map(|(child, school)| Command::Accept { child, school })
+        }
+        Name::Decline => {
+            pair(alloc, object).map(|(child, school)| Command::Decline { child, school })
+        }
+        Name::Remind => {
+            notice(alloc, object).map(|(child, school, day)| Command::Remind { child, school, day })
+        }
+        Name::Lapse => {
+            notice(alloc, object).map(|(child, school, day)| Command::Lapse { child, school, day })
+        }
     }
 }
 
