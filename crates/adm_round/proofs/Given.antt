@@ -1,0 +1,110 @@
+-- What the best allocation of a round's problem gives its applicants.
+use Rattle.std.proofs.Common.{◌≡◌, ℕ, ◌<◌, List, [], ◌∷◌, length, map, Option, None, Some, true, false, cond, not, ◌||◌, ◌&&◌, inl, inr, refl, sym, ap, ◌∙◌, subst, arith}
+use Rattle.std.specs.Prelude.{bytes_eq, IfSome, option_map, unwrap_or, find, All, count_by}
+use Rattle.std.specs.List.{list_any, AllZip}
+use Rattle.std.proofs.lemmas.Bool.{cases_Bool, or_parts}
+use Rattle.std.proofs.lemmas.List.Sums.{sum_by-cons}
+use Rattle.std.proofs.lemmas.Slice.Eq.{bytes_eq-Decides}
+use Rattle.adm_types.specs.declared.draws.Lot.{Lot}
+use Rattle.adm_types.specs.declared.draws.Outcome.{Outcome}
+use Rattle.adm_types.specs.Limits.{is_listed}
+use Rattle.adm_match.specs.declared.problem.Wish.{Wish}
+use Rattle.adm_match.specs.declared.problem.Seats.{Seats}
+use Rattle.adm_match.specs.Market.{Code, Candidate, has, preference_rank, quota_of, some_pair, same_code}
+use Rattle.adm_match.specs.Stability.{Allocation, IsBest, is_guest}
+use Rattle.adm_match.specs.Relisting.{OneBest}
+use Rattle.adm_round.specs.declared.applicants.Applicant.{Applicant}
+use Rattle.adm_round.specs.declared.applicants.Site.{Site}
+use Rattle.adm_round.specs.Round.{code_of, number_of, listed, IsPosed}
+use Rattle.adm_round.specs.Ranks.{lot_at, candidate_of, seats_of, market_of}
+use Rattle.adm_round.specs.Outcomes.{is_fresh, outcome_of, outcomes_of, AreBest, IsListed, HasRoom, OneAllotment, count_at, has_fresh}
+use Rattle.adm_round.proofs.Among.{In, in_map, All_in, in_All, none_in}
+use Rattle.adm_round.proofs.Lists.{school_of_wish, on_list, code_self}
+use Rattle.adm_round.proofs.Faultless.{its_schools, seats_once, faultless}
+
+children_are : (a : Allocation) (xs : List Applicant) → map (λ outcome. outcome.child) (outcomes_of a xs) ≡ map number_of xs
+children_are a [] = refl
+children_are a (x ∷ xs) = λ i. number_of x ∷ children_are a xs i
+
+each_zip : {X Y : Type 0} (R : X → Y → Type 0) (f : X → Y) (xs : List X) → ((x : X) → In x xs → R x (f x)) → AllZip R xs (map f xs)
+each_zip R f [] h = tt
+each_zip R f (x ∷ xs) h = (h x (inl refl), each_zip R f xs (λ y l. h y (inr l)))
+
+listed_if : (o : Option Code) (ws : List Wish) (codes : List Code) → map school_of_wish ws ≡ codes → IfSome o (λ s. preference_rank ws s < length ws) → IfSome o (λ s. is_listed codes s ≡ true)
+listed_if None ws codes is h = tt
+listed_if (Some s) ws codes is h = on_list ws codes s is h
+
+-- fresh at a school is what a guest is there
+fresh_is : (place own : Option Code) (s : Code) → (has place s && is_fresh own place) ≡ (has place s && not (has own s))
+fresh_is None own s = refl
+fresh_is (Some t) own s = elim (cases_Bool (bytes_eq t s)) [
+  | inl e ↦ ap (λ c. bytes_eq t s && not (has own c)) ((bytes_eq-Decides t s).0 e)
+  | inr f ↦ ap (λ b. b && not (has own t)) f ∙ sym (ap (λ b. b && not (has own s)) f)
+]
+
+find_seats : (seats : List Seats) (seat : Seats) → In seat seats → some_pair same_code seats ≡ false → find (λ other. bytes_eq other.code seat.code) seats ≡ Some seat
+find_seats [] seat i h = absurd i
+find_seats (z ∷ zs) seat i h =
+    let parts = or_parts (list_any (same_code z) zs) (some_pair same_code zs) h in
+    let rest : Option Seats = find (λ other. bytes_eq other.code seat.code) zs in
+    elim i [
+      | inl same ↦ ap (λ b. cond b (Some z) rest) (ap (λ (x : Seats). bytes_eq x.code seat.code) same ∙ code_self seat.code) ∙ ap Some same
+      | inr later ↦ ap (λ b. cond b (Some z) rest) (none_in (same_code z) zs seat parts.0 later) ∙ find_seats zs seat later parts.1
+    ]
+
+module _ (sites : List Site) (applicants : List Applicant) (lots : List Lot) (h : IsPosed sites applicants lots) (a : Allocation) (outcomes : List Outcome) (best : IsBest (market_of sites applicants lots) a) (given : outcomes ≡ outcomes_of a applicants) where
+  pub are_best : AreBest (market_of sites applicants lots) applicants outcomes
+  are_best = record { allocation = a; best = best; given = given }
+
+  pub in_order : map (λ outcome. outcome.child) outcomes ≡ map number_of applicants
+  in_order = ap (map (λ (outcome : Outcome). outcome.child)) given ∙ children_are a applicants
+
+  abbrev entrant : Applicant → Candidate
+  entrant = candidate_of sites (lot_at lots)
+
+  acceptable : (x : Applicant) → In x applicants → IfSome (a (number_of x)) (λ s. preference_rank (entrant x).list s < length (entrant x).list)
+  acceptable x i =
+      All_in (λ (e : Candidate). IfSome (a e.child) (λ s. preference_rank e.list s < length e.list)) (map entrant applicants) (entrant x) best.stable.acceptable (in_map entrant applicants x i)
+
+  pub are_listed : AllZip IsListed applicants outcomes
+  are_listed =
+      subst (AllZip IsListed applicants) (sym given)
+      (each_zip IsListed (λ x. outcome_of x (a (number_of x))) applicants (λ x i.
+      listed_if (a (number_of x)) (entrant x).list (listed x) (its_schools sites applicants lots h x i) (acceptable x i)))
+
+  fresh_guests : (s : Code) (xs : List Applicant) → has_fresh s (outcomes_of a xs) ≡ list_any (is_guest a s) (map entrant xs)
+  fresh_guests s [] = refl
+  fresh_guests s (x ∷ xs) = λ i. fresh_is (a (number_of x)) x.own s i || fresh_guests s xs i
+
+  count_guests : (s : Code) (xs : List Applicant) → count_at s (outcomes_of a xs) ≡ count_by (λ (e : Candidate). has (a e.child) s) (map entrant xs)
+  count_guests s [] = refl
+  count_guests s (x ∷ xs) =
+      let one : Outcome → ℕ = λ outcome. cond (has outcome.school s) 1 0 in
+      let other : Candidate → ℕ = λ e. cond (has (a e.child) s) 1 0 in
+      omega (arith, sum_by-cons one (outcome_of x (a (number_of x))) (outcomes_of a xs), sum_by-cons other (entrant x) (map entrant xs), count_guests s xs)
+
+  quota_is : (site : Site) → In site sites → quota_of (map seats_of sites) (code_of site) ≡ site.quota
+  quota_is site i =
+      ap (λ (o : Option Seats). unwrap_or (option_map (λ (seat : Seats). seat.quota) o) 0)
+      (find_seats (map seats_of sites) (seats_of site) (in_map seats_of sites site i) (seats_once sites applicants lots h))
+
+  pub have_room : All (HasRoom outcomes) sites
+  have_room = in_All (HasRoom outcomes) sites (λ site i fresh.
+      let s : Code = code_of site in
+      let guests : list_any (is_guest a s) (map entrant applicants) ≡ true = sym (ap (has_fresh s) given ∙ fresh_guests s applicants) ∙ fresh in
+      let counted : count_at s outcomes ≡ count_by (λ (e : Candidate). has (a e.child) s) (map entrant applicants) = ap (count_at s) given ∙ count_guests s applicants in
+      omega (arith, counted, quota_is site i, best.stable.feasible s guests))
+
+same_outcomes : (a b : Allocation) (xs : List Applicant) → ((x : Applicant) → In x xs → a (number_of x) ≡ b (number_of x)) → outcomes_of a xs ≡ outcomes_of b xs
+same_outcomes a b [] h = refl
+same_outcomes a b (x ∷ xs) h = λ i. outcome_of x (h x (inl refl) i) ∷ same_outcomes a b xs (λ y l. h y (inr l)) i
+
+pub one_allotment_law : OneBest → OneAllotment
+one_allotment_law law sites applicants lots one other h first second =
+    let w = law (market_of sites applicants lots) (faultless sites applicants lots h) in
+    let entrant : Applicant → Candidate = candidate_of sites (lot_at lots) in
+    let same : (b : Allocation) → IsBest (market_of sites applicants lots) b → (x : Applicant) → In x applicants → w.0 (number_of x) ≡ b (number_of x) =
+    λ b is x i. All_in (λ (e : Candidate). w.0 e.child ≡ b e.child) (map entrant applicants) (entrant x) (w.2 b is) (in_map entrant applicants x i) in
+    first.given
+    ∙ (same_outcomes first.allocation second.allocation applicants (λ x i. sym (same first.allocation first.best x i) ∙ same second.allocation second.best x i)
+    ∙ sym second.given)

@@ -1,0 +1,5 @@
+pub mod Among
+pub mod Walks
+pub mod Lists
+pub mod Faultless
+pub mod Given

@@ -1,0 +1,4 @@
+pub mod Round
+pub mod Ranks
+pub mod Lookups
+pub mod Outcomes

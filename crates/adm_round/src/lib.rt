@@ -1,0 +1,16 @@
+// A round: who ranks where by which lot, and who is allotted what.
+#![tactic(auto)]
+
+mod allotting;
+mod applicants;
+mod laws;
+mod lookups;
+mod lots;
+mod outcomes;
+mod problems;
+
+pub use allotting::allot;
+pub use applicants::{Applicant, Pair, Site};
+pub use laws::one_allotment;
+pub use lots::{drawn, wanted_pairs};
+pub use outcomes::{Totals, counts};
