@@ -22,7 +22,9 @@ use Rattle.adm_round.specs.declared.applicants.Applicant.{Applicant}
 use Rattle.adm_round.specs.declared.applicants.Site.{Site}
 use Rattle.adm_round.specs.declared.applicants.Pair.{Pair}
 use Rattle.adm_round.specs.Round.{code_of, number_of, wants, listed, pair_at, pairs_at, pairs, pair_of, same_lot, is_site, IsListFit, IsPosed}
-use Rattle.adm_round.specs.Ranks.{lot_at, wishes_for, candidate_of, seats_of, market_of}
+use Rattle.adm_round.specs.Ranks.{site_of, lot_at, wishes_for, candidate_of, seats_of, market_of}
+use Rattle.adm_round.specs.declared.directory.Directory.{Directory}
+use Rattle.adm_round.specs.Lookups.{site_in, lot_in, IsDirectory}
 use Rattle.adm_round.proofs.Among.{In, in_map, from_map, in_filter, in_flat_map, from_append, none_in, finds, find_gives, All_in, pair_not, no_pair}
 use Rattle.adm_round.proofs.Lists.{code_swap, code_self, site_known, school_of_wish, schools_are, wish_is, no_repeat, none_any, no_unknown, own_last}
 
@@ -127,12 +129,12 @@ module _ (sites : List Site) (applicants : List Applicant) (lots : List Lot) (h 
   known_of a i code l = All_in (λ c. is_site sites c ≡ true) (listed a) code (fit_of a i).known l
 
   abbrev list_of : Applicant → List Wish
-  list_of a = wishes_for sites (lot_at lots) a.child (listed a)
+  list_of a = wishes_for (site_of sites) (lot_at lots) a.child (listed a)
 
   pub its_schools : (a : Applicant) → In a applicants → map school_of_wish (list_of a) ≡ listed a
   its_schools a i = schools_are sites (lot_at lots) a.child (listed a) (known_of a i)
 
-  one_apart : (a b : Applicant) → In a applicants → In b applicants → (number_of a ≡ number_of b → ⊥) → (w : Wish) → In w (list_of a) → shares (candidate_of sites (lot_at lots) a) (candidate_of sites (lot_at lots) b) w ≡ true → ⊥
+  one_apart : (a b : Applicant) → In a applicants → In b applicants → (number_of a ≡ number_of b → ⊥) → (w : Wish) → In w (list_of a) → shares (candidate_of (site_of sites) (lot_at lots) a) (candidate_of (site_of sites) (lot_at lots) b) w ≡ true → ⊥
   one_apart a b i j apart w k t =
       let parts = and_parts (is_key (key_at (list_of b) w.school) w.key) (not (has a.own w.school) && not (has b.own w.school)) t in
       let free = and_parts (not (has a.own w.school)) (not (has b.own w.school)) parts.1 in
@@ -146,16 +148,16 @@ module _ (sites : List Site) (applicants : List Applicant) (lots : List Lot) (h 
       apart
       (sym mine.1 ∙ (sym z.3 ∙ (its.1 ∙ ap (λ c. lot_at lots c (number_of b)) z.2)))
 
-  ranks_apart : (a b : Applicant) → In a applicants → In b applicants → (number_of a ≡ number_of b → ⊥) → share_rank (candidate_of sites (lot_at lots) a) (candidate_of sites (lot_at lots) b) ≡ false
+  ranks_apart : (a b : Applicant) → In a applicants → In b applicants → (number_of a ≡ number_of b → ⊥) → share_rank (candidate_of (site_of sites) (lot_at lots) a) (candidate_of (site_of sites) (lot_at lots) b) ≡ false
   ranks_apart a b i j apart =
-      none_any (shares (candidate_of sites (lot_at lots) a) (candidate_of sites (lot_at lots) b)) (list_of a) (λ w k.
-      elim (cases_Bool (shares (candidate_of sites (lot_at lots) a) (candidate_of sites (lot_at lots) b) w)) [
+      none_any (shares (candidate_of (site_of sites) (lot_at lots) a) (candidate_of (site_of sites) (lot_at lots) b)) (list_of a) (λ w k.
+      elim (cases_Bool (shares (candidate_of (site_of sites) (lot_at lots) a) (candidate_of (site_of sites) (lot_at lots) b) w)) [
         | inl t ↦ absurd (one_apart a b i j apart w k t)
         | inr f ↦ f
       ])
 
   abbrev entrant : Applicant → Candidate
-  entrant = candidate_of sites (lot_at lots)
+  entrant = candidate_of (site_of sites) (lot_at lots)
 
   no_entrant : (p : Candidate → Bool) → ((a : Applicant) → In a applicants → p (entrant a) ≡ false) → list_any p (map entrant applicants) ≡ false
   no_entrant p n = any_mapped p entrant applicants ∙ none_any (λ a. p (entrant a)) applicants n
@@ -197,6 +199,6 @@ module _ (sites : List Site) (applicants : List Applicant) (lots : List Lot) (h 
       (or_from (some_pair same_code m.seats) (list_any (λ e. some_pair same_school e.list) m.entrants) seats_once lists_once) known_seats children_once tenants_last ranks_differ
 
 -- the entrants and seats that were made are those of the round
-pub same_market : (sites : List Site) (applicants : List Applicant) (lots : List Lot) (lot : Code → ℕ → ℕ) (entrants : List Candidate) (seats : List Seats) → ((school : Code) (child : ℕ) → lot school child ≡ lot_at lots school child) → entrants ≡ map (candidate_of sites lot) applicants → seats ≡ map seats_of sites → match.market_of entrants seats ≡ market_of sites applicants lots
-same_market sites applicants lots lot entrants seats is e s =
-    λ i. match.market_of ((e ∙ (λ j. map (candidate_of sites (λ school child. is school child j)) applicants)) i) (s i)
+pub same_market : (sites : List Site) (applicants : List Applicant) (lots : List Lot) (directory : Directory) (entrants : List Candidate) (seats : List Seats) → IsDirectory sites lots directory → entrants ≡ map (candidate_of (site_in sites directory) (lot_in directory)) applicants → seats ≡ map seats_of sites → match.market_of entrants seats ≡ market_of sites applicants lots
+same_market sites applicants lots directory entrants seats is e s =
+    λ i. match.market_of ((e ∙ (λ j. map (candidate_of (λ code. is.sites_found code j) (λ school child. is.lots_found school child j)) applicants)) i) (s i)

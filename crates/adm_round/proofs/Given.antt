@@ -16,7 +16,7 @@ use Rattle.adm_match.specs.Relisting.{OneBest}
 use Rattle.adm_round.specs.declared.applicants.Applicant.{Applicant}
 use Rattle.adm_round.specs.declared.applicants.Site.{Site}
 use Rattle.adm_round.specs.Round.{code_of, number_of, listed, IsPosed}
-use Rattle.adm_round.specs.Ranks.{lot_at, candidate_of, seats_of, market_of}
+use Rattle.adm_round.specs.Ranks.{site_of, lot_at, candidate_of, seats_of, market_of}
 use Rattle.adm_round.specs.Outcomes.{is_fresh, outcome_of, outcomes_of, AreBest, IsListed, HasRoom, OneAllotment, count_at, has_fresh}
 use Rattle.adm_round.proofs.Among.{In, in_map, All_in, in_All, none_in}
 use Rattle.adm_round.proofs.Lists.{school_of_wish, on_list, code_self}
@@ -60,7 +60,7 @@ module _ (sites : List Site) (applicants : List Applicant) (lots : List Lot) (h 
   in_order = ap (map (λ (outcome : Outcome). outcome.child)) given ∙ children_are a applicants
 
   abbrev entrant : Applicant → Candidate
-  entrant = candidate_of sites (lot_at lots)
+  entrant = candidate_of (site_of sites) (lot_at lots)
 
   acceptable : (x : Applicant) → In x applicants → IfSome (a (number_of x)) (λ s. preference_rank (entrant x).list s < length (entrant x).list)
   acceptable x i =
@@ -102,7 +102,7 @@ same_outcomes a b (x ∷ xs) h = λ i. outcome_of x (h x (inl refl) i) ∷ same_
 pub one_allotment_law : OneBest → OneAllotment
 one_allotment_law law sites applicants lots one other h first second =
     let w = law (market_of sites applicants lots) (faultless sites applicants lots h) in
-    let entrant : Applicant → Candidate = candidate_of sites (lot_at lots) in
+    let entrant : Applicant → Candidate = candidate_of (site_of sites) (lot_at lots) in
     let same : (b : Allocation) → IsBest (market_of sites applicants lots) b → (x : Applicant) → In x applicants → w.0 (number_of x) ≡ b (number_of x) =
     λ b is x i. All_in (λ (e : Candidate). w.0 e.child ≡ b e.child) (map entrant applicants) (entrant x) (w.2 b is) (in_map entrant applicants x i) in
     first.given

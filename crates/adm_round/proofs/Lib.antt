@@ -1,5 +1,6 @@
 pub mod Among
 pub mod Walks
+pub mod Wants
 pub mod Lists
 pub mod Faultless
 pub mod Given

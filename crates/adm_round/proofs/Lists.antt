@@ -47,15 +47,15 @@ abbrev pub school_of_wish : Wish → Code
 school_of_wish w = w.school
 
 -- each school of a list whose schools are sites gets a wish
-pub schools_are : (sites : List Site) (lot : Code → ℕ → ℕ) (child : Child) (codes : List Code) → ((code : Code) → In code codes → is_site sites code ≡ true) → map school_of_wish (wishes_for sites lot child codes) ≡ codes
+pub schools_are : (sites : List Site) (lot : Code → ℕ → ℕ) (child : Child) (codes : List Code) → ((code : Code) → In code codes → is_site sites code ≡ true) → map school_of_wish (wishes_for (site_of sites) lot child codes) ≡ codes
 schools_are sites lot child [] h = refl
 schools_are sites lot child (c ∷ cs) h =
     let s = site_known sites c (h c (inl refl)) in
-    ap (λ o. map school_of_wish (cons_option (option_map (wish_at lot child) o) (wishes_for sites lot child cs))) s.found
+    ap (λ o. map school_of_wish (cons_option (option_map (wish_at lot child) o) (wishes_for (site_of sites) lot child cs))) s.found
     ∙ (λ i. s.at_code i ∷ schools_are sites lot child cs (λ x l. h x (inr l)) i)
 
 -- a wish is at a school of the list, with the child's lot there
-pub wish_is : (sites : List Site) (lot : Code → ℕ → ℕ) (child : Child) (codes : List Code) (w : Wish) → ((code : Code) → In code codes → is_site sites code ≡ true) → In w (wishes_for sites lot child codes) → In w.school codes × (w.key.lot ≡ lot w.school child.no)
+pub wish_is : (sites : List Site) (lot : Code → ℕ → ℕ) (child : Child) (codes : List Code) (w : Wish) → ((code : Code) → In code codes → is_site sites code ≡ true) → In w (wishes_for (site_of sites) lot child codes) → In w.school codes × (w.key.lot ≡ lot w.school child.no)
 wish_is sites lot child codes w h i =
     let f = from_filter_map (λ code. option_map (wish_at lot child) (site_of sites code)) codes w i in
     let s = site_known sites f.0 (h f.0 f.1) in

@@ -1,15 +1,23 @@
--- What maps tell of the lots of a round.
-use Rattle.std.specs.Prelude.{◌≡◌, ℕ, Option, option_map, unwrap_or, List, find}
+-- What maps tell of the sites, the lots and the wants of a round.
+use Rattle.std.specs.Prelude.{◌≡◌, ℕ, Option, option_map, option_and_then, unwrap_or, List, [], find, slice_get, Vec}
+use Rattle.std.specs.declared.alloc.Global.{Global}
 use Rattle.std.specs.Ordering.{nat_cmp, ordering_then, is_eq}
 use Rattle.std.specs.Cmp.Lexicographic.{slice_cmp}
 use Rattle.std.specs.declared.cmp.Ordering.{Ordering}
 use Rattle.std.specs.BTreeMap.{BTreeMap, get}
+use Rattle.adm_types.specs.declared.draws.Lot.{Lot}
 use Rattle.adm_match.specs.Market.{Code}
 use Rattle.adm_round.specs.declared.applicants.Pair.{Pair}
+use Rattle.adm_round.specs.declared.applicants.Site.{Site}
+use Rattle.adm_round.specs.declared.directory.Directory.{Directory}
+use Rattle.adm_round.specs.Ranks.{site_of, lot_at}
 
--- the order of pairs: by the school, and then by the child
+-- the order of codes, and that of pairs: by the school, and then by the child
+abbrev pub code_cmp : Code → Code → Ordering
+code_cmp = slice_cmp nat_cmp
+
 abbrev pub pair_cmp : Pair → Pair → Ordering
-pair_cmp one other = ordering_then (slice_cmp nat_cmp one.school other.school) (nat_cmp one.child other.child)
+pair_cmp one other = ordering_then (code_cmp one.school other.school) (nat_cmp one.child other.child)
 
 -- the value of the first row with the key
 abbrev pub first_value : {K V : Type 0} → (K → K → Ordering) → List (K × V) → K → Option V
@@ -19,6 +27,19 @@ first_value cmp rows key = option_map (λ row. row.1) (find (λ row. is_eq (cmp 
 abbrev pub HasFirst : {K V : Type 0} → (K → K → Ordering) → List (K × V) → BTreeMap K V → Type 0
 HasFirst {K} cmp rows values = (key : K) → get cmp values key ≡ first_value cmp rows key
 
--- the lot that the map has for the child at the school, or 0
-abbrev pub lot_in : BTreeMap Pair ℕ → Code → ℕ → ℕ
-lot_in lots school child = unwrap_or (get pair_cmp lots (record { school = school; child = child })) 0
+-- the site at the index that the directory has for the school
+abbrev pub site_in : List Site → Directory → Code → Option Site
+site_in sites directory code = option_and_then (slice_get sites) (get code_cmp directory.indices code)
+
+-- the lot that the directory has for the child at the school, or 0
+abbrev pub lot_in : Directory → Code → ℕ → ℕ
+lot_in directory school child = unwrap_or (get pair_cmp directory.lots (record { school = school; child = child })) 0
+
+-- the directory is that of these sites and lots
+pub record IsDirectory (sites : List Site) (lots : List Lot) (directory : Directory) : Type 0 where
+  pub sites_found : (code : Code) → site_in sites directory code ≡ site_of sites code
+  pub lots_found : (school : Code) (child : ℕ) → lot_in directory school child ≡ lot_at lots school child
+
+-- the children that the map has for the school
+abbrev pub children_for : BTreeMap Code (Vec ℕ Global) → Code → List ℕ
+children_for wanting code = unwrap_or (option_map (λ children. children.items) (get code_cmp wanting code)) []

@@ -12,31 +12,34 @@ use Rattle.adm_round.specs.declared.applicants.Applicant.{Applicant}
 use Rattle.adm_round.specs.declared.applicants.Site.{Site}
 use Rattle.adm_round.specs.Round.{code_of, number_of, listed}
 
+-- the site of a school
+abbrev pub site_of : List Site → Code → Option Site
+site_of sites code = find (λ site. bytes_eq (code_of site) code) sites
+
 -- the lot that was drawn for the child at the school, or 0 where none was: at the school of which it is a tenant
 abbrev pub lot_at : List Lot → Code → ℕ → ℕ
 lot_at lots school child =
     unwrap_or (option_map (λ lot. lot.lot) (find (λ lot. bytes_eq lot.school school && lot.child == child) lots)) 0
 
--- the site of a school
-abbrev pub site_of : List Site → Code → Option Site
-site_of sites code = find (λ site. bytes_eq (code_of site) code) sites
+-- Below, `site` gives the site of a school, and `lot` the lot of a child at a school.
 
--- a site's school, with the key by which the child ranks there; the first argument gives the child's lot at a school
+-- a site's school, with the key by which the child ranks there
 abbrev pub wish_at : (Code → ℕ → ℕ) → Child → Site → Wish
 wish_at lot child site = record { school = code_of site; key = key_of site.school child (lot (code_of site) child.no) }
 
 -- these schools, each with the child's key there
-abbrev pub wishes_for : List Site → (Code → ℕ → ℕ) → Child → List Code → List Wish
-wishes_for sites lot child codes = filter_map (λ code. option_map (wish_at lot child) (site_of sites code)) codes
+abbrev pub wishes_for : (Code → Option Site) → (Code → ℕ → ℕ) → Child → List Code → List Wish
+wishes_for site lot child codes = filter_map (λ code. option_map (wish_at lot child) (site code)) codes
 
 -- the applicant with the keys by which it ranks at the schools of its list
-abbrev pub candidate_of : List Site → (Code → ℕ → ℕ) → Applicant → Candidate
-candidate_of sites lot applicant =
-    record { child = number_of applicant; list = wishes_for sites lot applicant.child (listed applicant); tenant = applicant.own }
+abbrev pub candidate_of : (Code → Option Site) → (Code → ℕ → ℕ) → Applicant → Candidate
+candidate_of site lot applicant =
+    record { child = number_of applicant; list = wishes_for site lot applicant.child (listed applicant); tenant = applicant.own }
 
 abbrev pub seats_of : Site → Seats
 seats_of site = record { code = code_of site; quota = site.quota }
 
 -- the problem of the round
 abbrev pub market_of : List Site → List Applicant → List Lot → Market
-market_of sites applicants lots = match.market_of (map (candidate_of sites (lot_at lots)) applicants) (map seats_of sites)
+market_of sites applicants lots =
+    match.market_of (map (candidate_of (site_of sites) (lot_at lots)) applicants) (map seats_of sites)

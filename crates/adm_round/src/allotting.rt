@@ -13,9 +13,8 @@ use adm_types::{Lot, Outcome};
 use std::alloc::{AllocError, Global};
 
 /// What the round comes to for each applicant, in their order, by the best stable allocation of
-/// its problem. Where it is an error, memory ran out. It takes memory for each list entry and each
-/// lot. The time grows with the sites times the list entries, and with the list entries and the
-/// lots times their logarithm.
+/// its problem. Where it is an error, memory ran out. It takes memory for each site, list entry
+/// and lot, and the cost grows with them, times their logarithm.
 pub fn allot(
     alloc: Global,
     sites: &[Site],

@@ -3,11 +3,12 @@
 
 mod allotting;
 mod applicants;
+mod directory;
 mod laws;
-mod lookups;
 mod lots;
 mod outcomes;
 mod problems;
+mod wanting;
 
 pub use allotting::allot;
 pub use applicants::{Applicant, Pair, Site};

@@ -1,61 +1,50 @@
 // Which pairs of a school and a child have a lot drawn, and the lots with the numbers drawn.
-ghost use Rattle.std.specs.Prelude.{◌≡◌, ◌++◌, IfOk, map, filter};
-ghost use Rattle.adm_round.specs.Round.{wants, pair_at, pairs_at, pairs, lot_of_draw, lots_of};
+ghost use Rattle.std.specs.Prelude.{◌≡◌, ◌++◌, IfOk, map};
+ghost use Rattle.adm_round.specs.Round.{pairs, lot_of_draw, lots_of};
+ghost use Rattle.adm_round.specs.Lookups.{children_for};
 
 use crate::applicants::{Applicant, Pair, Site};
-use adm_types::limits::is_listed;
-use adm_types::{Lot, SchoolCode};
+use crate::wanting::children_by_school;
+use adm_types::{ChildNo, Lot, SchoolCode};
 use std::alloc::{AllocError, Global};
+use std::collections::BTreeMap;
 
-/// Whether the applicant wants the school.
-fn wants(applicant: &Applicant, school: &SchoolCode) -> bool
-    ensures { result ≡ wants school.now applicant.now }
-{
-    is_listed(applicant.wanted.as_slice(), school)
-}
-
-/// The pair of the school and the applicant.
-fn pair_at(applicant: &Applicant, school: &SchoolCode) -> Pair
-    ensures { result ≡ pair_at school.now applicant.now }
-{
-    Pair {
-        school: *school,
-        child: applicant.child.as_ref().no,
-    }
-}
-
-/// The pairs of the school and each applicant that wants it.
-fn pairs_at(
+/// The pairs of the school and each of the children.
+fn pairs_with(
     alloc: Global,
-    school: &SchoolCode,
-    applicants: &[Applicant],
+    school: SchoolCode,
+    children: &[ChildNo],
 ) -> Result<Vec<Pair>, AllocError>
-    ensures { IfOk result (λ found. found.items ≡ map (pair_at school.now) (filter (wants school.now) applicants.now)) }
+    ensures { IfOk result (λ found. found.items ≡ map (λ child. record { school = school; child = child }) children.now) }
 {
-    applicants
+    children
         .iter()
-        .filter(|applicant| wants(applicant, school))
-        .map(|applicant| pair_at(applicant, school))
+        .map(|child| Pair {
+            school,
+            child: *child,
+        })
         .collect(alloc)
 }
 
-/// Adds the pairs of the site.
+/// Adds the pairs of the school and each child that wants it.
 fn add_pairs(
     alloc: Global,
     found: &mut Vec<Pair>,
-    site: &Site,
-    applicants: &[Applicant],
+    wanting: &BTreeMap<SchoolCode, Vec<ChildNo>>,
+    school: SchoolCode,
 ) -> Result<(), AllocError>
-    ensures { IfOk result (λ _. found.new.items ≡ found.old.items ++ pairs_at applicants.now site.now) }
+    ensures { IfOk result (λ _. found.new.items ≡ found.old.items ++ map (λ child. record { school = school; child = child }) (children_for wanting.now school)) }
 {
-    let school = site.school.as_ref().code;
-    let more = pairs_at(alloc, &school, applicants)?;
-    found.extend_from_slice(&more)
+    if let Some(children) = wanting.get(&school) {
+        let more = pairs_with(alloc, school, children.as_slice())?;
+        found.extend_from_slice(&more)?;
+    }
+    Ok(())
 }
 
 /// The pairs of a school and a child that wants it, in the order of the sites and then of the
-/// applicants. They take memory for each pair. The time grows with the sites times the list
-/// entries of all applicants.
+/// applicants. They take memory for each pair. The cost grows with the list entries, times the
+/// logarithm of the schools that are wanted.
 pub fn wanted_pairs(
     alloc: Global,
     sites: &[Site],
@@ -63,10 +52,12 @@ pub fn wanted_pairs(
 ) -> Result<Vec<Pair>, AllocError>
     ensures { IfOk result (λ found. found.items ≡ pairs sites.now applicants.now) }
 {
+    let wanting = children_by_school(alloc, applicants)?;
     let mut found = Vec::new(alloc);
     for index in 0..sites.len() {
         let site = &sites[index];
-        add_pairs(alloc, &mut found, site, applicants)?;
+        let school = site.school.as_ref().code;
+        add_pairs(alloc, &mut found, &wanting, school)?;
     }
     Ok(found)
 }

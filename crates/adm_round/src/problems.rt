@@ -1,40 +1,26 @@
 // The problem of allocation that a round poses.
 ghost use Rattle.std.specs.Prelude.{◌≡◌, ◌++◌, ◌∷◌, [], IfOk, IsTrue, true, map, All, option_map};
-ghost use Rattle.std.specs.Option.{option_copied, option_to_list};
+ghost use Rattle.std.specs.Option.{option_to_list};
 ghost use Rattle.adm_types.specs.Limits.{is_school_in_range, is_child_in_range};
-ghost use Rattle.adm_round.specs.Round.{IsPosed, code_of, number_of};
-ghost use Rattle.adm_round.specs.Ranks.{site_of, wish_at, wishes_for, candidate_of, seats_of, market_of};
-ghost use Rattle.adm_round.specs.Lookups.{lot_in};
+ghost use Rattle.adm_round.specs.Round.{IsPosed};
+ghost use Rattle.adm_round.specs.Ranks.{wish_at, wishes_for, candidate_of, seats_of, market_of};
+ghost use Rattle.adm_round.specs.Lookups.{site_in, lot_in};
 
-use crate::applicants::{Applicant, Pair, Site};
-use crate::lookups::{lot_in, lots_by_pair};
+use crate::applicants::{Applicant, Site};
+use crate::directory::{Directory, directory_of, lot_in, site_in};
 use adm_match::{BadProblem, Entrant, Problem, Seats, Wish};
 use adm_rank::key;
 use adm_types::{Child, Lot, SchoolCode};
 use std::alloc::{AllocError, Global};
-use std::collections::BTreeMap;
-
-fn code_of(site: &Site) -> SchoolCode
-    ensures { result ≡ code_of site.now }
-{
-    site.school.as_ref().code
-}
-
-/// The site of the school.
-fn site_of(sites: &[Site], school: SchoolCode) -> Option<&Site>
-    ensures { option_copied result ≡ site_of sites.now school }
-{
-    sites.iter().find(|site| code_of(site) == school)
-}
 
 /// The site's school, with the key by which the child ranks there.
-fn wish_at(lots: &BTreeMap<Pair, u32>, child: &Child, site: &Site) -> Wish
+fn wish_at(directory: &Directory, child: &Child, site: &Site) -> Wish
     requires school { IsTrue (is_school_in_range site.now.school) }
     requires child { IsTrue (is_child_in_range child.now) }
-    ensures { result ≡ wish_at (lot_in lots.now) child.now site.now }
+    ensures { result ≡ wish_at (lot_in directory.now) child.now site.now }
 {
     let school = site.school.as_ref();
-    let lot = lot_in(lots, school.code, child.no);
+    let lot = lot_in(directory, school.code, child.no);
     Wish {
         school: school.code,
         key: key(school, child, lot),
@@ -45,16 +31,16 @@ fn wish_at(lots: &BTreeMap<Pair, u32>, child: &Child, site: &Site) -> Wish
 fn add_wish(
     wishes: &mut Vec<Wish>,
     sites: &[Site],
-    lots: &BTreeMap<Pair, u32>,
+    directory: &Directory,
     child: &Child,
     school: SchoolCode,
 ) -> Result<(), AllocError>
     requires schools { All (λ site. is_school_in_range site.school ≡ true) sites.now }
     requires child { IsTrue (is_child_in_range child.now) }
-    ensures { IfOk result (λ _. wishes.new.items ≡ wishes.old.items ++ wishes_for sites.now (lot_in lots.now) child.now (school ∷ [])) }
+    ensures { IfOk result (λ _. wishes.new.items ≡ wishes.old.items ++ wishes_for (site_in sites.now directory.now) (lot_in directory.now) child.now (school ∷ [])) }
 {
-    if let Some(site) = site_of(sites, school) {
-        wishes.push(wish_at(lots, child, site))?;
+    if let Some(site) = site_in(sites, directory, school) {
+        wishes.push(wish_at(directory, child, site))?;
     }
     Ok(())
 }
@@ -63,16 +49,16 @@ fn add_wish(
 fn add_wishes(
     wishes: &mut Vec<Wish>,
     sites: &[Site],
-    lots: &BTreeMap<Pair, u32>,
+    directory: &Directory,
     child: &Child,
     schools: &[SchoolCode],
 ) -> Result<(), AllocError>
     requires schools { All (λ site. is_school_in_range site.school ≡ true) sites.now }
     requires child { IsTrue (is_child_in_range child.now) }
-    ensures { IfOk result (λ _. wishes.new.items ≡ wishes.old.items ++ wishes_for sites.now (lot_in lots.now) child.now schools.now) }
+    ensures { IfOk result (λ _. wishes.new.items ≡ wishes.old.items ++ wishes_for (site_in sites.now directory.now) (lot_in directory.now) child.now schools.now) }
 {
     for index in 0..schools.len() {
-        add_wish(wishes, sites, lots, child, schools[index])?;
+        add_wish(wishes, sites, directory, child, schools[index])?;
     }
     Ok(())
 }
@@ -81,16 +67,16 @@ fn add_wishes(
 fn add_own(
     wishes: &mut Vec<Wish>,
     sites: &[Site],
-    lots: &BTreeMap<Pair, u32>,
+    directory: &Directory,
     child: &Child,
     own: Option<SchoolCode>,
 ) -> Result<(), AllocError>
     requires schools { All (λ site. is_school_in_range site.school ≡ true) sites.now }
     requires child { IsTrue (is_child_in_range child.now) }
-    ensures { IfOk result (λ _. wishes.new.items ≡ wishes.old.items ++ wishes_for sites.now (lot_in lots.now) child.now (option_to_list own)) }
+    ensures { IfOk result (λ _. wishes.new.items ≡ wishes.old.items ++ wishes_for (site_in sites.now directory.now) (lot_in directory.now) child.now (option_to_list own)) }
 {
     match own {
-        Some(school) => add_wish(wishes, sites, lots, child, school),
+        Some(school) => add_wish(wishes, sites, directory, child, school),
         None => Ok(()),
     }
 }
@@ -99,17 +85,23 @@ fn add_own(
 fn entrant_of(
     alloc: Global,
     sites: &[Site],
-    lots: &BTreeMap<Pair, u32>,
+    directory: &Directory,
     applicant: &Applicant,
 ) -> Result<Entrant, AllocError>
     requires schools { All (λ site. is_school_in_range site.school ≡ true) sites.now }
     requires child { IsTrue (is_child_in_range applicant.now.child) }
-    ensures { IfOk result (λ entrant. entrant ≡ candidate_of sites.now (lot_in lots.now) applicant.now) }
+    ensures { IfOk result (λ entrant. entrant ≡ candidate_of (site_in sites.now directory.now) (lot_in directory.now) applicant.now) }
 {
     let child = applicant.child.as_ref();
     let mut list = Vec::new(alloc);
-    add_wishes(&mut list, sites, lots, child, applicant.wanted.as_slice())?;
-    add_own(&mut list, sites, lots, child, applicant.own)?;
+    add_wishes(
+        &mut list,
+        sites,
+        directory,
+        child,
+        applicant.wanted.as_slice(),
+    )?;
+    add_own(&mut list, sites, directory, child, applicant.own)?;
     Ok(Entrant {
         child: child.no,
         list,
@@ -121,17 +113,17 @@ fn entrant_of(
 fn entrants_of(
     alloc: Global,
     sites: &[Site],
-    lots: &BTreeMap<Pair, u32>,
+    directory: &Directory,
     applicants: &[Applicant],
 ) -> Result<Vec<Entrant>, AllocError>
     requires schools { All (λ site. is_school_in_range site.school ≡ true) sites.now }
     requires children { All (λ applicant. is_child_in_range applicant.child ≡ true) applicants.now }
-    ensures { IfOk result (λ entrants. entrants.items ≡ map (candidate_of sites.now (lot_in lots.now)) applicants.now) }
+    ensures { IfOk result (λ entrants. entrants.items ≡ map (candidate_of (site_in sites.now directory.now) (lot_in directory.now)) applicants.now) }
 {
     let mut entrants = Vec::new(alloc);
     for index in 0..applicants.len() {
         let applicant = &applicants[index];
-        entrants.push(entrant_of(alloc, sites, lots, applicant)?)?;
+        entrants.push(entrant_of(alloc, sites, directory, applicant)?)?;
     }
     Ok(entrants)
 }
@@ -162,8 +154,8 @@ pub(crate) fn problem_of(
     requires { IsPosed sites.now applicants.now lots.now }
     ensures { IfOk result (λ problem. problem ≡ market_of sites.now applicants.now lots.now) }
 {
-    let by_pair = lots_by_pair(alloc, lots)?;
-    let entrants = entrants_of(alloc, sites, &by_pair, applicants)?;
+    let directory = directory_of(alloc, sites, lots)?;
+    let entrants = entrants_of(alloc, sites, &directory, applicants)?;
     let seats = all_seats(alloc, sites)?;
     match Problem::new(alloc, entrants, seats) {
         Ok(problem) => Ok(problem),

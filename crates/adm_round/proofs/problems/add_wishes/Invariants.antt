@@ -1,7 +1,7 @@
 use Rattle.std.proofs.Common.{◌≡◌, ◌++◌, take}
 use Rattle.adm_round.specs.Ranks.{wishes_for}
-use Rattle.adm_round.specs.Lookups.{lot_in}
+use Rattle.adm_round.specs.Lookups.{site_in, lot_in}
 use Rattle.adm_round.proofs.problems.add_wishes.Given as goal
 
 abbrev pub invariant-loop-index : goal.invariant-loop-index
-invariant-loop-index l = l.wishes.items ≡ l.initial.wishes.items ++ wishes_for l.sites (lot_in l.lots) l.child (take l.index l.schools)
+invariant-loop-index l = l.wishes.items ≡ l.initial.wishes.items ++ wishes_for (site_in l.sites l.directory) (lot_in l.directory) l.child (take l.index l.schools)

@@ -1,5 +1,5 @@
 use Rattle.adm_round.proofs.Walks.{first_more}
-use Rattle.adm_round.proofs.lookups.first_values.Goals as goal
+use Rattle.adm_round.proofs.directory.first_values.Goals as goal
 
 pub loop-back-preserved : goal.loop-back-preserved
 loop-back-preserved g c =
