@@ -2,6 +2,7 @@ pub mod Casts
 pub mod Lists
 pub mod Queries
 pub mod Statements
+pub mod Updates
 pub mod Inside
 pub mod Creates
 pub mod Creation
@@ -9,5 +10,6 @@ pub mod Texts
 pub mod RowTexts
 pub mod OneTest
 pub mod OneRow
+pub mod DrawCount
 pub mod Listed
 pub mod Answered

@@ -1,8 +1,8 @@
--- What each text that writes or takes out one row means under the register's schema.
+-- What each text that writes, adds or takes out one row means under the register's schema.
 use Rattle.std.proofs.Common.{◌≡◌, refl}
 use Rattle.std.specs.Prelude.{[], ◌∷◌}
 use Rattle.sqlite.specs.Term.{col}
-use Rattle.sqlite.specs.Command.TheVariants.{InsertOr, Delete}
+use Rattle.sqlite.specs.Command.TheVariants.{Insert, InsertOr, Delete}
 use Rattle.sqlite_schema.specs.declared.command.Conflict.TheVariants.{Replace}
 use Rattle.sqlite.specs.Source.TheVariants.{Values}
 use Rattle.sqlite.specs.Listing.{understood}
@@ -31,3 +31,11 @@ cuts_application = (refl, (refl, refl))
 pub cuts_place : (command_of (understood register_schema text.cut_place) ≡ Delete 4 (program_of (query_of 5 text.has_key (col 1 0 ∷ []) []))) × IsPlain (understood register_schema text.cut_place)
 unfolding understood everything
 cuts_place = (refl, (refl, refl))
+
+pub inserts_offer : (command_of (understood register_schema text.insert_offer) ≡ Insert 7 (Values text.offer_terms 5)) × IsPlain (understood register_schema text.insert_offer)
+unfolding understood everything
+inserts_offer = (refl, (refl, refl))
+
+pub inserts_lot : (command_of (understood register_schema text.insert_lot) ≡ Insert 8 (Values text.lot_terms 5)) × IsPlain (understood register_schema text.insert_lot)
+unfolding understood everything
+inserts_lot = (refl, (refl, refl))

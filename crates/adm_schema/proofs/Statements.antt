@@ -61,10 +61,10 @@ unless false P Q e h = h
 
 module _ (schema : Schema) (table : Table) (at : ℕ) (found : slice_get schema.tables at ≡ Some table) (uncounted : table.is_counted ≡ false) (unstamped : table.stamps.terms ≡ [])
     (alone : (olds news : List Row) → works schema Enforced 0 table.tree olds news ≡ []) where
-  at_table : {A : Type 0} (P : Table → Part A) (out : Outcome A) → AtPlace P (slice_get schema.tables at) out → P table out
+  pub at_table : {A : Type 0} (P : Table → Part A) (out : Outcome A) → AtPlace P (slice_get schema.tables at) out → P table out
   at_table P out h = rw found at h
 
-  abbrev task_in : State → Row → Task
+  abbrev pub task_in : State → Row → Task
   task_in old params = record { limit = old.step_limit; keys = Enforced; schema = schema; table = table; params = params }
 
   unstamped_row : (params : Row) → stamped table params ≡ params
@@ -73,7 +73,7 @@ module _ (schema : Schema) (table : Table) (at : ℕ) (found : slice_get schema.
   uncounted_rowids : (top : ℤ) → rowids_for table top ≡ Chosen
   uncounted_rowids top = rw uncounted
 
-  ends : (task : Task) (mode : Mode) (w : Written) (tally : Tally) (after : Database) → Concludes task mode None w (Ok (tally, after)) → after ≡ record { schema = task.schema; trees = w.trees }
+  pub ends : (task : Task) (mode : Mode) (w : Written) (tally : Tally) (after : Database) → Concludes task mode None w (Ok (tally, after)) → after ≡ record { schema = task.schema; trees = w.trees }
   ends task mode w tally after h = ap (λ (p : Tally × Database). p.1) (same_value (went (went h).2).2)
 
   pub inserts_one : (old : State) (params source : Row) (terms : List Term) (width : ℕ) (db : Trees) (w : Written) → value_rows params width (length terms / width) terms ≡ source ∷ []

@@ -1,12 +1,12 @@
 -- What each fixed text means under the register's schema.
 use Rattle.std.proofs.Common.{◌≡◌, refl, arith}
 use Rattle.std.specs.Prelude.{[]}
-use Rattle.sqlite.specs.Command.TheVariants.{Insert}
+use Rattle.sqlite.specs.Command.TheVariants.{Insert, Update}
 use Rattle.sqlite.specs.Source.TheVariants.{Values}
 use Rattle.sqlite.specs.Listing.{understood}
 use Rattle.sqlite.proofs.Callers.{IsPlain, command_of}
 use Rattle.sqlite_tied.specs.Compute.{everything}
-use Rattle.adm_schema.specs.Queries.{Asks}
+use Rattle.adm_schema.specs.Queries.{Asks, query_of, program_of}
 use Rattle.adm_schema.specs.Schema.{register_schema}
 use Rattle.adm_schema.proofs.Answered.{answered}
 use Rattle.adm_schema.specs.Texts as text
@@ -14,6 +14,10 @@ use Rattle.adm_schema.specs.Texts as text
 pub inserts_meta : (command_of (understood register_schema text.insert_meta) ≡ Insert 0 (Values text.meta_terms 7)) × IsPlain (understood register_schema text.insert_meta)
 unfolding understood everything
 inserts_meta = (refl, (refl, refl))
+
+pub updates_meta : (command_of (understood register_schema text.update_meta) ≡ Update 0 (program_of (query_of 0 [] text.meta_turned []))) × IsPlain (understood register_schema text.update_meta)
+unfolding understood everything
+updates_meta = (refl, (refl, refl))
 
 pub inserts_school : (command_of (understood register_schema text.insert_school) ≡ Insert 1 (Values text.school_terms 7)) × IsPlain (understood register_schema text.insert_school)
 unfolding understood everything
@@ -46,6 +50,10 @@ inserts_left_list = (refl, (refl, refl))
 pub asks_left_list : Asks register_schema text.select_left_list 6 text.left_list_columns []
 unfolding understood everything
 asks_left_list = record { names = _; command = refl; unlisted = refl; plain = (refl, refl); whole = (omega arith, refl); answered = λ db e. answered _ db e 6 text.left_list_columns [] (λ h. absurd (let wrong = h.1 in cc)) }
+
+pub inserts_draw : (command_of (understood register_schema text.insert_draw) ≡ Insert 6 (Values text.draw_terms 5)) × IsPlain (understood register_schema text.insert_draw)
+unfolding understood everything
+inserts_draw = (refl, (refl, refl))
 
 pub asks_draws : Asks register_schema text.select_draws 8 text.draw_columns []
 unfolding understood everything

@@ -1,5 +1,5 @@
 -- What a statement inside a transaction leaves.
-use Rattle.std.specs.Prelude.{◌≡◌, ◌≢◌, ◌⊎◌, ◌<◌, ℕ, ℤ, List, ◌∷◌, [], fold, IsTrue, IsPermutation}
+use Rattle.std.specs.Prelude.{◌≡◌, ◌≢◌, ◌⊎◌, ◌<◌, ℕ, ℤ, List, ◌∷◌, [], ◌++◌, map, take, fold, IsTrue, IsPermutation}
 use Rattle.std.specs.List.{AllByRecursion}
 use Rattle.sqlite.specs.Order.{Row}
 use Rattle.sqlite.specs.Table.{Table}
@@ -10,6 +10,7 @@ use Rattle.sqlite.specs.Schema.{Schema}
 use Rattle.sqlite.specs.State.{State, HasCleanDisk}
 use Rattle.sqlite_rules.specs.Lists.{Has}
 use Rattle.adm_schema.specs.Rows.{rows_of}
+use Rattle.adm_schema.specs.Schema.{meta}
 
 -- while it is open, it sees these tables
 abbrev pub Sees : Schema → State → Type 0
@@ -73,3 +74,14 @@ PutsRow table row = Turns table (put_in row)
 -- this table has no row of this key
 abbrev pub CutsRow : Table → ℤ → State → State → Type 0
 CutsRow table key = Turns table (without_rowid key)
+
+-- ---- the table `meta`
+
+-- a row of it with this count of draws, which is its sixth and last column
+abbrev pub with_draws : Row → Row → Row
+with_draws count row = take 5 row ++ count
+
+-- each row of it has this count of draws
+pub record SetsDraws (count : Row) (old new : State) : Type 0 where
+  pub only : WritesOnly meta old new
+  pub rows : IsTrue (have_rowids (rows_of meta old.now.trees)) → IsPermutation (map (with_draws count) (rows_of meta old.now.trees)) (rows_of meta new.now.trees)

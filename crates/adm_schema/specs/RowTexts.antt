@@ -1,4 +1,4 @@
--- The fixed texts that write and take out one row of a table by its key.
+-- The fixed texts that write and take out one row of a table by its key, and those that only add one.
 use Rattle.std.specs.Prelude.{ℕ, List, [], ◌∷◌, codes}
 use Rattle.sqlite.specs.declared.types.Value.TheVariants.{Null}
 use Rattle.sqlite.specs.Collation.TheVariants.{Binary}
@@ -34,3 +34,18 @@ cut_place = codes "DELETE FROM place WHERE child = ?1"
 -- the rowid is the parameter
 abbrev pub has_key : List Term
 has_key = op2 (Compare Eq Binary) (col 1 0) (col 0 0) ∷ []
+
+-- ---- rows that are only added: their keys are indexes, and their rowids are no columns
+
+abbrev pub insert_offer : List ℕ
+insert_offer = codes "INSERT INTO offer (draw, child, school, fresh) VALUES (?1, ?2, ?3, ?4)"
+
+-- the rowid, and then each column
+abbrev pub offer_terms : List Term
+offer_terms = lit Null ∷ col 0 0 ∷ col 0 1 ∷ col 0 2 ∷ col 0 3 ∷ []
+
+abbrev pub insert_lot : List ℕ
+insert_lot = codes "INSERT INTO lot (draw, school, child, lot) VALUES (?1, ?2, ?3, ?4)"
+
+abbrev pub lot_terms : List Term
+lot_terms = lit Null ∷ col 0 0 ∷ col 0 1 ∷ col 0 2 ∷ col 0 3 ∷ []

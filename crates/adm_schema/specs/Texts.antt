@@ -12,6 +12,13 @@ insert_meta = codes "INSERT INTO meta (one, version, phase, year, holidays, draw
 abbrev pub meta_terms : List Term
 meta_terms = lit (Int (pos 1)) ∷ lit Null ∷ lit (Int (pos 1)) ∷ col 0 0 ∷ col 0 1 ∷ col 0 2 ∷ lit (Int (pos 0)) ∷ []
 
+abbrev pub update_meta : List ℕ
+update_meta = codes "UPDATE meta SET draws = ?1"
+
+-- the rowid before and after, and then each column, of which the last is given
+abbrev pub meta_turned : List Term
+meta_turned = col 1 0 ∷ col 1 0 ∷ lit Null ∷ col 1 2 ∷ col 1 3 ∷ col 1 4 ∷ col 1 5 ∷ col 0 0 ∷ []
+
 abbrev pub insert_school : List ℕ
 insert_school = codes "INSERT INTO school (code, name, pan, east, north, criteria) VALUES (?1, ?2, ?3, ?4, ?5, ?6)"
 
@@ -68,6 +75,13 @@ select_left_list = codes "SELECT child, school FROM left_list"
 
 abbrev pub left_list_columns : List Term
 left_list_columns = col 1 1 ∷ col 1 2 ∷ []
+
+abbrev pub insert_draw : List ℕ
+insert_draw = codes "INSERT INTO draw (draw, round, school, day) VALUES (?1, ?2, ?3, ?4)"
+
+-- the key goes to the rowid's place, and its own column is NULL
+abbrev pub draw_terms : List Term
+draw_terms = col 0 0 ∷ lit Null ∷ col 0 1 ∷ col 0 2 ∷ col 0 3 ∷ []
 
 abbrev pub select_draws : List ℕ
 select_draws = codes "SELECT draw, round, school, day FROM draw"

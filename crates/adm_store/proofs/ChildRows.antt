@@ -1,5 +1,5 @@
 -- Which rows are those of no child, no application, no place and no left pair.
-use Rattle.std.proofs.Common.{◌≡◌, ℕ, zero, suc, List, ◌<◌, ◌^◌, Bool, Option, true, false, [], ◌∷◌, length, Some, None, pos, nat_le, refl, sym, ap, ◌∙◌, drop, arith}
+use Rattle.std.proofs.Common.{◌≡◌, ℕ, zero, suc, List, ◌<◌, ◌+◌, ◌^◌, Bool, Option, true, false, [], ◌∷◌, length, Some, None, pos, nat_le, refl, sym, ap, ◌∙◌, drop, arith}
 use Rattle.std.specs.Prelude.{◌&&◌, nat_lt, nat_eq}
 use Rattle.std.specs.Option.{unwrap_or}
 use Rattle.std.proofs.lemmas.Bool.{and_parts}
@@ -15,7 +15,8 @@ use Rattle.adm_types.specs.declared.rows.PlaceRow.{PlaceRow}
 use Rattle.adm_types.specs.declared.rows.LeftPair.{LeftPair}
 use Rattle.adm_types.specs.declared.rows.PlaceState.{PlaceState}
 use Rattle.adm_types.specs.declared.rows.PlaceState.TheVariants.{Offered, Accepted, Plan}
-use Rattle.adm_register.specs.State.{is_plan}
+use Rattle.adm_types.specs.Numbers.{is_from, first_day, last_day}
+use Rattle.adm_register.specs.WellFormed.{is_state}
 use Rattle.adm_store.specs.Forms.{truth_code, day_value, state_columns, child_row, application_row, place_row, left_row}
 use Rattle.adm_store.specs.Faults.{IsChild, AreReadAgain, IsPlaceRow, HasPlaceColumns, is_day, is_day_or_none, are_days}
 use Rattle.adm_store.proofs.RowLemmas.{number_in, text_in}
@@ -95,10 +96,17 @@ place_from cells = record { child = number_in (column cells 0); place = record {
 pub place_back : (p : PlaceRow) → place_from (place_row p) ≡ p
 place_back p = λ k. record { child = p.child; place = record { school = p.place.school; state = state_back p.place.state k } }
 
-pub plan_days : (state : PlaceState) → is_plan state ≡ true → are_days state ≡ true
-plan_days (Offered day reminded) plan = absurd (cc)
-plan_days Accepted plan = refl
-plan_days Plan plan = refl
+-- the day of a reminder is a day, as that of the offer before it is
+later_day : (day reminded : ℕ) → is_from first_day last_day day ≡ true → is_from (day + 14) last_day reminded ≡ true → is_from first_day last_day reminded ≡ true
+later_day day reminded first later = grind (arith, nat_tests)
+
+pub state_days : (state : PlaceState) → is_state state ≡ true → are_days state ≡ true
+state_days (Offered day None) fits = λ k. fits k && true
+state_days (Offered day (Some reminded)) fits =
+    let parts = and_parts (is_from first_day last_day day) (is_from (day + 14) last_day reminded) fits in
+    λ k. parts.0 k && later_day day reminded parts.0 parts.1 k
+state_days Accepted fits = refl
+state_days Plan fits = refl
 
 -- the columns of a place
 pub has_place_columns : (row : Row) (x : PlaceRow) → IsPlaceRow x → row ≡ place_row x → (kind : ℕ) × (day reminded : Option ℕ) × HasPlaceColumns row x.child x.place.school kind day reminded

@@ -1,6 +1,15 @@
 -- What a transaction of the store leaves.
-use Rattle.std.proofs.Common.{◌≡◌, ◌≤◌, ◌<◌, ◌+◌, length, inl, inr, List, [], ◌∷◌, map, refl, sym, ap, ◌∙◌, subst, IsTrue, true, false, Ok, Err, Result, OnOk, arith}
-use Rattle.std.proofs.lemmas.List.{length-map}
+use Rattle.std.proofs.Common.{◌≡◌, ◌⊎◌, ◌≤◌, ◌<◌, ◌+◌, ℕ, pos, length, inl, inr, List, [], ◌∷◌, map, refl, sym, ap, ◌∙◌, subst, IsTrue, true, false, Ok, Err, Result, OnOk, arith}
+use Rattle.std.proofs.lemmas.List.{length-map, map-append}
+use Rattle.std.proofs.lemmas.Simd.{map-map}
+use Rattle.std.specs.Cmp.{nat_cmp_total}
+use Rattle.std.specs.FinMap.{values, nat_cmp-IsAntisymmetric}
+use Rattle.sqlite.specs.declared.types.Value.TheVariants.{Int}
+use Rattle.adm_types.specs.declared.draws.Draw.{Draw}
+use Rattle.adm_types.specs.declared.draws.DrawRow.{DrawRow}
+use Rattle.adm_draws.specs.Draws.{row_of, offers_of, lots_of}
+use Rattle.adm_register.specs.Draws.{no_draws, are_in_order}
+use Rattle.adm_register.specs.WellFormed.{WellFormed}
 use Rattle.std.specs.List.Sorted.{IsPermutation}
 use Rattle.std.proofs.lemmas.List.Sorted.{length_permutation, IsPermutation-refl, IsPermutation-trans}
 use Rattle.std.specs.Cmp.Lexicographic.{nat_list_cmp_total}
@@ -31,16 +40,19 @@ use Rattle.sqlite_catalog.proofs.ReadLemmas.{lists_once}
 use Rattle.sqlite_rules.specs.Lists.{Has}
 use Rattle.sqlite.proofs.Callers.{one_permutation}
 use Rattle.adm_schema.specs.Rows.{rows_of}
-use Rattle.adm_schema.specs.Schema.{draw, offer, lot, imported, register_schema}
+use Rattle.adm_schema.specs.Schema.{draw, imported, register_schema}
 use Rattle.adm_store.specs.Forms.{season_row, school_row, child_row, application_row, place_row, left_row}
+use Rattle.adm_store.specs.DrawForms.{draw_row, offer_row, lot_row}
 use Rattle.adm_store.specs.StandsFor.{StandsFor, HasRows, HoldsRegister, LeavesOnly, LeavesEither, written_in, written_tables}
-use Rattle.adm_store.specs.Changes.{IsStep, written_school, written_child, written_application}
-use Rattle.adm_store.specs.Writes.{Write, Leaves, Writes, after, are_keyed, count_of, key_row, writes_of}
+use Rattle.adm_store.specs.Changes.{IsStep, written_school, written_child, written_application, written_count, last_draw, draw_count}
+use Rattle.adm_store.specs.Writes.{Write, Sets, Leaves, Writes, changed, after, are_keyed, count_of, key_row, writes_of}
 use Rattle.adm_store.specs.declared.rows.Changes.{Changes}
 use Rattle.adm_store.proofs.LogLemmas.{after_none, keyed_none, no_rows}
 use Rattle.adm_store.proofs.RegisterRows.{each_table, same_code, left_total, left_same}
-use Rattle.adm_store.proofs.MapLemmas.{coded_stable}
+use Rattle.adm_store.proofs.MapLemmas.{coded_stable, keyed_moved}
 use Rattle.adm_store.proofs.AddedRows.{added_rows, keys_kept}
+use Rattle.adm_store.proofs.AddedParts.{added_parts}
+use Rattle.adm_store.proofs.DrawOrder.{counted, last_is}
 use Rattle.adm_store.proofs.TurnLemmas.{put_over, cut_and_put}
 
 -- outside a transaction, what a connection sees of a file that stands for a register
@@ -58,11 +70,37 @@ still_empty t was now none moved =
     let empty : was ≡ [] = no_rows was (length_permutation _ _ none) in
     IsPermutation-trans _ _ _ none (moved (subst (λ rows. IsTrue (are_keyed t rows)) (sym empty) (keyed_none t)))
 
--- the row of the season stays
-season_rows : (old new : SeasonFacts) → new ≡ old → (was now : List Row) → IsPermutation (season_row old ∷ []) was → (IsTrue (have_rowids was) → IsPermutation was now) → IsPermutation (season_row new ∷ []) now
-season_rows old new same was now held moved =
-    let one = one_permutation (season_row old) was held in
-    subst (λ season. IsPermutation (season_row season ∷ []) now) (sym same) (IsPermutation-trans _ _ _ held (moved (subst (λ rows. IsTrue (have_rowids rows)) (sym one) refl)))
+-- what is set in the row of `meta` is nothing, where the count of draws stays, or the new count
+abbrev IsSet : List Row → ℕ → ℕ → Type 0
+IsSet counts m n = ((counts ≡ []) × (m ≡ n)) ⊎ (counts ≡ (Int (pos n) ∷ []) ∷ [])
+
+set_in : (season : SeasonFacts) (counts : List Row) (m n : ℕ) → IsSet counts m n → changed Sets counts (season_row season m ∷ []) ≡ season_row season n ∷ []
+set_in season counts m n (inl it) = ap (λ news. changed Sets news (season_row season m ∷ [])) it.0 ∙ ap (λ k. season_row season k ∷ []) it.1
+set_in season counts m n (inr it) = ap (λ news. changed Sets news (season_row season m ∷ [])) it
+
+-- the row of the season stays, but for its count of draws
+season_rows : (old new : SeasonFacts) → new ≡ old → (counts : List Row) (m n : ℕ) → IsSet counts m n → (was now : List Row) → IsPermutation (season_row old m ∷ []) was
+    → (IsTrue (have_rowids was) → IsPermutation (changed Sets counts was) now) → IsPermutation (season_row new n ∷ []) now
+season_rows old new same counts m n set was now held moved =
+    let one = one_permutation (season_row old m) was held in
+    let row : changed Sets counts was ≡ season_row old n ∷ [] = ap (changed Sets counts) one ∙ set_in old counts m n set in
+    subst (λ season. IsPermutation (season_row season n ∷ []) now) (sym same) (subst (λ rows. IsPermutation rows now) row (moved (subst (λ rows. IsTrue (have_rowids rows)) (sym one) refl)))
+
+-- what new draws set there is the number of the last one, which is how many there are
+draws_set : (old new : Register) (changes : Changes) → IsStep old new changes → WellFormed old → IsSet (map written_count (last_draw changes.draws)) (length (map row_of (values old.draws))) (length (map row_of (values new.draws)))
+draws_set old new changes step formed =
+    let are = step.changes_are in
+    let long = λ (r : Register). length-map (values r.draws) row_of in
+    elim (counted new.season old.draws new.draws (λ k d is. (formed.draws.each k d is).own_number) (λ k d is. (step.formed.draws.each k d is).own_number) step.extends.draws
+    (subst (λ season. are_in_order season no_draws (values old.draws) ≡ true) (sym step.extends.season) formed.draws.in_order) step.formed.draws.in_order _ are.differs.draws) [
+      | inl none ↦ inl (ap (λ rows. map written_count (last_draw rows)) (are.draws ∙ ap (map row_of) none.0), long old ∙ none.1 ∙ sym (long new))
+      | inr it ↦ inr (ap (λ rows. map written_count (last_draw rows)) (are.draws ∙ ap (map row_of) it.2 ∙ map-append row_of it.0 (it.1 ∷ [])) ∙ ap (map written_count) (last_is (map row_of it.0) (row_of it.1)) ∙ ap (λ n. (Int (pos n) ∷ []) ∷ []) (it.3 ∙ sym (long new)))
+    ]
+
+-- rows of draws have integers as their keys
+drawn_keyed : (draws : List DrawRow) → have_rowids (map draw_row draws) ≡ true
+drawn_keyed [] = refl
+drawn_keyed (row ∷ draws) = drawn_keyed draws
 
 -- each table has the rows of the old one after these writes
 abbrev Moves : List Write → Trees → Trees → Type 0
@@ -81,7 +119,7 @@ new_trees was now old new changes step held sound moves = let are = step.changes
   holds = record {
     rows = record {
       each = λ t listed. each_table (Becomes was now old new changes) (
-        λ had turn. season_rows old.season new.season step.extends.season _ _ had turn,
+        λ had turn. season_rows old.season new.season step.extends.season _ _ _ (draws_set old new changes step held.formed) _ _ had turn,
         (
           λ had turn. added_rows nat_list_cmp_total same_code (λ (s : School). s.code) old.schools new.schools (λ k v is. (step.formed.base.schools_fit k v is).own_code) step.schools _ differs.schools school_row _ _ _ are.schools had (turn refl),
           (
@@ -89,10 +127,21 @@ new_trees was now old new changes step held sound moves = let are = step.changes
             (
               λ had turn. cut_and_put (λ (a : Application). a.child) application_row (λ _. refl) (coded_stable application_code.coded) old.applications new.applications (λ k v is. (held.formed.base.applications_fit k v is).own_number) (λ k v is. (step.formed.base.applications_fit k v is).own_number) _ differs.applications _ _ _ are.applications had changes.ended (are.ended ∙ differs.ended) turn,
               (
-                λ had turn. cut_and_put (λ (p : PlaceRow). p.child) place_row (λ _. refl) (coded_stable place_code.coded) old.places new.places (λ k v is. (held.formed.places k v is).own_number) (λ k v is. (step.formed.places k v is).own_number) _ differs.places _ _ _ (ap (map place_row) are.places) had changes.vacated (are.vacated ∙ differs.vacated) turn,
+                λ had turn. cut_and_put (λ (p : PlaceRow). p.child) place_row (λ _. refl) (coded_stable place_code.coded) old.places new.places (λ k v is. (held.formed.places.each k v is).own_number) (λ k v is. (step.formed.places.each k v is).own_number) _ differs.places _ _ _ (ap (map place_row) are.places) had changes.vacated (are.vacated ∙ differs.vacated) turn,
                 (
                   λ had turn. added_rows left_total left_same (λ (p : LeftPair). p) old.left new.left (λ k v is. (step.formed.left k v is).own_key) (keys_kept old.left new.left (λ k v is. (held.formed.left k v is).own_key) (λ k v is. (step.formed.left k v is).own_key) step.extends.left) _ differs.left left_row _ _ _ (ap (map left_row) are.left) had (turn refl),
-                  (still_empty draw _ _, (still_empty offer _ _, (still_empty lot _ _, (still_empty imported _ _, tt)))),
+                  (
+                    λ had turn. subst (λ rows. IsPermutation rows (rows_of draw now)) (sym (map-map draw_row row_of (values new.draws)))
+                        (added_rows nat_cmp_total nat_cmp-IsAntisymmetric (λ (d : Draw). d.number) old.draws new.draws (λ k v is. (step.formed.draws.each k v is).own_number) step.extends.draws _ differs.draws (λ d. draw_row (row_of d)) _ _ _ (ap (map draw_row) are.draws ∙ map-map draw_row row_of _)
+                        (subst (λ rows. IsPermutation rows (rows_of draw was)) (map-map draw_row row_of (values old.draws)) had) (turn (keyed_moved _ _ had (drawn_keyed (map row_of (values old.draws)))))),
+                    (
+                      λ had turn. added_parts nat_cmp_total nat_cmp-IsAntisymmetric (λ (d : Draw). d.number) old.draws new.draws (λ k v is. (step.formed.draws.each k v is).own_number) step.extends.draws _ differs.draws offers_of offer_row _ _ _ (ap (map offer_row) are.offers) had (turn refl),
+                      (
+                        λ had turn. added_parts nat_cmp_total nat_cmp-IsAntisymmetric (λ (d : Draw). d.number) old.draws new.draws (λ k v is. (step.formed.draws.each k v is).own_number) step.extends.draws _ differs.draws lots_of lot_row _ _ _ (ap (map lot_row) are.lots) had (turn refl),
+                        (still_empty imported _ _, tt),
+                      ),
+                    ),
+                  ),
                 ),
               ),
             ),
@@ -133,8 +182,8 @@ wrote g start begun last old new changes is stays settled live step before clean
     stands (state g begun) last old new changes step (holds early written.was_open) written
 
 -- the rows and keys of a commit, counted
-pub count_is : (c : Changes) → count_of (writes_of c) ≡ (length c.schools + length c.children + length c.applications + length c.places + length c.left) + (length c.ended + length c.vacated)
-count_is c = omega (arith, length-map c.schools written_school, length-map c.children written_child, length-map c.applications written_application, length-map c.places place_row, length-map c.left left_row, length-map c.ended key_row, length-map c.vacated key_row)
+pub count_is : (c : Changes) → count_of (writes_of c) ≡ (length c.schools + length c.children + length c.applications + length c.places + length c.left + draw_count c) + (length c.ended + length c.vacated)
+count_is c = omega (arith, length-map c.schools written_school, length-map c.children written_child, length-map c.applications written_application, length-map c.places place_row, length-map c.left left_row, length-map c.draws draw_row, length-map c.offers offer_row, length-map c.lots lot_row, length-map (last_draw c.draws) written_count, length-map c.ended key_row, length-map c.vacated key_row)
 
 -- a file that stands for the old register stands for the new one, where nothing changed
 pub no_change : (old new : Register) (changes : Changes) → IsStep old new changes → count_of (writes_of changes) ≡ 0 → (db : Trees) → StandsFor db old → StandsFor db new

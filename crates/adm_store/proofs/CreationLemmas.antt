@@ -1,5 +1,5 @@
 -- The file of a new register.
-use Rattle.std.proofs.Common.{◌≡◌, ◌≤◌, true, inl, [], ◌∷◌, map, Some, None, refl, sym, ap, ◌∙◌, subst, arith, IsTrue}
+use Rattle.std.proofs.Common.{◌≡◌, ◌≤◌, true, inl, [], ◌∷◌, map, flat_map, Some, None, refl, sym, ap, ◌∙◌, subst, arith, IsTrue}
 use Rattle.std.specs.List.Sorted.{IsPermutation}
 use Rattle.std.specs.declared.cmp.Ordering.{Ordering}
 use Rattle.std.specs.Ordering.{nat_cmp}
@@ -20,6 +20,9 @@ use Rattle.adm_schema.specs.Rows.{columns_of, rows_of}
 use Rattle.adm_schema.specs.Effects.{SeesNoRows}
 use Rattle.adm_schema.specs.Schema.{meta, no_schema, register_schema}
 use Rattle.adm_register.specs.Rows.{rows_in_order}
+use Rattle.adm_register.specs.Draws.{no_draws, are_in_order}
+use Rattle.adm_register.specs.declared.register_rows.Rows.{Rows}
+use Rattle.adm_draws.specs.Draws.{row_of, offers_of, lots_of}
 use Rattle.adm_store.specs.declared.rows.SeasonRow.{SeasonRow}
 use Rattle.adm_store.specs.Changes.{IsRowOf, written_season}
 use Rattle.adm_store.specs.StandsFor.{StandsFor, HasRows, written_in, written_tables}
@@ -49,13 +52,17 @@ formed_new season fits = record {
     children_fit = none_wrong nat_cmp _;
     applications_fit = none_wrong nat_cmp _;
   };
-  places = none_wrong nat_cmp _;
+  places = record { each = none_wrong nat_cmp _; room = none_wrong code_cmp _ };
   left = none_wrong left_cmp _;
+  draws = record { each = none_wrong nat_cmp _; in_order = ap (are_in_order season no_draws) (no_values nat_cmp) };
 }
 
 -- the rows of a register that has only its season
-only_rows : (season : SeasonFacts) → rows_in_order (only_season season) ≡ record { season = season; schools = []; children = []; applications = []; places = []; left = [] }
-only_rows season = λ k. record { season = season; schools = no_values code_cmp k; children = no_values nat_cmp k; applications = no_values nat_cmp k; places = no_values nat_cmp k; left = no_values left_cmp k }
+abbrev season_alone : SeasonFacts → Rows
+season_alone season = record { season = season; schools = []; children = []; applications = []; places = []; left = []; draws = []; offers = []; lots = [] }
+
+only_rows : (season : SeasonFacts) → rows_in_order (only_season season) ≡ season_alone season
+only_rows season = λ k. record { season = season; schools = no_values code_cmp k; children = no_values nat_cmp k; applications = no_values nat_cmp k; places = no_values nat_cmp k; left = no_values left_cmp k; draws = map row_of (no_values nat_cmp k); offers = flat_map offers_of (no_values nat_cmp k); lots = flat_map lots_of (no_values nat_cmp k) }
 
 pub stands_for_new : (made last : State) (season : SeasonFacts) (row : SeasonRow) → IsRowOf season row → SeesNoRows register_schema made → Leaves (write_of Adds meta written_season (row ∷ []) ∷ []) made last → StandsFor last.now.trees (only_season season)
 stands_for_new made last season row it none wrote = record {
@@ -67,14 +74,14 @@ stands_for_new made last season row it none wrote = record {
 }
   where
     -- each table was empty, and the writes are the one row
-    table : (t : Table) → Has register_schema.tables t → HasRows t (written_in (written_tables (record { season = season; schools = []; children = []; applications = []; places = []; left = [] })) t) last.now.trees
+    table : (t : Table) → Has register_schema.tables t → HasRows t (written_in (written_tables (season_alone season)) t) last.now.trees
     table t listed =
         let was : rows_of t made.now.trees ≡ [] = ap (map (columns_of t)) (recursion_had (λ (t : Table). made.now.trees t.tree ≡ []) register_schema.tables t none.empty listed) in
         let moved = subst (λ rows. IsTrue (are_keyed t rows) → IsPermutation (after t (write_of Adds meta written_season (row ∷ []) ∷ []) rows) (rows_of t last.now.trees)) was (wrote.rows t listed) (keyed_none t) in
         subst (λ rows. IsPermutation rows (rows_of t last.now.trees)) (written t listed) moved
       where
-        written : (t : Table) → Has register_schema.tables t → after t (write_of Adds meta written_season (row ∷ []) ∷ []) [] ≡ written_in (written_tables (record { season = season; schools = []; children = []; applications = []; places = []; left = [] })) t
-        written = each_table (λ t. after t (write_of Adds meta written_season (row ∷ []) ∷ []) [] ≡ written_in (written_tables (record { season = season; schools = []; children = []; applications = []; places = []; left = [] })) t) (ap (λ cells. cells ∷ []) it.written, (refl, (refl, (refl, (refl, (refl, (refl, (refl, (refl, (refl, tt))))))))))
+        written : (t : Table) → Has register_schema.tables t → after t (write_of Adds meta written_season (row ∷ []) ∷ []) [] ≡ written_in (written_tables (season_alone season)) t
+        written = each_table (λ t. after t (write_of Adds meta written_season (row ∷ []) ∷ []) [] ≡ written_in (written_tables (season_alone season)) t) (ap (λ cells. cells ∷ []) it.written, (refl, (refl, (refl, (refl, (refl, (refl, (refl, (refl, (refl, tt))))))))))
 
 -- what the transaction of a creation leaves stands for the new register
 pub created : {S : Type 0} (g : store.Ghosts S) (start begun : Held S) (made last : State) (season : SeasonFacts) (row : SeasonRow) → IsRowOf season row → begun ≡ record start { in_transaction = true } → start.schema ≡ no_schema → IsLive (state g start)

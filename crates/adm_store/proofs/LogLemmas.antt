@@ -1,11 +1,11 @@
 -- Writes of statements, one after another.
-use Rattle.std.proofs.Common.{◌≡◌, ◌==◌, ◌⊎◌, ◌<◌, ◌+◌, ℕ, zero, suc, inl, inr, Bool, true, false, not, List, [], ◌∷◌, ◌++◌, map, length, refl, sym, ap, ◌∙◌, subst, IsTrue, arith, append_assoc, append-nil, pos, take, get_or, ◌≤◌}
-use Rattle.std.specs.Prelude.{◌&&◌, is_some, if◌then◌else◌}
+use Rattle.std.proofs.Common.{◌≡◌, ◌==◌, ◌⊎◌, ◌<◌, ◌+◌, ℕ, ℤ, zero, suc, inl, inr, Bool, true, false, not, List, [], ◌∷◌, ◌++◌, map, length, refl, sym, ap, ◌∙◌, subst, IsTrue, arith, append_assoc, append-nil, pos, take, get_or, ◌≤◌}
+use Rattle.std.specs.Prelude.{◌&&◌, is_some, fold, if◌then◌else◌}
 use Rattle.std.specs.List.{list_all}
 use Rattle.std.specs.List.Sorted.{IsPermutation}
 use Rattle.std.proofs.lemmas.Bool.{and_parts, not-true, eqb-true, eqb-false}
 use Rattle.std.proofs.lemmas.List.{map-append, length-append, take_more}
-use Rattle.std.proofs.lemmas.List.Sorted.{IsPermutation-refl, IsPermutation-trans, IsPermutation-append_left, IsPermutation-append_comm}
+use Rattle.std.proofs.lemmas.List.Sorted.{IsPermutation-refl, IsPermutation-trans, IsPermutation-map, IsPermutation-append_left, IsPermutation-append_comm}
 use Rattle.std.proofs.lemmas.List.Sums.{fold-append, sum_by-append}
 use Rattle.sqlite.specs.Order.{Row}
 use Rattle.sqlite.specs.Schema.{Schema}
@@ -18,11 +18,13 @@ use Rattle.sqlite_trees.specs.View.{doubt}
 use Rattle.sqlite_rules.specs.Lists.{Has}
 use Rattle.sqlite_rules.proofs.ListLemmas.{test_has}
 use Rattle.adm_schema.specs.Rows.{columns_of, rows_of}
-use Rattle.adm_schema.specs.Effects.{Sees, SeesDatabase, GoesOn, WritesOnly, AddsRow, PutsRow, CutsRow, key_of, put_in}
-use Rattle.adm_schema.specs.Schema.{register_schema}
+use Rattle.adm_schema.specs.Effects.{Sees, SeesDatabase, GoesOn, WritesOnly, AddsRow, PutsRow, CutsRow, SetsDraws, key_of, put_in, with_draws}
+use Rattle.adm_schema.specs.Schema.{meta, register_schema}
+use Rattle.adm_schema.proofs.Listed.{has_meta}
+use Rattle.sqlite.specs.declared.types.Value.TheVariants.{Int}
 use Rattle.adm_schema.proofs.Inside.{puts_moved, cuts_moved, goes_none, survives_on}
 use Rattle.adm_store.proofs.MapLemmas.{keyed_moved}
-use Rattle.adm_store.specs.Writes.{Kind, Adds, Puts, Cuts, Write, changed, turn, after, count_of, are_keyed, Leaves, Writes, write_of, key_row}
+use Rattle.adm_store.specs.Writes.{Kind, Adds, Puts, Cuts, Sets, Write, changed, turn, after, count_of, are_keyed, Leaves, Writes, write_of, key_row}
 
 -- ---- tables by their trees
 
@@ -48,10 +50,15 @@ same_table t u one two same = same_in register_schema.tables t u refl one two sa
 
 -- ---- what is written of a table
 
+counts_moved : (news xs ys : List Row) → IsPermutation xs ys → IsPermutation (fold (λ rows count. map (with_draws count) rows) xs news) (fold (λ rows count. map (with_draws count) rows) ys news)
+counts_moved [] xs ys same = same
+counts_moved (count ∷ news) xs ys same = counts_moved news _ _ (IsPermutation-map (with_draws count) xs ys same)
+
 changed_moved : (kind : Kind) (news xs ys : List Row) → IsPermutation xs ys → IsPermutation (changed kind news xs) (changed kind news ys)
 changed_moved Adds news xs ys same = IsPermutation-append_left news xs ys same
 changed_moved Puts news xs ys same = puts_moved news xs ys same
 changed_moved Cuts news xs ys same = cuts_moved (map key_of news) xs ys same
+changed_moved Sets news xs ys same = counts_moved news xs ys same
 
 after_moved : (t : Table) (writes : List Write) (xs ys : List Row) → IsPermutation xs ys → IsPermutation (after t writes xs) (after t writes ys)
 after_moved t [] xs ys same = same
@@ -65,6 +72,7 @@ changed_more : (kind : Kind) (one two rows : List Row) → changed kind two (cha
 changed_more Adds one two rows = append_assoc rows one two
 changed_more Puts one two rows = sym (fold-append (λ xs r. put_in r xs) rows one two)
 changed_more Cuts one two rows = sym (ap (λ ks. without_all rows ks) (map-append key_of one two) ∙ fold-append (λ xs k. without_rowid k xs) rows (map key_of one) (map key_of two))
+changed_more Sets one two rows = sym (fold-append (λ rows count. map (with_draws count) rows) rows one two)
 
 -- statements of one kind, run for some items and then for others
 joined : {X : Type 0} (kind : Kind) (table : Table) (row_of : X → Row) (one two : List X) (t : Table) (rows : List Row)
@@ -128,6 +136,7 @@ changed_none : (kind : Kind) (rows : List Row) → rows ≡ changed kind [] rows
 changed_none Adds rows = sym (append-nil rows)
 changed_none Puts rows = refl
 changed_none Cuts rows = refl
+changed_none Sets rows = refl
 
 module _ {X : Type 0} (kind : Kind) (table : Table) (row_of : X → Row) where
   -- before its first item
@@ -235,6 +244,22 @@ module _ (table : Table) (listed : Has register_schema.tables table) (old new : 
               subst (λ b. IsTrue (if b then have_rowids (rows_of table new.now.trees) else true)) (sym has_key) (keyed_moved _ _ p.adds both),
             )),
       )
+
+-- a count keeps each row's key
+keyed_counts : (count : Row) (rows : List Row) → have_rowids rows ≡ true → have_rowids (map (with_draws count) rows) ≡ true
+keyed_counts count [] keyed = refl
+keyed_counts count ([] ∷ rows) keyed = absurd (let none = (and_parts false (have_rowids rows) keyed).0 in cc)
+keyed_counts count ((key ∷ row) ∷ rows) keyed = let parts = and_parts (is_int key) (have_rowids rows) keyed in λ k. parts.0 k && keyed_counts count rows parts.1 k
+
+-- the count of draws in the row of `meta`
+pub set_one : (old new : State) → doubt old.is_clean ≤ doubt new.is_clean → (count : ℤ) → (HasCleanDisk new → Sees register_schema old → SeesDatabase old → SetsDraws (Int count ∷ []) old new)
+    → Writes (record { kind = Sets; table = meta; rows = (Int count ∷ []) ∷ [] } ∷ []) old new
+set_one old new monotone count sets clean sees sound =
+    let p = sets clean sees sound in
+    let early : HasCleanDisk old = omega (arith, monotone, clean) in (
+      λ _. p.only.is_open,
+      λ _. one_write _ old new has_meta (sees early p.only.was_open) p.only (λ keyed. let rows = p.rows keyed in (rows, keyed_moved _ _ rows (keyed_counts (Int count ∷ []) (rows_of meta old.now.trees) keyed))),
+    )
 
 -- ---- the writers of a commit
 

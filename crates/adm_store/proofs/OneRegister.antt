@@ -1,5 +1,5 @@
 -- A file stands for at most one register.
-use Rattle.std.proofs.Common.{◌≡◌, ◌∙◌, Option, Some, None, refl, sym, ap}
+use Rattle.std.proofs.Common.{◌≡◌, ◌∙◌, true, not, Option, Some, None, refl, sym, ap}
 use Rattle.std.specs.List.Sorted.{IsPermutation}
 use Rattle.std.proofs.lemmas.List.Sorted.{IsPermutation-sym, Contains-permutation}
 use Rattle.std.specs.declared.cmp.Ordering.{Ordering}
@@ -12,6 +12,11 @@ use Rattle.adm_schema.specs.Schema.{meta}
 use Rattle.adm_schema.proofs.Listed.{has_meta}
 use Rattle.adm_store.specs.StandsFor.{OneRegister}
 use Rattle.adm_store.proofs.Entries.{has_value, value_at}
+use Rattle.adm_store.proofs.SameDraws.{same_draws}
+use Rattle.adm_draws.specs.Draws.{is_draw, are_ordered, repeats_lot, is_fresh_at_school, is_round_or_fill}
+use Rattle.adm_types.specs.declared.draws.Draw.{Draw}
+use Rattle.std.specs.List.{list_all}
+use Rattle.std.proofs.lemmas.Bool.{and_parts}
 use Rattle.adm_store.proofs.RegisterRows.{rows_held, read_back, season_back, left_total, left_same}
 
 -- maps whose rows stand at their own keys, and which have the same rows, are the same
@@ -29,15 +34,23 @@ module _ {K V : Type 0} {R : K → K → Ordering} (total : IsTotalOrder R) (exa
       go k None is (Some w) at = had_too n m other own (IsPermutation-sym _ _ same) k w at ∙ sym at
       go k None is None at = is ∙ sym at
 
+-- a draw of a register has its outcomes and lots in order
+draw_ordered : (d : Draw) → is_draw d ≡ true → are_ordered d ≡ true
+draw_ordered d form =
+    let fresh = and_parts _ (is_round_or_fill d.round d.school d.outcomes) form in
+    let lots = and_parts _ (list_all is_fresh_at_school d.outcomes) fresh.0 in
+    (and_parts (are_ordered d) (not (repeats_lot d.lots)) lots.0).0
+
 pub one_register_lem : OneRegister
 one_register_lem db r s one two =
     let a = one.holds.formed in
     let b = two.holds.formed in
-    let season = season_back db r s.season (two.holds.rows.each meta has_meta) b.base.season_is one.holds in
+    let season = season_back db r s.season _ (two.holds.rows.each meta has_meta) b.base.season_is one.holds in
     let rows = rows_held db s (rows_in_order r) two.holds one.holds.rows (read_back r a) season in
     let schools = same_by_rows nat_list_cmp_total (slice_cmp-IsAntisymmetric nat_cmp-IsAntisymmetric) (λ x. x.code) r.schools s.schools (λ k x there. (a.base.schools_fit k x there).own_code) (λ k x there. (b.base.schools_fit k x there).own_code) rows.schools in
     let children = same_by_rows nat_cmp_total nat_cmp-IsAntisymmetric (λ x. x.no) r.children s.children (λ k x there. (a.base.children_fit k x there).own_number) (λ k x there. (b.base.children_fit k x there).own_number) rows.children in
     let applications = same_by_rows nat_cmp_total nat_cmp-IsAntisymmetric (λ x. x.child) r.applications s.applications (λ k x there. (a.base.applications_fit k x there).own_number) (λ k x there. (b.base.applications_fit k x there).own_number) rows.applications in
-    let places = same_by_rows nat_cmp_total nat_cmp-IsAntisymmetric (λ x. x.child) r.places s.places (λ k x there. (a.places k x there).own_number) (λ k x there. (b.places k x there).own_number) rows.places in
+    let places = same_by_rows nat_cmp_total nat_cmp-IsAntisymmetric (λ x. x.child) r.places s.places (λ k x there. (a.places.each k x there).own_number) (λ k x there. (b.places.each k x there).own_number) rows.places in
     let left = same_by_rows left_total left_same (λ x. x) r.left s.left (λ k x there. (a.left k x there).own_key) (λ k x there. (b.left k x there).own_key) rows.left in
-    λ i. record { season = season i; schools = schools i; children = children i; applications = applications i; places = places i; left = left i }
+    let draws = same_draws r.draws s.draws (λ k d there. (a.draws.each k d there).own_number) (λ k d there. (b.draws.each k d there).own_number) (λ k d there. draw_ordered d (a.draws.each k d there).form) (λ k d there. draw_ordered d (b.draws.each k d there).form) rows.draws in
+    λ i. record { season = season i; schools = schools i; children = children i; applications = applications i; places = places i; left = left i; draws = draws i }

@@ -1,25 +1,21 @@
 -- The rows of a register are such as are read.
-use Rattle.std.proofs.Common.{refl, ◌≡◌, ℕ, true, List, [], ◌∷◌, map, sym, subst}
-use Rattle.std.specs.Prelude.{◌&&◌}
-use Rattle.std.specs.List.{AllByRecursion, list_all}
+use Rattle.std.proofs.Common.{refl, ◌≡◌, ◌<◌, ◌^◌, ℕ, arith, true, List, [], ◌∷◌, length, map, sym, subst, subst₂, ◌∙◌}
+use Rattle.std.specs.List.{AllByRecursion}
 use Rattle.std.specs.List.Sorted.{IsPermutation}
 use Rattle.std.specs.Cmp.{IsTotalOrder, nat_cmp_total, on_total, then_total}
 use Rattle.std.specs.declared.cmp.Ordering.{Ordering}
 use Rattle.std.specs.declared.cmp.Ordering.TheVariants.{Less, Equal, Greater}
 use Rattle.std.specs.Ordering.{ordering_then}
 use Rattle.std.specs.Cmp.Lexicographic.{nat_list_cmp_total}
-use Rattle.std.specs.FinMap.{FinMap, values, contains_key, IsAntisymmetric, slice_cmp-IsAntisymmetric, nat_cmp-IsAntisymmetric}
-use Rattle.std.proofs.lemmas.Bool.{and_parts}
-use Rattle.adm_types.specs.Code.{is_code}
-use Rattle.adm_types.specs.Limits.{is_from, is_child_number, first_day}
+use Rattle.std.specs.FinMap.{values, IsAntisymmetric, slice_cmp-IsAntisymmetric, nat_cmp-IsAntisymmetric}
+use Rattle.adm_types.specs.Limits.{is_from, first_day}
 use Rattle.adm_types.specs.Seasons.{SeasonFacts, IsSeason, lists_end}
-use Rattle.adm_types.specs.declared.rows.School.{School}
 use Rattle.adm_types.specs.declared.rows.LeftPair.{LeftPair}
 use Rattle.adm_register.specs.State.{code_cmp, left_cmp}
 use Rattle.adm_register.specs.State.{State as Register}
-use Rattle.adm_register.specs.WellFormed.{WellFormed, AllRows, SchoolFits, are_schools}
-use Rattle.adm_schema.specs.Schema.{meta, school, child, application, place, left_list, register_schema}
-use Rattle.adm_schema.proofs.Listed.{has_meta, has_school, has_child, has_application, has_place, has_left_list}
+use Rattle.adm_register.specs.WellFormed.{WellFormed}
+use Rattle.adm_schema.specs.Schema.{meta, school, child, application, place, left_list, draw, offer, lot, register_schema}
+use Rattle.adm_schema.proofs.Listed.{has_meta, has_school, has_child, has_application, has_place, has_left_list, has_draw, has_offer, has_lot}
 use Rattle.sqlite.specs.Table.{Table}
 use Rattle.sqlite_rules.specs.Lists.{Has}
 use Rattle.std.specs.declared.convert.Infallible.{Infallible}
@@ -27,19 +23,28 @@ use Rattle.adm_store.specs.Unused.{no_row}
 use Rattle.sqlite.specs.Order.{Row}
 use Rattle.sqlite.specs.Tree.{Trees}
 use Rattle.sqlite.proofs.Callers.{one_permutation}
-use Rattle.std.proofs.lemmas.List.Sorted.{IsPermutation-sym, IsPermutation-map, IsPermutation-trans}
+use Rattle.std.proofs.lemmas.List.Sorted.{IsPermutation-sym, IsPermutation-map, IsPermutation-trans, length_permutation}
+use Rattle.std.proofs.lemmas.List.{length-map}
+use Rattle.adm_draws.specs.Draws.{row_of}
+use Rattle.adm_types.specs.declared.draws.DrawRow.{DrawRow}
+use Rattle.adm_register.specs.Draws.{no_draws}
 use Rattle.adm_store.specs.Forms.{season_row, school_row, child_row, application_row, place_row, left_row}
+use Rattle.adm_store.specs.DrawForms.{draw_row, offer_row, lot_row, IsDrawRow, IsOfferRow, IsLotRow}
+use Rattle.adm_store.proofs.DrawRows.{draw_from, draw_back, offer_from, offer_back, lot_from, lot_back}
+use Rattle.adm_store.proofs.KnownRows.{code_there, codes_there, number_there}
+use Rattle.adm_store.proofs.DrawFits.{draws_fit, offers_fit, lots_fit}
+use Rattle.adm_store.proofs.DrawOrder.{few_draws}
 use Rattle.adm_store.specs.StandsFor.{HasRows, HoldsRows, HoldsRegister, written_in, written_tables}
-use Rattle.adm_store.specs.Reads.{Holds, AreReadBack}
+use Rattle.adm_store.specs.Reads.{Holds, HoldsSeason, AreReadBack}
 use Rattle.adm_register.specs.declared.register_rows.Rows.{Rows}
 use Rattle.adm_register.specs.Rows.{AreRowsOf, rows_in_order}
 use Rattle.adm_store.specs.Faults.{IsSchool, IsReadAgain, IsChild, IsApplication, IsPlaceRow, IsLeftRow, AreReadAgain}
-use Rattle.adm_store.proofs.SeasonRows.{same_season}
+use Rattle.adm_store.proofs.SeasonRows.{same_season, same_count}
 use Rattle.adm_store.proofs.RowLemmas.{values_back, recursion_had, recursion_map}
 use Rattle.adm_store.proofs.SchoolRows.{school_from, from_row, reads_again}
-use Rattle.adm_store.proofs.ChildRows.{child_from, child_back, application_from, application_back, place_from, place_back, plan_days, left_from, left_back}
+use Rattle.adm_store.proofs.ChildRows.{child_from, child_back, application_from, application_back, place_from, place_back, state_days, left_from, left_back}
 use Rattle.adm_store.proofs.CodeLemmas.{codes_again}
-use Rattle.adm_store.proofs.MapRows.{each_value, row_there}
+use Rattle.adm_store.proofs.MapRows.{each_value}
 
 pub same_code : IsAntisymmetric code_cmp
 same_code = slice_cmp-IsAntisymmetric nat_cmp-IsAntisymmetric
@@ -60,25 +65,6 @@ left_same x y e = λ i. record { child = nat_cmp-IsAntisymmetric x.child y.child
 pub schools_fit : (r : Register) → WellFormed r → AllByRecursion IsSchool (values r.schools)
 schools_fit r formed = each_value nat_list_cmp_total same_code IsSchool r.schools (λ code s is. let fits = formed.base.schools_fit code s is in record { code_form = fits.code_form; text = fits.text; in_range = fits.in_range })
 
--- the code of a school that is there is a code
-code_there : (schools : FinMap code_cmp School) → AllRows SchoolFits schools → (code : List ℕ) → contains_key schools code ≡ true → is_code code ≡ true
-code_there schools fit code there =
-    let row = row_there schools code there in
-    let fits = fit code row.0 row.1 in
-    subst (λ c. is_code c ≡ true) fits.own_code fits.code_form
-
-codes_there : (schools : FinMap code_cmp School) → AllRows SchoolFits schools → (codes : List (List ℕ)) → are_schools schools codes ≡ true → list_all is_code codes ≡ true
-codes_there schools fit [] there = there
-codes_there schools fit (code ∷ codes) there =
-    let parts = and_parts (contains_key schools code) (list_all (contains_key schools) codes) there in
-    λ k. (code_there schools fit code parts.0 k) && (codes_there schools fit codes parts.1 k)
-
-number_there : (r : Register) → WellFormed r → (number : ℕ) → contains_key r.children number ≡ true → is_child_number number ≡ true
-number_there r formed number there =
-    let row = row_there r.children number there in
-    let fits = formed.base.children_fit number row.0 row.1 in
-    subst (λ n. is_child_number n ≡ true) fits.own_number fits.number_form
-
 pub children_fit : (r : Register) → WellFormed r → AllByRecursion IsChild (values r.children)
 children_fit r formed = each_value nat_cmp_total nat_cmp-IsAntisymmetric IsChild r.children (λ number child is. let fits = formed.base.children_fit number child is in record {
   number_form = fits.number_form;
@@ -96,14 +82,24 @@ applications_fit r last formed same = each_value nat_cmp_total nat_cmp-IsAntisym
 })
 
 pub places_fit : (r : Register) → WellFormed r → AllByRecursion IsPlaceRow (values r.places)
-places_fit r formed = each_value nat_cmp_total nat_cmp-IsAntisymmetric IsPlaceRow r.places (λ number row is. let fits = formed.places number row is in record {
+places_fit r formed = each_value nat_cmp_total nat_cmp-IsAntisymmetric IsPlaceRow r.places (λ number row is. let fits = formed.places.each number row is in record {
   number_form = number_there r formed row.child fits.child;
   code_form = code_there r.schools formed.base.schools_fit row.place.school fits.school;
-  days = plan_days row.place.state fits.plan;
+  days = state_days row.place.state fits.state;
 })
 
 pub left_fit : (r : Register) → WellFormed r → AllByRecursion IsLeftRow (values r.left)
 left_fit r formed = each_value left_total left_same IsLeftRow r.left (λ key pair is. let fits = formed.left key pair is in record { number_form = number_there r formed pair.child fits.child; code_form = code_there r.schools formed.base.schools_fit pair.school fits.school })
+
+-- rows of draws that are those of the register are as many
+pub as_many : (db : Trees) (r : Register) (draws : List DrawRow) → HasRows draw (map draw_row draws) db → HoldsRegister db r → length draws ≡ length (values r.draws)
+as_many db r draws read held =
+    let all = length_permutation _ _ (IsPermutation-trans _ _ _ (held.rows.each draw has_draw) (IsPermutation-sym _ _ read)) in
+    omega (arith, all, length-map draws draw_row, length-map (map row_of (values r.draws)) draw_row, length-map (values r.draws) row_of)
+
+-- a count of 32 bits
+pub few_enough : (r : Register) → WellFormed r → length (map row_of (values r.draws)) < 2 ^ 32
+few_enough r formed = let few = few_draws r.season no_draws (values r.draws) (omega arith) formed.draws.in_order in omega (arith, few, length-map (values r.draws) row_of)
 
 -- ---- the rows of a file, and the register that it holds
 
@@ -123,12 +119,12 @@ pub holds_register : (db : Trees) (r : Register) (rows : Rows) → HoldsRows db 
 holds_register db r rows held are formed = record {
   rows = record {
     each = λ t listed. each_table (λ t. HasRows t (written_in (written_tables rows) t) db → HasRows t (written_in (written_tables (rows_in_order r)) t) db) (
-      λ h. subst (λ season. HasRows meta (season_row season ∷ []) db) are.season h,
+      λ h. subst₂ (λ season count. HasRows meta (season_row season count ∷ []) db) are.season (sym (length_permutation _ _ are.draws.heads)) h,
       (
         λ h. moved school_row _ _ _ are.schools h,
         (
           λ h. moved child_row _ _ _ are.children h,
-          (λ h. moved application_row _ _ _ are.applications h, (λ h. moved place_row _ _ _ are.places h, (λ h. moved left_row _ _ _ are.left h, (λ h. h, (λ h. h, (λ h. h, (λ h. h, tt))))))),
+          (λ h. moved application_row _ _ _ are.applications h, (λ h. moved place_row _ _ _ are.places h, (λ h. moved left_row _ _ _ are.left h, (λ h. moved draw_row _ _ _ are.draws.heads h, (λ h. moved offer_row _ _ _ are.draws.offers h, (λ h. moved lot_row _ _ _ are.draws.lots h, (λ h. h, tt))))))),
         ),
       ),
     ) t listed (held.each t listed);
@@ -148,6 +144,11 @@ rows_held db r rows file held again season = record {
   applications = values_back application_row application_from (λ x. AreReadAgain x.list) (IsApplication (lists_end r.season)) application_back (λ x fits. codes_again x.list fits.codes) _ _ _ again.applications (applications_fit r (lists_end r.season) file.formed refl) (held.each application has_application) (file.rows.each application has_application);
   places = values_back place_row place_from (λ _. Unit {0}) IsPlaceRow (λ x _. place_back x) (λ _ _. tt) _ _ _ (no_condition rows.places) (places_fit r file.formed) (held.each place has_place) (file.rows.each place has_place);
   left = values_back left_row left_from (λ _. Unit {0}) IsLeftRow (λ x _. left_back x) (λ _ _. tt) _ _ _ (no_condition rows.left) (left_fit r file.formed) (held.each left_list has_left_list) (file.rows.each left_list has_left_list);
+  draws = record {
+    heads = values_back draw_row draw_from (λ _. Unit {0}) (IsDrawRow (lists_end r.season)) (λ x _. draw_back x) (λ _ _. tt) _ _ _ (no_condition rows.draws) (draws_fit r (lists_end r.season) file.formed refl) (held.each draw has_draw) (file.rows.each draw has_draw);
+    offers = values_back offer_row offer_from (λ _. Unit {0}) IsOfferRow (λ x _. offer_back x) (λ _ _. tt) _ _ _ (no_condition rows.offers) (offers_fit r file.formed) (held.each offer has_offer) (file.rows.each offer has_offer);
+    lots = values_back lot_row lot_from (λ _. Unit {0}) IsLotRow (λ x _. lot_back x) (λ _ _. tt) _ _ _ (no_condition rows.lots) (lots_fit r file.formed) (held.each lot has_lot) (file.rows.each lot has_lot);
+  };
 }
 
 first_row : (a b : Row) → a ∷ [] ≡ b ∷ [] → a ≡ b
@@ -164,7 +165,11 @@ read_back r formed = record {
   applications = recursion_map (IsApplication (lists_end r.season)) (λ x. AreReadAgain x.list) (λ x fits. codes_again x.list fits.codes) _ (applications_fit r (lists_end r.season) formed refl);
 }
 
--- the season that was read is that of the register
-pub season_back : (db : Trees) (r : Register) (season : SeasonFacts) → HasRows meta (season_row season ∷ []) db → IsSeason season → HoldsRegister db r → r.season ≡ season
-season_back db r season one formed held =
-    same_season r.season season held.formed.base.season_is formed (one_row _ _ (IsPermutation-trans _ _ _ (held.rows.each meta has_meta) (IsPermutation-sym _ _ one)))
+-- the season that was read is that of the register, and so is the count of draws
+pub season_back : (db : Trees) (r : Register) (season : SeasonFacts) (count : ℕ) → HoldsSeason season count db → IsSeason season → HoldsRegister db r → r.season ≡ season
+season_back db r season count one formed held =
+    same_season r.season season _ count held.formed.base.season_is formed (one_row _ _ (IsPermutation-trans _ _ _ (held.rows.each meta has_meta) (IsPermutation-sym _ _ one)))
+
+pub count_back : (db : Trees) (r : Register) (season : SeasonFacts) (count : ℕ) → HoldsSeason season count db → HoldsRegister db r → length (values r.draws) ≡ count
+count_back db r season count one held =
+    sym (length-map (values r.draws) row_of) ∙ same_count r.season season _ count (one_row _ _ (IsPermutation-trans _ _ _ (held.rows.each meta has_meta) (IsPermutation-sym _ _ one)))

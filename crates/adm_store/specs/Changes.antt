@@ -1,6 +1,9 @@
 -- The rows by which one register differs from another, as they are written.
-use Rattle.std.specs.Prelude.{◌≡◌, pos, [], ◌∷◌, map}
+use Rattle.std.specs.Prelude.{◌≡◌, ℕ, ◌+◌, ◌-◌, pos, List, [], ◌∷◌, length, drop, map}
+use Rattle.std.specs.List.{flat_map}
 use Rattle.adm_types.specs.Seasons.{SeasonFacts, IsSeason}
+use Rattle.adm_types.specs.declared.draws.DrawRow.{DrawRow}
+use Rattle.adm_draws.specs.Draws.{row_of, offers_of, lots_of}
 use Rattle.adm_register.specs.State.{only_season}
 use Rattle.adm_register.specs.State.{State as Register}
 use Rattle.adm_register.specs.WellFormed.{WellFormed}
@@ -32,10 +35,22 @@ written_child r = Int (pos r.child) ∷ Text r.name ∷ Int (pos r.east) ∷ Int
 abbrev pub written_application : ApplicationRow → Row
 written_application r = Int (pos r.child) ∷ Int (pos r.day) ∷ Text r.preferences ∷ []
 
--- the row is that of this season
+-- the number of a draw, as the row of `meta` has it
+abbrev pub written_count : DrawRow → Row
+written_count r = Int (pos r.draw) ∷ []
+
+-- the last of them alone, or none
+abbrev pub last_draw : List DrawRow → List DrawRow
+last_draw draws = drop (length draws - 1) draws
+
+-- how many rows draws write: theirs, and the row of `meta` where there are any
+abbrev pub draw_count : Changes → ℕ
+draw_count c = length c.draws + length c.offers + length c.lots + length (last_draw c.draws)
+
+-- the row is that of this season, without a draw
 pub record IsRowOf (season : SeasonFacts) (row : SeasonRow) : Type 0 where
   pub season_is : IsSeason season
-  pub written : written_season row ≡ season_row season
+  pub written : written_season row ≡ season_row season 0
 
 -- the trees stand for the season of this row, and no other row
 abbrev pub StandsForNew : SeasonRow → Trees → Type 0
@@ -50,6 +65,9 @@ pub record IsChanges (old new : Register) (changes : Changes) : Type 0 where
   pub applications : map written_application changes.applications ≡ map application_row difference.applications
   pub places : changes.places ≡ difference.places
   pub left : changes.left ≡ difference.left
+  pub draws : changes.draws ≡ map row_of difference.draws
+  pub offers : changes.offers ≡ flat_map offers_of difference.draws
+  pub lots : changes.lots ≡ flat_map lots_of difference.draws
   pub ended : changes.ended ≡ difference.ended
   pub vacated : changes.vacated ≡ difference.vacated
 

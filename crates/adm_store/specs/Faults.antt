@@ -48,11 +48,12 @@ pub record HasSchoolColumns (row : Row) (code name criteria : List ℕ) (pan eas
   pub east_fits : east < 2 ^ 32
   pub north_fits : north < 2 ^ 32
 
--- the row is that of a season of version 1, with a year of 32 bits, and a text for the holidays
-pub record HasSeasonColumns (row : Row) (phase : Phase) (year : ℕ) (holidays : List ℕ) : Type 0 where
-  pub row_is : row ≡ Int (pos 1) ∷ Int (pos 1) ∷ Int (pos (phase_code phase)) ∷ Int (pos year) ∷ Text holidays ∷ Int (pos 0) ∷ []
+-- the row is that of a season of version 1, with a year and a count of draws of 32 bits, and a text for the holidays
+pub record HasSeasonColumns (row : Row) (phase : Phase) (year draws : ℕ) (holidays : List ℕ) : Type 0 where
+  pub row_is : row ≡ Int (pos 1) ∷ Int (pos 1) ∷ Int (pos (phase_code phase)) ∷ Int (pos year) ∷ Text holidays ∷ Int (pos draws) ∷ []
   pub holidays_text : IsUtf8 holidays
   pub year_fits : year < 2 ^ 32
+  pub draws_fit : draws < 2 ^ 32
 
 -- the text of the codes is read as those codes
 abbrev pub AreReadAgain : List (List ℕ) → Type 0

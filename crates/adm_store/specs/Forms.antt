@@ -30,9 +30,9 @@ days_text days = joined (map decimal days)
 abbrev pub criteria_text : List Criterion → List ℕ
 criteria_text criteria = joined (map criterion_text criteria)
 
--- the key 1, the version 1, the season, and no draw yet
-abbrev pub season_row : SeasonFacts → Row
-season_row s = Int (pos 1) ∷ Int (pos 1) ∷ Int (pos (phase_code s.phase)) ∷ Int (pos s.year) ∷ Text (days_text s.holidays) ∷ Int (pos 0) ∷ []
+-- the key 1, the version 1, the season, and how many draws there are
+abbrev pub season_row : SeasonFacts → ℕ → Row
+season_row s draws = Int (pos 1) ∷ Int (pos 1) ∷ Int (pos (phase_code s.phase)) ∷ Int (pos s.year) ∷ Text (days_text s.holidays) ∷ Int (pos draws) ∷ []
 
 abbrev pub school_row : School → Row
 school_row s = Text s.code ∷ Text s.name ∷ Int (pos s.pan) ∷ Int (pos s.at.east) ∷ Int (pos s.at.north) ∷ Text (criteria_text s.criteria) ∷ []

@@ -1,4 +1,5 @@
 pub mod Forms
+pub mod DrawForms
 pub mod StandsFor
 pub mod Reads
 pub mod Unused

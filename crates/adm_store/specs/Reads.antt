@@ -1,5 +1,5 @@
 -- The rows of the tables, as they are read.
-use Rattle.std.specs.Prelude.{◌≡◌, ◌<◌, ℕ, List, [], ◌∷◌, map}
+use Rattle.std.specs.Prelude.{◌≡◌, ◌<◌, ℕ, List, [], ◌∷◌, length, map}
 use Rattle.std.specs.List.{AllByRecursion}
 use Rattle.adm_register.specs.declared.register_rows.Rows.{Rows}
 use Rattle.sqlite.specs.Order.{Row}
@@ -10,7 +10,11 @@ use Rattle.sqlite.specs.Tree.{Trees}
 use Rattle.sqlite_value.specs.declared.keys.Key.{Key}
 use Rattle.adm_schema.specs.Queries.{Asks}
 use Rattle.adm_schema.specs.Rows.{columns_of}
-use Rattle.adm_schema.specs.Schema.{register_schema}
+use Rattle.adm_schema.specs.Schema.{meta, register_schema}
+use Rattle.adm_store.specs.Forms.{season_row}
+use Rattle.std.specs.FinMap.{values}
+use Rattle.adm_types.specs.Seasons.{SeasonFacts}
+use Rattle.adm_register.specs.State.{State as Register}
 use Rattle.adm_store.specs.Faults.{IsReadAgain, AreReadAgain}
 use Rattle.adm_store.specs.StandsFor.{HasRows}
 
@@ -33,6 +37,14 @@ SeesTheSame old new = HasCleanDisk new → old.now.schema ≡ register_schema �
 -- the table has the rows of these values, in some order, and no other row
 abbrev pub Holds : {X : Type 0} → Table → (X → Row) → List X → Trees → Type 0
 Holds table row_of items = HasRows table (map row_of items)
+
+-- `meta` has the one row of this season, with so many draws, and no other row
+abbrev pub HoldsSeason : SeasonFacts → ℕ → Trees → Type 0
+HoldsSeason season draws = HasRows meta (season_row season draws ∷ [])
+
+-- the register is of this season, and has so many draws
+abbrev pub IsOfSeason : SeasonFacts → ℕ → Register → Type 0
+IsOfSeason season draws r = (r.season ≡ season) × (length (values r.draws) ≡ draws)
 
 -- each of these is what its row is read as
 pub record AreReadBack (rows : Rows) : Type 0 where

@@ -1,5 +1,5 @@
 -- When the trees of a file stand for a register, and what a crash may leave.
-use Rattle.std.specs.Prelude.{◌≡◌, ◌==◌, ◌⊎◌, List, [], ◌∷◌, map, if◌then◌else◌, IsPermutation, IsTrue}
+use Rattle.std.specs.Prelude.{◌≡◌, ◌==◌, ◌⊎◌, List, [], ◌∷◌, length, map, if◌then◌else◌, IsPermutation, IsTrue}
 use Rattle.adm_types.specs.Seasons.{SeasonFacts}
 use Rattle.adm_register.specs.State.{only_season}
 use Rattle.adm_register.specs.State.{State as Register}
@@ -13,8 +13,9 @@ use Rattle.sqlite.specs.State.{State, HasCleanDisk}
 use Rattle.sqlite_catalog.specs.Listing.{IsSound}
 use Rattle.sqlite_rules.specs.Lists.{Has}
 use Rattle.adm_schema.specs.Rows.{rows_of}
-use Rattle.adm_schema.specs.Schema.{meta, school, child, application, place, left_list, no_schema, register_schema}
+use Rattle.adm_schema.specs.Schema.{meta, school, child, application, place, left_list, draw, offer, lot, no_schema, register_schema}
 use Rattle.adm_store.specs.Forms.{season_row, school_row, child_row, application_row, place_row, left_row}
+use Rattle.adm_store.specs.DrawForms.{draw_row, offer_row, lot_row}
 
 -- as after a start: on a clean disk the connection is open
 abbrev pub IsStarted : State → Type 0
@@ -24,15 +25,18 @@ IsStarted s = HasCleanDisk s → IsTrue s.is_open
 abbrev pub HasRows : Table → List Row → Trees → Type 0
 HasRows table rows db = IsPermutation rows (rows_of table db)
 
--- the tables in use, and what is written in each
+-- the tables in use, and what is written in each; the row of `meta` counts the draws, and so has the number of the last one, as they are numbered from 1
 abbrev pub written_tables : Rows → List (Table × List Row)
 written_tables rows =
-    (meta, season_row rows.season ∷ [])
+    (meta, season_row rows.season (length rows.draws) ∷ [])
     ∷ (school, map school_row rows.schools)
     ∷ (child, map child_row rows.children)
     ∷ (application, map application_row rows.applications)
     ∷ (place, map place_row rows.places)
     ∷ (left_list, map left_row rows.left)
+    ∷ (draw, map draw_row rows.draws)
+    ∷ (offer, map offer_row rows.offers)
+    ∷ (lot, map lot_row rows.lots)
     ∷ []
 
 -- what is written in a table: nothing where it is not in use

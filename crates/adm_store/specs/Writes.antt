@@ -8,17 +8,19 @@ use Rattle.sqlite.specs.State.{State, HasCleanDisk}
 use Rattle.sqlite.specs.declared.types.Value.TheVariants.{Int}
 use Rattle.sqlite_rules.specs.Lists.{Has}
 use Rattle.adm_schema.specs.Rows.{rows_of}
-use Rattle.adm_schema.specs.Effects.{Sees, SeesDatabase, GoesOn, key_of, put_each}
-use Rattle.adm_schema.specs.Schema.{school, child, application, place, left_list, register_schema}
+use Rattle.adm_schema.specs.Effects.{Sees, SeesDatabase, GoesOn, key_of, put_each, with_draws}
+use Rattle.adm_schema.specs.Schema.{meta, school, child, application, place, left_list, draw, offer, lot, register_schema}
 use Rattle.adm_store.specs.declared.rows.Changes.{Changes}
-use Rattle.adm_store.specs.Changes.{written_school, written_child, written_application}
+use Rattle.adm_store.specs.Changes.{written_school, written_child, written_application, written_count, last_draw}
 use Rattle.adm_store.specs.Forms.{place_row, left_row}
+use Rattle.adm_store.specs.DrawForms.{draw_row, offer_row, lot_row}
 
--- rows that are more, rows in place of those of their keys, or keys alone, of which no row is left
+-- rows that are more, rows in place of those of their keys, keys alone, of which no row is left, or counts of draws, each in place of the one before
 pub data Kind : Type 0 where
   Adds : Kind
   Puts : Kind
   Cuts : Kind
+  Sets : Kind
 
 -- what statements of one kind write in one table, one after another
 pub record Write : Type 0 where
@@ -35,6 +37,7 @@ abbrev pub changed : Kind → List Row → List Row → List Row
 changed Adds news rows = rows ++ news
 changed Puts news rows = put_each rows news
 changed Cuts news rows = without_all rows (map key_of news)
+changed Sets news rows = fold (λ rows count. map (with_draws count) rows) rows news
 
 -- the rows of any table after one such, and after each of these
 abbrev pub turn : Table → List Row → Write → List Row
@@ -77,4 +80,8 @@ writes_of c =
     ∷ write_of Cuts place key_row c.vacated
     ∷ write_of Puts place place_row c.places
     ∷ write_of Adds left_list left_row c.left
+    ∷ write_of Adds draw draw_row c.draws
+    ∷ write_of Adds offer offer_row c.offers
+    ∷ write_of Adds lot lot_row c.lots
+    ∷ write_of Sets meta written_count (last_draw c.draws)
     ∷ []

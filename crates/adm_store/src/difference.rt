@@ -7,6 +7,7 @@ ghost use Rattle.adm_store.specs.Forms.{season_row, school_row, child_row, appli
 
 use crate::lists;
 use crate::rows::{ApplicationRow, Changes, ChildRow, SchoolRow, SeasonRow};
+use adm_draws::{draw_rows, lot_rows, offer_rows};
 use adm_register::Difference;
 use adm_table::Shared;
 use adm_types::{Application, Child, School, Season, Seq, Text};
@@ -32,7 +33,8 @@ impl ToRow for Season {
 
     ghost columns = { written_season };
 
-    ghost row_of = { season_row };
+    // before the first draw
+    ghost row_of = { λ season. season_row season 0 };
 
     fn to_row(&self, alloc: Global) -> Result<SeasonRow, AllocError> {
         let holidays = lists::days_text(alloc, self.holidays())?;
@@ -119,12 +121,18 @@ pub fn changes(alloc: Global, difference: Difference) -> Result<Changes, AllocEr
     let schools = to_rows(alloc, difference.schools.as_slice())?;
     let children = to_rows(alloc, difference.children.as_slice())?;
     let applications = to_rows(alloc, difference.applications.as_slice())?;
+    let draws = draw_rows(alloc, difference.draws.as_slice())?;
+    let offers = offer_rows(alloc, difference.draws.as_slice())?;
+    let lots = lot_rows(alloc, difference.draws.as_slice())?;
     Ok(Changes {
         schools: Seq::from_vec(schools),
         children: Seq::from_vec(children),
         applications: Seq::from_vec(applications),
         places: difference.places,
         left: difference.left,
+        draws: Seq::from_vec(draws),
+        offers: Seq::from_vec(offers),
+        lots: Seq::from_vec(lots),
         ended: difference.ended,
         vacated: difference.vacated,
     })

@@ -1,12 +1,11 @@
 // A register as its tables hold it.
-ghost use Rattle.std.specs.Prelude.{◌≡◌, ◌↔◌, ◌⊎◌, IsTrue, [], ◌∷◌, IfOk, IfErr, OnOk};
+ghost use Rattle.std.specs.Prelude.{◌≡◌, ◌↔◌, ◌⊎◌, IsTrue, [], ◌∷◌, length, IfOk, IfErr, OnOk};
 ghost use Rattle.sqlite.specs.Held.{state};
 ghost use Rattle.sqlite.specs.State.{HasCleanDisk, Survives};
 ghost use Rattle.adm_register.specs.State.{State as RegisterFacts};
-ghost use Rattle.adm_schema.specs.Schema.{meta, register_schema};
-ghost use Rattle.adm_store.specs.Forms.{season_row};
-ghost use Rattle.adm_store.specs.StandsFor.{HasRows, HoldsRows, HoldsRegister};
-ghost use Rattle.adm_store.specs.Reads.{Finds, AreReadBack};
+ghost use Rattle.adm_schema.specs.Schema.{register_schema};
+ghost use Rattle.adm_store.specs.StandsFor.{HoldsRows, HoldsRegister};
+ghost use Rattle.adm_store.specs.Reads.{Finds, HoldsSeason, IsOfSeason, AreReadBack};
 ghost use Rattle.adm_store.specs.FirstFault.{IsFirstFault};
 ghost use Rattle.adm_store.specs.Faults.{IsNoRegister};
 ghost use Rattle.adm_store.specs.Causes.{DiskFailed, HasDiskCause};
@@ -15,7 +14,10 @@ mod applications;
 mod children;
 mod codes;
 mod columns;
+mod draws;
 mod left_list;
+mod lots;
+mod offers;
 mod places;
 mod queries;
 mod reader;
@@ -26,48 +28,66 @@ mod unused;
 use crate::OpenFault;
 use crate::reading::applications::ApplicationReader;
 use crate::reading::children::ChildReader;
+use crate::reading::draws::DrawReader;
 use crate::reading::left_list::LeftReader;
+use crate::reading::lots::LotReader;
+use crate::reading::offers::OfferReader;
 use crate::reading::places::PlaceReader;
 use crate::reading::reader::Readers;
 use crate::reading::schools::SchoolReader;
-use crate::reading::season::read_season;
+use crate::reading::season::{MetaRow, read_season};
 use crate::reading::unused::Unused;
 use adm_register::{Register, Rows, RowsFault};
-use adm_types::Season;
+use adm_types::DrawRow;
 use sqlite::{Alter, Transaction};
 use std::alloc::Global;
 
-/// The rows of the register's tables, beside that of this season.
+/// Whether there are so many draws.
+fn is_count_of(count: u32, draws: &[DrawRow]) -> bool
+    ensures { IsTrue result ↔ (length draws.now ≡ count) }
+{
+    draws.len() as u64 == u64::from(count)
+}
+
+/// The rows of the register's tables, beside this row of `meta`, which counts the draws.
 fn rows_in<S: Alter>(
     alloc: Global,
     tx: &mut Transaction<'_, S>,
-    season: Season,
+    first: MetaRow,
 ) -> Result<Rows, OpenFault>
     ensures same_reference { tx.new.conn.ghost_name ≡ tx.old.conn.ghost_name }
-    ensures season { IfOk result (λ rows. rows.season ≡ season) }
-    ensures ok { IfOk result (λ rows. Finds (λ db. HasRows meta (season_row season ∷ []) db → HoldsRows db rows) (state S.Store tx.old.conn.now) (state S.Store tx.new.conn.now)) }
+    ensures season { IfOk result (λ rows. rows.season ≡ first.season) }
+    ensures ok { IfOk result (λ rows. Finds (λ db. HoldsSeason first.season first.draws db → HoldsRows db rows) (state S.Store tx.old.conn.now) (state S.Store tx.new.conn.now)) }
     ensures again { IfOk result AreReadBack }
-    ensures bad { IfErr result (λ e. IsNoRegister e → (r : RegisterFacts) → r.season ≡ season → Finds (λ db. ¬ HoldsRegister db r) (state S.Store tx.old.conn.now) (state S.Store tx.new.conn.now)) }
+    ensures bad { IfErr result (λ e. IsNoRegister e → (r : RegisterFacts) → IsOfSeason first.season first.draws r → Finds (λ db. ¬ HoldsRegister db r) (state S.Store tx.old.conn.now) (state S.Store tx.new.conn.now)) }
     ensures first { HasCleanDisk (state S.Store tx.new.conn.now) → IfErr result (λ e. IsNoRegister e → e ≡ OpenFault.BadRow) }
     ensures disk { IfErr result (λ e. e ≡ OpenFault.Disk → DiskFailed (state S.Store tx.old.conn.now) (state S.Store tx.new.conn.now)) }
     ensures survives { Survives (state S.Store tx.old.conn.now) (state S.Store tx.new.conn.now) (λ _. ⊥) }
 {
-    let last = season.lists_end();
-    let unused = (Unused::Offer, (Unused::Lot, (Unused::Imported, ())));
-    let readers = (LeftReader, (Unused::Draw, unused));
+    let last = first.season.lists_end();
+    let readers = (OfferReader, (LotReader, (Unused, ())));
+    let readers = (LeftReader, (DrawReader { last }, readers));
     let readers = (ApplicationReader { last }, (PlaceReader, readers));
     let readers = (SchoolReader, (ChildReader, readers));
-    let (schools, (children, (applications, (places, (left, _unused))))) = readers.read_all(
+    let (schools, (children, (applications, (places, (left, more))))) = readers.read_all(
         alloc, tx,
     )?;
-    Ok(Rows {
-        season,
-        schools,
-        children,
-        applications,
-        places,
-        left,
-    })
+    let (draws, (offers, (lots, _unused))) = more;
+    if is_count_of(first.draws, draws.as_slice()) {
+        Ok(Rows {
+            season: first.season,
+            schools,
+            children,
+            applications,
+            places,
+            left,
+            draws,
+            offers,
+            lots,
+        })
+    } else {
+        Err(OpenFault::BadRow)
+    }
 }
 
 /// Rows that are no register's are a bad row, and want of memory is want of memory.
@@ -95,11 +115,11 @@ pub(crate) fn register_in<S: Alter>(
     ensures disk { IfErr result (λ e. e ≡ OpenFault.Disk → HasDiskCause (state S.Store tx.old.conn.now) (state S.Store tx.new.conn.now)) }
     ensures survives { Survives (state S.Store tx.old.conn.now) (state S.Store tx.new.conn.now) (λ _. ⊥) }
 {
-    let season = read_season(alloc, tx)?;
+    let first = read_season(alloc, tx)?;
     if !has_tables {
         return Err(OpenFault::BadRow);
     }
-    let rows = rows_in(alloc, tx, season)?;
+    let rows = rows_in(alloc, tx, first)?;
     match Register::from_rows(alloc, rows) {
         Ok(register) => Ok(register),
         Err(fault) => Err(fault_of(fault)),

@@ -1,7 +1,10 @@
 // The rows that a commit writes, table by table.
 ghost use Rattle.std.specs.Prelude.{◌≡◌, ◌+◌, length};
+ghost use Rattle.adm_store.specs.Changes.{last_draw, draw_count};
 
-use adm_types::{ChildNo, Day, LeftPair, Phase, PlaceRow, SchoolCode, Seq, Text};
+use adm_types::{
+    ChildNo, Day, DrawRow, LeftPair, LotRow, OfferRow, Phase, PlaceRow, SchoolCode, Seq, Text,
+};
 
 /// The number of a day, as it is written.
 pub(crate) fn number_of(day: Day) -> u32
@@ -68,23 +71,42 @@ pub struct Changes {
     pub applications: Seq<ApplicationRow>,
     pub places: Seq<PlaceRow>,
     pub left: Seq<LeftPair>,
+    /// The draws, by their numbers.
+    pub draws: Seq<DrawRow>,
+    /// The outcomes of these draws.
+    pub offers: Seq<OfferRow>,
+    /// The lots of these draws.
+    pub lots: Seq<LotRow>,
     /// The children whose applications ended.
     pub ended: Seq<ChildNo>,
     /// The children whose places ended.
     pub vacated: Seq<ChildNo>,
 }
 
+/// The last of these draws alone, or none where there is none.
+pub(crate) fn last_draw(draws: &[DrawRow]) -> &[DrawRow]
+    ensures { result.now ≡ last_draw draws.now }
+{
+    &draws[draws.len().saturating_sub(1)..]
+}
+
 impl Changes {
-    /// How many rows are written. It takes no memory.
+    /// How many rows are written; where there are draws, the row that counts them is one. It takes no memory.
     pub fn put(&self) -> u64
-        ensures { result ≡ length self.now.schools + length self.now.children + length self.now.applications + length self.now.places + length self.now.left }
+        ensures { result ≡ length self.now.schools + length self.now.children + length self.now.applications + length self.now.places + length self.now.left + draw_count self.now }
     {
         let schools = self.schools.as_slice();
         let children = self.children.as_slice();
         let applications = self.applications.as_slice();
         let places = self.places.as_slice();
         let left = self.left.as_slice();
+        let draws = self.draws.as_slice();
+        let offers = self.offers.as_slice();
+        let lots = self.lots.as_slice();
+        let count = last_draw(draws);
+        let drawn = draws.len() + offers.len() + lots.len() + count.len();
         (schools.len() + children.len() + applications.len() + places.len() + left.len()) as u64
+            + drawn as u64
     }
 
     /// How many keys are deleted. It takes no memory.

@@ -1,13 +1,13 @@
-// The table `meta`, whose one row is the season's. It is added with the tables, and stays as it is.
+// The table `meta`, whose one row is the season's, with the count of draws. It is added with the tables, and its count is set.
 ghost use Rattle.std.specs.Prelude.{◌≡◌};
 ghost use Rattle.adm_schema.specs.Schema.{meta};
-ghost use Rattle.adm_store.specs.Changes.{written_season};
+ghost use Rattle.adm_store.specs.Changes.{written_season, written_count};
 ghost use Rattle.adm_store.specs.Forms.{phase_code};
-ghost use Rattle.adm_store.specs.Writes.{Adds};
+ghost use Rattle.adm_store.specs.Writes.{Adds, Sets};
 
 use crate::rows::SeasonRow;
 use crate::statement::Statement;
-use adm_types::Phase;
+use adm_types::{DrawRow, Phase};
 use sqlite::{Alter, Error, Transaction, params};
 
 fn number_of(phase: Phase) -> u32
@@ -37,6 +37,24 @@ impl Statement for AddSeason {
             "INSERT INTO meta (one, version, phase, year, holidays, draws) VALUES (1, 1, ?1, ?2, ?3, 0)",
             params![phase, row.year, holidays],
         )?;
+        Ok(())
+    }
+}
+
+/// The number of the last draw, which is how many there are.
+pub(crate) struct SetDraws;
+
+impl Statement for SetDraws {
+    type Item = DrawRow;
+
+    ghost kind = { Sets };
+
+    ghost table = { meta };
+
+    ghost row_of = { written_count };
+
+    fn run<S: Alter>(tx: &mut Transaction<'_, S>, draw: &DrawRow) -> Result<(), Error> {
+        tx.execute("UPDATE meta SET draws = ?1", params![draw.draw])?;
         Ok(())
     }
 }

@@ -15,10 +15,14 @@ ghost use Rattle.adm_store.specs.Writes.{count_of, writes_of, Writes};
 use crate::applications::{CutApplication, PutApplication};
 use crate::children::PutChild;
 use crate::difference::ToRow;
+use crate::draws::AddDraw;
 use crate::left_list::AddLeft;
+use crate::lots::AddLot;
+use crate::offers::AddOffer;
 use crate::places::{CutPlace, PutPlace};
-use crate::rows::Changes;
+use crate::rows::{Changes, last_draw};
 use crate::schools::AddSchool;
+use crate::season::SetDraws;
 use crate::statement::run_each;
 use crate::{CreateFault, Failed, OpenFault, creation, reading};
 use adm_register::Register;
@@ -162,7 +166,7 @@ impl<S: Alter> Store<S> {
     }
 }
 
-/// Writes the rows of each table, and takes out the applications and the places that ended.
+/// Writes the rows of each table, takes out the applications and the places that ended, and counts the draws.
 fn write_rows<S: Alter>(tx: &mut Transaction<'_, S>, changes: &Changes) -> Result<(), Error>
     ensures same_reference { tx.new.conn.ghost_name ≡ tx.old.conn.ghost_name }
     ensures writes { OnOk result (Writes (writes_of changes.now) (state S.Store tx.old.conn.now) (state S.Store tx.new.conn.now)) }
@@ -175,6 +179,10 @@ fn write_rows<S: Alter>(tx: &mut Transaction<'_, S>, changes: &Changes) -> Resul
     run_each::<CutPlace, S>(tx, changes.vacated.as_slice())?;
     run_each::<PutPlace, S>(tx, changes.places.as_slice())?;
     run_each::<AddLeft, S>(tx, changes.left.as_slice())?;
+    run_each::<AddDraw, S>(tx, changes.draws.as_slice())?;
+    run_each::<AddOffer, S>(tx, changes.offers.as_slice())?;
+    run_each::<AddLot, S>(tx, changes.lots.as_slice())?;
+    run_each::<SetDraws, S>(tx, last_draw(changes.draws.as_slice()))?;
     Ok(())
 }
 

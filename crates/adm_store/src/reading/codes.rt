@@ -1,11 +1,12 @@
 // Codes of schools in the columns of a row.
-ghost use Rattle.std.specs.Prelude.{◌≡◌, ◌<◌, ℕ, List, true, length, IsTrue, ◌↔◌, None, IfOk, IfErr, Some};
+ghost use Rattle.std.specs.Prelude.{◌≡◌, ◌<◌, ℕ, List, Option, true, length, IsTrue, ◌↔◌, None, IfOk, IfErr, Some};
 ghost use Rattle.std.specs.List.{list_all};
 ghost use Rattle.sqlite.specs.declared.types.Value.TheVariants.{Text as TextValue};
 ghost use Rattle.sqlite.specs.Order.{column};
 ghost use Rattle.adm_types.specs.Code.{is_code};
 ghost use Rattle.adm_types.specs.Joined.{codes_of};
 ghost use Rattle.adm_store.specs.Forms.{codes_text};
+ghost use Rattle.adm_store.specs.DrawForms.{school_value, is_code_or_none};
 ghost use Rattle.adm_store.specs.Faults.{IsNoRegister, AreReadAgain};
 
 use crate::reading::columns::value_at;
@@ -27,6 +28,24 @@ pub(super) fn code_at(row: &Row, at: usize) -> Result<SchoolCode, OpenFault>
         return Err(OpenFault::BadRow);
     };
     Ok(code)
+}
+
+/// The code of a school, or none where the column is NULL.
+pub(super) fn code_or_null_at(row: &Row, at: usize) -> Result<Option<SchoolCode>, OpenFault>
+    requires { at < length row.now }
+    ensures ok { IfOk result (λ school. column row.now at ≡ school_value school) }
+    ensures bad { IfErr result (λ e. IsNoRegister e → (school : Option (List ℕ)) → is_code_or_none school ≡ true → column row.now at ≡ school_value school → ⊥) }
+    ensures first { IfErr result (λ e. IsNoRegister e → e ≡ OpenFault.BadRow) }
+    ensures disk { IfErr result (λ e. e ≡ OpenFault.Disk → ⊥) }
+{
+    let value: Option<String> = value_at(row, at)?;
+    let Some(text) = value else {
+        return Ok(None);
+    };
+    match SchoolCode::new(&text) {
+        Some(code) => Ok(Some(code)),
+        None => Err(OpenFault::BadRow),
+    }
 }
 
 /// The codes that a text writes.

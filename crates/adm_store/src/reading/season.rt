@@ -1,5 +1,5 @@
-// The row of `meta` as the season.
-ghost use Rattle.std.specs.Prelude.{◌≡◌, ◌↔◌, ◌⊎◌, ◌≤◌, false, pos, OnOk, None, [], ◌∷◌, length, IfOk, IfErr, IfSome, IsTrue, Some, string_bytes};
+// The row of `meta` as the season and the count of draws.
+ghost use Rattle.std.specs.Prelude.{◌≡◌, ◌↔◌, ◌⊎◌, ◌≤◌, ◌<◌, ◌^◌, false, pos, OnOk, None, [], ◌∷◌, length, IfOk, IfErr, IfSome, IsTrue, Some, string_bytes};
 ghost use Rattle.sqlite.specs.declared.types.Value.TheVariants.{Int, Text as TextValue};
 ghost use Rattle.std.specs.Prelude.{ℕ, List, Err, ◌&&◌, nat_lt};
 ghost use Rattle.adm_types.specs.Limits.{is_from};
@@ -8,10 +8,8 @@ ghost use Rattle.adm_store.specs.Forms.{phase_code, days_text, days_of, season_r
 ghost use Rattle.sqlite.specs.Held.{state};
 ghost use Rattle.sqlite.specs.Order.{column};
 ghost use Rattle.sqlite.specs.State.{HasCleanDisk, Survives};
-ghost use Rattle.adm_schema.specs.Schema.{meta};
 ghost use Rattle.adm_schema.specs.Texts.{select_meta};
-ghost use Rattle.adm_store.specs.StandsFor.{HasRows};
-ghost use Rattle.adm_store.specs.Reads.{Finds, SeesTheSame};
+ghost use Rattle.adm_store.specs.Reads.{Finds, HoldsSeason, SeesTheSame};
 ghost use Rattle.adm_store.specs.FirstFault.{is_one, first_fault, IsFirstFault};
 ghost use Rattle.adm_store.specs.Faults.{IsNoRegister, HasSeasonColumns};
 ghost use Rattle.adm_store.specs.Causes.{DiskFailed, DiskFailedOr};
@@ -40,6 +38,15 @@ struct SeasonColumns {
     phase: Phase,
     year: u32,
     holidays: String,
+    draws: u32,
+}
+
+/// What the row of `meta` says.
+#[derive(Drop)]
+pub(super) struct MetaRow {
+    pub(super) season: Season,
+    /// How many draws there are.
+    pub(super) draws: u32,
 }
 
 /// That the row names version 1.
@@ -63,8 +70,8 @@ fn expect_version(row: &Row) -> Result<(), OpenFault>
 
 fn season_columns(row: &Row) -> Result<SeasonColumns, OpenFault>
     requires { IsTrue (is_one (column row.now 1)) }
-    ensures ok { IfOk result (λ c. row.now ≡ Int (pos 1) ∷ Int (pos 1) ∷ Int (pos (phase_code c.phase)) ∷ Int (pos c.year) ∷ TextValue (string_bytes c.holidays) ∷ Int (pos 0) ∷ []) }
-    ensures bad { IfErr result (λ e. IsNoRegister e → (phase : Phase) (year : ℕ) (holidays : List ℕ) → HasSeasonColumns row.now phase year holidays → ⊥) }
+    ensures ok { IfOk result (λ c. row.now ≡ Int (pos 1) ∷ Int (pos 1) ∷ Int (pos (phase_code c.phase)) ∷ Int (pos c.year) ∷ TextValue (string_bytes c.holidays) ∷ Int (pos c.draws) ∷ []) }
+    ensures bad { IfErr result (λ e. IsNoRegister e → (phase : Phase) (year draws : ℕ) (holidays : List ℕ) → HasSeasonColumns row.now phase year draws holidays → ⊥) }
     ensures first { IfErr result (λ e. IsNoRegister e → e ≡ OpenFault.BadRow) }
     ensures disk { IfErr result (λ e. e ≡ OpenFault.Disk → ⊥) }
 {
@@ -77,14 +84,15 @@ fn season_columns(row: &Row) -> Result<SeasonColumns, OpenFault>
     };
     let year = value_at(row, 3)?;
     let holidays = value_at(row, 4)?;
-    let draws: u32 = value_at(row, 5)?;
-    if one != 1 || draws != 0 {
+    let draws = value_at(row, 5)?;
+    if one != 1 {
         return Err(OpenFault::BadRow);
     }
     Ok(SeasonColumns {
         phase,
         year,
         holidays,
+        draws,
     })
 }
 
@@ -159,11 +167,11 @@ fn season_with(alloc: Global, columns: &SeasonColumns) -> Result<Season, OpenFau
     }
 }
 
-/// The season from its row.
-fn season_in(alloc: Global, row: &Row) -> Result<Season, OpenFault>
-    ensures ok { IfOk result (λ season. row.now ≡ season_row season) }
-    ensures season { IfOk result IsSeason }
-    ensures bad { IfErr result (λ e. IsNoRegister e → (season : SeasonFacts) → IsSeason season → row.now ≡ season_row season → ⊥) }
+/// The season and the count of draws from their row.
+fn season_in(alloc: Global, row: &Row) -> Result<MetaRow, OpenFault>
+    ensures ok { IfOk result (λ it. row.now ≡ season_row it.season it.draws) }
+    ensures season { IfOk result (λ it. IsSeason it.season) }
+    ensures bad { IfErr result (λ e. IsNoRegister e → (season : SeasonFacts) (draws : ℕ) → IsSeason season → draws < 2 ^ 32 → row.now ≡ season_row season draws → ⊥) }
     ensures first { IfErr result (λ e. IsNoRegister e → e ≡ first_fault (row.now ∷ [])) }
     ensures disk { IfErr result (λ e. e ≡ OpenFault.Disk → ⊥) }
 {
@@ -176,16 +184,19 @@ fn season_in(alloc: Global, row: &Row) -> Result<Season, OpenFault>
         Err(fault) => return Err(fault),
     };
     match season_with(alloc, &columns) {
-        Ok(season) => Ok(season),
+        Ok(season) => Ok(MetaRow {
+            season,
+            draws: columns.draws,
+        }),
         Err(fault) => Err(fault),
     }
 }
 
-/// The season of the one row that there may be.
-fn season_of(alloc: Global, rows: &[Row]) -> Result<Season, OpenFault>
-    ensures ok { IfOk result (λ season. rows.now ≡ season_row season ∷ []) }
-    ensures season { IfOk result IsSeason }
-    ensures bad { IfErr result (λ e. IsNoRegister e → (season : SeasonFacts) → IsSeason season → rows.now ≡ season_row season ∷ [] → ⊥) }
+/// The season and the count of draws of the one row that there may be.
+fn season_of(alloc: Global, rows: &[Row]) -> Result<MetaRow, OpenFault>
+    ensures ok { IfOk result (λ it. rows.now ≡ season_row it.season it.draws ∷ []) }
+    ensures season { IfOk result (λ it. IsSeason it.season) }
+    ensures bad { IfErr result (λ e. IsNoRegister e → (season : SeasonFacts) (draws : ℕ) → IsSeason season → draws < 2 ^ 32 → rows.now ≡ season_row season draws ∷ [] → ⊥) }
     ensures first { IfErr result (λ e. IsNoRegister e → e ≡ first_fault rows.now) }
     ensures disk { IfErr result (λ e. e ≡ OpenFault.Disk → ⊥) }
 {
@@ -196,16 +207,16 @@ fn season_of(alloc: Global, rows: &[Row]) -> Result<Season, OpenFault>
     }
 }
 
-/// The season that the table `meta` holds.
+/// The season and the count of draws that the table `meta` holds.
 pub(super) fn read_season<S: Alter>(
     alloc: Global,
     tx: &mut Transaction<'_, S>,
-) -> Result<Season, OpenFault>
+) -> Result<MetaRow, OpenFault>
     ensures same_reference { tx.new.conn.ghost_name ≡ tx.old.conn.ghost_name }
-    ensures ok { IfOk result (λ season. Finds (HasRows meta (season_row season ∷ [])) (state S.Store tx.old.conn.now) (state S.Store tx.new.conn.now)) }
-    ensures season { IfOk result IsSeason }
+    ensures ok { IfOk result (λ it. Finds (HoldsSeason it.season it.draws) (state S.Store tx.old.conn.now) (state S.Store tx.new.conn.now)) }
+    ensures season { IfOk result (λ it. IsSeason it.season) }
     ensures same { OnOk result (SeesTheSame (state S.Store tx.old.conn.now) (state S.Store tx.new.conn.now)) }
-    ensures bad { IfErr result (λ e. IsNoRegister e → (s : SeasonFacts) → IsSeason s → Finds (λ db. ¬ HasRows meta (season_row s ∷ []) db) (state S.Store tx.old.conn.now) (state S.Store tx.new.conn.now)) }
+    ensures bad { IfErr result (λ e. IsNoRegister e → (s : SeasonFacts) (n : ℕ) → IsSeason s → n < 2 ^ 32 → Finds (λ db. ¬ HoldsSeason s n db) (state S.Store tx.old.conn.now) (state S.Store tx.new.conn.now)) }
     ensures version { HasCleanDisk (state S.Store tx.new.conn.now) → OnOk result (IsFirstFault (state S.Store tx.old.conn.now).now OpenFault.BadRow) }
     ensures first { HasCleanDisk (state S.Store tx.new.conn.now) → IfErr result (λ e. IsNoRegister e → IsFirstFault (state S.Store tx.old.conn.now).now e) }
     ensures disk { IfErr result (λ e. e ≡ OpenFault.Disk → DiskFailed (state S.Store tx.old.conn.now) (state S.Store tx.new.conn.now)) }
@@ -214,6 +225,6 @@ pub(super) fn read_season<S: Alter>(
 {
     let text = "SELECT one, version, phase, year, holidays, draws FROM meta";
     let rows = query(tx, text, OpenFault::NotOurs)?;
-    let season = season_of(alloc, rows.as_slice())?;
-    Ok(season)
+    let meta_row = season_of(alloc, rows.as_slice())?;
+    Ok(meta_row)
 }

@@ -1,23 +1,28 @@
-use Rattle.std.proofs.Common.{◌∙◌, [], sym, ap}
+use Rattle.std.proofs.Common.{◌≡◌, ◌∙◌, true, false, [], ◌∷◌, map, length, sym, ap, subst, rules}
+use Rattle.std.specs.Prelude.{flat_map}
 use Rattle.std.proofs.lemmas.Result.{err_from_is_err_and}
 use Rattle.std.specs.FinMap.{values}
 use Rattle.sqlite.specs.Held.{state}
 use Rattle.adm_types.specs.Seasons.{lists_end}
-use Rattle.adm_schema.specs.Schema.{draw, offer, lot, imported}
+use Rattle.adm_draws.specs.Draws.{row_of, offers_of, lots_of}
+use Rattle.adm_schema.specs.Schema.{meta, imported}
 use Rattle.adm_schema.proofs.Listed.{has_school, has_child, has_application, has_place, has_left_list, has_draw, has_offer, has_lot, has_imported}
+use Rattle.adm_store.specs.Forms.{season_row}
 use Rattle.adm_store.specs.StandsFor.{HasRows, written_in, written_tables}
-use Rattle.adm_store.proofs.RegisterRows.{each_table, none_read, schools_fit, children_fit, applications_fit, places_fit, left_fit}
+use Rattle.adm_store.proofs.DrawFits.{draws_fit, offers_fit, lots_fit}
+use Rattle.adm_store.proofs.RegisterRows.{each_table, none_read, as_many, schools_fit, children_fit, applications_fit, places_fit, left_fit}
 use Rattle.adm_store.proofs.reading.rows_in.Goals as goal
 
 -- the tables in the order of the schema, which is that of the readers
-pub returns-clause-ok : goal.returns-clause-ok
-returns-clause-ok g c clean has first =
+pub returns-then-is_count_of-clause-ok : goal.returns-then-is_count_of-clause-ok
+returns-then-is_count_of-clause-ok g c clean has first =
     let db = (state g.S.Store c.args.tx.now.conn.now).now.trees in
     let it = c.in_ok-schools.ensures.ok clean has in
-    let unused = it.1.1.1.1 in
+    let drawn = it.1.1.1.1.1 in
+    let counted : length c.in_ok-schools.more.0 ≡ c.args.first.draws = search rules in
     record {
-      each = each_table (λ t. HasRows t (written_in (written_tables (record { season = c.args.season; schools = c.in_ok-schools.schools; children = c.in_ok-schools.children; applications = c.in_ok-schools.applications; places = c.in_ok-schools.places; left = c.in_ok-schools.left })) t) db) (
-        first,
+      each = each_table (λ t. HasRows t (written_in (written_tables (record { season = c.args.first.season; schools = c.in_ok-schools.schools; children = c.in_ok-schools.children; applications = c.in_ok-schools.applications; places = c.in_ok-schools.places; left = c.in_ok-schools.left; draws = c.in_ok-schools.more.0; offers = c.in_ok-schools.more.1.0; lots = c.in_ok-schools.more.1.1.0 })) t) db) (
+        subst (λ count. HasRows meta (season_row c.args.first.season count ∷ []) db) (sym counted) first,
         (
           it.0,
           (
@@ -26,7 +31,7 @@ returns-clause-ok g c clean has first =
               it.1.1.0,
               (
                 it.1.1.1.0,
-                (unused.0, (none_read draw _ db unused.1.0, (none_read offer _ db unused.1.1.0, (none_read lot _ db unused.1.1.1.0, (none_read imported _ db unused.1.1.1.1.0, tt))))),
+                (it.1.1.1.1.0, (drawn.0, (drawn.1.0, (drawn.1.1.0, (none_read imported _ db drawn.1.1.1.0, tt))))),
               ),
             ),
           ),
@@ -34,18 +39,18 @@ returns-clause-ok g c clean has first =
       );
     }
 
-pub returns-clause-again : goal.returns-clause-again
-returns-clause-again g c = let it = c.in_ok-schools.ensures.again in record { schools = it.0; children = it.1.0; applications = it.1.1.0 }
+pub returns-then-is_count_of-clause-again : goal.returns-then-is_count_of-clause-again
+returns-then-is_count_of-clause-again g c = let it = c.in_ok-schools.ensures.again in record { schools = it.0; children = it.1.0; applications = it.1.1.0 }
 
 pub returns-in_err-schools-clause-bad : goal.returns-in_err-schools-clause-bad
 returns-in_err-schools-clause-bad g c =
     let p = err_from_is_err_and c.from_residual.result c.from_residual.ensures.1 in
     rw (p.1, p.2) (λ structural r same clean has held.
     let each = held.rows.each in
-    let last = c.lists_end-last.ensures ∙ sym (ap lists_end same) in
+    let last = c.lists_end-last.ensures ∙ sym (ap lists_end same.0) in
     c.in_err-schools.ensures.bad structural
-    (values r.schools, (values r.children, (values r.applications, (values r.places, (values r.left, ([], ([], ([], ([], tt)))))))))
-    (schools_fit r held.formed, (children_fit r held.formed, (applications_fit r _ held.formed last, (places_fit r held.formed, (left_fit r held.formed, (tt, (tt, (tt, (tt, tt)))))))))
+    (values r.schools, (values r.children, (values r.applications, (values r.places, (values r.left, (map row_of (values r.draws), (flat_map offers_of (values r.draws), (flat_map lots_of (values r.draws), ([], tt)))))))))
+    (schools_fit r held.formed, (children_fit r held.formed, (applications_fit r _ held.formed last, (places_fit r held.formed, (left_fit r held.formed, (draws_fit r _ held.formed last, (offers_fit r held.formed, (lots_fit r held.formed, (tt, tt)))))))))
     clean has
     (each _ has_school, (each _ has_child, (each _ has_application, (each _ has_place, (each _ has_left_list, (each _ has_draw, (each _ has_offer, (each _ has_lot, (each _ has_imported, tt))))))))))
 
@@ -53,3 +58,12 @@ pub returns-in_err-schools-clause-disk : goal.returns-in_err-schools-clause-disk
 returns-in_err-schools-clause-disk g c =
     let p = err_from_is_err_and c.from_residual.result c.from_residual.ensures.1 in
     rw (p.1, p.2) c.in_err-schools.ensures.disk
+
+-- the rows that were read are as many as those of the register
+pub returns-else-is_count_of-clause-bad : goal.returns-else-is_count_of-clause-bad
+returns-else-is_count_of-clause-bad g c structural r same clean has held =
+    let read = c.in_ok-schools.ensures.ok clean has in
+    let all = as_many (state g.S.Store c.args.tx.now.conn.now).now.trees r c.in_ok-schools.more.0 read.1.1.1.1.1.0 held in
+    let counted : length c.as_slice.result.now ≡ c.args.first.draws = ap length c.as_slice.ensures ∙ all ∙ same.1 in
+    let wrong : true ≡ false = sym (c.is_count_of.ensures.1 counted) ∙ c.if-is_count_of.false in
+    cc

@@ -10,4 +10,9 @@ returns-clause-writes g c =
     let vacated : Ran _ _ _ = record { survives = c.run_each-5.ensures.survives; leaves = rw c.as_slice-5.ensures at c.in_ok-run_each-5.ensures.writes } in
     let places : Ran _ _ _ = record { survives = c.run_each-6.ensures.survives; leaves = rw c.as_slice-6.ensures at c.in_ok-run_each-6.ensures.writes } in
     let left : Ran _ _ _ = record { survives = c.run_each-7.ensures.survives; leaves = rw c.as_slice-7.ensures at c.in_ok-run_each-7.ensures.writes } in
-    (ran_then (ran_then (ran_then (ran_then (ran_then (ran_then schools children) ended) applications) vacated) places) left).leaves
+    let draws : Ran _ _ _ = record { survives = c.run_each-8.ensures.survives; leaves = rw c.as_slice-8.ensures at c.in_ok-run_each-8.ensures.writes } in
+    let offers : Ran _ _ _ = record { survives = c.run_each-9.ensures.survives; leaves = rw c.as_slice-9.ensures at c.in_ok-run_each-9.ensures.writes } in
+    let lots : Ran _ _ _ = record { survives = c.run_each-10.ensures.survives; leaves = rw c.as_slice-10.ensures at c.in_ok-run_each-10.ensures.writes } in
+    let count : Ran _ _ _ = record { survives = c.run_each-11.ensures.survives; leaves = rw (c.last_draw.ensures, c.as_slice-11.ensures) at c.in_ok-run_each-11.ensures.writes } in
+    let people = ran_then (ran_then (ran_then (ran_then (ran_then (ran_then schools children) ended) applications) vacated) places) left in
+    (ran_then (ran_then (ran_then (ran_then people draws) offers) lots) count).leaves

@@ -18,7 +18,7 @@ asks : AsksAll meta select_meta
 asks = record { project = _; order = _; asks = asks_meta; columns = λ _. refl; few = omega arith }
 
 pub returns-clause-ok : goal.returns-clause-ok
-returns-clause-ok g c clean has = subst (λ rows. HasRows meta rows (state g.S.Store c.args.tx.now.conn.now).now.trees) (sym c.as_slice.ensures.value ∙ c.in_ok-season.ensures.ok) (c.in_ok-rows.ensures.ok meta asks clean has)
+returns-clause-ok g c clean has = subst (λ rows. HasRows meta rows (state g.S.Store c.args.tx.now.conn.now).now.trees) (sym c.as_slice.ensures.value ∙ c.in_ok-meta_row.ensures.ok) (c.in_ok-rows.ensures.ok meta asks clean has)
 
 pub returns-clause-same : goal.returns-clause-same
 returns-clause-same g c = c.in_ok-rows.ensures.same meta asks
@@ -26,14 +26,14 @@ returns-clause-same g c = c.in_ok-rows.ensures.same meta asks
 pub returns-in_err-rows-clause-bad : goal.returns-in_err-rows-clause-bad
 returns-in_err-rows-clause-bad g c =
     let p = err_from_is_err_and c.from_residual.result c.from_residual.ensures.1 in
-    rw (p.1, p.2) (λ structural s is clean has held. c.in_err-rows.ensures.bad structural meta asks clean has)
+    rw (p.1, p.2) (λ structural s n is few clean has held. c.in_err-rows.ensures.bad structural meta asks clean has)
 
-pub returns-in_err-season-clause-bad : goal.returns-in_err-season-clause-bad
-returns-in_err-season-clause-bad g c =
-    let p = err_from_is_err_and c.from_residual-in_err-season.result c.from_residual-in_err-season.ensures.1 in
-    rw (p.1, p.2) (λ structural s is clean has held.
-    let one = one_permutation (season_row s) c.in_ok-rows.rows.items (IsPermutation-trans _ _ _ held (IsPermutation-sym _ _ (c.in_ok-rows.ensures.ok meta asks clean has))) in
-    c.in_err-season.ensures.bad structural s is (c.as_slice.ensures.value ∙ one))
+pub returns-in_err-meta_row-clause-bad : goal.returns-in_err-meta_row-clause-bad
+returns-in_err-meta_row-clause-bad g c =
+    let p = err_from_is_err_and c.from_residual-in_err-meta_row.result c.from_residual-in_err-meta_row.ensures.1 in
+    rw (p.1, p.2) (λ structural s n is few clean has held.
+    let one = one_permutation (season_row s n) c.in_ok-rows.rows.items (IsPermutation-trans _ _ _ held (IsPermutation-sym _ _ (c.in_ok-rows.ensures.ok meta asks clean has))) in
+    c.in_err-meta_row.ensures.bad structural s n is few (c.as_slice.ensures.value ∙ one))
 
 pub returns-in_err-rows-clause-first : goal.returns-in_err-rows-clause-first
 returns-in_err-rows-clause-first g c clean =
@@ -42,14 +42,14 @@ returns-in_err-rows-clause-first g c clean =
     let refused = c.in_err-rows.ensures.refused clean structural in
     first_refused _ _ refused.1 (λ has. c.in_err-rows.ensures.bad structural meta asks clean has) refused.0)
 
-pub returns-in_err-season-clause-first : goal.returns-in_err-season-clause-first
-returns-in_err-season-clause-first g c clean =
-    let p = err_from_is_err_and c.from_residual-in_err-season.result c.from_residual-in_err-season.ensures.1 in
-    rw (p.1, p.2) (λ structural. first_by_rows _ c.in_ok-rows.rows.items _ (c.in_ok-rows.ensures.answered clean) (λ has. IsPermutation-sym _ _ (c.in_ok-rows.ensures.ok meta asks clean has)) (c.in_err-season.ensures.first structural ∙ ap first_fault c.as_slice.ensures.value))
+pub returns-in_err-meta_row-clause-first : goal.returns-in_err-meta_row-clause-first
+returns-in_err-meta_row-clause-first g c clean =
+    let p = err_from_is_err_and c.from_residual-in_err-meta_row.result c.from_residual-in_err-meta_row.ensures.1 in
+    rw (p.1, p.2) (λ structural. first_by_rows _ c.in_ok-rows.rows.items _ (c.in_ok-rows.ensures.answered clean) (λ has. IsPermutation-sym _ _ (c.in_ok-rows.ensures.ok meta asks clean has)) (c.in_err-meta_row.ensures.first structural ∙ ap first_fault c.as_slice.ensures.value))
 
 pub returns-clause-version : goal.returns-clause-version
 returns-clause-version g c clean =
-    let row = sym c.as_slice.ensures.value ∙ c.in_ok-season.ensures.ok in
+    let row = sym c.as_slice.ensures.value ∙ c.in_ok-meta_row.ensures.ok in
     first_by_rows _ c.in_ok-rows.rows.items BadRow (c.in_ok-rows.ensures.answered clean) (λ has. IsPermutation-sym _ _ (c.in_ok-rows.ensures.ok meta asks clean has)) (sym (ap first_fault row))
 
 pub returns-in_err-rows-clause-disk : goal.returns-in_err-rows-clause-disk

@@ -1,0 +1,43 @@
+// The table `offer`, of the outcomes of draws. A draw stays as it was, so its rows are only added.
+ghost use Rattle.std.specs.Prelude.{◌≡◌};
+ghost use Rattle.sqlite.specs.declared.types.Value.TheVariants.{Text};
+ghost use Rattle.sqlite.specs.Values.{or_null};
+ghost use Rattle.adm_schema.specs.Schema.{offer};
+ghost use Rattle.adm_store.specs.DrawForms.{offer_row, school_value};
+ghost use Rattle.adm_store.specs.Writes.{Adds};
+
+use crate::statement::Statement;
+use adm_types::{OfferRow, SchoolCode};
+use sqlite::{Alter, Error, Transaction, params};
+
+/// The text of the code of a school that may be none.
+pub(crate) fn code_in(school: &Option<SchoolCode>) -> Option<&str>
+    ensures { or_null (λ code. Text code.now) result ≡ school_value school.now }
+{
+    match school {
+        Some(code) => Some(code.as_str()),
+        None => None,
+    }
+}
+
+pub(crate) struct AddOffer;
+
+impl Statement for AddOffer {
+    type Item = OfferRow;
+
+    ghost kind = { Adds };
+
+    ghost table = { offer };
+
+    ghost row_of = { offer_row };
+
+    fn run<S: Alter>(tx: &mut Transaction<'_, S>, row: &OfferRow) -> Result<(), Error> {
+        let child = row.outcome.child.get();
+        let school = code_in(&row.outcome.school);
+        tx.execute(
+            "INSERT INTO offer (draw, child, school, fresh) VALUES (?1, ?2, ?3, ?4)",
+            params![row.draw, child, school, row.outcome.fresh],
+        )?;
+        Ok(())
+    }
+}
