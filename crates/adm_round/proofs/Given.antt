@@ -1,8 +1,9 @@
 -- What the best allocation of a round's problem gives its applicants.
-use Rattle.std.proofs.Common.{◌≡◌, ℕ, ◌<◌, List, [], ◌∷◌, length, map, Option, None, Some, true, false, cond, not, ◌||◌, ◌&&◌, inl, inr, refl, sym, ap, ◌∙◌, subst, arith}
-use Rattle.std.specs.Prelude.{bytes_eq, IfSome, option_map, unwrap_or, find, All, count_by}
+use Rattle.std.proofs.Common.{◌≡◌, ℕ, ◌<◌, List, [], ◌∷◌, ◌++◌, length, map, Option, None, Some, Bool, true, false, cond, not, ◌||◌, ◌&&◌, inl, inr, refl, sym, ap, ◌∙◌, subst, arith}
+use Rattle.std.specs.Prelude.{bytes_eq, is_some, IfSome, option_map, unwrap_or, find, All, count_by, nat_lt}
 use Rattle.std.specs.List.{list_any, AllZip}
-use Rattle.std.proofs.lemmas.Bool.{cases_Bool, or_parts}
+use Rattle.std.specs.Option.{option_to_list}
+use Rattle.std.proofs.lemmas.Bool.{cases_Bool, or_parts, false≢true, lt-ltb}
 use Rattle.std.proofs.lemmas.List.Sums.{sum_by-cons}
 use Rattle.std.proofs.lemmas.Slice.Eq.{bytes_eq-Decides}
 use Rattle.adm_types.specs.declared.draws.Lot.{Lot}
@@ -10,17 +11,16 @@ use Rattle.adm_types.specs.declared.draws.Outcome.{Outcome}
 use Rattle.adm_types.specs.Limits.{is_listed}
 use Rattle.adm_match.specs.declared.problem.Wish.{Wish}
 use Rattle.adm_match.specs.declared.problem.Seats.{Seats}
-use Rattle.adm_match.specs.Market.{Code, Candidate, has, preference_rank, quota_of, some_pair, same_code}
-use Rattle.adm_match.specs.Stability.{Allocation, IsBest, is_guest}
-use Rattle.adm_match.specs.Relisting.{OneBest}
+use Rattle.adm_match.specs.Market.{Code, Candidate, has, preference_rank, assigned_rank, is_tenant, quota_of, some_pair, same_code}
+use Rattle.adm_match.specs.Stability.{Allocation, IsBest, IsContent, is_guest, prefers}
 use Rattle.adm_round.specs.declared.applicants.Applicant.{Applicant}
 use Rattle.adm_round.specs.declared.applicants.Site.{Site}
-use Rattle.adm_round.specs.Round.{code_of, number_of, listed, IsPosed}
+use Rattle.adm_round.specs.Round.{code_of, number_of, listed, IsListFit, IsPosed}
 use Rattle.adm_round.specs.Ranks.{site_of, lot_at, candidate_of, seats_of, market_of}
-use Rattle.adm_round.specs.Outcomes.{is_fresh, outcome_of, outcomes_of, AreBest, IsListed, HasRoom, OneAllotment, count_at, has_fresh}
+use Rattle.adm_round.specs.Outcomes.{is_fresh, outcome_of, outcomes_of, AreBest, IsListed, KeepsTenant, HasRoom, AllotmentFits, count_at, has_fresh}
 use Rattle.adm_round.proofs.Among.{In, in_map, All_in, in_All, none_in}
-use Rattle.adm_round.proofs.Lists.{school_of_wish, on_list, code_self}
-use Rattle.adm_round.proofs.Faultless.{its_schools, seats_once, faultless}
+use Rattle.adm_round.proofs.Lists.{school_of_wish, on_list, own_within, code_self}
+use Rattle.adm_round.proofs.Faultless.{its_schools, seats_once}
 
 children_are : (a : Allocation) (xs : List Applicant) → map (λ outcome. outcome.child) (outcomes_of a xs) ≡ map number_of xs
 children_are a [] = refl
@@ -52,6 +52,9 @@ find_seats (z ∷ zs) seat i h =
       | inr later ↦ ap (λ b. cond b (Some z) rest) (none_in (same_code z) zs seat parts.0 later) ∙ find_seats zs seat later parts.1
     ]
 
+blocked : (a b c : Bool) → a ≡ true → b ≡ true → (a && (b || c)) ≡ false → ⊥
+blocked a b c s t none = false≢true (sym none ∙ (λ i. s i && (t i || c)))
+
 module _ (sites : List Site) (applicants : List Applicant) (lots : List Lot) (h : IsPosed sites applicants lots) (a : Allocation) (outcomes : List Outcome) (best : IsBest (market_of sites applicants lots) a) (given : outcomes ≡ outcomes_of a applicants) where
   pub are_best : AreBest (market_of sites applicants lots) applicants outcomes
   are_best = record { allocation = a; best = best; given = given }
@@ -71,6 +74,24 @@ module _ (sites : List Site) (applicants : List Applicant) (lots : List Lot) (h 
       subst (AllZip IsListed applicants) (sym given)
       (each_zip IsListed (λ x. outcome_of x (a (number_of x))) applicants (λ x i.
       listed_if (a (number_of x)) (entrant x).list (listed x) (its_schools sites applicants lots h x i) (acceptable x i)))
+
+  -- a tenant without a school would block with its own
+  tenant_has : (x : Applicant) → In x applicants → (own place : Option Code) → x.own ≡ own → a (number_of x) ≡ place → is_some own ≡ true → is_some place ≡ true
+  tenant_has x i own (Some s) o p t = refl
+  tenant_has x i None None o p t = absurd (false≢true t)
+  tenant_has x i (Some own) None o p t =
+      let e : Candidate = entrant x in
+      let apart = subst (λ q. IfSome q (λ s. is_listed x.wanted s ≡ false)) o (All_in (IsListFit sites) applicants x h.lists_fit i).own_apart in
+      let on : preference_rank e.list own < length e.list = own_within e.list x.wanted own (its_schools sites applicants lots h x i ∙ ap (λ q. x.wanted ++ option_to_list q) o) apart in
+      let content = All_in (IsContent (market_of sites applicants lots) a) (map entrant applicants) e best.stable.unblocked (in_map entrant applicants x i) own in
+      let wished : prefers a e own ≡ true = ap (λ q. nat_lt (preference_rank e.list own) (assigned_rank e.list q)) p ∙ lt-ltb _ _ on in
+      let tenant : is_tenant e own ≡ true = ap (λ q. has q own) o ∙ code_self own in
+      absurd (blocked _ _ _ wished tenant content)
+
+  pub tenants_keep : AllZip KeepsTenant applicants outcomes
+  tenants_keep =
+      subst (AllZip KeepsTenant applicants) (sym given)
+      (each_zip KeepsTenant (λ x. outcome_of x (a (number_of x))) applicants (λ x i. tenant_has x i x.own (a (number_of x)) refl refl))
 
   fresh_guests : (s : Code) (xs : List Applicant) → has_fresh s (outcomes_of a xs) ≡ list_any (is_guest a s) (map entrant xs)
   fresh_guests s [] = refl
@@ -95,16 +116,10 @@ module _ (sites : List Site) (applicants : List Applicant) (lots : List Lot) (h 
       let counted : count_at s outcomes ≡ count_by (λ (e : Candidate). has (a e.child) s) (map entrant applicants) = ap (count_at s) given ∙ count_guests s applicants in
       omega (arith, counted, quota_is site i, best.stable.feasible s guests))
 
-same_outcomes : (a b : Allocation) (xs : List Applicant) → ((x : Applicant) → In x xs → a (number_of x) ≡ b (number_of x)) → outcomes_of a xs ≡ outcomes_of b xs
-same_outcomes a b [] h = refl
-same_outcomes a b (x ∷ xs) h = λ i. outcome_of x (h x (inl refl) i) ∷ same_outcomes a b xs (λ y l. h y (inr l)) i
-
-pub one_allotment_law : OneBest → OneAllotment
-one_allotment_law law sites applicants lots one other h first second =
-    let w = law (market_of sites applicants lots) (faultless sites applicants lots h) in
-    let entrant : Applicant → Candidate = candidate_of (site_of sites) (lot_at lots) in
-    let same : (b : Allocation) → IsBest (market_of sites applicants lots) b → (x : Applicant) → In x applicants → w.0 (number_of x) ≡ b (number_of x) =
-    λ b is x i. All_in (λ (e : Candidate). w.0 e.child ≡ b e.child) (map entrant applicants) (entrant x) (w.2 b is) (in_map entrant applicants x i) in
-    first.given
-    ∙ (same_outcomes first.allocation second.allocation applicants (λ x i. sym (same first.allocation first.best x i) ∙ same second.allocation second.best x i)
-    ∙ sym second.given)
+pub allotment_fits_law : AllotmentFits
+allotment_fits_law sites applicants lots outcomes h best = (
+  are_listed sites applicants lots h best.allocation outcomes best.best best.given,
+  tenants_keep sites applicants lots h best.allocation outcomes best.best best.given,
+  have_room sites applicants lots h best.allocation outcomes best.best best.given,
+  in_order sites applicants lots h best.allocation outcomes best.best best.given,
+)

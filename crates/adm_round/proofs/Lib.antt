@@ -4,3 +4,4 @@ pub mod Wants
 pub mod Lists
 pub mod Faultless
 pub mod Given
+pub mod OneBest

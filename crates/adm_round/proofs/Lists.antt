@@ -129,14 +129,22 @@ own_rank (c ∷ cs) own n =
     ap (λ b. cond (not b) (1 + position_or_len (λ x. bytes_eq x own) (cs ++ own ∷ [])) 0) apart.0 in
     omega (arith, first, own_rank cs own apart.1)
 
+rank_at_end : (ws : List Wish) (wanted : List Code) (own : Code) → map school_of_wish ws ≡ wanted ++ own ∷ [] → is_listed wanted own ≡ false → preference_rank ws own + 1 ≡ length ws
+rank_at_end ws wanted own is n =
+    let rank : preference_rank ws own ≡ position_or_len (λ c. bytes_eq c own) (wanted ++ own ∷ []) =
+    rank_schools ws own ∙ ap (position_or_len (λ c. bytes_eq c own)) is in
+    let all : length ws ≡ length (wanted ++ own ∷ []) = length_schools ws ∙ ap length is in
+    omega (arith, rank, all, own_rank wanted own n)
+
 -- the own school is the last of the list
 pub own_last : (ws : List Wish) (wanted : List Code) (own : Option Code) → map school_of_wish ws ≡ wanted ++ option_to_list own → IfSome own (λ o. is_listed wanted o ≡ false) → is_not_last ws own ≡ false
 own_last ws wanted None is n = refl
 own_last ws wanted (Some own) is n =
-    let rank : preference_rank ws own ≡ position_or_len (λ c. bytes_eq c own) (wanted ++ own ∷ []) =
-    rank_schools ws own ∙ ap (position_or_len (λ c. bytes_eq c own)) is in
-    let all : length ws ≡ length (wanted ++ own ∷ []) = length_schools ws ∙ ap length is in
-    not_from_true (preference_rank ws own + 1 == length ws) (eq-eqb (preference_rank ws own + 1) (length ws) (omega (arith, rank, all, own_rank wanted own n)))
+    not_from_true (preference_rank ws own + 1 == length ws) (eq-eqb (preference_rank ws own + 1) (length ws) (rank_at_end ws wanted own is n))
+
+-- so it is on the list
+pub own_within : (ws : List Wish) (wanted : List Code) (own : Code) → map school_of_wish ws ≡ wanted ++ own ∷ [] → is_listed wanted own ≡ false → preference_rank ws own < length ws
+own_within ws wanted own is n = let end = rank_at_end ws wanted own is n in omega (arith, end)
 
 passes_before : (p : Code → Bool) (cs : List Code) → position_or_len p cs < length cs → list_any p cs ≡ true
 passes_before p [] l = absurd (omega arith)

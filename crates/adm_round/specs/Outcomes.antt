@@ -1,7 +1,7 @@
 -- What a round comes to: for each applicant a school or none (School Admissions Code 2021, section 2: an offer for each
 -- child; what is fresh is this profile's).
-use Rattle.std.specs.Prelude.{◌≡◌, ℕ, ◌≤◌, Bool, true, false, not, ◌&&◌, List, map, Option, None, Some, is_some, IfSome, count_by}
-use Rattle.std.specs.List.{list_any}
+use Rattle.std.specs.Prelude.{◌≡◌, ℕ, ◌≤◌, Bool, true, false, not, ◌&&◌, List, map, Option, None, Some, is_some, IfSome, All, count_by}
+use Rattle.std.specs.List.{list_any, AllZip}
 use Rattle.adm_types.specs.declared.draws.Lot.{Lot}
 use Rattle.adm_types.specs.declared.draws.Outcome.{Outcome}
 use Rattle.adm_types.specs.Limits.{is_listed}
@@ -35,6 +35,10 @@ pub record AreBest (market : Market) (applicants : List Applicant) (outcomes : L
 abbrev pub IsListed : Applicant → Outcome → Type 0
 IsListed applicant outcome = IfSome outcome.school (λ school. is_listed (listed applicant) school ≡ true)
 
+-- an applicant that is a tenant has a school: its own, or one that it wants more
+abbrev pub KeepsTenant : Applicant → Outcome → Type 0
+KeepsTenant applicant outcome = is_some applicant.own ≡ true → is_some outcome.school ≡ true
+
 -- how many have the school
 abbrev pub count_at : Code → List Outcome → ℕ
 count_at school outcomes = count_by (λ outcome. has outcome.school school) outcomes
@@ -55,6 +59,14 @@ is_kept outcome = is_some outcome.school && not outcome.fresh
 abbrev pub OneAllotment : Type 0
 OneAllotment =
     (sites : List Site) (applicants : List Applicant) (lots : List Lot) (one other : List Outcome)
-    → IsPosed sites applicants lots
     → AreBest (market_of sites applicants lots) applicants one → AreBest (market_of sites applicants lots) applicants other
     → one ≡ other
+
+-- Besides, each applicant has a school of its list or none, and a tenant has one; there is room where some have a school
+-- afresh; and the outcomes are those of the applicants, in their order.
+abbrev pub AllotmentFits : Type 0
+AllotmentFits =
+    (sites : List Site) (applicants : List Applicant) (lots : List Lot) (outcomes : List Outcome)
+    → IsPosed sites applicants lots
+    → AreBest (market_of sites applicants lots) applicants outcomes
+    → AllZip IsListed applicants outcomes × AllZip KeepsTenant applicants outcomes × All (HasRoom outcomes) sites × (map (λ outcome. outcome.child) outcomes ≡ map number_of applicants)

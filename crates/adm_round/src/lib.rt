@@ -12,6 +12,6 @@ mod wanting;
 
 pub use allotting::allot;
 pub use applicants::{Applicant, Pair, Site};
-pub use laws::one_allotment;
+pub use laws::{allotment_fits, one_allotment};
 pub use lots::{drawn, wanted_pairs};
 pub use outcomes::{Totals, counts};

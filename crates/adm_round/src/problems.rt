@@ -93,14 +93,9 @@ fn entrant_of(
     ensures { IfOk result (λ entrant. entrant ≡ candidate_of (site_in sites.now directory.now) (lot_in directory.now) applicant.now) }
 {
     let child = applicant.child.as_ref();
+    let wanted = applicant.wanted.as_slice();
     let mut list = Vec::new(alloc);
-    add_wishes(
-        &mut list,
-        sites,
-        directory,
-        child,
-        applicant.wanted.as_slice(),
-    )?;
+    add_wishes(&mut list, sites, directory, child, wanted)?;
     add_own(&mut list, sites, directory, child, applicant.own)?;
     Ok(Entrant {
         child: child.no,

@@ -18,7 +18,7 @@ returns c =
     let child : c.as_ref-child.result.now ≡ a.child = c.as_ref-child.ensures in
     let made = c.in_ok-add_own.ensures
     ∙ ap (λ (x : List Wish). x ++ wishes_for site lot c.as_ref-child.result.now own)
-    (c.in_ok-add_wishes.ensures ∙ (λ i. c.new-list.ensures.items i ++ wishes_for site lot c.as_ref-child.result.now (c.as_slice.ensures i)))
+    (c.in_ok-add_wishes.ensures ∙ (λ i. c.new-list.ensures.items i ++ wishes_for site lot c.as_ref-child.result.now (c.as_slice-wanted.ensures i)))
     ∙ sym (wishes_append site lot c.as_ref-child.result.now a.wanted own)
     ∙ ap (λ (x : Child). wishes_for site lot x (a.wanted ++ own)) child in
     λ i. record { child = (child i).no; list = made i; tenant = a.own }

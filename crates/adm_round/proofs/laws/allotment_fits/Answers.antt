@@ -1,0 +1,5 @@
+use Rattle.adm_round.proofs.Given.{allotment_fits_law}
+use Rattle.adm_round.proofs.laws.allotment_fits.Goals as goal
+
+pub returns : goal.returns
+returns c = allotment_fits_law
