@@ -1,6 +1,6 @@
--- What each command puts, where its tests pass, fits.
+-- What the commands of schools, children, plans and applications put fits.
 use Rattle.std.proofs.Common.{◌≡◌, ◌∙◌, ◌+◌, ◌≤◌, ap, sym, subst, refl, cond, Bool, true, false, arith, ℕ, List, [], ◌∷◌, Some, None}
-use Rattle.std.specs.Prelude.{IsTrue, nat_le, nat_eq, is_some, not, ◌&&◌, Option, if◌then◌else◌}
+use Rattle.std.specs.Prelude.{IsTrue, nat_le, nat_eq, is_some, not, ◌&&◌, if◌then◌else◌}
 use Rattle.std.specs.Cmp.{nat_cmp_total}
 use Rattle.std.specs.Cmp.Lexicographic.{nat_list_cmp_total, pointwise, bytes_decides}
 use Rattle.std.specs.List.{AllByRecursion}
@@ -14,18 +14,14 @@ use Rattle.adm_types.specs.declared.rows.Application.{Application}
 use Rattle.adm_types.specs.declared.rows.PlaceRow.{PlaceRow}
 use Rattle.adm_types.specs.declared.draws.Draw.{Draw}
 use Rattle.adm_types.specs.declared.rows.PlaceState.TheVariants.{Plan}
-use Rattle.adm_types.specs.declared.commands.Refusal.{Refusal}
-use Rattle.adm_types.specs.declared.commands.Command.{Command}
-use Rattle.adm_types.specs.declared.commands.Command.TheVariants.{AddSchool, AddChild, Amend, NamePlan, Apply}
 use Rattle.adm_register.specs.State.{State, is_plan}
 use Rattle.adm_register.specs.declared.difference.Difference.{Difference}
 use Rattle.adm_register.specs.Change.{no_change, put_child, after}
 use Rattle.adm_register.specs.Plans.{has_plan, is_plan_row}
-use Rattle.adm_register.specs.KeptByTypes.{KeptBySchool, KeptByChild, KeptByTypes}
+use Rattle.adm_register.specs.KeptByTypes.{KeptBySchool, KeptByChild}
 use Rattle.adm_register.specs.WellFormed.{AllRows, WellFormed, ChildFits, has_round, held_at, is_held, lists_school}
 use Rattle.adm_register.specs.Draws.{DrawFits, are_in_order, no_draws, with_draws}
 use Rattle.adm_register.specs.Tests.{first_failing}
-use Rattle.adm_register.specs.Outcome.{tests_of, change_of, refused, without_row}
 use Rattle.adm_register.specs.AddSchool as add_school
 use Rattle.adm_register.specs.AddChild as add_child
 use Rattle.adm_register.specs.Amend as amend
@@ -39,22 +35,22 @@ use Rattle.adm_register.proofs.Tidy.{tidy_none, tidy_put, tidy_cut}
 use Rattle.adm_register.proofs.Fits.{BasePut, PlacesPut, DrawsPut, Fit}
 
 -- a change of places and of what ends asks nothing of the schools, the children and the applications
-base_stays : (old : State) (places : List PlaceRow) (ended : List ℕ) → BasePut old (record no_change { places = places; ended = ended })
+pub base_stays : (old : State) (places : List PlaceRow) (ended : List ℕ) → BasePut old (record no_change { places = places; ended = ended })
 base_stays old places ended = record { schools = tt; new_schools = tt; few_schools = tt; children = tt; few_children = tt; applications = tt }
 
 -- nor one of children of the places
-places_stay : (old : State) (children : List Child) → WellFormed old → PlacesPut old (record no_change { children = children })
+pub places_stay : (old : State) (children : List Child) → WellFormed old → PlacesPut old (record no_change { children = children })
 places_stay old children well = record { places = tt; kept = λ number row there still. refl; room = well.places.room }
 
 -- a change without draws asks nothing of them
-abbrev draws_stay : (old : State) (change : Difference) → change.draws ≡ [] → DrawsPut old change
+abbrev pub draws_stay : (old : State) (change : Difference) → change.draws ≡ [] → DrawsPut old change
 draws_stay old change none = record {
   each = subst (AllByRecursion (λ (d : Draw). DrawFits (after old change).schools (after old change).children d.number d)) (sym none) tt;
   in_order = ap (are_in_order old.season (with_draws no_draws (values old.draws))) none;
 }
 
 -- no place is held at a school that is not there
-none_there : (old : State) (code : List ℕ) → WellFormed old → not (contains_key old.schools code) ≡ true → AllRows (λ number row. is_held (Some row) code ≡ false) old.places
+pub none_there : (old : State) (code : List ℕ) → WellFormed old → not (contains_key old.schools code) ≡ true → AllRows (λ number row. is_held (Some row) code ≡ false) old.places
 none_there old code well gone number row there =
     elim (pointwise nat_eq row.place.school code) as (λ b. pointwise nat_eq row.place.school code ≡ b → (b && not (is_plan row.place.state)) ≡ false) [
       | true ↦ λ is. let here = subst (λ c. contains_key old.schools c ≡ true) ((bytes_decides row.place.school code).0 is) (well.places.each number row there).school in let none = not_true _ gone in cc (here, none)
@@ -62,7 +58,7 @@ none_there old code well gone number row there =
     ] refl
 
 -- there is room at the schools where one more is put that was not there
-room_with : (old : State) (school : School) → WellFormed old → not (contains_key old.schools school.code) ≡ true → AllRows (λ code (s : School). held_at old.places code ≤ s.pan) (insert old.schools school.code school)
+pub room_with : (old : State) (school : School) → WellFormed old → not (contains_key old.schools school.code) ≡ true → AllRows (λ code (s : School). held_at old.places code ≤ s.pan) (insert old.schools school.code school)
 room_with old school well new =
     let none = none_held school.code old.places (none_there old school.code well new) in
     AllRows-put_all nat_list_cmp_total code_cmp-IsAntisymmetric (λ (s : School). s.code) (λ code (s : School). held_at old.places code ≤ s.pan) old.schools (school ∷ [])
@@ -72,7 +68,7 @@ and_false : (b : Bool) → (b && false) ≡ false
 and_false true = refl
 and_false false = refl
 
-add_school-fit : (old : State) (school : School) → KeptBySchool school → WellFormed old → first_failing (add_school.tests old school) ≡ None → Fit old (add_school.change_of school)
+pub add_school-fit : (old : State) (school : School) → KeptBySchool school → WellFormed old → first_failing (add_school.tests old school) ≡ None → Fit old (add_school.change_of school)
 unfolding add_school.tests add_school.change_of
 add_school-fit old school kept well passes =
     let pass = all_pass (add_school.tests old school) passes in
@@ -92,7 +88,7 @@ add_school-fit old school kept well passes =
     }
 
 -- a child that fits is put
-put_child-fit : (old : State) (child : Child) → WellFormed old → ChildFits old.schools child.no child → len (insert old.children child.no child) ≤ most_children → Fit old (put_child child)
+pub put_child-fit : (old : State) (child : Child) → WellFormed old → ChildFits old.schools child.no child → len (insert old.children child.no child) ≤ most_children → Fit old (put_child child)
 put_child-fit old child well fits few = record {
   base = record { schools = tt; new_schools = tt; few_schools = tt; children = (fits, tt); few_children = few; applications = tt };
   places = places_stay old (child ∷ []) well;
@@ -101,21 +97,21 @@ put_child-fit old child well fits few = record {
   tidy = record { schools = tidy_none _ _; children = tidy_put _ _ child; applications = tidy_none _ _; places = tidy_none _ _; left = tidy_none _ _; draws = tidy_none _ _ };
 }
 
-add_child-fit : (old : State) (child : Child) → KeptByChild child → WellFormed old → first_failing (add_child.tests old child) ≡ None → Fit old (put_child child)
+pub add_child-fit : (old : State) (child : Child) → KeptByChild child → WellFormed old → first_failing (add_child.tests old child) ≡ None → Fit old (put_child child)
 unfolding add_child.tests
 add_child-fit old child kept well passes =
     let pass = all_pass (add_child.tests old child) passes in
     put_child-fit old child well (record { own_number = refl; number_form = kept.number_form; text = kept.text; name = pass.1.0; in_range = pass.1.1.0; flags = kept.flags; siblings = pass.1.1.1.0 })
     (len-insert_room nat_cmp_total old.children child.no child most_children (ltb-true _ _ pass.1.1.1.1.0))
 
-amend-fit : (old : State) (child : Child) → KeptByChild child → WellFormed old → first_failing (amend.tests old child) ≡ None → Fit old (put_child child)
+pub amend-fit : (old : State) (child : Child) → KeptByChild child → WellFormed old → first_failing (amend.tests old child) ≡ None → Fit old (put_child child)
 unfolding amend.tests
 amend-fit old child kept well passes =
     let pass = all_pass (amend.tests old child) passes in
     let same_len = len-insert nat_cmp_total old.children child.no child ∙ ap (λ b. cond b (len old.children) (len old.children + 1)) pass.0 in
     put_child-fit old child well (record { own_number = refl; number_form = kept.number_form; text = kept.text; name = pass.1.0; in_range = pass.1.1.0; flags = kept.flags; siblings = pass.1.1.1.0 }) (rw same_len well.base.few_children)
 
-name_plan-fit : (old : State) (child : ℕ) (school : List ℕ) → WellFormed old → first_failing (name_plan.tests old child school) ≡ None → Fit old (name_plan.change_of child school)
+pub name_plan-fit : (old : State) (child : ℕ) (school : List ℕ) → WellFormed old → first_failing (name_plan.tests old child school) ≡ None → Fit old (name_plan.change_of child school)
 unfolding name_plan.tests name_plan.change_of
 name_plan-fit old child school well passes =
     let pass = all_pass (name_plan.tests old child school) passes in
@@ -152,7 +148,7 @@ name_plan-fit old child school well passes =
     }
 
 -- a child without a plan and without an application has no place
-no_place : (old : State) (child : ℕ) → WellFormed old → has_plan old.places child ≡ false → contains_key old.applications child ≡ false → contains_key old.places child ≡ false
+pub no_place : (old : State) (child : ℕ) → WellFormed old → has_plan old.places child ≡ false → contains_key old.applications child ≡ false → contains_key old.places child ≡ false
 no_place old child well unplanned unlisted =
     elim (get old.places child) as (λ o. get old.places child ≡ o → is_some o ≡ false) [
       | Some row ↦ λ there.
@@ -165,7 +161,7 @@ no_place old child well unplanned unlisted =
       | None ↦ λ there. refl
     ] refl
 
-apply-fit : (old : State) (application : Application) → IsTrue (nat_le first_day application.day) → WellFormed old → first_failing (apply.tests old application) ≡ None → Fit old (apply.change_of application)
+pub apply-fit : (old : State) (application : Application) → IsTrue (nat_le first_day application.day) → WellFormed old → first_failing (apply.tests old application) ≡ None → Fit old (apply.change_of application)
 unfolding apply.tests apply.change_of
 apply-fit old application since well passes =
     let pass = all_pass (apply.tests old application) passes in
@@ -196,18 +192,3 @@ apply-fit old application since well passes =
       draws = draws_stay old (apply.change_of application) refl;
       tidy = record { schools = tidy_none _ _; children = tidy_none _ _; applications = tidy_put _ _ application; places = tidy_none _ _; left = tidy_none _ _; draws = tidy_none _ _ };
     }
-
-tests-fit : (old : State) (command : Command) → KeptByTypes command → WellFormed old → first_failing (tests_of old command) ≡ None → Fit old (change_of old command)
-tests-fit old (AddSchool school) kept well passes = add_school-fit old school kept well passes
-tests-fit old (AddChild child) kept well passes = add_child-fit old child kept well passes
-tests-fit old (Amend child) kept well passes = amend-fit old child kept well passes
-tests-fit old (NamePlan child school) kept well passes = name_plan-fit old child school well passes
-tests-fit old (Apply application) kept well passes = apply-fit old application kept well passes
-
--- where no row is refused no test fails
-pub no_row : (o : Option Refusal) → without_row o ≡ None → o ≡ None
-no_row None none = refl
-no_row (Some refusal) none = cc
-
-pub command-fit : (old : State) (command : Command) → KeptByTypes command → WellFormed old → refused old command ≡ None → Fit old (change_of old command)
-command-fit old command kept well accepted = tests-fit old command kept well (no_row (first_failing (tests_of old command)) accepted)

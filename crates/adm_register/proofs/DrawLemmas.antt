@@ -105,7 +105,7 @@ append_assoc : (xs : List Draw) (draw : Draw) (ys : List Draw) → (xs ++ draw �
 append_assoc [] draw ys = refl
 append_assoc (x ∷ xs) draw ys = ap (λ more. x ∷ more) (append_assoc xs draw ys)
 
-own-put : (rows : FinMap nat_cmp Draw) (draw : Draw) → at_own_numbers rows → at_own_numbers (insert rows draw.number draw)
+pub own-put : (rows : FinMap nat_cmp Draw) (draw : Draw) → at_own_numbers rows → at_own_numbers (insert rows draw.number draw)
 own-put rows draw own number other there =
     elim (eq_by_cmp nat_cmp number draw.number) as (λ b. eq_by_cmp nat_cmp number draw.number ≡ b → cond b (Some draw) (get rows number) ≡ Some other → other.number ≡ number) [
       | true ↦ λ tie here. ap (λ (d : Draw). d.number) (sym (same_Some draw other here)) ∙ sym (same_key nat_cmp-IsAntisymmetric number draw.number tie)

@@ -1,9 +1,11 @@
 -- What is read off the rows of pieces, piece by piece.
-use Rattle.std.proofs.Common.{◌≡◌, ◌∙◌, ap, sym, refl, ℕ, ◌+◌, ◌<◌, ◌≤◌, Bool, true, false, cond, length, take, drop, get_or, arith, List, [], ◌∷◌, ◌++◌, append-nil, append_assoc}
-use Rattle.std.specs.Prelude.{◌&&◌, count_by}
+use Rattle.std.proofs.Common.{◌≡◌, ◌∙◌, ap, sym, refl, ℕ, ◌+◌, ◌<◌, ◌≤◌, Bool, true, false, cond, length, take, drop, get_or, arith, List, [], ◌∷◌, ◌++◌, append-nil, append_assoc, Some}
+use Rattle.std.specs.Prelude.{◌&&◌, count_by, find}
+use Rattle.std.specs.Option.{option_or}
 use Rattle.std.specs.List.{list_all}
 use Rattle.std.specs.Map.{values_of}
 use Rattle.std.proofs.lemmas.List.{take_more, take-append-drop, map-append, length-append, length-map}
+use Rattle.std.proofs.lemmas.List.Folds.{find-append}
 use Rattle.std.proofs.lemmas.List.Sums.{count_by-le-length, sum_by-append}
 use Rattle.adm_table.specs.declared.pieces.Piece.{Piece}
 use Rattle.adm_table.specs.Pieces.{rows_of_pieces}
@@ -50,3 +52,16 @@ module _ {K V : Type 0} where
   count-more p place pieces piece within at =
       ap (count_by p) (values-more place pieces piece within at)
       ∙ sum_by-append (λ v. cond (p v) 1 0) (values_of (rows_of_pieces (take place pieces))) (values_of piece.rows.value.entries)
+
+  -- the first row before a place that passes, and of one more
+  pub find-more : (p : V → Bool) (place : ℕ) (pieces : List (Piece K V)) (piece : Piece K V) → place < length pieces → piece ≡ get_or pieces place piece
+      → find p (values_of (rows_of_pieces (take (place + 1) pieces))) ≡ option_or (find p (values_of (rows_of_pieces (take place pieces)))) (find p (values_of piece.rows.value.entries))
+  find-more p place pieces piece within at =
+      ap (find p) (values-more place pieces piece within at) ∙ find-append p (values_of (rows_of_pieces (take place pieces))) (values_of piece.rows.value.entries)
+
+  -- one that is found before a place is the first of all
+  pub find-first : (p : V → Bool) (place : ℕ) (pieces : List (Piece K V)) (row : V) → find p (values_of (rows_of_pieces (take place pieces))) ≡ Some row → find p (values_of (rows_of_pieces pieces)) ≡ Some row
+  find-first p place pieces row found =
+      let whole : values_of (rows_of_pieces pieces) ≡ values_of (rows_of_pieces (take place pieces)) ++ values_of (rows_of_pieces (drop place pieces)) =
+      ap values_of (ap rows_of_pieces (sym (take-append-drop place pieces)) ∙ rows-both (take place pieces) (drop place pieces)) ∙ map-append (λ e. e.1) (rows_of_pieces (take place pieces)) (rows_of_pieces (drop place pieces)) in
+      ap (find p) whole ∙ find-append p (values_of (rows_of_pieces (take place pieces))) (values_of (rows_of_pieces (drop place pieces))) ∙ ap (λ o. option_or o (find p (values_of (rows_of_pieces (drop place pieces))))) found

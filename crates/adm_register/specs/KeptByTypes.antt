@@ -1,12 +1,13 @@
 -- What the types of a command's values keep.
-use Rattle.std.specs.Prelude.{⊤, IsTrue, nat_le, nat_lt}
+use Rattle.std.specs.Prelude.{⊤, ℕ, List, IsTrue, nat_le, nat_lt}
+use Rattle.std.specs.List.{list_all}
 use Rattle.std.specs.Str.{is_utf8}
 use Rattle.adm_types.specs.Code.{is_code}
-use Rattle.adm_types.specs.Limits.{is_child_number, first_day}
+use Rattle.adm_types.specs.Limits.{is_from, is_child_number, first_day, last_day}
 use Rattle.adm_types.specs.declared.rows.School.{School}
 use Rattle.adm_types.specs.declared.rows.Child.{Child}
 use Rattle.adm_types.specs.declared.commands.Command.{Command}
-use Rattle.adm_types.specs.declared.commands.Command.TheVariants.{AddSchool, AddChild, Amend, NamePlan, Apply}
+use Rattle.adm_types.specs.declared.commands.Command.TheVariants.{AddSchool, AddChild, Amend, NamePlan, Apply, Round, Accept, Decline, Remind, Lapse}
 
 -- a school's code is one, and its name is a text
 pub record KeptBySchool (school : School) : Type 0 where
@@ -19,9 +20,19 @@ pub record KeptByChild (child : Child) : Type 0 where
   pub text : IsTrue (is_utf8 child.name)
   pub flags : IsTrue (nat_lt child.flags 65536)
 
+-- a day is one, and lots are less than 2^32
+pub record KeptByRound (day : ℕ) (numbers : List ℕ) : Type 0 where
+  pub is_day : IsTrue (is_from first_day last_day day)
+  pub lots : IsTrue (list_all (λ number. nat_lt number 4294967296) numbers)
+
 abbrev pub KeptByTypes : Command → Type 0
 KeptByTypes (AddSchool school) = KeptBySchool school
 KeptByTypes (AddChild child) = KeptByChild child
 KeptByTypes (Amend child) = KeptByChild child
 KeptByTypes (NamePlan child school) = ⊤
 KeptByTypes (Apply application) = IsTrue (nat_le first_day application.day)
+KeptByTypes (Round draw day lots) = KeptByRound day lots
+KeptByTypes (Accept child school) = ⊤
+KeptByTypes (Decline child school) = ⊤
+KeptByTypes (Remind child school day) = IsTrue (nat_le day last_day)
+KeptByTypes (Lapse child school day) = ⊤

@@ -10,7 +10,15 @@ pub mod AddChild
 pub mod Amend
 pub mod NamePlan
 pub mod Apply
+pub mod Wanted
+pub mod Offered
+pub mod Accept
+pub mod Decline
+pub mod Remind
+pub mod Lapse
+pub mod Round
 pub mod Extends
 pub mod Outcome
+pub mod History
 pub mod Rows
 pub mod Difference

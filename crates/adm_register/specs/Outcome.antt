@@ -1,7 +1,7 @@
 -- What a command leaves and answers.
 use Rattle.std.specs.Prelude.{◌≡◌, ⊤, ℕ, Bool, List, Option, Some, None, Result, Ok, Err}
 use Rattle.adm_types.specs.declared.commands.Command.{Command}
-use Rattle.adm_types.specs.declared.commands.Command.TheVariants.{AddSchool, AddChild, Amend, NamePlan, Apply}
+use Rattle.adm_types.specs.declared.commands.Command.TheVariants.{AddSchool, AddChild, Amend, NamePlan, Apply, Round, Accept, Decline, Remind, Lapse}
 use Rattle.adm_types.specs.declared.commands.Refusal.{Refusal}
 use Rattle.adm_types.specs.declared.commands.Reply.{Reply}
 use Rattle.adm_types.specs.declared.commands.Reply.TheVariants.{Done}
@@ -15,6 +15,12 @@ use Rattle.adm_register.specs.AddChild as add_child
 use Rattle.adm_register.specs.Amend as amend
 use Rattle.adm_register.specs.NamePlan as name_plan
 use Rattle.adm_register.specs.Apply as apply
+use Rattle.adm_register.specs.Round as round
+use Rattle.adm_register.specs.Accept as accept
+use Rattle.adm_register.specs.Decline as decline
+use Rattle.adm_register.specs.Remind as remind
+use Rattle.adm_register.specs.Lapse as lapse
+use Rattle.adm_types.specs.declared.draws.Outcome.{Outcome as OutcomeRow}
 use Rattle.adm_register.specs.declared.not_done.NotDone.{NotDone}
 use Rattle.adm_register.specs.declared.registers.Proposal.{Proposal}
 use Rattle.adm_register.specs.declared.not_done.NotDone.TheVariants.{Refused, Memory}
@@ -26,6 +32,11 @@ tests_of old (AddChild child) = add_child.tests old child
 tests_of old (Amend child) = amend.tests old child
 tests_of old (NamePlan child school) = name_plan.tests old child school
 tests_of old (Apply application) = apply.tests old application
+tests_of old (Round draw day lots) = round.tests old draw day lots
+tests_of old (Accept child school) = accept.tests old child school
+tests_of old (Decline child school) = decline.tests old child school
+tests_of old (Remind child school day) = remind.tests old child school day
+tests_of old (Lapse child school day) = lapse.tests old child school day
 
 -- a refusal that names no row
 abbrev pub without_row : Option Refusal → Option (Refusal × ℕ)
@@ -36,21 +47,31 @@ without_row (Some refusal) = Some (refusal, 0)
 abbrev pub refused : State → Command → Option (Refusal × ℕ)
 refused old command = without_row (first_failing (tests_of old command))
 
--- what an accepted command changes
-abbrev pub change_of : State → Command → Difference
-change_of old (AddSchool school) = add_school.change_of school
-change_of old (AddChild child) = put_child child
-change_of old (Amend child) = put_child child
-change_of old (NamePlan child school) = name_plan.change_of child school
-change_of old (Apply application) = apply.change_of application
+-- just this is changed, and the reply is Done
+abbrev pub IsDone : Difference → Difference → Reply → Type 0
+IsDone only change reply = (change ≡ only) × (reply ≡ Done)
 
--- what it answers
-abbrev pub reply_of : State → Command → Reply
-reply_of old command = Done
+-- a round has outcomes, which are those of the child-optimal stable allocation of its problem: these are changed and counted
+abbrev pub IsHeld : State → ℕ → ℕ → List ℕ → Difference → Reply → Type 0
+IsHeld old draw day lots change reply =
+    (outcomes : List OutcomeRow) × round.AreOutcomes old lots outcomes × (change ≡ round.change_of old draw day lots outcomes) × (reply ≡ round.reply_of old outcomes)
+
+-- what an accepted command changes, and what it answers
+abbrev pub Changes : State → Command → Difference → Reply → Type 0
+Changes old (AddSchool school) = IsDone (add_school.change_of school)
+Changes old (AddChild child) = IsDone (put_child child)
+Changes old (Amend child) = IsDone (put_child child)
+Changes old (NamePlan child school) = IsDone (name_plan.change_of child school)
+Changes old (Apply application) = IsDone (apply.change_of application)
+Changes old (Round draw day lots) = IsHeld old draw day lots
+Changes old (Accept child school) = IsDone (accept.change_of child school)
+Changes old (Decline child school) = IsDone (decline.change_of child school)
+Changes old (Remind child school day) = IsDone (remind.change_of old child school day)
+Changes old (Lapse child school day) = IsDone (decline.change_of child school)
 
 -- what an accepted command answers, and leaves
 abbrev pub Effect : State → Command → Reply → State → Type 0
-Effect old command reply new = (reply ≡ reply_of old command) × (new ≡ after old (change_of old command))
+Effect old command reply new = (change : Difference) × Changes old command change reply × (new ≡ after old change)
 
 -- from old, the command is answered so, and leaves new: where no test fails by its effect, and else by the refusal of the first that fails
 abbrev pub Step : State → Command → Result Reply (Refusal × ℕ) → State → Type 0

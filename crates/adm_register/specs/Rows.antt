@@ -1,11 +1,12 @@
 -- The register as lists of rows, and the numbers that are read off them.
-use Rattle.std.specs.Prelude.{◌≡◌, ℕ, ◌-◌, List, map, Option, count_by, nat_eq}
+use Rattle.std.specs.Prelude.{◌≡◌, ℕ, ◌-◌, List, map, find, Option, None, count_by, nat_eq, if◌then◌else◌}
 use Rattle.std.specs.List.{flat_map}
 use Rattle.std.specs.Option.{option_map}
 use Rattle.std.specs.Cmp.Lexicographic.{pointwise}
 use Rattle.std.specs.List.Sorted.{IsPermutation}
 use Rattle.std.specs.FinMap.{get, values}
 use Rattle.adm_types.specs.declared.rows.Place.{Place}
+use Rattle.adm_types.specs.declared.draws.Draw.{Draw}
 use Rattle.adm_register.specs.declared.register_rows.Rows.{Rows}
 use Rattle.adm_draws.specs.Draws.{row_of, offers_of, lots_of}
 use Rattle.adm_draws.specs.Draws as drawn
@@ -46,3 +47,7 @@ places_at s code = count_by (λ row. pointwise nat_eq row.place.school code) (va
 -- the school's admission number less all places there, not below 0
 abbrev pub vacancies : State → List ℕ → Option ℕ
 vacancies s code = option_map (λ school. school.pan - places_at s code) (get s.schools code)
+
+-- the draw of the round of a number, from 1: none where there was no such round
+abbrev pub round_of : State → ℕ → Option Draw
+round_of s number = if nat_eq number 0 then None else find (λ draw. nat_eq draw.round number) (values s.draws)

@@ -6,13 +6,12 @@ ghost use Rattle.std.specs.List.Sorted.{IsStrictlySortedBy};
 ghost use Rattle.std.specs.Map.{keys_of};
 ghost use Rattle.adm_types.specs.Limits.{most_schools, most_children};
 ghost use Rattle.adm_types.specs.Seasons.{lists_end};
-ghost use Rattle.adm_register.specs.WellFormed.{WellFormed};
-ghost use Rattle.adm_register.specs.WellFormed.{fits_school_with, is_school, fits_child, is_child, fits_application, is_application, fits_place, is_place, fits_left, is_left, is_held, is_state, is_entitled, has_round};
+ghost use Rattle.adm_register.specs.WellFormed.{WellFormed, fits_school_with, is_school, fits_child, is_child, fits_application, is_application, fits_place, is_place, fits_left, is_left, is_state, is_entitled, has_round};
 ghost use Rattle.adm_register.specs.Draws.{are_in_order, no_draws, fits_known_draw, is_known_draw, is_choice, is_known_outcome, is_known_lot};
 ghost use Rattle.adm_draws.specs.Draws.{is_draw};
 
 use crate::draws_so_far::are_in_order;
-use crate::tables::{Tables, is_held_at, is_plan};
+use crate::tables::{Tables, is_plan};
 use adm_draws::is_draw;
 use adm_table::{Piece, Shared, Table};
 use adm_types::limits::{
@@ -241,17 +240,9 @@ impl Checked<LeftPair> for LeftPair {
 fn is_left(tables: &Tables, pair: &LeftPair) -> bool
     ensures { result ≡ is_left tables.now.schools tables.now.children tables.now.places pair.now }
 {
-    tables.has_child(pair.child) && tables.has_school(pair.school) && !is_held(tables, pair)
-}
-
-/// Whether the child has a place at the school that is not that of a plan.
-fn is_held(tables: &Tables, pair: &LeftPair) -> bool
-    ensures { result ≡ is_held (get tables.now.places pair.now.child) pair.now.school }
-{
-    match tables.place_row(pair.child) {
-        None => false,
-        Some(row) => is_held_at(row, pair.school),
-    }
+    tables.has_child(pair.child)
+        && tables.has_school(pair.school)
+        && !tables.is_held(pair.child, pair.school)
 }
 
 impl Checked<u32> for Draw {
@@ -262,7 +253,6 @@ impl Checked<u32> for Draw {
     }
 }
 
-/// Whether each school and child that the draw names is there.
 fn is_known_draw(tables: &Tables, draw: &Draw) -> bool
     ensures { result ≡ is_known_draw tables.now.schools tables.now.children draw.now }
 {

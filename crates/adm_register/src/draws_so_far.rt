@@ -1,11 +1,17 @@
 // How far the draws of a register have come, and which draw may come next.
-ghost use Rattle.std.specs.Prelude.{◌≡◌, ◌<◌, ◌≤◌, ◌+◌, length};
+ghost use Rattle.std.specs.Prelude.{◌≡◌, ◌<◌, ◌≤◌, ◌+◌, length, true, IfOk};
+ghost use Rattle.std.specs.FinMap as rows;
 ghost use Rattle.adm_types.specs.Limits.{most_draws, most_lots};
-ghost use Rattle.adm_register.specs.Draws.{no_draws, is_round, with_draw, is_due, is_numbered, is_next, are_in_order, IsWithin};
+ghost use Rattle.adm_types.specs.Seasons.{SeasonFacts};
+ghost use Rattle.adm_register.specs.Draws.{no_draws, is_round, with_draw, with_draws, is_due, is_numbered, is_next, are_in_order, IsWithin};
+ghost use Rattle.adm_register.specs.Round.{draws_so_far};
+ghost use Rattle.adm_register.specs.WellFormed.{WellFormed};
 
+use crate::tables::Tables;
 use adm_table::Shared;
 use adm_types::limits::{MOST_DRAWS, MOST_LOTS};
 use adm_types::{Day, Draw, Season};
+use std::alloc::{AllocError, Global};
 
 /// How many draws there were, how many of them were rounds', how many lots they have together, and
 /// the day of the last one, if there was one.
@@ -106,4 +112,37 @@ pub(crate) fn are_in_order(season: &Season, draws: &[Shared<Draw>]) -> bool
         rest = others;
     }
     true
+}
+
+/// How far draws have come that came one after another.
+fn with_draws(draws: &[Shared<Draw>]) -> DrawsSoFar
+    requires { (season : SeasonFacts) × (are_in_order season no_draws draws.now ≡ true) }
+    ensures value { result ≡ with_draws no_draws draws.now }
+    ensures within { IsWithin result }
+{
+    let mut before = DrawsSoFar::none();
+    let mut rest = draws;
+    while let Some((draw, others)) = rest.split_first() {
+        before = before.with(draw.as_ref());
+        rest = others;
+    }
+    before
+}
+
+/// The draws, by their numbers.
+fn all_draws(old: &Tables, alloc: Global) -> Result<Vec<Shared<Draw>>, AllocError>
+    ensures { IfOk result (λ found. found.items ≡ rows.values old.now.draws) }
+{
+    old.draws.to_vec(alloc)
+}
+
+/// How far the draws of a register have come. It takes memory for a pointer to each draw, and time
+/// for each.
+pub(crate) fn draws_so_far(old: &Tables, alloc: Global) -> Result<DrawsSoFar, AllocError>
+    requires { WellFormed old.now }
+    ensures value { IfOk result (λ made. made ≡ draws_so_far old.now) }
+    ensures within { IfOk result IsWithin }
+{
+    let draws = all_draws(old, alloc)?;
+    Ok(with_draws(&draws))
 }

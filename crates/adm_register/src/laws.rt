@@ -1,5 +1,8 @@
 // Laws of the steps of a register.
+ghost use Rattle.adm_register.specs.History.{DrawsKept, RoundHeld};
 ghost use Rattle.adm_register.specs.Outcome.{OneStep, RepeatSafe};
+
+use adm_round::one_allotment;
 
 /// A command that follows itself at once leaves a register as it was.
 pub fn repeat_safe()
@@ -9,4 +12,17 @@ pub fn repeat_safe()
 /// An accepted command leaves one register.
 pub fn one_step()
     ensures { OneStep }
+{
+    one_allotment();
+}
+
+/// No accepted command changes a draw that was made.
+pub fn draws_kept()
+    ensures { DrawsKept }
+{}
+
+/// A register holds the draw of the round that it comes from, whose outcomes are those of the
+/// child-optimal stable allocation of the round's problem on the register in which it began.
+pub fn round_held()
+    ensures { RoundHeld }
 {}

@@ -1,6 +1,7 @@
 // The register of a season: its rows, and the commands that change them.
 #![tactic(auto)]
 
+mod accept;
 mod add_child;
 mod add_school;
 mod amend;
@@ -9,21 +10,28 @@ mod changed;
 mod checks;
 mod child_values;
 mod commands;
+mod decline;
 mod difference;
 mod draws_so_far;
+mod entrants;
 mod failing;
+mod lapse;
 mod laws;
 mod name_plan;
 mod not_done;
+mod offered;
 mod register_rows;
 mod registers;
+mod remind;
+mod round;
+mod rounds_held;
 mod rows_fault;
 mod rows_in;
 mod tables;
 
 pub use difference::Difference;
 pub use draws_so_far::DrawsSoFar;
-pub use laws::{one_step, repeat_safe};
+pub use laws::{draws_kept, one_step, repeat_safe, round_held};
 pub use not_done::NotDone;
 pub use register_rows::Rows;
 pub use registers::{Proposal, Register};

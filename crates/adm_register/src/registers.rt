@@ -6,13 +6,17 @@ ghost use Rattle.adm_register.specs.WellFormed.{WellFormed};
 ghost use Rattle.adm_register.specs.Extends.{Extends, KeepsSchools};
 ghost use Rattle.adm_register.specs.Outcome.{Decides, decision};
 ghost use Rattle.adm_register.specs.Difference.{IsDifference};
-ghost use Rattle.adm_register.specs.Rows.{rows_in_order, AreRowsOf, place_of, vacancies};
+ghost use Rattle.adm_register.specs.Rows.{rows_in_order, AreRowsOf, place_of, round_of, vacancies};
+ghost use Rattle.adm_register.specs.Wanted.{wanted};
 
 use crate::checks::is_well_formed;
 use crate::commands::{change_of, kept_by_types, refused};
 use crate::tables::Tables;
 use crate::{Difference, NotDone, Rows, RowsFault};
-use adm_types::{Application, Child, ChildNo, Command, Place, Reply, School, SchoolCode, Season};
+use adm_round::allotment_fits;
+use adm_types::{
+    Application, Child, ChildNo, Command, Draw, Place, Reply, School, SchoolCode, Season,
+};
 use std::alloc::{AllocError, Global};
 use std::marker::Model;
 
@@ -101,6 +105,22 @@ impl Register {
         self.tables.place(child)
     }
 
+    /// The schools that the child wants, the most wanted first: those of its list above its place,
+    /// without those that it left. It takes memory for each school of the list.
+    pub fn wanted(&self, alloc: Global, child: ChildNo) -> Result<Vec<SchoolCode>, AllocError>
+        ensures { IfOk result (λ found. found.items ≡ wanted self.now child) }
+    {
+        self.tables.wanted(alloc, child)
+    }
+
+    /// The draw of the round of this number, from 1. It takes no memory; what it costs grows with
+    /// the draws.
+    pub fn round(&self, number: u32) -> Option<&Draw>
+        ensures { option_copied result ≡ round_of self.now number }
+    {
+        self.tables.round(number)
+    }
+
     /// How many places the school has left: its admission number less all places there, not
     /// below 0. It takes no memory; what it costs grows with the places.
     pub fn vacancies(&self, code: SchoolCode) -> Option<u32>
@@ -127,16 +147,17 @@ impl Register {
         ensures change { IfOk result (λ proposal. IsDifference self.now proposal.register proposal.change) }
     {
         kept_by_types(command);
-        match refused(&self.tables, command) {
+        allotment_fits();
+        match refused(&self.tables, alloc, command)? {
             Some((refusal, row)) => Err(NotDone::Refused { refusal, row }),
             None => {
-                let change = change_of(&self.tables, alloc, command)?;
-                let tables = self.tables.after(alloc, &change)?;
-                let change = self.tables.differing(alloc, change)?;
+                let (whole, reply) = change_of(&self.tables, alloc, command)?;
+                let tables = self.tables.after(alloc, &whole)?;
+                let change = self.tables.differing(alloc, whole)?;
                 Ok(Proposal {
                     register: Register { tables },
                     change,
-                    reply: Reply::Done,
+                    reply,
                 })
             }
         }

@@ -1,0 +1,31 @@
+-- An accepted command leaves one register.
+use Rattle.std.proofs.Common.{◌≡◌, ◌∙◌, ap, sym}
+use Rattle.adm_types.specs.declared.commands.Command.{Command}
+use Rattle.adm_types.specs.declared.commands.Command.TheVariants.{AddSchool, AddChild, Amend, NamePlan, Apply, Round, Accept, Decline, Remind, Lapse}
+use Rattle.adm_types.specs.declared.commands.Reply.{Reply}
+use Rattle.adm_round.specs.Outcomes.{OneAllotment}
+use Rattle.adm_register.specs.declared.difference.Difference.{Difference}
+use Rattle.adm_register.specs.State.{State}
+use Rattle.adm_register.specs.Change.{after}
+use Rattle.adm_register.specs.Round as round
+use Rattle.adm_register.specs.Outcome.{Changes, OneStep}
+
+-- and changes one thing
+one_change : OneAllotment → (old : State) (command : Command) (one other : Difference) (first second : Reply) → Changes old command one first → Changes old command other second → one ≡ other
+one_change law old (AddSchool school) one other first second x y = x.0 ∙ sym y.0
+one_change law old (AddChild child) one other first second x y = x.0 ∙ sym y.0
+one_change law old (Amend child) one other first second x y = x.0 ∙ sym y.0
+one_change law old (NamePlan child school) one other first second x y = x.0 ∙ sym y.0
+one_change law old (Apply application) one other first second x y = x.0 ∙ sym y.0
+one_change law old (Round draw day lots) one other first second x y =
+    x.2 ∙ ap (round.change_of old draw day lots) (law (round.sites old) (round.entrants old) (round.round_lots old lots) x.0 y.0 x.1 y.1) ∙ sym y.2
+one_change law old (Accept child school) one other first second x y = x.0 ∙ sym y.0
+one_change law old (Decline child school) one other first second x y = x.0 ∙ sym y.0
+one_change law old (Remind child school day) one other first second x y = x.0 ∙ sym y.0
+one_change law old (Lapse child school day) one other first second x y = x.0 ∙ sym y.0
+
+pub one_step_lem : OneAllotment → OneStep
+one_step_lem law old a b command x y =
+    let first = x.1.1 in
+    let second = y.1.1 in
+    first.2 ∙ ap (after old) (one_change law old command first.0 second.0 x.0 y.0 first.1 second.1) ∙ sym second.2

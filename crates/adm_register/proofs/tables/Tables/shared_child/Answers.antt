@@ -1,0 +1,8 @@
+use Rattle.std.proofs.Common.{◌∙◌, ap, sym}
+use Rattle.std.specs.FinMap.{get}
+use Rattle.std.specs.Cmp.{nat_cmp_total}
+use Rattle.adm_register.proofs.TableMaps.{get_rows}
+use Rattle.adm_register.proofs.tables.Tables.shared_child.Goals as goal
+
+pub returns : goal.returns
+returns c = c.get.ensures ∙ sym (get_rows nat_cmp_total c.self.inside.children c.args.number) ∙ ap (λ s. get s.children c.args.number) c.self.view_is

@@ -1,0 +1,21 @@
+-- To decline a place.
+use Rattle.std.specs.Prelude.{ℕ, Bool, List, [], ◌∷◌}
+use Rattle.std.specs.FinMap.{get, contains_key}
+use Rattle.adm_types.specs.declared.commands.Refusal.{Refusal}
+use Rattle.adm_types.specs.declared.commands.Refusal.TheVariants.{UnknownChild, UnknownSchool, NotOffered}
+use Rattle.adm_register.specs.declared.difference.Difference.{Difference}
+use Rattle.adm_register.specs.State.{State}
+use Rattle.adm_register.specs.Change.{no_change}
+use Rattle.adm_register.specs.WellFormed.{is_held}
+
+-- the child and the school are there, and the child has a place at the school that is not that of a plan
+unfoldable pub tests : State → ℕ → List ℕ → List (Bool × Refusal)
+tests old child school =
+    (contains_key old.children child, UnknownChild)
+    ∷ (contains_key old.schools school, UnknownSchool)
+    ∷ (is_held (get old.places child) school, NotOffered)
+    ∷ []
+
+-- its place ends, and the school is left
+unfoldable pub change_of : ℕ → List ℕ → Difference
+change_of child school = record no_change { left = record { child = child; school = school } ∷ []; vacated = child ∷ [] }
