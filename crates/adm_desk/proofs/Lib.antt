@@ -6,3 +6,4 @@ pub mod RestartLemmas
 pub mod RunLemmas
 pub mod Runs
 pub mod StandingLemmas
+pub mod RoundLemmas

@@ -1,7 +1,8 @@
 // Laws of accepted commands, one after another.
 ghost use Rattle.adm_desk.specs.Acknowledged.{OneAfter};
+ghost use Rattle.adm_desk.specs.Rounds.{RoundsHeld, RoundsStay};
 
-use adm_register::one_step;
+use adm_register::{draws_kept, one_step, round_held};
 
 /// Accepted commands, one after another, leave one register.
 pub fn one_after()
@@ -9,4 +10,20 @@ pub fn one_after()
 {
     // that each of them leaves one, a call of the law says
     one_step();
+}
+
+/// Each round among accepted commands is held by the register after them: its outcomes are those of
+/// the child-optimal stable allocation of its problem on the register in which it began.
+pub fn rounds_held()
+    ensures { RoundsHeld }
+{
+    draws_kept();
+    round_held();
+}
+
+/// It is so after one command more.
+pub fn rounds_stay()
+    ensures { RoundsStay }
+{
+    draws_kept();
 }

@@ -11,6 +11,6 @@ mod run;
 
 pub use answer::{Answer, LineAnswer};
 pub use desk::Desk;
-pub use laws::one_after;
+pub use laws::{one_after, rounds_held, rounds_stay};
 pub use restart::{Restarted, run_and_reopen};
 pub use run::{Run, RunFault};

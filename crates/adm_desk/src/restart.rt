@@ -6,11 +6,13 @@ ghost use Rattle.adm_store.specs.Faults.{IsNoRegister};
 ghost use Rattle.adm_store.specs.StandsFor.{IsStarted, LeavesOnly};
 ghost use Rattle.adm_desk.specs.Steps.{IsRun};
 ghost use Rattle.adm_desk.specs.Standing.{Handles, Standing};
+ghost use Rattle.adm_register.specs.History.{DrawsInOrder};
 ghost use Rattle.adm_register.specs.State.{State as Register};
 ghost use Rattle.adm_types.specs.declared.commands.Command.{Command as Asked};
+ghost use Rattle.adm_desk.specs.Rounds.{EachRoundHeld};
 ghost use Rattle.adm_desk.specs.Acknowledged.{After, acknowledged, in_work, FindsAgain, LeavesAcknowledged, Reopens};
 
-use crate::{Answer, Desk};
+use crate::{Answer, Desk, rounds_held, rounds_stay};
 use adm_store::{OpenFault, one_register};
 use adm_types::Command;
 use sqlite::{Alter, Connection, Error, ErrorCode};
@@ -97,6 +99,19 @@ fn reopen<S: Alter + Reopen + Drop>(
     }
 }
 
+/// Tells that the draws of the desk's register are in order. It does nothing.
+fn has_draws_in_order<S: Alter + Drop>(desk: &Desk<S>)
+    ensures { desk.now.failed ≡ false → DrawsInOrder desk.now.register }
+{
+    match desk.register() {
+        // Read only so that the check sees that the register is well formed.
+        Some(register) => {
+            let _season = register.season();
+        }
+        None => {}
+    }
+}
+
 /// Answers the commands, lets a crash come to the disk, starts the store again and opens what it
 /// holds. A crash within a command is a store that fails from some call on: the command is answered
 /// Failed. Disk and Memory come where the store or memory is wanting; where there is no room for the
@@ -109,6 +124,9 @@ pub fn run_and_reopen<S: Alter + Reopen + Drop>(
     // The register is one after the acknowledged commands, or one that the command in work leaves after these.
     ensures register { desk.failed ≡ false → IfOk result.opened (λ new. HasCleanDisk (state S.Store new.conn)
         → (kept : Register) × After desk.register (acknowledged (zip commands.now result.answers.items)) kept × FindsAgain kept (in_work (zip commands.now result.answers.items)) new.register) }
+    // It holds each round among the acknowledged commands, with the child-optimal stable allocation of the problem on the register in which it began.
+    ensures rounds { desk.failed ≡ false → IfOk result.opened (λ new. HasCleanDisk (state S.Store new.conn)
+        → EachRoundHeld desk.register (acknowledged (zip commands.now result.answers.items)) new.register) }
     ensures alive { IfOk result.opened (λ new. (new.failed ≡ false) × LeavesOnly new.register (state S.Store new.conn)) }
     ensures run { OnOk result.opened ((mid : Standing (Held S)) × IsRun (Handles (state S.Store)) desk commands.now result.answers.items mid) }
 
@@ -118,8 +136,12 @@ pub fn run_and_reopen<S: Alter + Reopen + Drop>(
         × LeavesAcknowledged kept (in_work (zip commands.now result.answers.items)) (state S.Store conn))) }
     ensures never { desk.failed ≡ false → IfErr result.opened (λ e. MatchOption e.1 (¬ IsNoRegister e.0) (λ conn. HasCleanDisk (state S.Store conn) → ¬ IsNoRegister e.0)) }
 {
-    // that a crash leaves its register, a call of it says
+    // that a crash leaves its register, and that its draws are in order, calls say
     let _register = desk.register();
+    has_draws_in_order(&desk);
+    // what rounds leave, calls of the laws say
+    rounds_held();
+    rounds_stay();
     let answers = match desk.handle_all(commands) {
         Ok(answers) => answers,
         Err(_) => {

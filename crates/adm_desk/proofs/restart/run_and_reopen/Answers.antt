@@ -4,6 +4,7 @@ use Rattle.sqlite.specs.Held.{Held, state}
 use Rattle.adm_store.specs.StandsFor.{LeavesOnly}
 use Rattle.adm_desk.specs.Standing.{Standing}
 use Rattle.adm_desk.proofs.RestartLemmas.{none_answered}
+use Rattle.adm_desk.proofs.RoundLemmas.{found_rounds}
 use Rattle.adm_desk.proofs.restart.run_and_reopen.Goals as goal
 
 pub returns-in-Err-clause-kept : goal.returns-in-Err-clause-kept
@@ -21,3 +22,9 @@ pub returns-in-Err-reopen-clause-kept : goal.returns-in-Err-reopen-clause-kept
 returns-in-Err-reopen-clause-kept g c = λ alive.
     let keeps = c.in-Ok.ensures.kept alive in
     IfSome_then c.in-Err-reopen.conn c.in-Err-reopen.ensures.kept (λ _ left. (c.handle_all.new.self.register, keeps.run, left _ _ keeps.leaves))
+
+pub returns-in-Ok-reopen-clause-rounds : goal.returns-in-Ok-reopen-clause-rounds
+returns-in-Ok-reopen-clause-rounds g c = λ alive clean.
+    let keeps = c.in-Ok.ensures.kept alive in
+    found_rounds c.rounds_held.ensures c.rounds_stay.ensures c.args.desk.register c.handle_all.new.self.register c.in-Ok-reopen.desk.register _ _
+    (c.has_draws_in_order.ensures alive) keeps.run (c.in-Ok-reopen.ensures.finds clean _ _ keeps.leaves)
