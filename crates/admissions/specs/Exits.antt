@@ -1,9 +1,11 @@
 -- What is printed of a fault, and the exit status.
-use Rattle.std.specs.Prelude.{◌≡◌, ℕ, List, codes, nat_lt, if◌then◌else◌, Result, Ok, Err, Option, Some, None}
+use Rattle.std.specs.Prelude.{◌≡◌, ◌≢◌, ◌⊎◌, ◌&&◌, ℕ, Bool, false, IsTrue, List, codes, length, nat_lt, if◌then◌else◌, Result, Ok, Err, Option, Some, None}
+use Rattle.adm_types.specs.Numbers.{is_from}
 use Rattle.adm_types.specs.declared.seasons.SeasonFault.{SeasonFault}
 use Rattle.adm_types.specs.declared.seasons.SeasonFault.TheVariants as season
 use Rattle.adm_words.specs.Lines.{ReadsWords}
 use Rattle.adm_words.specs.declared.actions.Action.{Action}
+use Rattle.adm_words.specs.declared.actions.Action.TheVariants as action
 use Rattle.adm_words.specs.declared.faults.WordsFault.{WordsFault}
 use Rattle.adm_words.specs.declared.faults.WordsFault.TheVariants as words
 use Rattle.adm_store.specs.declared.fault.CreateFault.{CreateFault}
@@ -13,6 +15,7 @@ use Rattle.adm_store.specs.declared.fault.OpenFault.TheVariants as opened
 use Rattle.adm_desk.specs.declared.run.Run.{Run}
 use Rattle.adm_desk.specs.declared.run.RunFault.{RunFault}
 use Rattle.adm_desk.specs.declared.run.RunFault.TheVariants as run
+use Rattle.sqlite.specs.Opening.{is_open_error}
 use Rattle.sqlite.specs.declared.error.Error.{Error}
 use Rattle.sqlite.specs.declared.error.Error.TheVariants as error
 use Rattle.sqlite.specs.declared.error.ErrorCode.TheVariants as code
@@ -63,6 +66,21 @@ abbrev pub of_error : Error → Fault
 of_error (error.SqliteFailure code.OutOfMemory) = Memory
 of_error _ = Disk
 
+-- why a file was not opened
+abbrev pub IsOpenFault : Fault → Type 0
+IsOpenFault fault = (error : Error) × IsTrue (is_open_error error) × (fault ≡ of_error error)
+
+-- a year of the range, and more than 40 holidays
+abbrev pub has_many_holidays : Action → Bool
+has_many_holidays (action.Init file phase year days) = is_from 2000 2100 year && nat_lt 40 (length days)
+has_many_holidays (action.Do file) = false
+
+-- why an action came to nothing: the year or the holidays are no season's, or the file was not opened, or memory ran out
+abbrev pub IsCauseIn : Action → Fault → Type 0
+IsCauseIn (action.Init file phase year days) f = ((f ≡ YearRange) × (is_from 2000 2100 year ≡ false))
+    ⊎ (((f ≡ TooManyHolidays) × IsTrue (has_many_holidays (action.Init file phase year days))) ⊎ IsOpenFault f)
+IsCauseIn (action.Do file) f = IsOpenFault f
+
 -- ---- exits
 
 -- 4 before 3: some answer was Failed; some line was refused, faulty or met want of memory; or all were done
@@ -95,9 +113,10 @@ abbrev pub error_of : {X Y : Type 0} → Result X (Error × Y) → Option Error
 error_of (Ok files) = None
 error_of (Err e) = Some e.0
 
--- what the words were read as, and 2 where they ask for nothing
+-- what the words were read as: `init` ends with 0 or 1, and `do` never with 2; 2 where they ask for nothing
 abbrev pub ExitsBy : Result Action WordsFault → ℕ → Type 0
-ExitsBy (Ok action) status = Unit {0}
+ExitsBy (Ok (action.Init file phase year days)) status = (status ≡ 0) ⊎ (status ≡ 1)
+ExitsBy (Ok (action.Do file)) status = status ≢ 2
 ExitsBy (Err words.Memory) status = status ≡ 1
 ExitsBy (Err _) status = status ≡ 2
 

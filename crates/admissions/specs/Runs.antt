@@ -16,6 +16,8 @@ use Rattle.adm_types.specs.Seasons.{SeasonFacts, IsRising}
 use Rattle.adm_types.specs.declared.seasons.Phase.{Phase}
 use Rattle.adm_schema.specs.Schema.{no_schema}
 use Rattle.adm_register.specs.State.{only_season}
+use Rattle.adm_words.specs.declared.actions.Action.{Action}
+use Rattle.adm_words.specs.declared.actions.Action.TheVariants as action
 use Rattle.adm_store.specs.StandsFor.{LeavesOnly, LeavesOldOrNew, LeavesNone}
 use Rattle.adm_store.specs.Faults.{IsNoRegister}
 use Rattle.adm_store.specs.FirstFault.{IsFirstFault}
@@ -107,3 +109,9 @@ module _ {D : Type 0} {g : disk.Ghosts D} where
     pub found : Held (FileStore D g)
     pub is_found : IsFound image found
     pub creates : CreatesIn found season e closed
+
+  -- `init` creates the register of the season of its values, and reads and writes nothing else; `do` answers the lines
+  abbrev pub Does : Image → Action → Stream → Stream → Result Exit Fault → Result (Files D) (Error × FileStore D g) → Type 0
+  Does image (action.Init file phase year days) input output e closed = (input.new ≡ input.old) × (output.new ≡ output.old)
+      × (season : SeasonFacts) × (season.phase ≡ phase) × (season.year ≡ year) × IsRising days season.holidays × Creates image season e closed
+  Does image (action.Do file) input output e closed = Answers image input output e closed

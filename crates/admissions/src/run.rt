@@ -1,10 +1,11 @@
 // What each line of the command line does, over a reader and two writers.
-ghost use Rattle.std.specs.Prelude.{◌≡◌, false, map, IfOk};
+ghost use Rattle.std.specs.Prelude.{◌≡◌, false, map, codes, IsTrue, IfOk, IfErr, OnErr};
 ghost use Rattle.sqlite_wal.specs.Files.{image_at};
 ghost use Rattle.sqlite.specs.Files.{file_state};
 ghost use Rattle.adm_store.specs.StandsFor.{IsStarted};
-ghost use Rattle.admissions.specs.Exits.{told_of, RunsWords};
-ghost use Rattle.admissions.specs.Runs.{Answers, Creates, CreatesIn, IsFound, Runs};
+ghost use Rattle.admissions.specs.Exits.{told_of, ending_of, error_of, has_many_holidays, IsCauseIn, IsOpenFault, RunsWords};
+ghost use Rattle.admissions.specs.declared.fault.Fault.TheVariants.{Disk, TooManyHolidays};
+ghost use Rattle.admissions.specs.Runs.{Answers, Creates, CreatesIn, Does, IsFound, Runs};
 
 use crate::ended::{Ended, ending};
 use crate::exit::Exit;
@@ -34,22 +35,35 @@ pub fn run_words<S: Start, I: Read + Drop, O: Write + Drop, E: Write>(
     ensures { RunsWords (map (λ w. w.now) words.entry.now) result }
 {
     match action(rt.alloc(), words) {
-        Ok(action) => run_action(rt, action, start, input, output, errors).code(),
+        Ok(action) => {
+            let mut input = Watched::new(input);
+            let mut output = Watched::new(output);
+            let ended = run_action(rt, action, start, &mut input, &mut output);
+            end(ended, errors).code()
+        }
         Err(WordsFault::Memory) => tell(Err(Fault::Memory), errors).code(),
         Err(fault) => refuse_words(rt, &fault, errors).code(),
     }
 }
 
-/// Does what a line of the command line asks for.
-fn run_action<S: Start, I: Read + Drop, O: Write + Drop, E: Write>(
+/// Does what a line of the command line asks for. The `Err` is why there is no season of these
+/// values, or why the file was not opened; then nothing was read or written.
+fn run_action<S: Start, I: Input, O: Output>(
     rt: &HostRuntime,
     action: Action<'_>,
     start: S,
-    input: I,
-    output: O,
-    errors: &mut E,
-) -> Exit {
-    let ended = match action {
+    input: &mut I,
+    output: &mut O,
+) -> Result<Ended<FileFrom<S>>, Fault>
+    ensures ok { IfOk result (λ ended. Does (image_at S.Start) action.entry
+        (record { old = I.remaining input.old; new = I.remaining input.new; has_failed = I.has_failed input.new })
+        (record { old = O.contents output.old; new = O.contents output.new; has_failed = O.has_failed output.new })
+        ended.exit ended.closed) }
+    ensures err { IfErr result (IsCauseIn action.entry) }
+    ensures many { IsTrue (has_many_holidays action.entry) → result ≡ Err TooManyHolidays }
+    ensures untouched { OnErr result ((I.remaining input.new ≡ I.remaining input.old) × (O.contents output.new ≡ O.contents output.old)) }
+{
+    match action {
         Action::Init {
             file,
             phase,
@@ -59,16 +73,15 @@ fn run_action<S: Start, I: Read + Drop, O: Write + Drop, E: Write>(
             Ok(season) => init(rt, file, start, &season),
             Err(fault) => Err(Fault::from(fault)),
         },
-        Action::Do { file } => {
-            do_lines(
-                rt,
-                file,
-                start,
-                &mut Watched::new(input),
-                &mut Watched::new(output),
-            )
-        }
-    };
+        Action::Do { file } => do_lines(rt, file, start, input, output),
+    }
+}
+
+/// The exit of a line, whose fault is printed.
+fn end<D: Disk + Drop, E: Write>(ended: Result<Ended<D>, Fault>, errors: &mut E) -> Exit
+    ensures ok { IfOk ended (λ e. result ≡ told_of (ending_of e.exit (error_of e.closed))) }
+    ensures err { IfErr ended (λ _. result ≡ Exit.Fault) }
+{
     match ended {
         Ok(ended) => tell(ending(ended), errors),
         Err(fault) => tell(Err(fault), errors),
@@ -98,14 +111,16 @@ fn tell<E: Write>(ended: Result<Exit, Fault>, errors: &mut E) -> Exit
     }
 }
 
-/// Creates the register of a season in the file.
+/// Creates the register of a season in the file. The `Err` is why it was not opened.
 fn init<S: Start>(
     rt: &HostRuntime,
     file: &str,
     start: S,
     season: &Season,
 ) -> Result<Ended<FileFrom<S>>, Fault>
-    ensures { IfOk result (λ ended. Creates (image_at S.Start) season.now ended.exit ended.closed) }
+    ensures ok { IfOk result (λ ended. Creates (image_at S.Start) season.now ended.exit ended.closed) }
+    ensures err { IfErr result IsOpenFault }
+    ensures memory { file.now ≡ codes ":memory:" → result ≡ Err Disk }
 {
     let conn = open_file(rt, file, start)?;
     Ok(create_register(rt.alloc(), conn, season))
@@ -132,7 +147,7 @@ fn create_register<D: Disk + Drop>(
     }
 }
 
-/// Opens the file, or makes it.
+/// Opens the file, or makes it. The `Err` is Disk, or Memory where memory ran out.
 fn open_file<S: Start>(
     rt: &HostRuntime,
     file: &str,
@@ -141,6 +156,8 @@ fn open_file<S: Start>(
     ensures ended { IfOk result (λ c. c.in_transaction ≡ false) }
     ensures started { IfOk result (λ c. IsStarted (file_state c)) }
     ensures found { IfOk result (IsFound (image_at S.Start)) }
+    ensures err { IfErr result IsOpenFault }
+    ensures memory { file.now ≡ codes ":memory:" → result ≡ Err Disk }
 {
     match Connection::open_from(rt, file, false, start) {
         Ok(conn) => Ok(conn),
@@ -149,7 +166,7 @@ fn open_file<S: Start>(
 }
 
 /// Answers the lines of the input over the register in the file, which is there: an open makes no
-/// file here.
+/// file here. The `Err` is why it was not opened; then nothing was read or written.
 fn do_lines<S: Start, I: Input, O: Output>(
     rt: &HostRuntime,
     file: &str,
@@ -157,10 +174,13 @@ fn do_lines<S: Start, I: Input, O: Output>(
     input: &mut I,
     output: &mut O,
 ) -> Result<Ended<FileFrom<S>>, Fault>
-    ensures { IfOk result (λ ended. Answers (image_at S.Start)
+    ensures ok { IfOk result (λ ended. Answers (image_at S.Start)
         (record { old = I.remaining input.old; new = I.remaining input.new; has_failed = I.has_failed input.new })
         (record { old = O.contents output.old; new = O.contents output.new; has_failed = O.has_failed output.new })
         ended.exit ended.closed) }
+    ensures err { IfErr result IsOpenFault }
+    ensures memory { file.now ≡ codes ":memory:" → result ≡ Err Disk }
+    ensures untouched { OnErr result ((I.remaining input.new ≡ I.remaining input.old) × (O.contents output.new ≡ O.contents output.old)) }
 {
     match fs::exists(rt, file) {
         Ok(true) => {}

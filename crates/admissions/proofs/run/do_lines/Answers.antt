@@ -1,9 +1,11 @@
-use Rattle.std.proofs.Common.{ap, inl, inr, Err}
+use Rattle.std.proofs.Common.{refl, ap, inl, inr, Err}
+use Rattle.sqlite.specs.declared.error.Error.TheVariants.{SqliteFailure}
+use Rattle.sqlite.specs.declared.error.ErrorCode.TheVariants.{CannotOpen}
 use Rattle.admissions.proofs.Closing.{closes}
 use Rattle.admissions.proofs.run.do_lines.Goals as goal
 
-pub returns-in-Ok : goal.returns-in-Ok
-returns-in-Ok g c =
+pub returns-in-Ok-clause-ok : goal.returns-in-Ok-clause-ok
+returns-in-Ok-clause-ok g c =
     inr record {
       found = c.in_ok-conn.conn;
       is_found = c.in_ok-conn.ensures.found;
@@ -14,8 +16,8 @@ returns-in-Ok g c =
       runs = c.run_desk.ensures;
     }
 
-pub returns-in-Err : goal.returns-in-Err
-returns-in-Err g c =
+pub returns-in-Err-clause-ok : goal.returns-in-Err-clause-ok
+returns-in-Err-clause-ok g c =
     inl record {
       found = c.in_ok-conn.conn;
       is_found = c.in_ok-conn.ensures.found;
@@ -27,3 +29,7 @@ returns-in-Err g c =
       kept = c.in-Err.ensures.left;
       closes = closes c.in-Err.conn c.close_files.result _ c.close_files.ensures.copied c.close_files.ensures.err;
     }
+
+-- there is no such file
+pub returns-in_default-clause-err : goal.returns-in_default-clause-err
+returns-in_default-clause-err g c = (SqliteFailure CannotOpen, refl, refl)
