@@ -8,7 +8,7 @@ use std::alloc::Global;
 use std::io;
 
 /// An act is stopped at so many calls at most.
-const MOST: u64 = 200;
+const MOST: u64 = 1000;
 
 /// How far an act came where a disk stopped, and which register that left.
 #[derive(Clone, Copy, Debug)]

@@ -14,6 +14,18 @@ fn print_counts(rt: &impl Print, rows: &Rows) -> io::Result<()> {
     )
 }
 
+fn print_draws(rt: &impl Print, rows: &Rows) -> io::Result<()> {
+    if rows.draws.len() == 0 {
+        return Ok(());
+    }
+    println!(rt;
+        "  {} draws, {} offers, {} lots",
+        rows.draws.len(),
+        rows.offers.len(),
+        rows.lots.len()
+    )
+}
+
 fn print_school(rt: &impl Print, register: &Register, school: &School) -> io::Result<()> {
     println!(rt;
         "  {} has {} of {} places left",
@@ -32,6 +44,7 @@ fn print_schools(rt: &impl Print, register: &Register, schools: &[School]) -> io
 
 fn print_rows(rt: &impl Print, register: &Register, rows: &Rows) -> io::Result<()> {
     print_counts(rt, rows)?;
+    print_draws(rt, rows)?;
     print_schools(rt, register, rows.schools.as_slice())
 }
 

@@ -16,6 +16,13 @@ fn are_same_rows(one: &Rows, other: &Rows) -> bool {
         && are_same(one.applications.as_slice(), other.applications.as_slice())
         && are_same(one.places.as_slice(), other.places.as_slice())
         && are_same(one.left.as_slice(), other.left.as_slice())
+        && are_same_draws(one, other)
+}
+
+fn are_same_draws(one: &Rows, other: &Rows) -> bool {
+    one.draws.as_slice() == other.draws.as_slice()
+        && one.offers.as_slice() == other.offers.as_slice()
+        && one.lots.as_slice() == other.lots.as_slice()
 }
 
 /// Whether the register has the season and the rows of this one.
