@@ -7,7 +7,7 @@
 #   make bench    what commands cost, beside a baseline in the same run
 #   make install  PREFIX=/usr/local by default
 PREFIX ?= /usr/local
-EXAMPLES := first_path applications
+EXAMPLES := first_path applications season
 
 .PHONY: build demo cases test bench install
 
@@ -26,6 +26,7 @@ test:
 bench: build
 	bench/first_path/run bin/admissions
 	bench/applications/run bin/admissions
+	bench/round/run bin/admissions
 	bench/match/run.sh
 
 install: build
