@@ -4,7 +4,7 @@ use Rattle.std.specs.Prelude.{Option}
 use Rattle.adm_types.specs.declared.commands.Reply.{Reply}
 use Rattle.adm_types.specs.declared.commands.Refusal.{Refusal}
 use Rattle.adm_types.specs.declared.commands.Command.{Command}
-use Rattle.adm_types.specs.declared.commands.Command.TheVariants.{AddSchool, AddChild, Amend, NamePlan, Apply, Round, Accept, Decline, Remind, Lapse}
+use Rattle.adm_types.specs.declared.commands.Command.TheVariants.{AddSchool, AddChild, Amend, NamePlan, Apply, Round, Accept, Decline, Remind, Lapse, LeaveList, Fill, Import}
 use Rattle.adm_register.specs.State.{State}
 use Rattle.adm_register.specs.declared.difference.Difference.{Difference}
 use Rattle.adm_register.specs.KeptByTypes.{KeptByTypes}
@@ -37,3 +37,6 @@ command-fit old (Accept child school) kept well law accepted change reply done =
 command-fit old (Decline child school) kept well law accepted change reply done = subst (Fit old) (sym done.0) (decline-fit old child school well (no_row _ accepted))
 command-fit old (Remind child school day) kept well law accepted change reply done = subst (Fit old) (sym done.0) (remind-fit old child school day kept well (no_row _ accepted))
 command-fit old (Lapse child school day) kept well law accepted change reply done = subst (Fit old) (sym done.0) (lapse-fit old child school day well (no_row _ accepted))
+command-fit old (LeaveList child school) kept well law accepted change reply done = cc
+command-fit old (Fill draw school day lots) kept well law accepted change reply done = cc
+command-fit old (Import rows) kept well law accepted change reply done = cc

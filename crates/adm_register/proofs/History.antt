@@ -4,7 +4,7 @@ use Rattle.std.specs.Prelude.{Option}
 use Rattle.std.specs.Cmp.{nat_cmp_total}
 use Rattle.std.specs.FinMap.{get, insert, values, nat_cmp-IsAntisymmetric}
 use Rattle.adm_types.specs.declared.commands.Command.{Command}
-use Rattle.adm_types.specs.declared.commands.Command.TheVariants.{AddSchool, AddChild, Amend, NamePlan, Apply, Round, Accept, Decline, Remind, Lapse}
+use Rattle.adm_types.specs.declared.commands.Command.TheVariants.{AddSchool, AddChild, Amend, NamePlan, Apply, Round, Accept, Decline, Remind, Lapse, LeaveList, Fill, Import}
 use Rattle.adm_types.specs.declared.commands.Reply.{Reply}
 use Rattle.adm_types.specs.declared.draws.Draw.{Draw}
 use Rattle.adm_register.specs.declared.difference.Difference.{Difference}
@@ -73,6 +73,9 @@ kept old new (Decline child school) change reply ordered accepted done is = unch
 kept old new (Remind child school day) change reply ordered accepted done is =
     unchanged old new change (ap (λ (c : Difference). c.draws) done.0 ∙ no_draw child school day (offer_at (get old.places child) school)) is ordered
 kept old new (Lapse child school day) change reply ordered accepted done is = unchanged old new change (ap (λ (c : Difference). c.draws) done.0) is ordered
+kept old new (LeaveList child school) change reply ordered accepted done is = unchanged old new change (ap (λ (c : Difference). c.draws) done.0) is ordered
+kept old new (Fill draw school day lots) change reply ordered accepted done is = unchanged old new change (ap (λ (c : Difference). c.draws) done.0) is ordered
+kept old new (Import rows) change reply ordered accepted done is = unchanged old new change (ap (λ (c : Difference). c.draws) done.0) is ordered
 
 pub draws_kept_lem : DrawsKept
 draws_kept_lem old new command ordered step =

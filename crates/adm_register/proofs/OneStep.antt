@@ -1,7 +1,7 @@
 -- An accepted command leaves one register.
 use Rattle.std.proofs.Common.{◌≡◌, ◌∙◌, ap, sym}
 use Rattle.adm_types.specs.declared.commands.Command.{Command}
-use Rattle.adm_types.specs.declared.commands.Command.TheVariants.{AddSchool, AddChild, Amend, NamePlan, Apply, Round, Accept, Decline, Remind, Lapse}
+use Rattle.adm_types.specs.declared.commands.Command.TheVariants.{AddSchool, AddChild, Amend, NamePlan, Apply, Round, Accept, Decline, Remind, Lapse, LeaveList, Fill, Import}
 use Rattle.adm_types.specs.declared.commands.Reply.{Reply}
 use Rattle.adm_round.specs.Outcomes.{OneAllotment}
 use Rattle.adm_register.specs.declared.difference.Difference.{Difference}
@@ -23,6 +23,9 @@ one_change law old (Accept child school) one other first second x y = x.0 ∙ sy
 one_change law old (Decline child school) one other first second x y = x.0 ∙ sym y.0
 one_change law old (Remind child school day) one other first second x y = x.0 ∙ sym y.0
 one_change law old (Lapse child school day) one other first second x y = x.0 ∙ sym y.0
+one_change law old (LeaveList child school) one other first second x y = x.0 ∙ sym y.0
+one_change law old (Fill draw school day lots) one other first second x y = x.0 ∙ sym y.0
+one_change law old (Import rows) one other first second x y = x.0 ∙ sym y.0
 
 pub one_step_lem : OneAllotment → OneStep
 one_step_lem law old a b command x y =

@@ -7,7 +7,7 @@ use Rattle.std.specs.Cmp.{IsTotalOrder, nat_cmp_total, unsigned_Decides}
 use Rattle.std.specs.Cmp.Lexicographic.{nat_list_cmp_total, pointwise, bytes_decides}
 use Rattle.std.specs.FinMap.{FinMap, get, insert, remove, values, contains_key, get-insert, same_map, IsAntisymmetric, nat_cmp-IsAntisymmetric}
 use Rattle.adm_types.specs.declared.commands.Command.{Command}
-use Rattle.adm_types.specs.declared.commands.Command.TheVariants.{AddSchool, AddChild, Amend, NamePlan, Apply, Round, Accept, Decline, Remind, Lapse}
+use Rattle.adm_types.specs.declared.commands.Command.TheVariants.{AddSchool, AddChild, Amend, NamePlan, Apply, Round, Accept, Decline, Remind, Lapse, LeaveList, Fill, Import}
 use Rattle.adm_types.specs.declared.rows.PlaceState.TheVariants.{Offered, Accepted, Plan}
 use Rattle.adm_register.specs.State.{State}
 use Rattle.adm_register.specs.Change.{after, put_child}
@@ -147,6 +147,9 @@ again old new (Lapse child school day) change reply well first done is passes mo
     let tests = subst (λ s. first_failing (lapse.tests s child school day) ≡ None) (is ∙ ap (after old) done.0) passes in
     let offered = (all_pass (lapse.tests (after old (decline.change_of child school)) child school day) tests).1.1.0 in
     absurd (both_false offered (ap (λ o. is_some (offer_at o school)) (gone nat_cmp_total old.places child)))
+again old new (LeaveList child school) change reply well first done is passes more second next = cc
+again old new (Fill draw school day lots) change reply well first done is passes more second next = cc
+again old new (Import rows) change reply well first done is passes more second next = cc
 
 pub repeat_safe_lem : RepeatSafe
 repeat_safe_lem old mid new command (Ok first) (Ok second) well step next =

@@ -7,7 +7,7 @@ use Rattle.adm_types.specs.Limits.{is_from, is_child_number, first_day, last_day
 use Rattle.adm_types.specs.declared.rows.School.{School}
 use Rattle.adm_types.specs.declared.rows.Child.{Child}
 use Rattle.adm_types.specs.declared.commands.Command.{Command}
-use Rattle.adm_types.specs.declared.commands.Command.TheVariants.{AddSchool, AddChild, Amend, NamePlan, Apply, Round, Accept, Decline, Remind, Lapse}
+use Rattle.adm_types.specs.declared.commands.Command.TheVariants.{AddSchool, AddChild, Amend, NamePlan, Apply, Round, Accept, Decline, Remind, Lapse, LeaveList, Fill, Import}
 
 -- a school's code is one, and its name is a text
 pub record KeptBySchool (school : School) : Type 0 where
@@ -36,3 +36,6 @@ KeptByTypes (Accept child school) = ⊤
 KeptByTypes (Decline child school) = ⊤
 KeptByTypes (Remind child school day) = IsTrue (nat_le day last_day)
 KeptByTypes (Lapse child school day) = ⊤
+KeptByTypes (LeaveList child school) = ⊤
+KeptByTypes (Fill draw school day lots) = ⊤
+KeptByTypes (Import rows) = ⊤

@@ -1,13 +1,14 @@
 -- What a command leaves and answers.
-use Rattle.std.specs.Prelude.{◌≡◌, ⊤, ℕ, Bool, List, Option, Some, None, Result, Ok, Err}
+use Rattle.std.specs.Prelude.{◌≡◌, ⊤, ℕ, Bool, false, List, [], ◌∷◌, Option, Some, None, Result, Ok, Err}
 use Rattle.adm_types.specs.declared.commands.Command.{Command}
-use Rattle.adm_types.specs.declared.commands.Command.TheVariants.{AddSchool, AddChild, Amend, NamePlan, Apply, Round, Accept, Decline, Remind, Lapse}
+use Rattle.adm_types.specs.declared.commands.Command.TheVariants.{AddSchool, AddChild, Amend, NamePlan, Apply, Round, Accept, Decline, Remind, Lapse, LeaveList, Fill, Import}
 use Rattle.adm_types.specs.declared.commands.Refusal.{Refusal}
+use Rattle.adm_types.specs.declared.commands.Refusal.TheVariants.{NotWaiting, EmptyList, RowDiffers}
 use Rattle.adm_types.specs.declared.commands.Reply.{Reply}
 use Rattle.adm_types.specs.declared.commands.Reply.TheVariants.{Done}
 use Rattle.adm_register.specs.declared.difference.Difference.{Difference}
 use Rattle.adm_register.specs.State.{State}
-use Rattle.adm_register.specs.Change.{after, put_child}
+use Rattle.adm_register.specs.Change.{after, put_child, no_change}
 use Rattle.adm_register.specs.Tests.{first_failing}
 use Rattle.adm_register.specs.WellFormed.{WellFormed}
 use Rattle.adm_register.specs.AddSchool as add_school
@@ -37,6 +38,9 @@ tests_of old (Accept child school) = accept.tests old child school
 tests_of old (Decline child school) = decline.tests old child school
 tests_of old (Remind child school day) = remind.tests old child school day
 tests_of old (Lapse child school day) = lapse.tests old child school day
+tests_of old (LeaveList child school) = (false, NotWaiting) ∷ []
+tests_of old (Fill draw school day lots) = (false, EmptyList) ∷ []
+tests_of old (Import rows) = (false, RowDiffers) ∷ []
 
 -- a refusal that names no row
 abbrev pub without_row : Option Refusal → Option (Refusal × ℕ)
@@ -68,6 +72,9 @@ Changes old (Accept child school) = IsDone (accept.change_of child school)
 Changes old (Decline child school) = IsDone (decline.change_of child school)
 Changes old (Remind child school day) = IsDone (remind.change_of old child school day)
 Changes old (Lapse child school day) = IsDone (decline.change_of child school)
+Changes old (LeaveList child school) = IsDone no_change
+Changes old (Fill draw school day lots) = IsDone no_change
+Changes old (Import rows) = IsDone no_change
 
 -- what an accepted command answers, and leaves
 abbrev pub Effect : State → Command → Reply → State → Type 0

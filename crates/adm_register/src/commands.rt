@@ -45,6 +45,9 @@ fn refusal_of(old: &Tables, alloc: Global, command: &Command) -> Result<Option<R
         Command::Decline { child, school } => decline::refusal_of(old, *child, *school),
         Command::Remind { child, school, day } => remind::refusal_of(old, *child, *school, *day),
         Command::Lapse { child, school, day } => lapse::refusal_of(old, *child, *school, *day),
+        Command::LeaveList { .. } => Some(Refusal::NotWaiting),
+        Command::Fill { .. } => Some(Refusal::EmptyList),
+        Command::Import(_) => Some(Refusal::RowDiffers),
     };
     Ok(refusal)
 }
@@ -74,6 +77,9 @@ pub(crate) fn change_of(
         Command::Remind { child, school, day } => Ok(done(remind::change_of(
             old, alloc, *child, *school, *day,
         )?)),
+        Command::LeaveList { .. } | Command::Fill { .. } | Command::Import(_) => {
+            Ok(done(Difference::none(alloc)))
+        }
     }
 }
 
@@ -98,7 +104,10 @@ pub(crate) fn kept_by_types(command: &Command)
         Command::NamePlan { .. }
         | Command::Accept { .. }
         | Command::Decline { .. }
-        | Command::Lapse { .. } => {}
+        | Command::Lapse { .. }
+        | Command::LeaveList { .. }
+        | Command::Fill { .. }
+        | Command::Import(_) => {}
         Command::Apply(application) => {
             let _number = application.day.number();
         }

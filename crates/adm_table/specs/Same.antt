@@ -6,6 +6,7 @@ use Rattle.std.specs.Cmp.Lexicographic.{pointwise}
 use Rattle.adm_types.specs.declared.rows.School.{School}
 use Rattle.adm_types.specs.declared.rows.Child.{Child}
 use Rattle.adm_types.specs.declared.rows.Application.{Application}
+use Rattle.adm_types.specs.declared.rows.ImportRow.{ImportRow}
 use Rattle.adm_types.specs.declared.rows.PlaceRow.{PlaceRow}
 use Rattle.adm_types.specs.declared.rows.LeftPair.{LeftPair}
 use Rattle.adm_types.specs.declared.draws.Draw.{Draw}
@@ -34,6 +35,9 @@ is_same_left x y = nat_eq x.child y.child && pointwise nat_eq x.school y.school
 abbrev pub is_same_draw : Draw → Draw → Bool
 is_same_draw x y =
     nat_eq x.number y.number && (nat_eq x.round y.round && (option_eq (pointwise nat_eq) x.school y.school && (nat_eq x.day y.day && (pointwise outcome_eq.it x.outcomes y.outcomes && pointwise lot_eq.it x.lots y.lots))))
+
+abbrev pub is_same_import : ImportRow → ImportRow → Bool
+is_same_import x y = is_same_child x.child y.child && (nat_eq x.day y.day && pointwise (pointwise nat_eq) x.preferences y.preferences)
 
 -- whether a row is not the one that is there
 abbrev pub is_other : {V : Type 0} → (V → V → Bool) → Option V → V → Bool

@@ -1,7 +1,9 @@
 // Rows that have their keys in them, and where.
 ghost use Rattle.std.specs.Prelude.{◌≡◌};
 
-use adm_types::{Application, Child, ChildNo, Draw, LeftPair, PlaceRow, School, SchoolCode};
+use adm_types::{
+    Application, Child, ChildNo, Draw, ImportRow, LeftPair, PlaceRow, School, SchoolCode,
+};
 
 /// A row that has its key in it.
 pub trait Keyed<K> {
@@ -41,6 +43,14 @@ impl Keyed<ChildNo> for PlaceRow {
 
     fn key(&self) -> ChildNo {
         self.child
+    }
+}
+
+impl Keyed<ChildNo> for ImportRow {
+    ghost key = { λ row. row.child.no };
+
+    fn key(&self) -> ChildNo {
+        self.child.no
     }
 }
 

@@ -1,9 +1,9 @@
 // Whether two rows are the same.
 ghost use Rattle.std.specs.Prelude.{◌≡◌, Bool};
-ghost use Rattle.adm_table.specs.Same.{is_same_school, is_same_child, is_same_application, is_same_place, is_same_left, is_same_draw};
+ghost use Rattle.adm_table.specs.Same.{is_same_school, is_same_child, is_same_application, is_same_place, is_same_left, is_same_draw, is_same_import};
 
 use crate::Shared;
-use adm_types::{Application, Child, Draw, LeftPair, PlaceRow, School};
+use adm_types::{Application, Child, Draw, ImportRow, LeftPair, PlaceRow, School};
 
 /// A row that can be compared with another.
 pub trait Same {
@@ -75,6 +75,16 @@ impl Same for Draw {
             && self.day == other.day
             && self.outcomes.as_slice() == other.outcomes.as_slice()
             && self.lots.as_slice() == other.lots.as_slice()
+    }
+}
+
+impl Same for ImportRow {
+    ghost same = { is_same_import };
+
+    fn is_same(&self, other: &ImportRow) -> bool {
+        self.child.is_same(&other.child)
+            && self.day == other.day
+            && self.preferences.as_slice() == other.preferences.as_slice()
     }
 }
 

@@ -1,5 +1,5 @@
 // What a register is asked to do, what it answers, and why it refuses.
-use crate::{Application, Child, ChildNo, Day, School, SchoolCode, Seq};
+use crate::{Application, Child, ChildNo, Day, ImportRow, School, SchoolCode, Seq};
 
 /// A command to the register.
 #[derive(Drop)]
@@ -47,6 +47,23 @@ pub enum Command {
         school: SchoolCode,
         day: Day,
     },
+    /// Takes a child off the waiting list of a school.
+    LeaveList {
+        child: ChildNo,
+        school: SchoolCode,
+    },
+    /// Offers one vacancy of a school to the child that ranks first on its waiting list: the
+    /// number of the draw, the school, the day, and a lot for each child that waits there, in the
+    /// order of their numbers.
+    Fill {
+        draw: u32,
+        school: SchoolCode,
+        day: Day,
+        lots: Seq<u32>,
+    },
+    /// Adds children with their applications, all of them or none. A row that was imported before
+    /// is known, and adds nothing.
+    Import(Seq<ImportRow>),
 }
 
 /// What an accepted command answers.

@@ -10,7 +10,7 @@ use Rattle.adm_wire.specs.declared.fault.WireFault.{WireFault}
 use Rattle.adm_wire.specs.declared.fault.WireFault.TheVariants.{NotJson, UnknownCommand, WrongKind}
 use Rattle.adm_wire.specs.declared.name.Name.{Name}
 use Rattle.adm_wire.specs.declared.name.Name.TheVariants as n
-use Rattle.adm_wire.specs.Forms.{school_form, child_form, pair_form, notice_form, draw_form, application_form}
+use Rattle.adm_wire.specs.Forms.{school_form, child_form, pair_form, notice_form, draw_form, fill_form, application_form}
 use Rattle.adm_wire.specs.Kinds.{a_text}
 use Rattle.adm_wire.specs.Names.{name_of}
 use Rattle.adm_wire.specs.Reading.{◌>>=◌, some_or, field_at}
@@ -47,6 +47,12 @@ form_of n.Remind d = do
 form_of n.Lapse d = do
   p ← notice_form d
   Ok (c.Lapse p.0 p.1 p.2)
+form_of n.LeaveList d = do
+  p ← pair_form d
+  Ok (c.LeaveList p.0 p.1)
+form_of n.Fill d = do
+  f ← fill_form d
+  Ok (c.Fill f.0 f.1 f.2 f.3)
 
 -- what JSON data says
 unfoldable pub command_in : Data → Result Command WireFault

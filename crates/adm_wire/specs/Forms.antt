@@ -56,6 +56,15 @@ draw_form d = do
   ls ← field_at (a_list a_number) (codes "lots") d
   only (codes "cmd" ∷ codes "draw" ∷ codes "day" ∷ codes "lots" ∷ []) d (n, t, ls)
 
+-- a draw of lots for a vacancy of a school: its number, its school, its day and its lots
+unfoldable pub fill_form : Data → Result (ℕ × List ℕ × ℕ × List ℕ) WireFault
+fill_form d = do
+  n ← field_at a_number (codes "draw") d
+  s ← field_at a_code (codes "school") d
+  t ← field_at a_day (codes "day") d
+  ls ← field_at (a_list a_number) (codes "lots") d
+  only (codes "cmd" ∷ codes "draw" ∷ codes "school" ∷ codes "day" ∷ codes "lots" ∷ []) d (n, s, t, ls)
+
 -- an application: a child, a day and the schools of its preference
 unfoldable pub application_form : Data → Result Application WireFault
 application_form d = do

@@ -2,7 +2,7 @@
 use Rattle.std.specs.Prelude.{ℕ, List, codes, Option, Some, None, if◌then◌else◌}
 use Rattle.std.specs.Str.{bytes_eq}
 use Rattle.adm_wire.specs.declared.name.Name.{Name}
-use Rattle.adm_wire.specs.declared.name.Name.TheVariants.{AddSchool, AddChild, Amend, NamePlan, Apply, Round, Accept, Decline, Remind, Lapse}
+use Rattle.adm_wire.specs.declared.name.Name.TheVariants.{AddSchool, AddChild, Amend, NamePlan, Apply, Round, Accept, Decline, Remind, Lapse, LeaveList, Fill}
 
 -- the command that a text names
 unfoldable pub name_of : List ℕ → Option Name
@@ -16,4 +16,6 @@ name_of s =
     if bytes_eq s (codes "accept") then Some Accept else (
     if bytes_eq s (codes "decline") then Some Decline else (
     if bytes_eq s (codes "remind") then Some Remind else (
-    if bytes_eq s (codes "lapse") then Some Lapse else None)))))))))
+    if bytes_eq s (codes "lapse") then Some Lapse else (
+    if bytes_eq s (codes "leave_list") then Some LeaveList else (
+    if bytes_eq s (codes "fill") then Some Fill else None)))))))))))

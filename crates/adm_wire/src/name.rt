@@ -15,6 +15,8 @@ pub(crate) enum Name {
     Decline,
     Remind,
     Lapse,
+    LeaveList,
+    Fill,
 }
 
 /// The command that a text names.
@@ -33,6 +35,8 @@ pub(crate) fn read_name(text: &str) -> Option<Name>
         "decline" => Some(Name::Decline),
         "remind" => Some(Name::Remind),
         "lapse" => Some(Name::Lapse),
+        "leave_list" => Some(Name::LeaveList),
+        "fill" => Some(Name::Fill),
         _ => None,
     }
 }

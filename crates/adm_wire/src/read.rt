@@ -1,7 +1,7 @@
 // The reader of a command: bytes to JSON, JSON to a command.
 ghost use Rattle.serde_json.specs.View.{view};
 ghost use Rattle.adm_wire.specs.Commands.{form_of, command_in, command_of, json_of};
-ghost use Rattle.adm_wire.specs.Forms.{school_form, child_form, pair_form, notice_form, draw_form, application_form};
+ghost use Rattle.adm_wire.specs.Forms.{school_form, child_form, pair_form, notice_form, draw_form, fill_form, application_form};
 ghost use Rattle.adm_wire.specs.Reading.{Gives, GivesSeen, some_or};
 ghost use Rattle.adm_wire.specs.declared.fault.WireFault.TheVariants.{NotJson};
 
@@ -106,6 +106,22 @@ fn draw(alloc: Global, object: &Value) -> Result<(u32, Day, Seq<u32>), WireFault
     Ok((number, day, lots))
 }
 
+/// A draw of lots for a vacancy of a school: its number, its school, its day and its lots.
+#[tactic(auto, unfolding(crate::specs::Forms::fill_form))]
+fn fill(
+    alloc: Global,
+    object: &Value,
+) -> Result<(u32, SchoolCode, Day, Seq<u32>), WireFault>
+    ensures { Gives result (fill_form (view object.now)) }
+{
+    let number = field(alloc, object, "draw")?;
+    let school = field(alloc, object, "school")?;
+    let day = field(alloc, object, "day")?;
+    let lots = field(alloc, object, "lots")?;
+    only(object, &["cmd", "draw", "school", "day", "lots"])?;
+    Ok((number, school, day, lots))
+}
+
 /// An application: a child, a day and the schools of its preference.
 #[tactic(auto, unfolding(crate::specs::Forms::application_form))]
 fn application(alloc: Global, object: &Value) -> Result<Application, WireFault>
@@ -145,6 +161,15 @@ fn command(alloc: Global, name: Name, object: &Value) -> Result<Command, WireFau
         Name::Lapse => {
             notice(alloc, object).map(|(child, school, day)| Command::Lapse { child, school, day })
         }
+        Name::LeaveList => {
+            pair(alloc, object).map(|(child, school)| Command::LeaveList { child, school })
+        }
+        Name::Fill => fill(alloc, object).map(|(draw, school, day, lots)| Command::Fill {
+            draw,
+            school,
+            day,
+            lots,
+        }),
     }
 }
 
