@@ -108,10 +108,7 @@ fn draw(alloc: Global, object: &Value) -> Result<(u32, Day, Seq<u32>), WireFault
 
 /// A draw of lots for a vacancy of a school: its number, its school, its day and its lots.
 #[tactic(auto, unfolding(crate::specs::Forms::fill_form))]
-fn fill(
-    alloc: Global,
-    object: &Value,
-) -> Result<(u32, SchoolCode, Day, Seq<u32>), WireFault>
+fn fill(alloc: Global, object: &Value) -> Result<(u32, SchoolCode, Day, Seq<u32>), WireFault>
     ensures { Gives result (fill_form (view object.now)) }
 {
     let number = field(alloc, object, "draw")?;
