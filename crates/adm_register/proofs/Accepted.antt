@@ -84,7 +84,8 @@ add_school-fit old school kept well passes =
       places = record { places = tt; kept = λ number row there still. refl; room = room_with old school well pass.0 };
       left = record { left = tt; places = tt };
       draws = draws_stay old (add_school.change_of school) refl;
-      tidy = record { schools = tidy_put _ _ school; children = tidy_none _ _; applications = tidy_none _ _; places = tidy_none _ _; left = tidy_none _ _; draws = tidy_none _ _ };
+      imported = record { each = tt; new_rows = tt };
+      tidy = record { schools = tidy_put _ _ school; children = tidy_none _ _; applications = tidy_none _ _; places = tidy_none _ _; left = tidy_none _ _; draws = tidy_none _ _; imported = tidy_none _ _ };
     }
 
 -- a child that fits is put
@@ -94,7 +95,8 @@ put_child-fit old child well fits few = record {
   places = places_stay old (child ∷ []) well;
   left = record { left = tt; places = tt };
   draws = draws_stay old (put_child child) refl;
-  tidy = record { schools = tidy_none _ _; children = tidy_put _ _ child; applications = tidy_none _ _; places = tidy_none _ _; left = tidy_none _ _; draws = tidy_none _ _ };
+  imported = record { each = tt; new_rows = tt };
+  tidy = record { schools = tidy_none _ _; children = tidy_put _ _ child; applications = tidy_none _ _; places = tidy_none _ _; left = tidy_none _ _; draws = tidy_none _ _; imported = tidy_none _ _ };
 }
 
 pub add_child-fit : (old : State) (child : Child) → KeptByChild child → WellFormed old → first_failing (add_child.tests old child) ≡ None → Fit old (put_child child)
@@ -144,7 +146,8 @@ name_plan-fit old child school well passes =
       };
       left = record { left = tt; places = (refl, tt) };
       draws = draws_stay old (name_plan.change_of child school) refl;
-      tidy = record { schools = tidy_none _ _; children = tidy_none _ _; applications = tidy_cut _ _ child; places = tidy_put _ _ row; left = tidy_none _ _; draws = tidy_none _ _ };
+      imported = record { each = tt; new_rows = tt };
+      tidy = record { schools = tidy_none _ _; children = tidy_none _ _; applications = tidy_cut _ _ child; places = tidy_put _ _ row; left = tidy_none _ _; draws = tidy_none _ _; imported = tidy_none _ _ };
     }
 
 -- a child without a plan and without an application has no place
@@ -190,5 +193,6 @@ apply-fit old application since well passes =
       };
       left = record { left = tt; places = tt };
       draws = draws_stay old (apply.change_of application) refl;
-      tidy = record { schools = tidy_none _ _; children = tidy_none _ _; applications = tidy_put _ _ application; places = tidy_none _ _; left = tidy_none _ _; draws = tidy_none _ _ };
+      imported = record { each = tt; new_rows = tt };
+      tidy = record { schools = tidy_none _ _; children = tidy_none _ _; applications = tidy_put _ _ application; places = tidy_none _ _; left = tidy_none _ _; draws = tidy_none _ _; imported = tidy_none _ _ };
     }

@@ -18,6 +18,7 @@ use Rattle.std.proofs.lemmas.List.Kept.{IsStrictlySortedBy-filter}
 use Rattle.adm_types.specs.declared.rows.School.{School}
 use Rattle.adm_types.specs.declared.rows.Child.{Child}
 use Rattle.adm_types.specs.declared.rows.Application.{Application}
+use Rattle.adm_types.specs.declared.rows.ImportRow.{ImportRow}
 use Rattle.adm_types.specs.declared.rows.PlaceRow.{PlaceRow}
 use Rattle.adm_types.specs.declared.rows.LeftPair.{LeftPair}
 use Rattle.adm_types.specs.declared.draws.Draw.{Draw}
@@ -26,14 +27,14 @@ use Rattle.adm_register.specs.State.{State}
 use Rattle.adm_table.specs.TableRows.{row_at, put_at, cut_at}
 use Rattle.adm_register.specs.Change.{put_all, cut_all, after}
 use Rattle.adm_register.specs.Difference.{AreNew, IsDifference, differing}
-use Rattle.adm_table.specs.Same.{is_other, is_same_school, is_same_child, is_same_application, is_same_place, is_same_left, is_same_draw}
+use Rattle.adm_table.specs.Same.{is_other, is_same_school, is_same_child, is_same_application, is_same_place, is_same_left, is_same_draw, is_same_import}
 use Rattle.adm_register.specs.WellFormed.{WellFormed, AllRows}
 use Rattle.adm_register.proofs.TableMaps.{get_rows, entries_rows}
 use Rattle.adm_register.proofs.Maps.{code_cmp-IsAntisymmetric, left_cmp-total, left_cmp-IsAntisymmetric, none_of, same_key}
 use Rattle.adm_register.proofs.EachRow.{none_at}
 use Rattle.adm_register.proofs.SameRows.{entries_in_order, map_of_entries, entries_at_own_keys}
 use Rattle.adm_register.proofs.Puts.{get-put_all, get-cut_all, there_before}
-use Rattle.adm_register.proofs.SameLemmas.{same_school, same_child, same_application, same_place, same_left, same_draw, other_row}
+use Rattle.adm_register.proofs.SameLemmas.{same_school, same_child, same_application, same_place, same_left, same_draw, same_import, other_row}
 use Rattle.adm_register.proofs.Tidy.{IsTidyIn, IsTidy}
 
 not_Some : {A : Type 0} (x : A) → None ≡ Some x → ⊥
@@ -283,6 +284,7 @@ differing_is old change well tidy = record {
   places = exactly_new nat_cmp_total nat_cmp-IsAntisymmetric (λ (p : PlaceRow). p.child) is_same_place same_place old.places (λ k p there. (well.places.each k p there).own_number) change.vacated change.places tidy.places;
   left = exactly_new left_cmp-total left_cmp-IsAntisymmetric (λ (p : LeftPair). p) is_same_left same_left old.left (λ k p there. (well.left k p there).own_key) [] change.left tidy.left;
   draws = exactly_new nat_cmp_total nat_cmp-IsAntisymmetric (λ (d : Draw). d.number) is_same_draw same_draw old.draws (λ k d there. (well.draws.each k d there).own_number) [] change.draws tidy.draws;
+  imported = exactly_new nat_cmp_total nat_cmp-IsAntisymmetric (λ (r : ImportRow). r.child.no) is_same_import same_import old.imported (λ k r there. (well.imported k r there).child.own_number) [] change.imported tidy.imported;
   ended = exactly_ended nat_cmp_total nat_cmp-IsAntisymmetric (λ (a : Application). a.child) old.applications (λ k a there. (well.base.applications_fit k a there).own_number) change.ended change.applications tidy.applications;
   vacated = exactly_ended nat_cmp_total nat_cmp-IsAntisymmetric (λ (p : PlaceRow). p.child) old.places (λ k p there. (well.places.each k p there).own_number) change.vacated change.places tidy.places;
 }

@@ -12,14 +12,15 @@ use Rattle.adm_types.specs.Seasons.{lists_end}
 use Rattle.adm_types.specs.declared.rows.School.{School}
 use Rattle.adm_types.specs.declared.rows.Child.{Child}
 use Rattle.adm_types.specs.declared.rows.Application.{Application}
+use Rattle.adm_types.specs.declared.rows.ImportRow.{ImportRow}
 use Rattle.adm_types.specs.declared.rows.PlaceRow.{PlaceRow}
 use Rattle.adm_types.specs.declared.rows.LeftPair.{LeftPair}
 use Rattle.adm_types.specs.declared.draws.Draw.{Draw}
 use Rattle.adm_register.specs.declared.difference.Difference.{Difference}
-use Rattle.adm_register.specs.State.{State, code_cmp, is_plan}
+use Rattle.adm_register.specs.State.{State, code_cmp, is_plan, application_of}
 use Rattle.adm_register.specs.Change.{put_all, cut_all, after}
 use Rattle.adm_register.specs.Extends.{Extends, KeepsSchools}
-use Rattle.adm_register.specs.WellFormed.{WellFormed, AllRows, BaseFits, PlacesFit, LeftFits, DrawsFit, has_round, held_at, is_entitled, lists_school, SchoolFits, ChildFits, ApplicationFits, PlaceFits, LeftPairFits, is_held}
+use Rattle.adm_register.specs.WellFormed.{WellFormed, AllRows, BaseFits, PlacesFit, LeftFits, DrawsFit, ImportedFit, has_round, held_at, is_entitled, lists_school, SchoolFits, ChildFits, ApplicationFits, PlaceFits, LeftPairFits, ImportFits, is_held}
 use Rattle.adm_register.proofs.Maps.{both_true, code_cmp-IsAntisymmetric, left_cmp-total, left_cmp-IsAntisymmetric}
 use Rattle.adm_register.specs.Draws.{DrawFits, are_in_order, no_draws, with_draws}
 use Rattle.adm_register.proofs.DrawLemmas.{DrawFits-grows, values_put, new_draws, are_in_order-append}
@@ -56,12 +57,18 @@ pub record DrawsPut (old : State) (change : Difference) : Type 0 where
   pub each : AllByRecursion (λ (d : Draw). DrawFits (after old change).schools (after old change).children d.number d) change.draws
   pub in_order : are_in_order old.season (with_draws no_draws (values old.draws)) change.draws ≡ true
 
+-- the imported rows that are put fit the rows after the change, and are new
+pub record ImportedPut (old : State) (change : Difference) : Type 0 where
+  pub each : AllByRecursion (λ (r : ImportRow). ImportFits (lists_end old.season) (after old change).schools (after old change).children r.child.no r) change.imported
+  pub new_rows : AllByRecursion (λ (r : ImportRow). not (contains_key old.imported r.child.no) ≡ true) change.imported
+
 -- a change whose rows fit
 pub record Fit (old : State) (change : Difference) : Type 0 where
   pub base : BasePut old change
   pub places : PlacesPut old change
   pub left : LeftPut old change
   pub draws : DrawsPut old change
+  pub imported : ImportedPut old change
   pub tidy : IsTidy change
 
 -- rows fit still where the rows that they name are there still
@@ -85,6 +92,12 @@ module _ (schools new_schools : FinMap code_cmp School) (children new_children :
     list_length = fits.list_length;
     without_repeat = fits.without_repeat;
     known = are_schools-grows schools new_schools more_schools a.list fits.known;
+  }
+
+  ImportFits-grows : (last number : ℕ) (r : ImportRow) → ImportFits last schools children number r → ImportFits last new_schools new_children number r
+  ImportFits-grows last number r fits = record {
+    child = ChildFits-grows schools new_schools more_schools number r.child fits.child;
+    application = ApplicationFits-grows last number (application_of r) fits.application;
   }
 
   PlaceFits-grows : (applications new_applications : FinMap nat_cmp Application) (held new_held : Bool) → (held ≡ true → new_held ≡ true) → (number : ℕ) (row : PlaceRow) → get new_applications row.child ≡ get applications row.child
@@ -214,9 +227,14 @@ module _ (old : State) (change : Difference) where
       free pair here None is = ap (λ o. not (is_held o pair.school)) is
       free pair here (Some row) is = ap (λ o. not (is_held o pair.school)) is ∙ ap not (not_held left put pair.child row is pair.school here)
 
+  -- the imported rows fit after the change
+  imported_fit : ImportedFit old.season old.schools old.children old.imported → ImportedPut old change → ImportedFit new.season new.schools new.children new.imported
+  imported_fit imported put = AllRows-put_all nat_cmp_total nat_cmp-IsAntisymmetric (λ (r : ImportRow). r.child.no) (ImportFits (lists_end old.season) new.schools new.children) old.imported change.imported
+      (λ number row there still. ImportFits-grows old.schools new.schools old.children new.children more_schools more_children (lists_end old.season) number row (imported number row there)) put.each
+
   -- so the state after the change is a register
   pub after-keeps : WellFormed old → Fit old change → WellFormed new
-  after-keeps well fit = record { base = base_fits well.base fit.base; places = places_fit well.places fit.places; left = left_fit well.left fit.left; draws = draws_fit well.draws fit.draws }
+  after-keeps well fit = record { base = base_fits well.base fit.base; places = places_fit well.places fit.places; left = left_fit well.left fit.left; draws = draws_fit well.draws fit.draws; imported = imported_fit well.imported fit.imported }
 
   -- and what every command leaves is as it was
   pub after-extends : WellFormed old → Fit old change → Extends old new
@@ -227,6 +245,7 @@ module _ (old : State) (change : Difference) where
     left = put_all-grows left_cmp-total (λ (p : LeftPair). p) old.left change.left;
     draws = all_stay nat_cmp_total nat_cmp-IsAntisymmetric (λ (d : Draw). d.number) old.draws change.draws
         (new_draws old.draws old.season change.draws (λ number draw there. (well.draws.each number draw there).own_number) well.draws.in_order fit.draws.in_order);
+    imported = all_stay nat_cmp_total nat_cmp-IsAntisymmetric (λ (r : ImportRow). r.child.no) old.imported change.imported fit.imported.new_rows;
   }
 
   -- no school is changed where those that are put are new

@@ -9,7 +9,7 @@ use Rattle.adm_types.specs.declared.rows.School.{School}
 use Rattle.adm_types.specs.declared.rows.Child.{Child}
 use Rattle.adm_types.specs.declared.commands.Refusal.{Refusal}
 use Rattle.adm_register.specs.State.{code_cmp, left_cmp, only_season}
-use Rattle.adm_register.specs.WellFormed.{WellFormed, SchoolFits, ChildFits, ApplicationFits, PlaceFits, LeftPairFits, has_round, held_at}
+use Rattle.adm_register.specs.WellFormed.{WellFormed, SchoolFits, ChildFits, ApplicationFits, PlaceFits, LeftPairFits, ImportFits, has_round, held_at}
 use Rattle.adm_register.specs.Draws.{DrawFits, are_in_order, no_draws}
 use Rattle.adm_types.specs.declared.draws.Draw.{Draw}
 use Rattle.adm_register.specs.Tests.{first_failing, AllPass}
@@ -28,6 +28,7 @@ only_season-WellFormed season is = record {
   places = record { each = AllRows-empty nat_cmp (PlaceFits empty empty empty (has_round empty)); room = AllRows-empty code_cmp (λ code (school : School). held_at empty code ≤ school.pan) };
   left = AllRows-empty left_cmp (LeftPairFits empty empty empty);
   draws = record { each = AllRows-empty nat_cmp (DrawFits empty empty); in_order = ap (are_in_order season no_draws) (values-empty nat_cmp Draw) };
+  imported = AllRows-empty nat_cmp (ImportFits (lists_end season) empty empty);
 }
 
 -- where no test is the first that fails, all pass

@@ -26,6 +26,7 @@ pub mod ApplicationChecks
 pub mod PlaceChecks
 pub mod LeftChecks
 pub mod DrawChecks
+pub mod ImportChecks
 pub mod RowsAgain
 pub mod SameLemmas
 pub mod RoundLemmas

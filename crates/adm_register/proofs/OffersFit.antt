@@ -94,7 +94,8 @@ put_again old child school state well there here held other fits =
       };
       left = record { left = tt; places = (ap (λ b. b || not (has_left old.left child school)) other ∙ not_left old child school well held, tt) };
       draws = draws_stay old (record no_change { places = row ∷ [] }) refl;
-      tidy = record { schools = tidy_none _ _; children = tidy_none _ _; applications = tidy_none _ _; places = tidy_put _ _ row; left = tidy_none _ _; draws = tidy_none _ _ };
+      imported = record { each = tt; new_rows = tt };
+      tidy = record { schools = tidy_none _ _; children = tidy_none _ _; applications = tidy_none _ _; places = tidy_put _ _ row; left = tidy_none _ _; draws = tidy_none _ _; imported = tidy_none _ _ };
     }
 
 -- a place that is held ends, and its school is left
@@ -118,7 +119,8 @@ give_up old child school well there here =
         places = tt;
       };
       draws = draws_stay old (decline.change_of child school) refl;
-      tidy = record { schools = tidy_none _ _; children = tidy_none _ _; applications = tidy_none _ _; places = tidy_cut _ _ child; left = tidy_put _ _ pair; draws = tidy_none _ _ };
+      imported = record { each = tt; new_rows = tt };
+      tidy = record { schools = tidy_none _ _; children = tidy_none _ _; applications = tidy_none _ _; places = tidy_cut _ _ child; left = tidy_put _ _ pair; draws = tidy_none _ _; imported = tidy_none _ _ };
     }
 
 pub accept-fit : (old : State) (child : ℕ) (school : List ℕ) → WellFormed old → first_failing (accept.tests old child school) ≡ None → Fit old (accept.change_of child school)

@@ -40,6 +40,7 @@ round-fit old draw day numbers outcomes well kept passes law posed best =
       };
       left = record { left = tt; places = offers_apart facts day };
       draws = record { each = (draw_fits facts draw day kept pass.1.1.1.1.0, tt); in_order = λ i. next i && true };
+      imported = record { each = tt; new_rows = tt };
       tidy = record {
         schools = tidy_none _ _;
         children = tidy_none _ _;
@@ -47,5 +48,6 @@ round-fit old draw day numbers outcomes well kept passes law posed best =
         places = record { put_sorted = offers_rise facts day; cut_sorted = tt; apart = tt };
         left = tidy_none _ _;
         draws = tidy_put _ _ it;
+        imported = tidy_none _ _;
       };
     }

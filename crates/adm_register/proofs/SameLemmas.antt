@@ -12,6 +12,7 @@ use Rattle.adm_types.specs.declared.rows.PlaceState.TheVariants.{Offered, Accept
 use Rattle.adm_types.specs.declared.rows.School.{School}
 use Rattle.adm_types.specs.declared.rows.Child.{Child}
 use Rattle.adm_types.specs.declared.rows.Application.{Application}
+use Rattle.adm_types.specs.declared.rows.ImportRow.{ImportRow}
 use Rattle.adm_types.specs.declared.rows.PlaceRow.{PlaceRow}
 use Rattle.adm_types.specs.declared.rows.LeftPair.{LeftPair}
 use Rattle.adm_types.specs.declared.draws.Draw.{Draw}
@@ -21,7 +22,7 @@ use Rattle.adm_types.specs.contracts.draws.OutcomePartialEq.TheImpl.{eq-value as
 use Rattle.adm_types.specs.contracts.draws.LotPartialEq.TheImpl.{eq-value as lot_eq}
 use Rattle.adm_types.specs.contracts.rows.CriterionPartialEq.TheImpl.{eq-value as criterion_eq}
 use Rattle.adm_types.specs.contracts.rows.PlaceStatePartialEq.TheImpl.{eq-value as state_eq}
-use Rattle.adm_table.specs.Same.{is_same_school, is_same_child, is_same_application, is_same_place, is_same_left, is_same_draw, is_other}
+use Rattle.adm_table.specs.Same.{is_same_school, is_same_child, is_same_application, is_same_place, is_same_left, is_same_draw, is_same_import, is_other}
 
 not_true : {A : Type 0} → false ≡ true → A
 not_true e = absurd (true≢false (sym e))
@@ -155,6 +156,18 @@ same_application = decided is_same_application
       list = (same_codes x.list y.list).0 day.1 i;
     })
     (λ x i. (same_nat x.child x.child).1 refl i && ((same_nat x.day x.day).1 refl i && (same_codes x.list x.list).1 refl i))
+
+pub same_import : (x y : ImportRow) → (is_same_import x y ≡ true) ↔ (x ≡ y)
+same_import = decided is_same_import
+    (λ x y e.
+    let child = split _ _ e in
+    let day = split _ _ child.1 in
+    λ i. record {
+      child = (same_child x.child y.child).0 child.0 i;
+      day = (same_nat x.day y.day).0 day.0 i;
+      preferences = (same_codes x.preferences y.preferences).0 day.1 i;
+    })
+    (λ x i. (same_child x.child x.child).1 refl i && ((same_nat x.day x.day).1 refl i && (same_codes x.preferences x.preferences).1 refl i))
 
 pub same_place : (x y : PlaceRow) → (is_same_place x y ≡ true) ↔ (x ≡ y)
 same_place = decided is_same_place

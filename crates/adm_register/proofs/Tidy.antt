@@ -7,6 +7,7 @@ use Rattle.std.specs.List.Sorted.{IsStrictlySortedBy}
 use Rattle.adm_types.specs.declared.rows.School.{School}
 use Rattle.adm_types.specs.declared.rows.Child.{Child}
 use Rattle.adm_types.specs.declared.rows.Application.{Application}
+use Rattle.adm_types.specs.declared.rows.ImportRow.{ImportRow}
 use Rattle.adm_types.specs.declared.rows.PlaceRow.{PlaceRow}
 use Rattle.adm_types.specs.declared.rows.LeftPair.{LeftPair}
 use Rattle.adm_types.specs.declared.draws.Draw.{Draw}
@@ -26,6 +27,7 @@ pub record IsTidy (change : Difference) : Type 0 where
   pub places : IsTidyIn nat_cmp (λ (p : PlaceRow). p.child) change.vacated change.places
   pub left : IsTidyIn left_cmp (λ (p : LeftPair). p) [] change.left
   pub draws : IsTidyIn nat_cmp (λ (d : Draw). d.number) [] change.draws
+  pub imported : IsTidyIn nat_cmp (λ (r : ImportRow). r.child.no) [] change.imported
 
 -- nothing is tidy, and so is one row, or one key
 module _ {K V : Type 0} (R : K → K → Ordering) (key : V → K) where

@@ -5,6 +5,7 @@ use Rattle.std.specs.FinMap.{FinMap, insert, remove}
 use Rattle.adm_types.specs.declared.rows.School.{School}
 use Rattle.adm_types.specs.declared.rows.Child.{Child}
 use Rattle.adm_types.specs.declared.rows.Application.{Application}
+use Rattle.adm_types.specs.declared.rows.ImportRow.{ImportRow}
 use Rattle.adm_types.specs.declared.rows.PlaceRow.{PlaceRow}
 use Rattle.adm_types.specs.declared.rows.LeftPair.{LeftPair}
 use Rattle.adm_types.specs.declared.draws.Draw.{Draw}
@@ -23,7 +24,7 @@ cut_all rows (key ∷ more) = cut_all (remove rows key) more
 
 -- nothing is put and nothing is cut
 abbrev pub no_change : Difference
-no_change = record { schools = []; children = []; applications = []; places = []; left = []; draws = []; ended = []; vacated = [] }
+no_change = record { schools = []; children = []; applications = []; places = []; left = []; draws = []; imported = []; ended = []; vacated = [] }
 
 -- a child's data are put, in place of those that were there
 abbrev pub put_child : Child → Difference
@@ -39,4 +40,5 @@ after old change = record {
   places = put_all (λ (p : PlaceRow). p.child) (cut_all old.places change.vacated) change.places;
   left = put_all (λ (p : LeftPair). p) old.left change.left;
   draws = put_all (λ (d : Draw). d.number) old.draws change.draws;
+  imported = put_all (λ (r : ImportRow). r.child.no) old.imported change.imported;
 }

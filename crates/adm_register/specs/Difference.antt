@@ -5,12 +5,13 @@ use Rattle.std.specs.FinMap.{FinMap, get, values, contains_key}
 use Rattle.adm_types.specs.declared.rows.School.{School}
 use Rattle.adm_types.specs.declared.rows.Child.{Child}
 use Rattle.adm_types.specs.declared.rows.Application.{Application}
+use Rattle.adm_types.specs.declared.rows.ImportRow.{ImportRow}
 use Rattle.adm_types.specs.declared.rows.PlaceRow.{PlaceRow}
 use Rattle.adm_types.specs.declared.rows.LeftPair.{LeftPair}
 use Rattle.adm_types.specs.declared.draws.Draw.{Draw}
 use Rattle.adm_register.specs.State.{State}
 use Rattle.adm_register.specs.declared.difference.Difference.{Difference}
-use Rattle.adm_table.specs.Same.{is_other, is_same_school, is_same_child, is_same_application, is_same_place, is_same_left, is_same_draw}
+use Rattle.adm_table.specs.Same.{is_other, is_same_school, is_same_child, is_same_application, is_same_place, is_same_left, is_same_draw, is_same_import}
 
 -- the list is just the rows of the new map that the old one has not, in the order of their keys
 pub record AreNew {K V : Type 0} {R : K → K → Ordering} (key : V → K) (old new : FinMap R V) (rows : List V) : Type 0 where
@@ -34,6 +35,7 @@ pub record IsDifference (old new : State) (difference : Difference) : Type 0 whe
   pub places : AreNew (λ (p : PlaceRow). p.child) old.places new.places difference.places
   pub left : AreNew (λ (p : LeftPair). p) old.left new.left difference.left
   pub draws : AreNew (λ (d : Draw). d.number) old.draws new.draws difference.draws
+  pub imported : AreNew (λ (r : ImportRow). r.child.no) old.imported new.imported difference.imported
   pub ended : difference.ended ≡ map (λ (a : Application). a.child) (ended old new)
   pub vacated : difference.vacated ≡ map (λ (p : PlaceRow). p.child) (vacated old new)
 
@@ -46,6 +48,7 @@ differing old change = record {
   places = filter (λ (p : PlaceRow). is_other is_same_place (get old.places p.child) p) change.places;
   left = filter (λ (p : LeftPair). is_other is_same_left (get old.left p) p) change.left;
   draws = filter (λ (d : Draw). is_other is_same_draw (get old.draws d.number) d) change.draws;
+  imported = filter (λ (r : ImportRow). is_other is_same_import (get old.imported r.child.no) r) change.imported;
   ended = filter (contains_key old.applications) change.ended;
   vacated = filter (contains_key old.places) change.vacated;
 }

@@ -24,6 +24,7 @@ rows_in_order s = record {
   draws = map row_of (values s.draws);
   offers = flat_map offers_of (values s.draws);
   lots = flat_map lots_of (values s.draws);
+  imported = values s.imported;
 }
 
 -- these are the rows of the state, in any order
@@ -35,6 +36,7 @@ pub record AreRowsOf (rows : Rows) (s : State) : Type 0 where
   pub places : IsPermutation rows.places (values s.places)
   pub left : IsPermutation rows.left (values s.left)
   pub draws : drawn.AreRowsOf rows.draws rows.offers rows.lots (values s.draws)
+  pub imported : IsPermutation rows.imported (values s.imported)
 
 -- the child's place
 abbrev pub place_of : State → ℕ → Option Place

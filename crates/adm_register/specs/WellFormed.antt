@@ -12,13 +12,14 @@ use Rattle.adm_types.specs.Limits.{is_from, is_child_number, first_day, last_day
 use Rattle.adm_types.specs.declared.rows.School.{School}
 use Rattle.adm_types.specs.declared.rows.Child.{Child}
 use Rattle.adm_types.specs.declared.rows.Application.{Application}
+use Rattle.adm_types.specs.declared.rows.ImportRow.{ImportRow}
 use Rattle.adm_types.specs.declared.rows.Place.{Place}
 use Rattle.adm_types.specs.declared.rows.PlaceState.{PlaceState}
 use Rattle.adm_types.specs.declared.rows.PlaceState.TheVariants.{Offered, Accepted, Plan}
 use Rattle.adm_types.specs.declared.rows.PlaceRow.{PlaceRow}
 use Rattle.adm_types.specs.declared.rows.LeftPair.{LeftPair}
 use Rattle.adm_types.specs.declared.draws.Draw.{Draw}
-use Rattle.adm_register.specs.State.{State, code_cmp, left_cmp, is_plan}
+use Rattle.adm_register.specs.State.{State, code_cmp, left_cmp, is_plan, application_of}
 use Rattle.adm_table.specs.Same.{is_same_left}
 use Rattle.adm_register.specs.Draws.{DrawFits, are_in_order, no_draws}
 
@@ -167,9 +168,23 @@ pub record DrawsFit (season : SeasonFacts) (schools : FinMap code_cmp School) (c
   pub each : AllRows (DrawFits schools children) draws
   pub in_order : IsTrue (are_in_order season no_draws (values draws))
 
+-- an imported row stands at its child's number, and the child and its application could be added
+pub record ImportFits (last_day : ℕ) (schools : FinMap code_cmp School) (children : FinMap nat_cmp Child) (number : ℕ) (row : ImportRow) : Type 0 where
+  pub child : ChildFits schools number row.child
+  pub application : ApplicationFits last_day schools children number (application_of row)
+
+-- the test of it
+abbrev pub fits_import : ℕ → FinMap code_cmp School → FinMap nat_cmp Child → ℕ → ImportRow → Bool
+fits_import last_day schools children number row = fits_child schools number row.child && fits_application last_day schools children number (application_of row)
+
+-- each imported row fits the rows that it names
+abbrev pub ImportedFit : SeasonFacts → FinMap code_cmp School → FinMap nat_cmp Child → FinMap nat_cmp ImportRow → Type 0
+ImportedFit season schools children imported = AllRows (ImportFits (lists_end season) schools children) imported
+
 -- each group of rows fits, and what they read of the others
 pub record WellFormed (s : State) : Type 0 where
   pub base : BaseFits s.season s.schools s.children s.applications
   pub places : PlacesFit s.schools s.children s.applications s.places (has_round s.draws)
   pub left : LeftFits s.schools s.children s.places s.left
   pub draws : DrawsFit s.season s.schools s.children s.draws
+  pub imported : ImportedFit s.season s.schools s.children s.imported

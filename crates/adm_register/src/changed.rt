@@ -30,6 +30,9 @@ impl Tables {
                 .with_all(alloc, change.vacated.as_slice(), change.places.as_slice())?,
             left: self.left.with_all(alloc, &[], change.left.as_slice())?,
             draws: self.draws.with_all(alloc, &[], change.draws.as_slice())?,
+            imported: self
+                .imported
+                .with_all(alloc, &[], change.imported.as_slice())?,
         })
     }
 
@@ -48,6 +51,7 @@ impl Tables {
             places,
             left,
             draws,
+            imported,
             ended,
             vacated,
         } = change;
@@ -58,6 +62,7 @@ impl Tables {
             places: self.places.lacked(alloc, places)?,
             left: self.left.lacked(alloc, left)?,
             draws: self.draws.lacked(alloc, draws)?,
+            imported: self.imported.lacked(alloc, imported)?,
             ended: self.applications.known(alloc, ended)?,
             vacated: self.places.known(alloc, vacated)?,
         })

@@ -5,8 +5,7 @@ ghost use Rattle.std.specs.FinMap.{get, len};
 ghost use Rattle.std.specs.List.Sorted.{IsStrictlySortedBy};
 ghost use Rattle.std.specs.Map.{keys_of};
 ghost use Rattle.adm_types.specs.Limits.{most_schools, most_children};
-ghost use Rattle.adm_types.specs.Seasons.{lists_end};
-ghost use Rattle.adm_register.specs.WellFormed.{WellFormed, fits_school_with, is_school, fits_child, is_child, fits_application, is_application, fits_place, is_place, fits_left, is_left, is_state, is_entitled, has_round};
+ghost use Rattle.adm_register.specs.WellFormed.{WellFormed, fits_school_with, is_school, fits_place, is_place, fits_left, is_left, is_state, is_entitled, has_round};
 ghost use Rattle.adm_register.specs.Draws.{are_in_order, no_draws, fits_known_draw, is_known_draw, is_choice, is_known_outcome, is_known_lot};
 ghost use Rattle.adm_draws.specs.Draws.{is_draw};
 
@@ -14,18 +13,12 @@ use crate::draws_so_far::are_in_order;
 use crate::tables::{Tables, is_plan};
 use adm_draws::is_draw;
 use adm_table::{Piece, Shared, Table};
-use adm_types::limits::{
-    MOST_CHILDREN, MOST_SCHOOLS, is_child_in_range, is_listed, is_name, is_school_in_range,
-    is_without_repeat,
-};
-use adm_types::{
-    Application, Child, ChildNo, Draw, LeftPair, Lot, Outcome, PlaceRow, PlaceState, School,
-    SchoolCode,
-};
+use adm_types::limits::{MOST_CHILDREN, MOST_SCHOOLS, is_listed, is_name, is_school_in_range};
+use adm_types::{ChildNo, Draw, LeftPair, Lot, Outcome, PlaceRow, PlaceState, School, SchoolCode};
 use std::alloc::{AllocError, Global};
 
 /// A row that is tested beside the other rows of its register.
-trait Checked<K> {
+pub(crate) trait Checked<K> {
     ghost use Rattle.std.specs.Prelude.{Bool};
     ghost use Rattle.adm_register.specs.State.{State};
 
@@ -50,6 +43,7 @@ pub(crate) fn is_well_formed(alloc: Global, tables: &Tables) -> Result<bool, All
         all_fit(tables, &tables.places),
         all_fit(tables, &tables.left),
         all_fit(tables, &tables.draws),
+        all_fit(tables, &tables.imported),
         all_formed(alloc, &draws)?,
         are_in_order(tables.season(), &draws),
     ]))
@@ -129,49 +123,6 @@ fn is_school(school: &School) -> bool
     let _code = school.code.as_str();
     let _text = school.name.as_str();
     is_name(&school.name) && is_school_in_range(school)
-}
-
-impl Checked<ChildNo> for Child {
-    ghost fits = { λ s. fits_child s.schools };
-
-    fn fits_in(&self, tables: &Tables, number: &ChildNo) -> bool {
-        self.no == *number && is_child(tables, self)
-    }
-}
-
-/// Whether a child's name and numbers are in their limits, and its siblings' schools are there.
-fn is_child(tables: &Tables, child: &Child) -> bool
-    ensures { result ≡ is_child tables.now.schools child.now }
-{
-    let _number = child.no.get();
-    let _text = child.name.as_str();
-    let _flags = child.flags;
-    is_name(&child.name)
-        && is_child_in_range(child)
-        && tables.are_schools(child.siblings.as_slice())
-}
-
-impl Checked<ChildNo> for Application {
-    ghost fits = { λ s. fits_application (lists_end s.season) s.schools s.children };
-
-    fn fits_in(&self, tables: &Tables, number: &ChildNo) -> bool {
-        self.child == *number && is_application(tables, self)
-    }
-}
-
-/// Whether the child is there, the day is one of the lists, and there are 1 to 6 schools that are
-/// there, none twice.
-fn is_application(tables: &Tables, application: &Application) -> bool
-    ensures { result ≡ is_application (lists_end tables.now.season) tables.now.schools tables.now.children application.now }
-{
-    let _day = application.day.number();
-    let list = application.list.as_slice();
-    let count = 1 <= list.len() && list.len() <= 6;
-    tables.has_child(application.child)
-        && application.day <= tables.season().lists_end()
-        && count
-        && is_without_repeat(list)
-        && tables.are_schools(list)
 }
 
 impl Checked<ChildNo> for PlaceRow {

@@ -4,8 +4,8 @@ ghost use Rattle.adm_register.specs.Change.{no_change};
 
 use adm_table::Shared;
 use adm_types::{
-    Application, Child, ChildNo, Day, Draw, LeftPair, Place, PlaceRow, PlaceState, School,
-    SchoolCode, Seq,
+    Application, Child, ChildNo, Day, Draw, ImportRow, LeftPair, Place, PlaceRow, PlaceState,
+    School, SchoolCode, Seq,
 };
 use std::alloc::{AllocError, Global};
 
@@ -19,6 +19,7 @@ pub struct Difference {
     pub places: Seq<PlaceRow>,
     pub left: Seq<LeftPair>,
     pub draws: Seq<Shared<Draw>>,
+    pub imported: Seq<Shared<ImportRow>>,
     /// The children that had an application and have none.
     pub ended: Seq<ChildNo>,
     /// The children that had a place and have none.
@@ -37,6 +38,7 @@ impl Difference {
             places: Seq::new(alloc),
             left: Seq::new(alloc),
             draws: Seq::new(alloc),
+            imported: Seq::new(alloc),
             ended: Seq::new(alloc),
             vacated: Seq::new(alloc),
         }

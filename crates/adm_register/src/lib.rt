@@ -8,6 +8,7 @@ mod amend;
 mod apply;
 mod changed;
 mod checks;
+mod child_checks;
 mod child_values;
 mod commands;
 mod decline;

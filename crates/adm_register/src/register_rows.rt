@@ -1,6 +1,7 @@
 // The rows of a register, as lists.
 use adm_types::{
-    Application, Child, DrawRow, LeftPair, LotRow, OfferRow, PlaceRow, School, Season, Seq,
+    Application, Child, DrawRow, ImportRow, LeftPair, LotRow, OfferRow, PlaceRow, School, Season,
+    Seq,
 };
 
 /// The rows of a register: its season, and each table's rows.
@@ -23,4 +24,6 @@ pub struct Rows {
     pub offers: Seq<OfferRow>,
     /// The lots of all draws, by the draw's number, then by the school's code, and then by the child's number.
     pub lots: Seq<LotRow>,
+    /// The imported rows, by their children's numbers.
+    pub imported: Seq<ImportRow>,
 }

@@ -36,6 +36,7 @@ impl Tables {
             draws,
             offers,
             lots,
+            imported,
         } = rows;
         let Some(schools) = shared_table(alloc, schools)? else {
             return Ok(None);
@@ -55,6 +56,9 @@ impl Tables {
         let Some(draws) = draws_table(alloc, draws, offers, lots)? else {
             return Ok(None);
         };
+        let Some(imported) = shared_table(alloc, imported)? else {
+            return Ok(None);
+        };
         Ok(Some(Tables {
             season,
             schools,
@@ -63,6 +67,7 @@ impl Tables {
             places,
             left,
             draws,
+            imported,
         }))
     }
 
@@ -81,6 +86,7 @@ impl Tables {
             draws: Seq::from_vec(draw_rows(alloc, &draws)?),
             offers: Seq::from_vec(offer_rows(alloc, &draws)?),
             lots: Seq::from_vec(lot_rows(alloc, &draws)?),
+            imported: copied_rows(alloc, &self.imported)?,
         })
     }
 }

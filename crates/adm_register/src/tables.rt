@@ -10,8 +10,8 @@ ghost use Rattle.adm_register.specs.WellFormed.{are_schools, held_at, is_held, h
 
 use adm_table::{Keyed, Piece, Shared, Table};
 use adm_types::{
-    Application, Child, ChildNo, Draw, LeftPair, Place, PlaceRow, PlaceState, School, SchoolCode,
-    Season,
+    Application, Child, ChildNo, Draw, ImportRow, LeftPair, Place, PlaceRow, PlaceState, School,
+    SchoolCode, Season,
 };
 use std::alloc::AllocError;
 use std::marker::Model;
@@ -26,6 +26,7 @@ pub(crate) struct Tables {
     pub(crate) places: Table<ChildNo, PlaceRow>,
     pub(crate) left: Table<LeftPair, LeftPair>,
     pub(crate) draws: Table<u32, Shared<Draw>>,
+    pub(crate) imported: Table<ChildNo, Shared<ImportRow>>,
 }
 
 impl Model for Tables {
@@ -44,6 +45,7 @@ impl Model for Tables {
       places = from_entries r.places;
       left = from_entries r.left;
       draws = from_entries r.draws;
+      imported = from_entries r.imported;
     } };
 }
 
@@ -59,6 +61,7 @@ impl Tables {
             places: Table::new(),
             left: Table::new(),
             draws: Table::new(),
+            imported: Table::new(),
         }
     }
 
@@ -74,6 +77,7 @@ impl Tables {
             places: self.places.share()?,
             left: self.left.share()?,
             draws: self.draws.share()?,
+            imported: self.imported.share()?,
         })
     }
 

@@ -5,10 +5,11 @@ use Rattle.std.specs.Cmp.Lexicographic.{nat_list_cmp_total}
 use Rattle.std.specs.FinMap.{values, nat_cmp-IsAntisymmetric}
 use Rattle.std.specs.List.{list_all}
 use Rattle.adm_types.specs.Seasons.{IsSeason, lists_end}
-use Rattle.adm_register.specs.WellFormed.{fits_school_with, held_at, has_round, SchoolFits, fits_child, ChildFits, fits_application, ApplicationFits, fits_place, PlaceFits, fits_left, LeftPairFits}
+use Rattle.adm_register.specs.WellFormed.{fits_school_with, held_at, has_round, SchoolFits, fits_child, ChildFits, fits_application, ApplicationFits, fits_place, PlaceFits, fits_left, LeftPairFits, fits_import, ImportFits}
 use Rattle.adm_register.proofs.ApplicationChecks.{application_decided}
 use Rattle.adm_register.proofs.ChildChecks.{child_decided}
 use Rattle.adm_register.proofs.EachRow.{rows_decided}
+use Rattle.adm_register.proofs.ImportChecks.{import_decided}
 use Rattle.adm_register.proofs.LeftChecks.{left_decided}
 use Rattle.adm_register.proofs.Maps.{both_true, code_cmp-IsAntisymmetric, left_cmp-total, left_cmp-IsAntisymmetric}
 use Rattle.adm_register.proofs.PlaceChecks.{place_decided}
@@ -32,6 +33,7 @@ returns c =
     let places = rows_decided (fits_place s.schools s.children s.applications (has_round s.draws)) (PlaceFits s.schools s.children s.applications (has_round s.draws)) nat_cmp_total nat_cmp-IsAntisymmetric (place_decided s.schools s.children s.applications (has_round s.draws)) rows.places s.places c.all_fit-4.result (ap (λ s. s.places) view) c.all_fit-4.ensures.ordered c.all_fit-4.ensures.tested in
     let left = rows_decided (fits_left s.schools s.children s.places) (LeftPairFits s.schools s.children s.places) left_cmp-total left_cmp-IsAntisymmetric (left_decided s.schools s.children s.places) rows.left s.left c.all_fit-5.result (ap (λ s. s.left) view) c.all_fit-5.ensures.ordered c.all_fit-5.ensures.tested in
     let known = rows_decided (fits_known_draw s.schools s.children) (IsKnown s.schools s.children) nat_cmp_total nat_cmp-IsAntisymmetric (draw_known s.schools s.children) rows.draws s.draws c.all_fit-6.result (ap (λ s. s.draws) view) c.all_fit-6.ensures.ordered c.all_fit-6.ensures.tested in
+    let imported = rows_decided (fits_import last s.schools s.children) (ImportFits last s.schools s.children) nat_cmp_total nat_cmp-IsAntisymmetric (import_decided last s.schools s.children) rows.imported s.imported c.all_fit-7.result (ap (λ s. s.imported) view) c.all_fit-7.ensures.ordered c.all_fit-7.ensures.tested in
     let rows_listed = c.in_ok-draws.ensures.rows ∙ sym (values_rows nat_cmp_total rows.draws c.to_vec.ensures.ordered) ∙ ap (λ s. values s.draws) view in
     let formed = c.in_ok-all_formed.ensures ∙ ap (list_all is_draw) (c.deref.ensures.value ∙ rows_listed) in
     let in_order = c.are_in_order.ensures ∙ (λ i. are_in_order (c.season-2.ensures i) no_draws ((c.deref-2.ensures.value ∙ rows_listed) i)) in (
@@ -43,7 +45,8 @@ returns c =
           let f = both_true c.all_fit-4.result _ e.1 in
           let g = both_true c.all_fit-5.result _ f.1 in
           let h = both_true c.all_fit-6.result _ g.1 in
-          let k = both_true c.in_ok-all_formed.field-0 _ h.1 in
+          let j = both_true c.all_fit-7.result _ h.1 in
+          let k = both_true c.in_ok-all_formed.field-0 _ j.1 in
           let l = both_true c.are_in_order.result _ k.1 in
           let few = c.are_few.ensures.0 a.0 in
           record {
@@ -58,8 +61,9 @@ returns c =
             places = record { each = places.0 f.0; room = λ code school there. (schools.0 b.0 code school there).1 };
             left = left.0 g.0;
             draws = record { each = draws_fit s.schools s.children s.draws (known.0 h.0) (sym formed ∙ k.0); in_order = sym in_order ∙ l.0 };
+            imported = imported.0 j.0;
           },
       λ well.
           c.all_hold.ensures
-          ∙ (λ i. c.are_few.ensures.1 (well.base.few_schools, well.base.few_children) i && (schools.1 (λ code school there. (well.base.schools_fit code school there, well.places.room code school there)) i && (children.1 well.base.children_fit i && (applications.1 well.base.applications_fit i && (places.1 well.places.each i && (left.1 well.left i && (known.1 (draws_known s.schools s.children s.draws well.draws.each) i && ((formed ∙ draws_formed s.schools s.children s.draws well.draws.each) i && ((in_order ∙ well.draws.in_order) i && true))))))))),
+          ∙ (λ i. c.are_few.ensures.1 (well.base.few_schools, well.base.few_children) i && (schools.1 (λ code school there. (well.base.schools_fit code school there, well.places.room code school there)) i && (children.1 well.base.children_fit i && (applications.1 well.base.applications_fit i && (places.1 well.places.each i && (left.1 well.left i && (known.1 (draws_known s.schools s.children s.draws well.draws.each) i && (imported.1 well.imported i && ((formed ∙ draws_formed s.schools s.children s.draws well.draws.each) i && ((in_order ∙ well.draws.in_order) i && true)))))))))),
     )

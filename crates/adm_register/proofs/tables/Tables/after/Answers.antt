@@ -5,6 +5,7 @@ use Rattle.std.specs.FinMap.{from_entries, nat_cmp-IsAntisymmetric}
 use Rattle.adm_types.specs.declared.rows.Application.{Application}
 use Rattle.adm_types.specs.declared.rows.Child.{Child}
 use Rattle.adm_types.specs.declared.rows.PlaceRow.{PlaceRow}
+use Rattle.adm_types.specs.declared.rows.ImportRow.{ImportRow}
 use Rattle.adm_types.specs.declared.rows.LeftPair.{LeftPair}
 use Rattle.adm_types.specs.declared.draws.Draw.{Draw}
 use Rattle.adm_types.specs.declared.rows.School.{School}
@@ -30,5 +31,7 @@ returns c =
     ∙ ap (put_all (λ (s : LeftPair). s) (from_entries inside.left)) c.as_slice-7.ensures ∙ ap (λ s. s.left) was in
     let draws = changed_rows nat_cmp_total nat_cmp-IsAntisymmetric (λ (s : Draw). s.number) inside.draws c.in_ok-with_all-6.field-0 [] c.as_slice-8.result.now c.in_ok-with_all-6.ensures
     ∙ ap (put_all (λ (s : Draw). s.number) (from_entries inside.draws)) c.as_slice-8.ensures ∙ ap (λ s. s.draws) was in
+    let imported = changed_rows nat_cmp_total nat_cmp-IsAntisymmetric (λ (r : ImportRow). r.child.no) inside.imported c.in_ok-with_all-7.field-0 [] c.as_slice-9.result.now c.in_ok-with_all-7.ensures
+    ∙ ap (put_all (λ (r : ImportRow). r.child.no) (from_entries inside.imported)) c.as_slice-9.ensures ∙ ap (λ s. s.imported) was in
     let season = c.in_ok-clone.ensures.cases ∙ ap (λ s. s.season) was in
-    λ i. record { season = season i; schools = schools i; children = children i; applications = applications i; places = places i; left = left i; draws = draws i }
+    λ i. record { season = season i; schools = schools i; children = children i; applications = applications i; places = places i; left = left i; draws = draws i; imported = imported i }

@@ -7,10 +7,11 @@ use Rattle.std.specs.List.{filter}
 use Rattle.adm_types.specs.declared.rows.Application.{Application}
 use Rattle.adm_types.specs.declared.rows.Child.{Child}
 use Rattle.adm_types.specs.declared.rows.PlaceRow.{PlaceRow}
+use Rattle.adm_types.specs.declared.rows.ImportRow.{ImportRow}
 use Rattle.adm_types.specs.declared.rows.LeftPair.{LeftPair}
 use Rattle.adm_types.specs.declared.draws.Draw.{Draw}
 use Rattle.adm_types.specs.declared.rows.School.{School}
-use Rattle.adm_table.specs.Same.{is_other, is_same_school, is_same_child, is_same_application, is_same_place, is_same_left, is_same_draw}
+use Rattle.adm_table.specs.Same.{is_other, is_same_school, is_same_child, is_same_application, is_same_place, is_same_left, is_same_draw, is_same_import}
 use Rattle.adm_register.proofs.Maps.{left_cmp-total}
 use Rattle.adm_register.proofs.TableMaps.{get_rows}
 use Rattle.adm_register.proofs.tables.Tables.differing.Goals as goal
@@ -26,6 +27,7 @@ returns c =
     let places = c.in_ok-lacked-4.ensures ∙ (λ i. filter (λ (s : PlaceRow). is_other is_same_place ((sym (get_rows nat_cmp_total inside.places s.child) ∙ ap (λ o. get o.places s.child) old) i) s) change.places) in
     let left = c.in_ok-lacked-5.ensures ∙ (λ i. filter (λ (s : LeftPair). is_other is_same_left ((sym (get_rows left_cmp-total inside.left s) ∙ ap (λ o. get o.left s) old) i) s) change.left) in
     let draws = c.in_ok-lacked-6.ensures ∙ (λ i. filter (λ (s : Draw). is_other is_same_draw ((sym (get_rows nat_cmp_total inside.draws s.number) ∙ ap (λ o. get o.draws s.number) old) i) s) change.draws) in
+    let imported = c.in_ok-lacked-7.ensures ∙ (λ i. filter (λ (r : ImportRow). is_other is_same_import ((sym (get_rows nat_cmp_total inside.imported r.child.no) ∙ ap (λ o. get o.imported r.child.no) old) i) r) change.imported) in
     let ended = c.in_ok-known.ensures ∙ (λ i. filter (λ child. is_some ((sym (get_rows nat_cmp_total inside.applications child) ∙ ap (λ o. get o.applications child) old) i)) change.ended) in
     let vacated = c.in_ok-known-2.ensures ∙ (λ i. filter (λ child. is_some ((sym (get_rows nat_cmp_total inside.places child) ∙ ap (λ o. get o.places child) old) i)) change.vacated) in
-    λ i. record { schools = schools i; children = children i; applications = applications i; places = places i; left = left i; draws = draws i; ended = ended i; vacated = vacated i }
+    λ i. record { schools = schools i; children = children i; applications = applications i; places = places i; left = left i; draws = draws i; imported = imported i; ended = ended i; vacated = vacated i }

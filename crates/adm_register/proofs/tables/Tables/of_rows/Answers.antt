@@ -9,6 +9,7 @@ use Rattle.std.specs.List.{IsDistinct}
 use Rattle.std.specs.Ordering.{eq_by_cmp}
 use Rattle.adm_types.specs.declared.rows.Application.{Application}
 use Rattle.adm_types.specs.declared.rows.Child.{Child}
+use Rattle.adm_types.specs.declared.rows.ImportRow.{ImportRow}
 use Rattle.adm_types.specs.declared.rows.LeftPair.{LeftPair}
 use Rattle.adm_types.specs.declared.rows.PlaceRow.{PlaceRow}
 use Rattle.adm_types.specs.declared.rows.School.{School}
@@ -62,6 +63,11 @@ returns-in_default-6-clause-repeated c state well same =
     let none = rw c.in_default-6.is at c.in_ok-draws.ensures.none in
     none (values state.draws) (in_order state well) same.draws
 
+pub returns-in_default-7-clause-repeated : goal.returns-in_default-7-clause-repeated
+returns-in_default-7-clause-repeated c state well same =
+    let repeated = rw c.in_default-7.is at c.in_ok-imported.ensures.repeated in
+    repeated (distinct_keys nat_cmp_total nat_cmp-IsAntisymmetric (λ (r : ImportRow). r.child.no) state.imported c.args.rows.imported (λ key row there. (well.imported key row there).child.own_number) same.imported)
+
 pub returns-clause-made : goal.returns-clause-made
 returns-clause-made c =
     let schools = rw c.in-Some.is at c.in_ok-schools.ensures.made in
@@ -75,6 +81,7 @@ returns-clause-made c =
     let drawn = rw c.in-Some-6.is at c.in_ok-draws.ensures.made in
     let only = rw c.in-Some-6.is at c.in_ok-draws.ensures.only in
     let listed = values_rows nat_cmp_total c.in-Some-6.draws drawn.2 in
+    let kept = rw c.in-Some-7.is at c.in_ok-imported.ensures.made in
     let left = subst (λ rows. IsPermutation rows (values_of shown) × (map (λ (s : LeftPair). s) (values_of shown) ≡ keys_of shown) × IsStrictlySortedBy left_cmp (keys_of shown)) c.into_vec-2.ensures pairs in (
       record {
         season = refl;
@@ -84,6 +91,7 @@ returns-clause-made c =
         places = rows_of_table nat_cmp_total nat_cmp-IsAntisymmetric (λ (s : PlaceRow). s.child) c.args.rows.places c.in-Some-4.places places;
         left = rows_of_table left_cmp-total left_cmp-IsAntisymmetric (λ (s : LeftPair). s) c.args.rows.left c.in-Some-5.left left;
         draws = subst (AreRowsOf c.args.rows.draws c.args.rows.offers c.args.rows.lots) (sym listed) drawn.0;
+        imported = rows_of_table nat_cmp_total nat_cmp-IsAntisymmetric (λ (r : ImportRow). r.child.no) c.args.rows.imported c.in-Some-7.imported kept;
       },
       λ state well same.
           let same_schools = same_as_table nat_list_cmp_total code_cmp-IsAntisymmetric (λ (s : School). s.code) c.args.rows.schools c.in-Some.schools schools state.schools (λ key row there. (well.base.schools_fit key row there).own_code) same.schools in
@@ -92,5 +100,6 @@ returns-clause-made c =
           let same_places = same_as_table nat_cmp_total nat_cmp-IsAntisymmetric (λ (s : PlaceRow). s.child) c.args.rows.places c.in-Some-4.places places state.places (λ key row there. (well.places.each key row there).own_number) same.places in
           let same_left = same_as_table left_cmp-total left_cmp-IsAntisymmetric (λ (s : LeftPair). s) c.args.rows.left c.in-Some-5.left left state.left (λ key row there. (well.left key row there).own_key) same.left in
           let same_draws = same_values nat_cmp_total nat_cmp-IsAntisymmetric (λ (d : Draw). d.number) state.draws c.in-Some-6.draws (λ key row there. (well.draws.each key row there).own_number) drawn.1 drawn.2 (only (values state.draws) (in_order state well) same.draws) in
-          λ i. record { season = sym same.season i; schools = same_schools i; children = same_children i; applications = same_applications i; places = same_places i; left = same_left i; draws = same_draws i },
+          let same_imported = same_as_table nat_cmp_total nat_cmp-IsAntisymmetric (λ (r : ImportRow). r.child.no) c.args.rows.imported c.in-Some-7.imported kept state.imported (λ key row there. (well.imported key row there).child.own_number) same.imported in
+          λ i. record { season = sym same.season i; schools = same_schools i; children = same_children i; applications = same_applications i; places = same_places i; left = same_left i; draws = same_draws i; imported = same_imported i },
     )

@@ -21,4 +21,5 @@ returns c =
     let draws = c.from_vec-3.ensures ∙ c.in_ok-draw_rows.ensures ∙ ap (map row_of) (c.deref.ensures.value ∙ listed) in
     let offers = c.from_vec-4.ensures ∙ c.in_ok-offer_rows.ensures ∙ ap (flat_map offers_of) (c.deref-2.ensures.value ∙ listed) in
     let lots = c.from_vec-5.ensures ∙ c.in_ok-lot_rows.ensures ∙ ap (flat_map lots_of) (c.deref-3.ensures.value ∙ listed) in
-    λ i. record { season = season i; schools = schools i; children = children i; applications = applications i; places = places i; left = left i; draws = draws i; offers = offers i; lots = lots i }
+    let imported = c.in_ok-copied_rows-4.ensures.rows ∙ sym (values_rows nat_cmp_total inside.imported c.copied_rows-4.ensures.ordered) ∙ ap (λ s. values s.imported) c.self.view_is in
+    λ i. record { season = season i; schools = schools i; children = children i; applications = applications i; places = places i; left = left i; draws = draws i; offers = offers i; lots = lots i; imported = imported i }

@@ -1,0 +1,63 @@
+// Whether children, their applications and imported rows are a register's.
+ghost use Rattle.std.specs.Prelude.{◌≡◌};
+ghost use Rattle.adm_types.specs.Seasons.{lists_end};
+ghost use Rattle.adm_register.specs.WellFormed.{fits_child, is_child, fits_application, is_application, fits_import};
+
+use crate::checks::Checked;
+use crate::tables::Tables;
+use adm_types::limits::{is_child_in_range, is_name, is_without_repeat};
+use adm_types::{Application, Child, ChildNo, Day, ImportRow, SchoolCode};
+
+impl Checked<ChildNo> for Child {
+    ghost fits = { λ s. fits_child s.schools };
+
+    fn fits_in(&self, tables: &Tables, number: &ChildNo) -> bool {
+        self.no == *number && is_child(tables, self)
+    }
+}
+
+/// Whether a child's name and numbers are in their limits, and its siblings' schools are there.
+fn is_child(tables: &Tables, child: &Child) -> bool
+    ensures { result ≡ is_child tables.now.schools child.now }
+{
+    let _number = child.no.get();
+    let _text = child.name.as_str();
+    let _flags = child.flags;
+    is_name(&child.name)
+        && is_child_in_range(child)
+        && tables.are_schools(child.siblings.as_slice())
+}
+
+impl Checked<ChildNo> for Application {
+    ghost fits = { λ s. fits_application (lists_end s.season) s.schools s.children };
+
+    fn fits_in(&self, tables: &Tables, number: &ChildNo) -> bool {
+        self.child == *number && is_application(tables, self.child, self.day, self.list.as_slice())
+    }
+}
+
+/// Whether the child is there, the day is one of the lists, and there are 1 to 6 schools that are
+/// there, none twice.
+fn is_application(tables: &Tables, child: ChildNo, day: Day, list: &[SchoolCode]) -> bool
+    ensures { result ≡ is_application (lists_end tables.now.season) tables.now.schools tables.now.children (record { child = child; day = day; list = list.now }) }
+{
+    let _day = day.number();
+    let count = 1 <= list.len() && list.len() <= 6;
+    tables.has_child(child)
+        && day <= tables.season().lists_end()
+        && count
+        && is_without_repeat(list)
+        && tables.are_schools(list)
+}
+
+impl Checked<ChildNo> for ImportRow {
+    ghost fits = { λ s. fits_import (lists_end s.season) s.schools s.children };
+
+    fn fits_in(&self, tables: &Tables, number: &ChildNo) -> bool {
+        let child = self.child.no;
+        let list = self.preferences.as_slice();
+        self.child.fits_in(tables, number)
+            && child == *number
+            && is_application(tables, child, self.day, list)
+    }
+}
