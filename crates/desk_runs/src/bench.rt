@@ -5,7 +5,7 @@ use crate::desks::Ran;
 use crate::lines::Lines;
 use crate::stops::stops;
 use crate::sweeps::sweeps;
-use run_disks::Disks;
+use run_disks::{Counts, Disks};
 use run_steps::{Act, Step, Sweep, Which, print_register};
 use std::alloc::Global;
 use std::io;
@@ -63,6 +63,7 @@ impl Bench {
             Step::Sweep(sweep) => self.sweep(rt, sweep),
             Step::Crash(disk, calls) => self.crash(rt, (*disk, *calls)),
             Step::Stop(disk, calls, act) => self.act(rt, act, Some((*disk, *calls))),
+            Step::Changes(act) => self.changes(rt, act),
             Step::Stops(act) => stops(rt, self.alloc, &self.disks, act, act),
             Step::Mistake(act, other) => stops(rt, self.alloc, &self.disks, act, other),
         }
@@ -73,6 +74,14 @@ impl Bench {
         let (came, disks) = self.disks.after(self.alloc, stop, &Doing { act })?;
         self.disks = disks;
         println!(rt; "  {:?}", came.unwrap_or(Came::NoDatabase))
+    }
+
+    /// Prints how much an act writes. It leaves the disks as they are.
+    fn changes(&self, rt: &impl Print, act: &Act) -> io::Result<()> {
+        match Counts::of(self.alloc, &self.disks, act)? {
+            Some(Counts { put, cut }) => println!(rt; "  {put} rows put, {cut} keys cut"),
+            None => println!(rt; "  no change"),
+        }
     }
 
     fn sql(&mut self, rt: &impl Print, text: &str) -> io::Result<()> {

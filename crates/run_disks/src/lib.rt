@@ -2,12 +2,14 @@
 //! as a register, and compared with the registers before and after an act. No desk is needed for it.
 #![tactic(auto)]
 
+mod counts;
 mod database;
 mod disks;
 mod ends;
 mod found;
 mod work;
 
+pub use counts::Counts;
 pub use disks::Disks;
 pub use ends::{Ends, Left};
 pub use found::NotFound;

@@ -53,7 +53,9 @@ pub enum Step<'a> {
     Stop(Which, u64, Act),
     /// `stops ACT`: the act, stopped at each call of each disk in turn. The disks stay as they are.
     Stops(Act),
-    /// `mistake ACT for OTHER`: the same, with the register after the other act for the one after it.
+    /// `changes ACT`: how many rows the act puts, and of how many keys it takes the rows out. The disks stay.
+    Changes(Act),
+    /// `mistake ACT for OTHER`: the act stopped so, with the register after the other act for the one after it.
     /// What it prints is to be a PROBLEM.
     Mistake(Act, Act),
 }
@@ -134,6 +136,13 @@ fn stops<'a>(alloc: Global, words: &str) -> Option<Step<'a>> {
     }
 }
 
+fn changes<'a>(alloc: Global, words: &str) -> Option<Step<'a>> {
+    match act_of(alloc, words) {
+        Some(act) => Some(Step::Changes(act)),
+        None => None,
+    }
+}
+
 fn create<'a>(alloc: Global, words: &str) -> Option<Step<'a>> {
     match creation(alloc, words) {
         Some(act) => Some(Step::Create(act)),
@@ -164,6 +173,7 @@ impl<'a> Step<'a> {
             "crash" => crash(rest),
             "stop" => stop(alloc, rest),
             "stops" => stops(alloc, rest),
+            "changes" => changes(alloc, rest),
             "mistake" => mistake(alloc, rest),
             _ => None,
         }

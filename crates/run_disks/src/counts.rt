@@ -1,0 +1,44 @@
+// How much a command writes.
+use crate::disks::Disks;
+use adm_register::{Difference, Register};
+use adm_store::changes;
+use adm_types::Command;
+use run_steps::Act;
+use std::alloc::Global;
+use std::io;
+
+/// How many rows an act puts, and of how many keys it takes the rows out.
+#[derive(Clone, Copy, Debug)]
+pub struct Counts {
+    pub put: u64,
+    pub cut: u64,
+}
+
+fn written(alloc: Global, difference: Difference) -> Option<Counts> {
+    match changes(alloc, difference) {
+        Ok(changes) => Some(Counts {
+            put: changes.put(),
+            cut: changes.cut(),
+        }),
+        Err(_) => None,
+    }
+}
+
+fn of_command(alloc: Global, register: &Register, command: &Command) -> Option<Counts> {
+    match register.propose(alloc, command) {
+        Ok(proposal) => written(alloc, proposal.change),
+        Err(_) => None,
+    }
+}
+
+impl Counts {
+    /// What a command writes over the register that disks have. `None` where there is none, where the register refuses it, for want of memory,
+    /// and for an act that is no command.
+    pub fn of(alloc: Global, disks: &Disks, act: &Act) -> io::Result<Option<Counts>> {
+        let register = disks.register(alloc)?;
+        Ok(match (&register, act) {
+            (Ok(register), Act::Handle(command)) => of_command(alloc, register, command),
+            _ => None,
+        })
+    }
+}
