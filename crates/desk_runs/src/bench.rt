@@ -44,7 +44,7 @@ impl Bench {
                 self.disks = self.kept.copy(self.alloc)?;
                 Ok(())
             }
-            Step::Create(act) => self.act(rt, act, None),
+            Step::Create(act) | Step::Import(act) => self.act(rt, act, None),
             Step::Sql(text) => self.sql(rt, text),
             Step::Open => self.open(rt),
             Step::Show => self.show(rt),

@@ -1,7 +1,8 @@
 // What is done to a register, and how it is written.
-use adm_types::{Command, Phase, Season};
-use adm_wire::read_command;
-use std::alloc::Global;
+use adm_csv::read_rows;
+use adm_types::{Command, ImportRow, Phase, Season, Seq};
+use adm_wire::{Watched, read_command};
+use std::alloc::{AllocError, Global};
 
 /// What is done to a register.
 #[derive(Drop)]
@@ -49,10 +50,37 @@ fn handling(alloc: Global, text: &str) -> Option<Act> {
     }
 }
 
-/// `create PHASE YEAR`, or a command as JSON.
+/// The file of an import with these rows.
+fn file_of(alloc: Global, rows: &str) -> Result<Vec<u8>, AllocError> {
+    let header = "child,name,east,north,looked_after,flags,siblings,day,preferences";
+    let mut file = Vec::from_slice(alloc, header.as_bytes())?;
+    for row in rows.split('|') {
+        file.push(b'\n')?;
+        file.extend_from_slice(row.as_bytes())?;
+    }
+    Ok(file)
+}
+
+fn rows_of(alloc: Global, file: Result<Vec<u8>, AllocError>) -> Option<Vec<ImportRow>> {
+    match file {
+        Ok(file) => read_rows(alloc, &mut Watched::new(file.as_slice())).ok(),
+        Err(_) => None,
+    }
+}
+
+/// An import of rows as they stand in its file, with `|` between each two.
+pub(crate) fn importing(alloc: Global, rows: &str) -> Option<Act> {
+    match rows_of(alloc, file_of(alloc, rows)) {
+        Some(rows) => Some(Act::Handle(Command::Import(Seq::from_vec(rows)))),
+        None => None,
+    }
+}
+
+/// `create PHASE YEAR`, `import ROWS`, or a command as JSON.
 pub(crate) fn act_of(alloc: Global, words: &str) -> Option<Act> {
-    match words.strip_prefix("create ") {
-        Some(words) => creation(alloc, words),
-        None => handling(alloc, words),
+    match words.split_once(' ') {
+        Some(("create", words)) => creation(alloc, words),
+        Some(("import", rows)) => importing(alloc, rows),
+        _ => handling(alloc, words),
     }
 }

@@ -16,6 +16,7 @@ fn are_same_rows(one: &Rows, other: &Rows) -> bool {
         && are_same(one.applications.as_slice(), other.applications.as_slice())
         && are_same(one.places.as_slice(), other.places.as_slice())
         && are_same(one.left.as_slice(), other.left.as_slice())
+        && are_same(one.imported.as_slice(), other.imported.as_slice())
         && are_same_draws(one, other)
 }
 

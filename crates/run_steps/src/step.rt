@@ -1,5 +1,5 @@
 // The steps of a run, as they are written.
-use crate::act::{Act, act_of, creation};
+use crate::act::{Act, act_of, creation, importing};
 use crate::streams::Limits;
 use crate::sweep::{Side, Sweep};
 use std::alloc::Global;
@@ -22,6 +22,8 @@ pub enum Step<'a> {
     Back,
     /// `create PHASE YEAR`: the register of a season on the disks.
     Create(Act),
+    /// `import ROWS`: an import of rows as they stand in its file, with `|` between each two.
+    Import(Act),
     /// `sql TEXT`: a text that is run on the database by hand.
     Sql(&'a str),
     /// `open`: what an open answers.
@@ -150,6 +152,13 @@ fn create<'a>(alloc: Global, words: &str) -> Option<Step<'a>> {
     }
 }
 
+fn import<'a>(alloc: Global, rows: &str) -> Option<Step<'a>> {
+    match importing(alloc, rows) {
+        Some(act) => Some(Step::Import(act)),
+        None => None,
+    }
+}
+
 impl<'a> Step<'a> {
     /// The step of a line. `None` where it is none, or for want of memory.
     pub fn read(alloc: Global, line: &'a str) -> Option<Step<'a>> {
@@ -159,6 +168,7 @@ impl<'a> Step<'a> {
             "keep" => Some(Step::Keep),
             "back" => Some(Step::Back),
             "create" => create(alloc, rest),
+            "import" => import(alloc, rest),
             "sql" => Some(Step::Sql(rest)),
             "open" => Some(Step::Open),
             "show" => Some(Step::Show),
