@@ -1,0 +1,5 @@
+pub mod Rising
+pub mod Sorting
+pub mod Positions
+pub mod Leaders
+pub mod Lots

@@ -1,0 +1,9 @@
+// The waiting list of a school, and which of the children comes first by lot.
+#![tactic(auto)]
+
+mod lists;
+mod ranks;
+mod vacancies;
+
+pub use lists::{Waiting, position, waiting_list};
+pub use vacancies::first_by_lot;
