@@ -60,7 +60,8 @@ pub record IsEntryFor (waiting : List Child) (entry : Waiting) : Type 0 where
 abbrev pub is_first : School → List (Child × ℕ) → Child × ℕ → Bool
 is_first school all one = list_all (λ other. nat_eq other.0.no one.0.no || precedes (key_of school one.0 one.1) (key_of school other.0 other.1)) all
 
--- the number of the child that ranks before all others, where the first lot is the first child's, and so on; none where lots tie
+-- the number of the child that ranks before all others, where the first lot is the first child's, and so on; none where two rank
+-- first with equal lots
 unfoldable pub first_by_lot : School → List Child → List ℕ → Option ℕ
 first_by_lot school waiting lots = option_map (λ one. one.0.no) (find (is_first school (zip waiting lots)) (zip waiting lots))
 

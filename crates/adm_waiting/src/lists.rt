@@ -19,7 +19,7 @@ pub struct Waiting {
     pub child: ChildNo,
     /// From 0 to 9.
     pub class: u8,
-    /// How far its home is from the school.
+    /// How far its home is from the school, in metres, rounded down.
     pub metres: u32,
 }
 
@@ -71,8 +71,8 @@ pub fn waiting_list(
 }
 
 /// The position of the child on the waiting list of the school where these children wait: 1 plus
-/// the number of those with a smaller class, or with the same class and a smaller distance. It takes
-/// no memory, and time for each child.
+/// the number of those with a smaller class, or with the same class and a smaller distance. The
+/// child need not be one of them. It takes no memory, and time for each child.
 pub fn position(school: &School, children: &[Shared<Child>], child: &Child) -> usize
     requires school { IsTrue (is_school_in_range school.now) }
     requires children { All (λ child. is_child_in_range child ≡ true) children.now }

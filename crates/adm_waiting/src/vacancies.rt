@@ -78,7 +78,7 @@ fn is_before_others(school: &School, children: &[Shared<Child>], lots: &[u32], o
 
 /// The child that ranks before all others at the school, by class, distance and lot, of those that
 /// wait, who come in the order of their numbers. The first lot is the first child's, and so on; a
-/// child without a lot does not count. None where nobody waits, or where two rank first with equal
+/// child without a lot does not count. None where nobody has one, or where two rank first with equal
 /// lots. It takes no memory, and time for each child.
 pub fn first_by_lot(school: &School, children: &[Shared<Child>], lots: &[u32]) -> Option<ChildNo>
     requires school { IsTrue (is_school_in_range school.now) }
