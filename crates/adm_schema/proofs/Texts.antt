@@ -67,6 +67,10 @@ pub asks_lots : Asks register_schema text.select_lots 11 text.lot_columns []
 unfolding understood everything
 asks_lots = record { names = _; command = refl; unlisted = refl; plain = (refl, refl); whole = (omega arith, refl); answered = λ db e. answered _ db e 11 text.lot_columns [] (λ h. absurd (let wrong = h.1 in cc)) }
 
+pub inserts_imported : (command_of (understood register_schema text.insert_imported) ≡ Insert 9 (Values text.imported_terms 10)) × IsPlain (understood register_schema text.insert_imported)
+unfolding understood everything
+inserts_imported = (refl, (refl, refl))
+
 pub asks_imported : Asks register_schema text.select_imported 14 text.imported_columns []
 unfolding understood everything
 asks_imported = record { names = _; command = refl; unlisted = refl; plain = (refl, refl); whole = (omega arith, refl); answered = λ db e. answered _ db e 14 text.imported_columns [] (λ h. absurd (let wrong = h.1 in cc)) }

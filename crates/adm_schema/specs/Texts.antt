@@ -62,7 +62,7 @@ place_columns = col 1 0 ∷ col 1 2 ∷ col 1 3 ∷ col 1 4 ∷ col 1 5 ∷ []
 abbrev pub by_child : List (Term × Key)
 by_child = (col 1 0, record { collation = Binary; descending = false }) ∷ []
 
--- ---- the tables to which no command writes yet
+-- ---- the tables whose rows are only added
 
 abbrev pub insert_left_list : List ℕ
 insert_left_list = codes "INSERT INTO left_list (child, school) VALUES (?1, ?2)"
@@ -100,6 +100,12 @@ select_lots = codes "SELECT draw, school, child, lot FROM lot"
 
 abbrev pub lot_columns : List Term
 lot_columns = col 1 1 ∷ col 1 2 ∷ col 1 3 ∷ col 1 4 ∷ []
+
+abbrev pub insert_imported : List ℕ
+insert_imported = codes "INSERT INTO imported (child, name, east, north, looked_after, flags, siblings, day, preferences) VALUES (?1, ?2, ?3, ?4, ?5, ?6, ?7, ?8, ?9)"
+
+abbrev pub imported_terms : List Term
+imported_terms = col 0 0 ∷ lit Null ∷ col 0 1 ∷ col 0 2 ∷ col 0 3 ∷ col 0 4 ∷ col 0 5 ∷ col 0 6 ∷ col 0 7 ∷ col 0 8 ∷ []
 
 abbrev pub select_imported : List ℕ
 select_imported = codes "SELECT child, name, east, north, looked_after, flags, siblings, day, preferences FROM imported"
