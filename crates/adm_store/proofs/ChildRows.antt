@@ -1,4 +1,4 @@
--- Which rows are those of no child, no application, no place and no left pair.
+-- Which rows are those of no child, no application, no imported row, no place and no left pair.
 use Rattle.std.proofs.Common.{◌≡◌, ℕ, zero, suc, List, ◌<◌, ◌+◌, ◌^◌, Bool, Option, true, false, [], ◌∷◌, length, Some, None, pos, nat_le, refl, sym, ap, ◌∙◌, drop, arith}
 use Rattle.std.specs.Prelude.{◌&&◌, nat_lt, nat_eq}
 use Rattle.std.specs.Option.{unwrap_or}
@@ -11,15 +11,17 @@ use Rattle.adm_types.specs.Joined.{codes_of}
 use Rattle.adm_types.specs.Limits.{is_on_map, is_without_repeat}
 use Rattle.adm_types.specs.declared.rows.Child.{Child}
 use Rattle.adm_types.specs.declared.rows.Application.{Application}
+use Rattle.adm_types.specs.declared.rows.ImportRow.{ImportRow}
 use Rattle.adm_types.specs.declared.rows.PlaceRow.{PlaceRow}
 use Rattle.adm_types.specs.declared.rows.LeftPair.{LeftPair}
 use Rattle.adm_types.specs.declared.rows.PlaceState.{PlaceState}
 use Rattle.adm_types.specs.declared.rows.PlaceState.TheVariants.{Offered, Accepted, Plan}
 use Rattle.adm_types.specs.Numbers.{is_from, first_day, last_day}
 use Rattle.adm_register.specs.WellFormed.{is_state}
-use Rattle.adm_store.specs.Forms.{truth_code, day_value, state_columns, child_row, application_row, place_row, left_row}
-use Rattle.adm_store.specs.Faults.{IsChild, AreReadAgain, IsPlaceRow, HasPlaceColumns, is_day, is_day_or_none, are_days}
+use Rattle.adm_store.specs.Forms.{truth_code, day_value, state_columns, child_row, application_row, imported_row, place_row, left_row}
+use Rattle.adm_store.specs.Faults.{IsChild, IsImportRow, IsImportReadAgain, AreReadAgain, IsPlaceRow, HasPlaceColumns, is_day, is_day_or_none, are_days}
 use Rattle.adm_store.proofs.RowLemmas.{number_in, text_in}
+use Rattle.adm_store.proofs.CodeLemmas.{codes_again}
 
 -- ---- children
 
@@ -66,6 +68,18 @@ application_from cells = record {
 
 pub application_back : (a : Application) → AreReadAgain a.list → application_from (application_row a) ≡ a
 application_back a again = λ k. record { child = a.child; day = a.day; list = unwrap_or (again k) [] }
+
+-- ---- imported rows
+
+-- an imported row from its row
+abbrev pub imported_from : Row → ImportRow
+imported_from cells = record { child = child_from cells; day = number_in (column cells 7); preferences = unwrap_or (codes_of (text_in (column cells 8))) [] }
+
+pub imported_back : (r : ImportRow) → IsImportReadAgain r → imported_from (imported_row r) ≡ r
+imported_back r again = λ k. record { child = child_back r.child again.0 k; day = r.day; preferences = unwrap_or (again.1 k) [] }
+
+pub import_again : (last : ℕ) (r : ImportRow) → IsImportRow last r → IsImportReadAgain r
+import_again last r fits = (codes_again r.child.siblings fits.child.codes, codes_again r.preferences fits.application.codes)
 
 -- ---- places
 

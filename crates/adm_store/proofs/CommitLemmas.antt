@@ -11,10 +11,11 @@ use Rattle.adm_draws.specs.Draws.{row_of, offers_of, lots_of}
 use Rattle.adm_register.specs.Draws.{no_draws, are_in_order}
 use Rattle.adm_register.specs.WellFormed.{WellFormed}
 use Rattle.std.specs.List.Sorted.{IsPermutation}
-use Rattle.std.proofs.lemmas.List.Sorted.{length_permutation, IsPermutation-refl, IsPermutation-trans}
+use Rattle.std.proofs.lemmas.List.Sorted.{IsPermutation-refl}
 use Rattle.std.specs.Cmp.Lexicographic.{nat_list_cmp_total}
 use Rattle.adm_types.specs.declared.rows.Child.{Child}
 use Rattle.adm_types.specs.declared.rows.Application.{Application}
+use Rattle.adm_types.specs.declared.rows.ImportRow.{ImportRow}
 use Rattle.adm_types.specs.declared.rows.PlaceRow.{PlaceRow}
 use Rattle.adm_types.specs.declared.rows.LeftPair.{LeftPair}
 use Rattle.adm_types.specs.declared.rows.School.{School}
@@ -40,16 +41,16 @@ use Rattle.sqlite_catalog.proofs.ReadLemmas.{lists_once}
 use Rattle.sqlite_rules.specs.Lists.{Has}
 use Rattle.sqlite.proofs.Callers.{one_permutation}
 use Rattle.adm_schema.specs.Rows.{rows_of}
-use Rattle.adm_schema.specs.Schema.{draw, imported, register_schema}
-use Rattle.adm_store.specs.Forms.{season_row, school_row, child_row, application_row, place_row, left_row}
+use Rattle.adm_schema.specs.Schema.{draw, register_schema}
+use Rattle.adm_store.specs.Forms.{season_row, school_row, child_row, application_row, place_row, left_row, imported_row}
 use Rattle.adm_store.specs.DrawForms.{draw_row, offer_row, lot_row}
 use Rattle.adm_store.specs.StandsFor.{StandsFor, HasRows, HoldsRegister, LeavesOnly, LeavesEither, written_in, written_tables}
-use Rattle.adm_store.specs.Changes.{IsStep, written_school, written_child, written_application, written_count, last_draw, draw_count}
+use Rattle.adm_store.specs.Changes.{IsStep, written_school, written_child, written_application, written_imported, written_count, last_draw, draw_count}
 use Rattle.adm_store.specs.Writes.{Write, Sets, Leaves, Writes, changed, after, are_keyed, count_of, key_row, writes_of}
 use Rattle.adm_store.specs.declared.rows.Changes.{Changes}
-use Rattle.adm_store.proofs.LogLemmas.{after_none, keyed_none, no_rows}
+use Rattle.adm_store.proofs.LogLemmas.{after_none}
 use Rattle.adm_store.proofs.RegisterRows.{each_table, same_code, left_total, left_same}
-use Rattle.adm_store.proofs.MapLemmas.{coded_stable, keyed_moved}
+use Rattle.adm_store.proofs.MapLemmas.{coded_stable, keyed_moved, rows_keyed}
 use Rattle.adm_store.proofs.AddedRows.{added_rows, keys_kept}
 use Rattle.adm_store.proofs.AddedParts.{added_parts}
 use Rattle.adm_store.proofs.DrawOrder.{counted, last_is}
@@ -63,12 +64,6 @@ holds_now s r before stays settled live clean is_open =
     let trees = ap (λ (d : Database). d.trees) (settled is_open) in
     let listed = subst (λ (db : Trees). Lists (db catalog_tree) register_schema) (sym trees) file.sound.lists in
     (lists_once (s.now.trees catalog_tree) s.now.schema register_schema ((live is_open).0).lists listed, subst (λ (db : Trees). HoldsRegister db r) (sym trees) file.holds)
-
--- a table in which nothing is written, before and after
-still_empty : (t : Table) (was now : List Row) → IsPermutation [] was → (IsTrue (are_keyed t was) → IsPermutation was now) → IsPermutation [] now
-still_empty t was now none moved =
-    let empty : was ≡ [] = no_rows was (length_permutation _ _ none) in
-    IsPermutation-trans _ _ _ none (moved (subst (λ rows. IsTrue (are_keyed t rows)) (sym empty) (keyed_none t)))
 
 -- what is set in the row of `meta` is nothing, where the count of draws stays, or the new count
 abbrev IsSet : List Row → ℕ → ℕ → Type 0
@@ -96,11 +91,6 @@ draws_set old new changes step formed =
       | inl none ↦ inl (ap (λ rows. map written_count (last_draw rows)) (are.draws ∙ ap (map row_of) none.0), long old ∙ none.1 ∙ sym (long new))
       | inr it ↦ inr (ap (λ rows. map written_count (last_draw rows)) (are.draws ∙ ap (map row_of) it.2 ∙ map-append row_of it.0 (it.1 ∷ [])) ∙ ap (map written_count) (last_is (map row_of it.0) (row_of it.1)) ∙ ap (λ n. (Int (pos n) ∷ []) ∷ []) (it.3 ∙ sym (long new)))
     ]
-
--- rows of draws have integers as their keys
-drawn_keyed : (draws : List DrawRow) → have_rowids (map draw_row draws) ≡ true
-drawn_keyed [] = refl
-drawn_keyed (row ∷ draws) = drawn_keyed draws
 
 -- each table has the rows of the old one after these writes
 abbrev Moves : List Write → Trees → Trees → Type 0
@@ -133,12 +123,16 @@ new_trees was now old new changes step held sound moves = let are = step.changes
                   (
                     λ had turn. subst (λ rows. IsPermutation rows (rows_of draw now)) (sym (map-map draw_row row_of (values new.draws)))
                         (added_rows nat_cmp_total nat_cmp-IsAntisymmetric (λ (d : Draw). d.number) old.draws new.draws (λ k v is. (step.formed.draws.each k v is).own_number) step.extends.draws _ differs.draws (λ d. draw_row (row_of d)) _ _ _ (ap (map draw_row) are.draws ∙ map-map draw_row row_of _)
-                        (subst (λ rows. IsPermutation rows (rows_of draw was)) (map-map draw_row row_of (values old.draws)) had) (turn (keyed_moved _ _ had (drawn_keyed (map row_of (values old.draws)))))),
+                        (subst (λ rows. IsPermutation rows (rows_of draw was)) (map-map draw_row row_of (values old.draws)) had) (turn (keyed_moved _ _ had (rows_keyed (λ (d : DrawRow). d.draw) draw_row (λ _. refl) (map row_of (values old.draws)))))),
                     (
                       λ had turn. added_parts nat_cmp_total nat_cmp-IsAntisymmetric (λ (d : Draw). d.number) old.draws new.draws (λ k v is. (step.formed.draws.each k v is).own_number) step.extends.draws _ differs.draws offers_of offer_row _ _ _ (ap (map offer_row) are.offers) had (turn refl),
                       (
                         λ had turn. added_parts nat_cmp_total nat_cmp-IsAntisymmetric (λ (d : Draw). d.number) old.draws new.draws (λ k v is. (step.formed.draws.each k v is).own_number) step.extends.draws _ differs.draws lots_of lot_row _ _ _ (ap (map lot_row) are.lots) had (turn refl),
-                        (still_empty imported _ _, tt),
+                        (
+                          λ had turn. added_rows nat_cmp_total nat_cmp-IsAntisymmetric (λ (r : ImportRow). r.child.no) old.imported new.imported (λ k v is. (step.formed.imported k v is).child.own_number) step.extends.imported _ differs.imported imported_row _ _ _ are.imported had
+                              (turn (keyed_moved _ _ had (rows_keyed (λ (r : ImportRow). r.child.no) imported_row (λ _. refl) (values old.imported)))),
+                          tt,
+                        ),
                       ),
                     ),
                   ),
@@ -182,8 +176,8 @@ wrote g start begun last old new changes is stays settled live step before clean
     stands (state g begun) last old new changes step (holds early written.was_open) written
 
 -- the rows and keys of a commit, counted
-pub count_is : (c : Changes) → count_of (writes_of c) ≡ (length c.schools + length c.children + length c.applications + length c.places + length c.left + draw_count c) + (length c.ended + length c.vacated)
-count_is c = omega (arith, length-map c.schools written_school, length-map c.children written_child, length-map c.applications written_application, length-map c.places place_row, length-map c.left left_row, length-map c.draws draw_row, length-map c.offers offer_row, length-map c.lots lot_row, length-map (last_draw c.draws) written_count, length-map c.ended key_row, length-map c.vacated key_row)
+pub count_is : (c : Changes) → count_of (writes_of c) ≡ (length c.schools + length c.children + length c.applications + length c.places + length c.left + length c.imported + draw_count c) + (length c.ended + length c.vacated)
+count_is c = omega (arith, length-map c.schools written_school, length-map c.children written_child, length-map c.applications written_application, length-map c.places place_row, length-map c.left left_row, length-map c.draws draw_row, length-map c.offers offer_row, length-map c.lots lot_row, length-map c.imported written_imported, length-map (last_draw c.draws) written_count, length-map c.ended key_row, length-map c.vacated key_row)
 
 -- a file that stands for the old register stands for the new one, where nothing changed
 pub no_change : (old new : Register) (changes : Changes) → IsStep old new changes → count_of (writes_of changes) ≡ 0 → (db : Trees) → StandsFor db old → StandsFor db new

@@ -55,14 +55,15 @@ formed_new season fits = record {
   places = record { each = none_wrong nat_cmp _; room = none_wrong code_cmp _ };
   left = none_wrong left_cmp _;
   draws = record { each = none_wrong nat_cmp _; in_order = ap (are_in_order season no_draws) (no_values nat_cmp) };
+  imported = none_wrong nat_cmp _;
 }
 
 -- the rows of a register that has only its season
 abbrev season_alone : SeasonFacts → Rows
-season_alone season = record { season = season; schools = []; children = []; applications = []; places = []; left = []; draws = []; offers = []; lots = [] }
+season_alone season = record { season = season; schools = []; children = []; applications = []; places = []; left = []; draws = []; offers = []; lots = []; imported = [] }
 
 only_rows : (season : SeasonFacts) → rows_in_order (only_season season) ≡ season_alone season
-only_rows season = λ k. record { season = season; schools = no_values code_cmp k; children = no_values nat_cmp k; applications = no_values nat_cmp k; places = no_values nat_cmp k; left = no_values left_cmp k; draws = map row_of (no_values nat_cmp k); offers = flat_map offers_of (no_values nat_cmp k); lots = flat_map lots_of (no_values nat_cmp k) }
+only_rows season = λ k. record { season = season; schools = no_values code_cmp k; children = no_values nat_cmp k; applications = no_values nat_cmp k; places = no_values nat_cmp k; left = no_values left_cmp k; draws = map row_of (no_values nat_cmp k); offers = flat_map offers_of (no_values nat_cmp k); lots = flat_map lots_of (no_values nat_cmp k); imported = no_values nat_cmp k }
 
 pub stands_for_new : (made last : State) (season : SeasonFacts) (row : SeasonRow) → IsRowOf season row → SeesNoRows register_schema made → Leaves (write_of Adds meta written_season (row ∷ []) ∷ []) made last → StandsFor last.now.trees (only_season season)
 stands_for_new made last season row it none wrote = record {

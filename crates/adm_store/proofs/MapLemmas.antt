@@ -272,7 +272,8 @@ module _ {V : Type 0} (key : V → ℕ) (row_of : V → Row) (own_rowid : (v : V
 
   -- ---- a table that a commit writes
 
-  rows_keyed : (vs : List V) → have_rowids (map row_of vs) ≡ true
+  -- such rows have integers as their keys
+  pub rows_keyed : (vs : List V) → have_rowids (map row_of vs) ≡ true
   rows_keyed [] = refl
   rows_keyed (v ∷ vs) = rw (own_rowid v, rows_keyed vs)
 

@@ -53,4 +53,5 @@ one_register_lem db r s one two =
     let places = same_by_rows nat_cmp_total nat_cmp-IsAntisymmetric (λ x. x.child) r.places s.places (λ k x there. (a.places.each k x there).own_number) (λ k x there. (b.places.each k x there).own_number) rows.places in
     let left = same_by_rows left_total left_same (λ x. x) r.left s.left (λ k x there. (a.left k x there).own_key) (λ k x there. (b.left k x there).own_key) rows.left in
     let draws = same_draws r.draws s.draws (λ k d there. (a.draws.each k d there).own_number) (λ k d there. (b.draws.each k d there).own_number) (λ k d there. draw_ordered d (a.draws.each k d there).form) (λ k d there. draw_ordered d (b.draws.each k d there).form) rows.draws in
-    λ i. record { season = season i; schools = schools i; children = children i; applications = applications i; places = places i; left = left i; draws = draws i }
+    let imported = same_by_rows nat_cmp_total nat_cmp-IsAntisymmetric (λ x. x.child.no) r.imported s.imported (λ k x there. (a.imported k x there).child.own_number) (λ k x there. (b.imported k x there).child.own_number) rows.imported in
+    λ i. record { season = season i; schools = schools i; children = children i; applications = applications i; places = places i; left = left i; draws = draws i; imported = imported i }

@@ -10,16 +10,16 @@ use Rattle.std.specs.Cmp.Lexicographic.{nat_list_cmp_total}
 use Rattle.std.specs.FinMap.{values, IsAntisymmetric, slice_cmp-IsAntisymmetric, nat_cmp-IsAntisymmetric}
 use Rattle.adm_types.specs.Limits.{is_from, first_day}
 use Rattle.adm_types.specs.Seasons.{SeasonFacts, IsSeason, lists_end}
+use Rattle.adm_types.specs.declared.rows.Child.{Child}
+use Rattle.adm_types.specs.declared.rows.Application.{Application}
 use Rattle.adm_types.specs.declared.rows.LeftPair.{LeftPair}
-use Rattle.adm_register.specs.State.{code_cmp, left_cmp}
+use Rattle.adm_register.specs.State.{code_cmp, left_cmp, application_of}
 use Rattle.adm_register.specs.State.{State as Register}
-use Rattle.adm_register.specs.WellFormed.{WellFormed}
-use Rattle.adm_schema.specs.Schema.{meta, school, child, application, place, left_list, draw, offer, lot, register_schema}
-use Rattle.adm_schema.proofs.Listed.{has_meta, has_school, has_child, has_application, has_place, has_left_list, has_draw, has_offer, has_lot}
+use Rattle.adm_register.specs.WellFormed.{WellFormed, ChildFits, ApplicationFits}
+use Rattle.adm_schema.specs.Schema.{meta, school, child, application, place, left_list, draw, offer, lot, imported, register_schema}
+use Rattle.adm_schema.proofs.Listed.{has_meta, has_school, has_child, has_application, has_place, has_left_list, has_draw, has_offer, has_lot, has_imported}
 use Rattle.sqlite.specs.Table.{Table}
 use Rattle.sqlite_rules.specs.Lists.{Has}
-use Rattle.std.specs.declared.convert.Infallible.{Infallible}
-use Rattle.adm_store.specs.Unused.{no_row}
 use Rattle.sqlite.specs.Order.{Row}
 use Rattle.sqlite.specs.Tree.{Trees}
 use Rattle.sqlite.proofs.Callers.{one_permutation}
@@ -28,21 +28,21 @@ use Rattle.std.proofs.lemmas.List.{length-map}
 use Rattle.adm_draws.specs.Draws.{row_of}
 use Rattle.adm_types.specs.declared.draws.DrawRow.{DrawRow}
 use Rattle.adm_register.specs.Draws.{no_draws}
-use Rattle.adm_store.specs.Forms.{season_row, school_row, child_row, application_row, place_row, left_row}
+use Rattle.adm_store.specs.Forms.{season_row, school_row, child_row, application_row, place_row, left_row, imported_row}
 use Rattle.adm_store.specs.DrawForms.{draw_row, offer_row, lot_row, IsDrawRow, IsOfferRow, IsLotRow}
 use Rattle.adm_store.proofs.DrawRows.{draw_from, draw_back, offer_from, offer_back, lot_from, lot_back}
 use Rattle.adm_store.proofs.KnownRows.{code_there, codes_there, number_there}
 use Rattle.adm_store.proofs.DrawFits.{draws_fit, offers_fit, lots_fit}
 use Rattle.adm_store.proofs.DrawOrder.{few_draws}
 use Rattle.adm_store.specs.StandsFor.{HasRows, HoldsRows, HoldsRegister, written_in, written_tables}
-use Rattle.adm_store.specs.Reads.{Holds, HoldsSeason, AreReadBack}
+use Rattle.adm_store.specs.Reads.{HoldsSeason, AreReadBack}
 use Rattle.adm_register.specs.declared.register_rows.Rows.{Rows}
 use Rattle.adm_register.specs.Rows.{AreRowsOf, rows_in_order}
-use Rattle.adm_store.specs.Faults.{IsSchool, IsReadAgain, IsChild, IsApplication, IsPlaceRow, IsLeftRow, AreReadAgain}
+use Rattle.adm_store.specs.Faults.{IsSchool, IsReadAgain, IsChild, IsApplication, IsImportRow, IsImportReadAgain, IsPlaceRow, IsLeftRow, AreReadAgain}
 use Rattle.adm_store.proofs.SeasonRows.{same_season, same_count}
 use Rattle.adm_store.proofs.RowLemmas.{values_back, recursion_had, recursion_map}
 use Rattle.adm_store.proofs.SchoolRows.{school_from, from_row, reads_again}
-use Rattle.adm_store.proofs.ChildRows.{child_from, child_back, application_from, application_back, place_from, place_back, state_days, left_from, left_back}
+use Rattle.adm_store.proofs.ChildRows.{child_from, child_back, application_from, application_back, imported_from, imported_back, import_again, place_from, place_back, state_days, left_from, left_back}
 use Rattle.adm_store.proofs.CodeLemmas.{codes_again}
 use Rattle.adm_store.proofs.MapRows.{each_value}
 
@@ -65,20 +65,33 @@ left_same x y e = λ i. record { child = nat_cmp-IsAntisymmetric x.child y.child
 pub schools_fit : (r : Register) → WellFormed r → AllByRecursion IsSchool (values r.schools)
 schools_fit r formed = each_value nat_list_cmp_total same_code IsSchool r.schools (λ code s is. let fits = formed.base.schools_fit code s is in record { code_form = fits.code_form; text = fits.text; in_range = fits.in_range })
 
-pub children_fit : (r : Register) → WellFormed r → AllByRecursion IsChild (values r.children)
-children_fit r formed = each_value nat_cmp_total nat_cmp-IsAntisymmetric IsChild r.children (λ number child is. let fits = formed.base.children_fit number child is in record {
+child_fits : (r : Register) → WellFormed r → (number : ℕ) (child : Child) → ChildFits r.schools number child → IsChild child
+child_fits r formed number child fits = record {
   number_form = fits.number_form;
   text = fits.text;
   in_range = fits.in_range;
   flags = fits.flags;
   codes = codes_there r.schools formed.base.schools_fit child.siblings fits.siblings;
-})
+}
 
-pub applications_fit : (r : Register) (last : ℕ) → WellFormed r → last ≡ lists_end r.season → AllByRecursion (IsApplication last) (values r.applications)
-applications_fit r last formed same = each_value nat_cmp_total nat_cmp-IsAntisymmetric (IsApplication last) r.applications (λ number application is. let fits = formed.base.applications_fit number application is in record {
+pub children_fit : (r : Register) → WellFormed r → AllByRecursion IsChild (values r.children)
+children_fit r formed = each_value nat_cmp_total nat_cmp-IsAntisymmetric IsChild r.children (λ number child is. child_fits r formed number child (formed.base.children_fit number child is))
+
+application_fits : (r : Register) (last : ℕ) → WellFormed r → last ≡ lists_end r.season → (number : ℕ) (application : Application) → ApplicationFits (lists_end r.season) r.schools r.children number application → IsApplication last application
+application_fits r last formed same number application fits = record {
   number_form = number_there r formed application.child fits.child;
   day = subst (λ d. is_from first_day d application.day ≡ true) (sym same) fits.day;
   codes = codes_there r.schools formed.base.schools_fit application.list fits.known;
+}
+
+pub applications_fit : (r : Register) (last : ℕ) → WellFormed r → last ≡ lists_end r.season → AllByRecursion (IsApplication last) (values r.applications)
+applications_fit r last formed same =
+    each_value nat_cmp_total nat_cmp-IsAntisymmetric (IsApplication last) r.applications (λ number application is. application_fits r last formed same number application (formed.base.applications_fit number application is))
+
+pub imported_fit : (r : Register) (last : ℕ) → WellFormed r → last ≡ lists_end r.season → AllByRecursion (IsImportRow last) (values r.imported)
+imported_fit r last formed same = each_value nat_cmp_total nat_cmp-IsAntisymmetric (IsImportRow last) r.imported (λ number row is. let fits = formed.imported number row is in record {
+  child = child_fits r formed number row.child fits.child;
+  application = application_fits r last formed same number (application_of row) fits.application;
 })
 
 pub places_fit : (r : Register) → WellFormed r → AllByRecursion IsPlaceRow (values r.places)
@@ -107,11 +120,6 @@ few_enough r formed = let few = few_draws r.season no_draws (values r.draws) (om
 pub each_table : (P : Table → Type 0) → AllByRecursion P register_schema.tables → (t : Table) → Has register_schema.tables t → P t
 each_table P all t listed = recursion_had P register_schema.tables t all listed
 
--- a table in which nothing is written
-pub none_read : (t : Table) (none : List Infallible) (db : Trees) → Holds t no_row none db → HasRows t [] db
-none_read t [] db held = held
-none_read t (x ∷ more) db held = elim x [ ]
-
 moved : {X : Type 0} (row_of : X → Row) (read values : List X) (rows : List Row) → IsPermutation read values → IsPermutation (map row_of read) rows → IsPermutation (map row_of values) rows
 moved row_of read values rows same held = IsPermutation-trans _ _ _ (IsPermutation-map row_of _ _ (IsPermutation-sym _ _ same)) held
 
@@ -124,7 +132,7 @@ holds_register db r rows held are formed = record {
         λ h. moved school_row _ _ _ are.schools h,
         (
           λ h. moved child_row _ _ _ are.children h,
-          (λ h. moved application_row _ _ _ are.applications h, (λ h. moved place_row _ _ _ are.places h, (λ h. moved left_row _ _ _ are.left h, (λ h. moved draw_row _ _ _ are.draws.heads h, (λ h. moved offer_row _ _ _ are.draws.offers h, (λ h. moved lot_row _ _ _ are.draws.lots h, (λ h. h, tt))))))),
+          (λ h. moved application_row _ _ _ are.applications h, (λ h. moved place_row _ _ _ are.places h, (λ h. moved left_row _ _ _ are.left h, (λ h. moved draw_row _ _ _ are.draws.heads h, (λ h. moved offer_row _ _ _ are.draws.offers h, (λ h. moved lot_row _ _ _ are.draws.lots h, (λ h. moved imported_row _ _ _ are.imported h, tt))))))),
         ),
       ),
     ) t listed (held.each t listed);
@@ -149,6 +157,7 @@ rows_held db r rows file held again season = record {
     offers = values_back offer_row offer_from (λ _. Unit {0}) IsOfferRow (λ x _. offer_back x) (λ _ _. tt) _ _ _ (no_condition rows.offers) (offers_fit r file.formed) (held.each offer has_offer) (file.rows.each offer has_offer);
     lots = values_back lot_row lot_from (λ _. Unit {0}) IsLotRow (λ x _. lot_back x) (λ _ _. tt) _ _ _ (no_condition rows.lots) (lots_fit r file.formed) (held.each lot has_lot) (file.rows.each lot has_lot);
   };
+  imported = values_back imported_row imported_from IsImportReadAgain (IsImportRow (lists_end r.season)) imported_back (import_again (lists_end r.season)) _ _ _ again.imported (imported_fit r (lists_end r.season) file.formed refl) (held.each imported has_imported) (file.rows.each imported has_imported);
 }
 
 first_row : (a b : Row) → a ∷ [] ≡ b ∷ [] → a ≡ b
@@ -163,6 +172,7 @@ read_back r formed = record {
   schools = recursion_map IsSchool IsReadAgain reads_again _ (schools_fit r formed);
   children = recursion_map IsChild (λ x. AreReadAgain x.siblings) (λ x fits. codes_again x.siblings fits.codes) _ (children_fit r formed);
   applications = recursion_map (IsApplication (lists_end r.season)) (λ x. AreReadAgain x.list) (λ x fits. codes_again x.list fits.codes) _ (applications_fit r (lists_end r.season) formed refl);
+  imported = recursion_map (IsImportRow (lists_end r.season)) IsImportReadAgain (import_again (lists_end r.season)) _ (imported_fit r (lists_end r.season) formed refl);
 }
 
 -- the season that was read is that of the register, and so is the count of draws

@@ -8,18 +8,13 @@ use Rattle.sqlite_rules.specs.Lists.{Has}
 use Rattle.sqlite_rules.proofs.ListLemmas.{has_at, has_contained, contains_had}
 use Rattle.sqlite.specs.declared.types.Value.{Value}
 use Rattle.sqlite.specs.declared.types.Value.TheVariants.{Int, Text}
-use Rattle.sqlite.specs.Order.{Row, column}
+use Rattle.sqlite.specs.Order.{Row}
 use Rattle.adm_schema.proofs.Lists.{has_source}
 use Rattle.adm_store.specs.declared.fault.OpenFault.{OpenFault}
 use Rattle.adm_store.specs.declared.fault.OpenFault.TheVariants.{BadRow, Memory}
-use Rattle.adm_store.specs.Faults.{IsNoRegister}
+use Rattle.adm_store.specs.Faults.{HasFrom, IsNoRegister}
 
 -- ---- one row
-
--- from this column on the row has these values
-abbrev pub HasFrom : Row → ℕ → List Value → Type 0
-HasFrom row i [] = Unit {0}
-HasFrom row i (value ∷ values) = (column row i ≡ value) × HasFrom row (suc i) values
 
 one_less : (x : Value) (row : Row) (i : ℕ) (values : List Value) → HasFrom (x ∷ row) (suc i) values → HasFrom row i values
 one_less x row i [] has = tt

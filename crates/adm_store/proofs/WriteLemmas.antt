@@ -17,21 +17,22 @@ use Rattle.adm_types.specs.declared.rows.LeftPair.{LeftPair}
 use Rattle.adm_types.specs.declared.rows.PlaceState.{PlaceState}
 use Rattle.adm_types.specs.declared.rows.PlaceState.TheVariants.{Offered, Accepted, Plan}
 use Rattle.sqlite_trees.specs.View.{doubt}
-use Rattle.adm_schema.specs.Schema.{child, application, place, left_list, register_schema}
+use Rattle.adm_schema.specs.Schema.{child, application, place, left_list, imported, register_schema}
 use Rattle.adm_schema.specs.RowTexts as text
-use Rattle.adm_schema.specs.Texts.{insert_left_list, left_list_terms}
-use Rattle.adm_schema.proofs.Listed.{has_child, has_application, has_place, has_left_list}
+use Rattle.adm_schema.specs.Texts.{insert_left_list, left_list_terms, insert_imported, imported_terms}
+use Rattle.adm_schema.proofs.Listed.{has_child, has_application, has_place, has_left_list, has_imported}
 use Rattle.adm_schema.proofs.Casts.{cast_null, cast_int}
 use Rattle.adm_schema.proofs.OneRow.{puts_row, cuts_row}
 use Rattle.adm_schema.proofs.Statements.{inserted, adds}
-use Rattle.adm_schema.proofs.Texts.{inserts_left_list}
+use Rattle.adm_schema.proofs.Texts.{inserts_left_list, inserts_imported}
 use Rattle.adm_schema.proofs.RowTexts.{puts_child, puts_application, puts_place, cuts_application, cuts_place}
 use Rattle.adm_store.specs.declared.rows.ChildRow.{ChildRow}
 use Rattle.adm_store.specs.declared.rows.ApplicationRow.{ApplicationRow}
-use Rattle.adm_store.specs.Changes.{written_child, written_application}
+use Rattle.adm_store.specs.declared.rows.ImportedRow.{ImportedRow}
+use Rattle.adm_store.specs.Changes.{written_child, written_application, written_imported}
 use Rattle.adm_store.specs.Forms.{place_row, left_row, state_columns, truth_code}
 use Rattle.adm_store.specs.Writes.{Adds, Puts, Cuts, Writes, write_of, key_row}
-use Rattle.adm_store.proofs.LogLemmas.{add_one, put_one, cut_one}
+use Rattle.adm_store.proofs.LogLemmas.{add_one, add_keyed, put_one, cut_one}
 
 -- a truth value as SQL has it
 pub truth_is : (b : Bool) → Int (if b then pos 1 else pos 0) ≡ Int (pos (truth_code b))
@@ -132,3 +133,14 @@ adds_left old new count it later ran = add_one left_list has_left_list old new l
     let h = ran clean in
     adds register_schema left_list 5 refl refl refl (λ _ _. refl) old new (Null ∷ left_row it) (left_row it) (λ rows. ap (columns_of left_list) (given_left it rows))
     (inserted register_schema left_list 5 refl refl refl (λ _ _. refl) left_list_terms 3 insert_left_list (left_row it) (Null ∷ left_row it) old new count inserts_left_list.0 inserts_left_list.1 refl (sees early h.1.was_open) h))
+
+given_imported : (it : ImportedRow) (rows : List Row) → with_rowid Chosen rows (cast_row imported (stored (written_imported it))) ≡ stored (written_imported it)
+given_imported it rows = rw (cast_null, cast_int (pos it.child.child), cast_int (pos it.child.east), cast_int (pos it.child.north), cast_int (pos (truth_code it.child.looked_after)), cast_int (pos it.child.flags), cast_int (pos it.day))
+
+pub adds_imported : (old new : State) (count : ℕ) (it : ImportedRow) → doubt old.is_clean ≤ doubt new.is_clean → (HasCleanDisk new → ExecutesInside 0 insert_imported (written_imported it) old new (Ok count))
+    → Writes (write_of Adds imported written_imported (it ∷ []) ∷ []) old new
+adds_imported old new count it later ran = add_keyed imported has_imported old new later refl (written_imported it) refl (λ clean sees.
+    let early : HasCleanDisk old = omega (arith, later, clean) in
+    let h = ran clean in
+    adds register_schema imported 9 refl refl refl (λ _ _. refl) old new (stored (written_imported it)) (written_imported it) (λ rows. ap (columns_of imported) (given_imported it rows))
+    (inserted register_schema imported 9 refl refl refl (λ _ _. refl) imported_terms 10 insert_imported (written_imported it) (stored (written_imported it)) old new count inserts_imported.0 inserts_imported.1 refl (sees early h.1.was_open) h))

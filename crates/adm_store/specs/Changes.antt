@@ -1,5 +1,5 @@
 -- The rows by which one register differs from another, as they are written.
-use Rattle.std.specs.Prelude.{◌≡◌, ℕ, ◌+◌, ◌-◌, pos, List, [], ◌∷◌, length, drop, map}
+use Rattle.std.specs.Prelude.{◌≡◌, ℕ, ◌+◌, ◌-◌, pos, List, [], ◌∷◌, ◌++◌, length, drop, map}
 use Rattle.std.specs.List.{flat_map}
 use Rattle.adm_types.specs.Seasons.{SeasonFacts, IsSeason}
 use Rattle.adm_types.specs.declared.draws.DrawRow.{DrawRow}
@@ -17,8 +17,9 @@ use Rattle.adm_store.specs.declared.rows.SeasonRow.{SeasonRow}
 use Rattle.adm_store.specs.declared.rows.SchoolRow.{SchoolRow}
 use Rattle.adm_store.specs.declared.rows.ChildRow.{ChildRow}
 use Rattle.adm_store.specs.declared.rows.ApplicationRow.{ApplicationRow}
+use Rattle.adm_store.specs.declared.rows.ImportedRow.{ImportedRow}
 use Rattle.adm_store.specs.declared.rows.Changes.{Changes}
-use Rattle.adm_store.specs.Forms.{phase_code, season_row, school_row, child_row, application_row, truth_code}
+use Rattle.adm_store.specs.Forms.{phase_code, season_row, school_row, child_row, application_row, imported_row, truth_code}
 use Rattle.sqlite.specs.Tree.{Trees}
 use Rattle.adm_store.specs.StandsFor.{StandsFor, LeavesOnly, LeavesEither}
 
@@ -34,6 +35,9 @@ written_child r = Int (pos r.child) ∷ Text r.name ∷ Int (pos r.east) ∷ Int
 
 abbrev pub written_application : ApplicationRow → Row
 written_application r = Int (pos r.child) ∷ Int (pos r.day) ∷ Text r.preferences ∷ []
+
+abbrev pub written_imported : ImportedRow → Row
+written_imported r = written_child r.child ++ Int (pos r.day) ∷ Text r.preferences ∷ []
 
 -- the number of a draw, as the row of `meta` has it
 abbrev pub written_count : DrawRow → Row
@@ -68,6 +72,7 @@ pub record IsChanges (old new : Register) (changes : Changes) : Type 0 where
   pub draws : changes.draws ≡ map row_of difference.draws
   pub offers : changes.offers ≡ flat_map offers_of difference.draws
   pub lots : changes.lots ≡ flat_map lots_of difference.draws
+  pub imported : map written_imported changes.imported ≡ map imported_row difference.imported
   pub ended : changes.ended ≡ difference.ended
   pub vacated : changes.vacated ≡ difference.vacated
 

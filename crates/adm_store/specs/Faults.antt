@@ -1,5 +1,5 @@
 -- The faults that say that the tables hold no register, and when rows are those of no register.
-use Rattle.std.specs.Prelude.{◌≡◌, ℕ, ◌<◌, ◌^◌, pos, Bool, true, ◌&&◌, nat_lt, List, [], ◌∷◌, Option, Some, None, IsTrue}
+use Rattle.std.specs.Prelude.{◌≡◌, ℕ, suc, ◌<◌, ◌^◌, pos, Bool, true, ◌&&◌, nat_lt, List, [], ◌∷◌, Option, Some, None, IsTrue}
 use Rattle.std.specs.List.{list_all}
 use Rattle.std.specs.Str.{IsUtf8, is_utf8}
 use Rattle.adm_types.specs.Code.{is_code}
@@ -9,13 +9,16 @@ use Rattle.adm_types.specs.declared.seasons.Phase.{Phase}
 use Rattle.adm_types.specs.declared.rows.School.{School}
 use Rattle.adm_types.specs.declared.rows.Child.{Child}
 use Rattle.adm_types.specs.declared.rows.Application.{Application}
+use Rattle.adm_types.specs.declared.rows.ImportRow.{ImportRow}
 use Rattle.adm_types.specs.declared.rows.PlaceRow.{PlaceRow}
 use Rattle.adm_types.specs.declared.rows.LeftPair.{LeftPair}
 use Rattle.adm_types.specs.declared.rows.PlaceState.{PlaceState}
 use Rattle.adm_types.specs.declared.rows.PlaceState.TheVariants.{Offered, Accepted, Plan}
 use Rattle.adm_types.specs.Numbers.{last_day}
+use Rattle.adm_register.specs.State.{application_of}
+use Rattle.sqlite.specs.declared.types.Value.{Value}
 use Rattle.sqlite.specs.declared.types.Value.TheVariants.{Int, Text}
-use Rattle.sqlite.specs.Order.{Row}
+use Rattle.sqlite.specs.Order.{Row, column}
 use Rattle.adm_store.specs.declared.fault.OpenFault.{OpenFault}
 use Rattle.adm_store.specs.declared.fault.OpenFault.TheVariants.{NotOurs, Version, BadRow, Disk, Memory}
 use Rattle.adm_store.specs.Forms.{phase_code, criteria_text, criteria_of, codes_text, day_value}
@@ -27,6 +30,11 @@ IsNoRegister Version = Unit {0}
 IsNoRegister BadRow = Unit {0}
 IsNoRegister Disk = ⊥
 IsNoRegister Memory = ⊥
+
+-- from this column on the row has these values
+abbrev pub HasFrom : Row → ℕ → List Value → Type 0
+HasFrom row at [] = Unit {0}
+HasFrom row at (value ∷ values) = (column row at ≡ value) × HasFrom row (suc at) values
 
 -- a school with a code, a name that is a text, and numbers and criteria in their limits
 pub record IsSchool (school : School) : Type 0 where
@@ -72,6 +80,15 @@ pub record IsApplication (last : ℕ) (application : Application) : Type 0 where
   pub number_form : IsTrue (is_child_number application.child)
   pub day : IsTrue (is_from first_day last application.day)
   pub codes : IsTrue (list_all is_code application.list)
+
+-- an imported row of such a child, and of such an application of it
+pub record IsImportRow (last : ℕ) (row : ImportRow) : Type 0 where
+  pub child : IsChild row.child
+  pub application : IsApplication last (application_of row)
+
+-- the codes of its child's siblings are read again, and so are its preferences
+abbrev pub IsImportReadAgain : ImportRow → Type 0
+IsImportReadAgain row = AreReadAgain row.child.siblings × AreReadAgain row.preferences
 
 -- a left pair with a child's number and a code
 pub record IsLeftRow (pair : LeftPair) : Type 0 where

@@ -1,5 +1,5 @@
 -- How a register's rows are written in its tables.
-use Rattle.std.specs.Prelude.{ℕ, pos, Bool, true, false, List, [], ◌∷◌, map, Option, Some, None, option_and_then, if◌then◌else◌}
+use Rattle.std.specs.Prelude.{ℕ, pos, Bool, true, false, List, [], ◌∷◌, ◌++◌, map, Option, Some, None, option_and_then, if◌then◌else◌}
 use Rattle.std.specs.Fmt.{decimal}
 use Rattle.adm_types.specs.Seasons.{SeasonFacts}
 use Rattle.adm_types.specs.Fields.{plain_of, criterion_of, criterion_text}
@@ -11,6 +11,7 @@ use Rattle.adm_types.specs.declared.rows.Criterion.{Criterion}
 use Rattle.adm_types.specs.declared.rows.School.{School}
 use Rattle.adm_types.specs.declared.rows.Child.{Child}
 use Rattle.adm_types.specs.declared.rows.Application.{Application}
+use Rattle.adm_types.specs.declared.rows.ImportRow.{ImportRow}
 use Rattle.adm_types.specs.declared.rows.PlaceRow.{PlaceRow}
 use Rattle.adm_types.specs.declared.rows.LeftPair.{LeftPair}
 use Rattle.adm_types.specs.declared.rows.PlaceState.{PlaceState}
@@ -51,6 +52,10 @@ child_row c =
 
 abbrev pub application_row : Application → Row
 application_row a = Int (pos a.child) ∷ Int (pos a.day) ∷ Text (codes_text a.list) ∷ []
+
+-- the columns of its child, and the day and the preferences of its application
+abbrev pub imported_row : ImportRow → Row
+imported_row r = child_row r.child ++ Int (pos r.day) ∷ Text (codes_text r.preferences) ∷ []
 
 -- a day, or NULL where there is none
 abbrev pub day_value : Option ℕ → Value

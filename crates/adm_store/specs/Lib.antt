@@ -2,7 +2,6 @@ pub mod Forms
 pub mod DrawForms
 pub mod StandsFor
 pub mod Reads
-pub mod Unused
 pub mod Faults
 pub mod FirstFault
 pub mod Causes

@@ -15,7 +15,7 @@ use Rattle.adm_store.specs.Forms.{season_row}
 use Rattle.std.specs.FinMap.{values}
 use Rattle.adm_types.specs.Seasons.{SeasonFacts}
 use Rattle.adm_register.specs.State.{State as Register}
-use Rattle.adm_store.specs.Faults.{IsReadAgain, AreReadAgain}
+use Rattle.adm_store.specs.Faults.{IsReadAgain, AreReadAgain, IsImportReadAgain}
 use Rattle.adm_store.specs.StandsFor.{HasRows}
 
 -- the text asks for each row of the table, column by column
@@ -51,3 +51,4 @@ pub record AreReadBack (rows : Rows) : Type 0 where
   pub schools : AllByRecursion IsReadAgain rows.schools
   pub children : AllByRecursion (λ x. AreReadAgain x.siblings) rows.children
   pub applications : AllByRecursion (λ x. AreReadAgain x.list) rows.applications
+  pub imported : AllByRecursion IsImportReadAgain rows.imported

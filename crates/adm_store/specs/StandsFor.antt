@@ -13,8 +13,8 @@ use Rattle.sqlite.specs.State.{State, HasCleanDisk}
 use Rattle.sqlite_catalog.specs.Listing.{IsSound}
 use Rattle.sqlite_rules.specs.Lists.{Has}
 use Rattle.adm_schema.specs.Rows.{rows_of}
-use Rattle.adm_schema.specs.Schema.{meta, school, child, application, place, left_list, draw, offer, lot, no_schema, register_schema}
-use Rattle.adm_store.specs.Forms.{season_row, school_row, child_row, application_row, place_row, left_row}
+use Rattle.adm_schema.specs.Schema.{meta, school, child, application, place, left_list, draw, offer, lot, imported, no_schema, register_schema}
+use Rattle.adm_store.specs.Forms.{season_row, school_row, child_row, application_row, place_row, left_row, imported_row}
 use Rattle.adm_store.specs.DrawForms.{draw_row, offer_row, lot_row}
 
 -- as after a start: on a clean disk the connection is open
@@ -25,7 +25,7 @@ IsStarted s = HasCleanDisk s → IsTrue s.is_open
 abbrev pub HasRows : Table → List Row → Trees → Type 0
 HasRows table rows db = IsPermutation rows (rows_of table db)
 
--- the tables in use, and what is written in each; the row of `meta` counts the draws, and so has the number of the last one, as they are numbered from 1
+-- the tables, and what is written in each; the row of `meta` counts the draws, and so has the number of the last one, as they are numbered from 1
 abbrev pub written_tables : Rows → List (Table × List Row)
 written_tables rows =
     (meta, season_row rows.season (length rows.draws) ∷ [])
@@ -37,9 +37,10 @@ written_tables rows =
     ∷ (draw, map draw_row rows.draws)
     ∷ (offer, map offer_row rows.offers)
     ∷ (lot, map lot_row rows.lots)
+    ∷ (imported, map imported_row rows.imported)
     ∷ []
 
--- what is written in a table: nothing where it is not in use
+-- what is written in a table, which is nothing where it is none of these
 abbrev pub written_in : List (Table × List Row) → Table → List Row
 written_in [] t = []
 written_in (it ∷ more) t = if t.tree == it.0.tree then it.1 else written_in more t

@@ -9,9 +9,9 @@ use Rattle.sqlite.specs.declared.types.Value.TheVariants.{Int}
 use Rattle.sqlite_rules.specs.Lists.{Has}
 use Rattle.adm_schema.specs.Rows.{rows_of}
 use Rattle.adm_schema.specs.Effects.{Sees, SeesDatabase, GoesOn, key_of, put_each, with_draws}
-use Rattle.adm_schema.specs.Schema.{meta, school, child, application, place, left_list, draw, offer, lot, register_schema}
+use Rattle.adm_schema.specs.Schema.{meta, school, child, application, place, left_list, draw, offer, lot, imported, register_schema}
 use Rattle.adm_store.specs.declared.rows.Changes.{Changes}
-use Rattle.adm_store.specs.Changes.{written_school, written_child, written_application, written_count, last_draw}
+use Rattle.adm_store.specs.Changes.{written_school, written_child, written_application, written_imported, written_count, last_draw}
 use Rattle.adm_store.specs.Forms.{place_row, left_row}
 use Rattle.adm_store.specs.DrawForms.{draw_row, offer_row, lot_row}
 
@@ -83,5 +83,6 @@ writes_of c =
     ∷ write_of Adds draw draw_row c.draws
     ∷ write_of Adds offer offer_row c.offers
     ∷ write_of Adds lot lot_row c.lots
+    ∷ write_of Adds imported written_imported c.imported
     ∷ write_of Sets meta written_count (last_draw c.draws)
     ∷ []

@@ -2,15 +2,15 @@
 ghost use Rattle.std.specs.Prelude.{◌≡◌, map, IfOk};
 ghost use Rattle.adm_register.specs.State.{State as Facts};
 ghost use Rattle.adm_register.specs.Difference.{IsDifference};
-ghost use Rattle.adm_store.specs.Changes.{written_season, written_school, written_child, written_application, IsChanges};
-ghost use Rattle.adm_store.specs.Forms.{season_row, school_row, child_row, application_row};
+ghost use Rattle.adm_store.specs.Changes.{written_season, written_school, written_child, written_application, written_imported, IsChanges};
+ghost use Rattle.adm_store.specs.Forms.{season_row, school_row, child_row, application_row, imported_row};
 
 use crate::lists;
-use crate::rows::{ApplicationRow, Changes, ChildRow, SchoolRow, SeasonRow};
+use crate::rows::{ApplicationRow, Changes, ChildRow, ImportedRow, SchoolRow, SeasonRow};
 use adm_draws::{draw_rows, lot_rows, offer_rows};
 use adm_register::Difference;
 use adm_table::Shared;
-use adm_types::{Application, Child, School, Season, Seq, Text};
+use adm_types::{Application, Child, ImportRow, School, Season, Seq, Text};
 use std::alloc::{AllocError, Global};
 
 /// A value of a register, which is written as a row of a table.
@@ -104,6 +104,24 @@ impl ToRow for Application {
     }
 }
 
+impl ToRow for ImportRow {
+    type Row = ImportedRow;
+
+    ghost columns = { written_imported };
+
+    ghost row_of = { imported_row };
+
+    fn to_row(&self, alloc: Global) -> Result<ImportedRow, AllocError> {
+        let child = self.child.to_row(alloc)?;
+        let preferences = lists::codes_text(alloc, self.preferences.as_slice())?;
+        Ok(ImportedRow {
+            child,
+            day: self.day,
+            preferences: Text::from_string(preferences),
+        })
+    }
+}
+
 fn to_rows<T: ToRow>(alloc: Global, values: &[Shared<T>]) -> Result<Vec<T::Row>, AllocError>
     ensures { IfOk result (λ rows. map T.columns rows.items ≡ map T.row_of values.now) }
 {
@@ -124,6 +142,7 @@ pub fn changes(alloc: Global, difference: Difference) -> Result<Changes, AllocEr
     let draws = draw_rows(alloc, difference.draws.as_slice())?;
     let offers = offer_rows(alloc, difference.draws.as_slice())?;
     let lots = lot_rows(alloc, difference.draws.as_slice())?;
+    let imported = to_rows(alloc, difference.imported.as_slice())?;
     Ok(Changes {
         schools: Seq::from_vec(schools),
         children: Seq::from_vec(children),
@@ -133,6 +152,7 @@ pub fn changes(alloc: Global, difference: Difference) -> Result<Changes, AllocEr
         draws: Seq::from_vec(draws),
         offers: Seq::from_vec(offers),
         lots: Seq::from_vec(lots),
+        imported: Seq::from_vec(imported),
         ended: difference.ended,
         vacated: difference.vacated,
     })

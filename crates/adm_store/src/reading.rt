@@ -15,6 +15,7 @@ mod children;
 mod codes;
 mod columns;
 mod draws;
+mod imported;
 mod left_list;
 mod lots;
 mod offers;
@@ -23,12 +24,12 @@ mod queries;
 mod reader;
 mod schools;
 mod season;
-mod unused;
 
 use crate::OpenFault;
 use crate::reading::applications::ApplicationReader;
 use crate::reading::children::ChildReader;
 use crate::reading::draws::DrawReader;
+use crate::reading::imported::ImportedReader;
 use crate::reading::left_list::LeftReader;
 use crate::reading::lots::LotReader;
 use crate::reading::offers::OfferReader;
@@ -36,7 +37,6 @@ use crate::reading::places::PlaceReader;
 use crate::reading::reader::Readers;
 use crate::reading::schools::SchoolReader;
 use crate::reading::season::{MetaRow, read_season};
-use crate::reading::unused::Unused;
 use adm_register::{Register, Rows, RowsFault};
 use adm_types::DrawRow;
 use sqlite::{Alter, Transaction};
@@ -65,14 +65,14 @@ fn rows_in<S: Alter>(
     ensures survives { Survives (state S.Store tx.old.conn.now) (state S.Store tx.new.conn.now) (λ _. ⊥) }
 {
     let last = first.season.lists_end();
-    let readers = (OfferReader, (LotReader, (Unused, ())));
+    let readers = (OfferReader, (LotReader, (ImportedReader { last }, ())));
     let readers = (LeftReader, (DrawReader { last }, readers));
     let readers = (ApplicationReader { last }, (PlaceReader, readers));
     let readers = (SchoolReader, (ChildReader, readers));
     let (schools, (children, (applications, (places, (left, more))))) = readers.read_all(
         alloc, tx,
     )?;
-    let (draws, (offers, (lots, _unused))) = more;
+    let (draws, (offers, (lots, (imported, ())))) = more;
     if is_count_of(first.draws, draws.as_slice()) {
         Ok(Rows {
             season: first.season,
@@ -84,6 +84,7 @@ fn rows_in<S: Alter>(
             draws,
             offers,
             lots,
+            imported,
         })
     } else {
         Err(OpenFault::BadRow)

@@ -62,6 +62,15 @@ pub struct ApplicationRow {
     pub preferences: Text,
 }
 
+/// A row of the table `imported`, as it is written.
+#[derive(Drop)]
+pub struct ImportedRow {
+    pub child: ChildRow,
+    pub day: Day,
+    /// The codes of schools, joined by `;`.
+    pub preferences: Text,
+}
+
 /// The rows of a new register that the old one has not, table by table, and the keys of the old
 /// one that the new one has not.
 #[derive(Drop)]
@@ -77,6 +86,7 @@ pub struct Changes {
     pub offers: Seq<OfferRow>,
     /// The lots of these draws.
     pub lots: Seq<LotRow>,
+    pub imported: Seq<ImportedRow>,
     /// The children whose applications ended.
     pub ended: Seq<ChildNo>,
     /// The children whose places ended.
@@ -93,7 +103,7 @@ pub(crate) fn last_draw(draws: &[DrawRow]) -> &[DrawRow]
 impl Changes {
     /// How many rows are written; where there are draws, the row that counts them is one. It takes no memory.
     pub fn put(&self) -> u64
-        ensures { result ≡ length self.now.schools + length self.now.children + length self.now.applications + length self.now.places + length self.now.left + draw_count self.now }
+        ensures { result ≡ length self.now.schools + length self.now.children + length self.now.applications + length self.now.places + length self.now.left + length self.now.imported + draw_count self.now }
     {
         let schools = self.schools.as_slice();
         let children = self.children.as_slice();
@@ -103,10 +113,11 @@ impl Changes {
         let draws = self.draws.as_slice();
         let offers = self.offers.as_slice();
         let lots = self.lots.as_slice();
+        let imported = self.imported.as_slice();
         let count = last_draw(draws);
         let drawn = draws.len() + offers.len() + lots.len() + count.len();
-        (schools.len() + children.len() + applications.len() + places.len() + left.len()) as u64
-            + drawn as u64
+        let people = children.len() + applications.len() + places.len() + left.len();
+        (schools.len() + people + imported.len()) as u64 + drawn as u64
     }
 
     /// How many keys are deleted. It takes no memory.

@@ -16,6 +16,7 @@ use crate::applications::{CutApplication, PutApplication};
 use crate::children::PutChild;
 use crate::difference::ToRow;
 use crate::draws::AddDraw;
+use crate::imported::AddImported;
 use crate::left_list::AddLeft;
 use crate::lots::AddLot;
 use crate::offers::AddOffer;
@@ -182,6 +183,7 @@ fn write_rows<S: Alter>(tx: &mut Transaction<'_, S>, changes: &Changes) -> Resul
     run_each::<AddDraw, S>(tx, changes.draws.as_slice())?;
     run_each::<AddOffer, S>(tx, changes.offers.as_slice())?;
     run_each::<AddLot, S>(tx, changes.lots.as_slice())?;
+    run_each::<AddImported, S>(tx, changes.imported.as_slice())?;
     run_each::<SetDraws, S>(tx, last_draw(changes.draws.as_slice()))?;
     Ok(())
 }

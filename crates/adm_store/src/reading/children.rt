@@ -1,7 +1,9 @@
 // The rows of `child` as children.
+ghost use Rattle.std.specs.Prelude.{◌≡◌, ◌<◌, length, IfOk, IfErr};
+ghost use Rattle.adm_types.specs.declared.rows.Child.{Child as Facts};
 ghost use Rattle.adm_schema.specs.Schema.{child};
 ghost use Rattle.adm_store.specs.Forms.{child_row};
-ghost use Rattle.adm_store.specs.Faults.{IsChild, AreReadAgain};
+ghost use Rattle.adm_store.specs.Faults.{HasFrom, IsNoRegister, IsChild, AreReadAgain};
 
 use crate::OpenFault;
 use crate::reading::codes::codes_at;
@@ -10,6 +12,32 @@ use crate::reading::reader::Reader;
 use adm_types::{Child, Point};
 use sqlite::Row;
 use std::alloc::Global;
+
+/// The child of a row whose first seven columns are a child's.
+pub(super) fn child_in(alloc: Global, row: &Row) -> Result<Child, OpenFault>
+    requires { 6 < length row.now }
+    ensures ok { IfOk result (λ child. HasFrom row.now 0 (child_row child)) }
+    ensures again { IfOk result (λ child. AreReadAgain child.siblings) }
+    ensures bad { IfErr result (λ e. IsNoRegister e → (child : Facts) → IsChild child → HasFrom row.now 0 (child_row child) → ⊥) }
+    ensures first { IfErr result (λ e. IsNoRegister e → e ≡ OpenFault.BadRow) }
+    ensures disk { IfErr result (λ e. e ≡ OpenFault.Disk → ⊥) }
+{
+    let no = child_at(row, 0)?;
+    let name = text_at(row, 1)?;
+    let east = number_at(row, 2)?;
+    let north = number_at(row, 3)?;
+    let looked_after = truth_at(row, 4)?;
+    let flags = flags_at(row, 5)?;
+    let siblings = codes_at(alloc, row, 6)?;
+    Ok(Child {
+        no,
+        name,
+        home: Point { east, north },
+        looked_after,
+        flags,
+        siblings,
+    })
+}
 
 #[derive(Drop)]
 pub(super) struct ChildReader;
@@ -33,20 +61,6 @@ impl Reader for ChildReader {
         if row.column_count() != 7 {
             return Err(OpenFault::BadRow);
         }
-        let no = child_at(row, 0)?;
-        let name = text_at(row, 1)?;
-        let east = number_at(row, 2)?;
-        let north = number_at(row, 3)?;
-        let looked_after = truth_at(row, 4)?;
-        let flags = flags_at(row, 5)?;
-        let siblings = codes_at(alloc, row, 6)?;
-        Ok(Child {
-            no,
-            name,
-            home: Point { east, north },
-            looked_after,
-            flags,
-            siblings,
-        })
+        child_in(alloc, row)
     }
 }

@@ -5,12 +5,12 @@ use Rattle.std.specs.FinMap.{values}
 use Rattle.sqlite.specs.Held.{state}
 use Rattle.adm_types.specs.Seasons.{lists_end}
 use Rattle.adm_draws.specs.Draws.{row_of, offers_of, lots_of}
-use Rattle.adm_schema.specs.Schema.{meta, imported}
+use Rattle.adm_schema.specs.Schema.{meta}
 use Rattle.adm_schema.proofs.Listed.{has_school, has_child, has_application, has_place, has_left_list, has_draw, has_offer, has_lot, has_imported}
 use Rattle.adm_store.specs.Forms.{season_row}
 use Rattle.adm_store.specs.StandsFor.{HasRows, written_in, written_tables}
 use Rattle.adm_store.proofs.DrawFits.{draws_fit, offers_fit, lots_fit}
-use Rattle.adm_store.proofs.RegisterRows.{each_table, none_read, as_many, schools_fit, children_fit, applications_fit, places_fit, left_fit}
+use Rattle.adm_store.proofs.RegisterRows.{each_table, as_many, schools_fit, children_fit, applications_fit, places_fit, left_fit, imported_fit}
 use Rattle.adm_store.proofs.reading.rows_in.Goals as goal
 
 -- the tables in the order of the schema, which is that of the readers
@@ -21,7 +21,7 @@ returns-then-is_count_of-clause-ok g c clean has first =
     let drawn = it.1.1.1.1.1 in
     let counted : length c.in_ok-schools.more.0 ≡ c.args.first.draws = search rules in
     record {
-      each = each_table (λ t. HasRows t (written_in (written_tables (record { season = c.args.first.season; schools = c.in_ok-schools.schools; children = c.in_ok-schools.children; applications = c.in_ok-schools.applications; places = c.in_ok-schools.places; left = c.in_ok-schools.left; draws = c.in_ok-schools.more.0; offers = c.in_ok-schools.more.1.0; lots = c.in_ok-schools.more.1.1.0 })) t) db) (
+      each = each_table (λ t. HasRows t (written_in (written_tables (record { season = c.args.first.season; schools = c.in_ok-schools.schools; children = c.in_ok-schools.children; applications = c.in_ok-schools.applications; places = c.in_ok-schools.places; left = c.in_ok-schools.left; draws = c.in_ok-schools.more.0; offers = c.in_ok-schools.more.1.0; lots = c.in_ok-schools.more.1.1.0; imported = c.in_ok-schools.more.1.1.1.0 })) t) db) (
         subst (λ count. HasRows meta (season_row c.args.first.season count ∷ []) db) (sym counted) first,
         (
           it.0,
@@ -31,7 +31,7 @@ returns-then-is_count_of-clause-ok g c clean has first =
               it.1.1.0,
               (
                 it.1.1.1.0,
-                (it.1.1.1.1.0, (drawn.0, (drawn.1.0, (drawn.1.1.0, (none_read imported _ db drawn.1.1.1.0, tt))))),
+                (it.1.1.1.1.0, (drawn.0, (drawn.1.0, (drawn.1.1.0, (drawn.1.1.1.0, tt))))),
               ),
             ),
           ),
@@ -40,7 +40,7 @@ returns-then-is_count_of-clause-ok g c clean has first =
     }
 
 pub returns-then-is_count_of-clause-again : goal.returns-then-is_count_of-clause-again
-returns-then-is_count_of-clause-again g c = let it = c.in_ok-schools.ensures.again in record { schools = it.0; children = it.1.0; applications = it.1.1.0 }
+returns-then-is_count_of-clause-again g c = let it = c.in_ok-schools.ensures.again in record { schools = it.0; children = it.1.0; applications = it.1.1.0; imported = it.1.1.1.1.1.1.1.1.0 }
 
 pub returns-in_err-schools-clause-bad : goal.returns-in_err-schools-clause-bad
 returns-in_err-schools-clause-bad g c =
@@ -49,8 +49,8 @@ returns-in_err-schools-clause-bad g c =
     let each = held.rows.each in
     let last = c.lists_end-last.ensures ∙ sym (ap lists_end same.0) in
     c.in_err-schools.ensures.bad structural
-    (values r.schools, (values r.children, (values r.applications, (values r.places, (values r.left, (map row_of (values r.draws), (flat_map offers_of (values r.draws), (flat_map lots_of (values r.draws), ([], tt)))))))))
-    (schools_fit r held.formed, (children_fit r held.formed, (applications_fit r _ held.formed last, (places_fit r held.formed, (left_fit r held.formed, (draws_fit r _ held.formed last, (offers_fit r held.formed, (lots_fit r held.formed, (tt, tt)))))))))
+    (values r.schools, (values r.children, (values r.applications, (values r.places, (values r.left, (map row_of (values r.draws), (flat_map offers_of (values r.draws), (flat_map lots_of (values r.draws), (values r.imported, tt)))))))))
+    (schools_fit r held.formed, (children_fit r held.formed, (applications_fit r _ held.formed last, (places_fit r held.formed, (left_fit r held.formed, (draws_fit r _ held.formed last, (offers_fit r held.formed, (lots_fit r held.formed, (imported_fit r _ held.formed last, tt)))))))))
     clean has
     (each _ has_school, (each _ has_child, (each _ has_application, (each _ has_place, (each _ has_left_list, (each _ has_draw, (each _ has_offer, (each _ has_lot, (each _ has_imported, tt))))))))))
 
