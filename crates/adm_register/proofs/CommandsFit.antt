@@ -17,6 +17,7 @@ use Rattle.adm_register.proofs.RoundFit.{round-fit}
 use Rattle.adm_register.proofs.Posed.{posed}
 use Rattle.adm_register.proofs.Fits.{Fit}
 use Rattle.adm_register.proofs.Accepted.{add_school-fit, add_child-fit, amend-fit, name_plan-fit, apply-fit}
+use Rattle.adm_register.proofs.LeaveFit.{leave_list-fit}
 use Rattle.adm_register.proofs.OffersFit.{accept-fit, decline-fit, remind-fit, lapse-fit}
 
 -- where no row is refused no test fails
@@ -37,6 +38,6 @@ command-fit old (Accept child school) kept well law accepted change reply done =
 command-fit old (Decline child school) kept well law accepted change reply done = subst (Fit old) (sym done.0) (decline-fit old child school well (no_row _ accepted))
 command-fit old (Remind child school day) kept well law accepted change reply done = subst (Fit old) (sym done.0) (remind-fit old child school day kept well (no_row _ accepted))
 command-fit old (Lapse child school day) kept well law accepted change reply done = subst (Fit old) (sym done.0) (lapse-fit old child school day well (no_row _ accepted))
-command-fit old (LeaveList child school) kept well law accepted change reply done = cc
+command-fit old (LeaveList child school) kept well law accepted change reply done = subst (Fit old) (sym done.0) (leave_list-fit old child school well (no_row _ accepted))
 command-fit old (Fill draw school day lots) kept well law accepted change reply done = cc
 command-fit old (Import rows) kept well law accepted change reply done = cc

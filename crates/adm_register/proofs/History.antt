@@ -19,6 +19,7 @@ use Rattle.adm_register.specs.Round as round
 use Rattle.adm_register.specs.Accept as accept
 use Rattle.adm_register.specs.Decline as decline
 use Rattle.adm_register.specs.Remind as remind
+use Rattle.adm_register.specs.LeaveList as leave_list
 use Rattle.adm_register.specs.Offered.{offer_at}
 use Rattle.adm_register.specs.Outcome.{Changes, refused}
 use Rattle.adm_register.specs.History.{DrawsInOrder, DrawsStay, DrawsKept, RoundHeld, drawn_on}
@@ -60,7 +61,7 @@ one_more old new change draw one is ordered next =
     )
 
 kept : (old new : State) (command : Command) (change : Difference) (reply : Reply) → DrawsInOrder old → refused old command ≡ None → Changes old command change reply → new ≡ after old change → DrawsInOrder new × DrawsStay old new
-unfolding add_school.change_of name_plan.change_of apply.change_of accept.change_of decline.change_of remind.change_of round.change_of
+unfolding add_school.change_of name_plan.change_of apply.change_of accept.change_of decline.change_of remind.change_of round.change_of leave_list.change_of
 kept old new (AddSchool school) change reply ordered accepted done is = unchanged old new change (ap (λ (c : Difference). c.draws) done.0) is ordered
 kept old new (AddChild child) change reply ordered accepted done is = unchanged old new change (ap (λ (c : Difference). c.draws) done.0) is ordered
 kept old new (Amend child) change reply ordered accepted done is = unchanged old new change (ap (λ (c : Difference). c.draws) done.0) is ordered

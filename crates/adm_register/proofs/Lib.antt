@@ -12,6 +12,8 @@ pub mod RoundNext
 pub mod RoundFit
 pub mod Accepted
 pub mod OffersFit
+pub mod WaitLemmas
+pub mod LeaveFit
 pub mod CommandsFit
 pub mod Keeps
 pub mod RowLemmas

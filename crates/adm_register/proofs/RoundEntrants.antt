@@ -45,7 +45,7 @@ made true (Some child) wanted own applicant e =
     (ap (λ (a : Applicant). Some a.child) same, ap (λ (a : Applicant). a.wanted) same, ap (λ (a : Applicant). a.own) same)
 
 -- the schools above a place are on the list
-on_list : (o : Option PlaceRow) (list : List Code) (code : Code) → In code (above o list) → In code list
+pub on_list : (o : Option PlaceRow) (list : List Code) (code : Code) → In code (above o list) → In code list
 on_list None list code at = at
 on_list (Some row) list code at = from_take (prefix_len (λ other. not (pointwise nat_eq other row.place.school)) list) list code at
 

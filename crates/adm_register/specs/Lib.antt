@@ -11,11 +11,13 @@ pub mod Amend
 pub mod NamePlan
 pub mod Apply
 pub mod Wanted
+pub mod Waits
 pub mod Offered
 pub mod Accept
 pub mod Decline
 pub mod Remind
 pub mod Lapse
+pub mod LeaveList
 pub mod Round
 pub mod Extends
 pub mod Outcome

@@ -3,7 +3,7 @@ use Rattle.std.specs.Prelude.{◌≡◌, ⊤, ℕ, Bool, false, List, [], ◌∷
 use Rattle.adm_types.specs.declared.commands.Command.{Command}
 use Rattle.adm_types.specs.declared.commands.Command.TheVariants.{AddSchool, AddChild, Amend, NamePlan, Apply, Round, Accept, Decline, Remind, Lapse, LeaveList, Fill, Import}
 use Rattle.adm_types.specs.declared.commands.Refusal.{Refusal}
-use Rattle.adm_types.specs.declared.commands.Refusal.TheVariants.{NotWaiting, EmptyList, RowDiffers}
+use Rattle.adm_types.specs.declared.commands.Refusal.TheVariants.{EmptyList, RowDiffers}
 use Rattle.adm_types.specs.declared.commands.Reply.{Reply}
 use Rattle.adm_types.specs.declared.commands.Reply.TheVariants.{Done}
 use Rattle.adm_register.specs.declared.difference.Difference.{Difference}
@@ -21,6 +21,7 @@ use Rattle.adm_register.specs.Accept as accept
 use Rattle.adm_register.specs.Decline as decline
 use Rattle.adm_register.specs.Remind as remind
 use Rattle.adm_register.specs.Lapse as lapse
+use Rattle.adm_register.specs.LeaveList as leave_list
 use Rattle.adm_types.specs.declared.draws.Outcome.{Outcome as OutcomeRow}
 use Rattle.adm_register.specs.declared.not_done.NotDone.{NotDone}
 use Rattle.adm_register.specs.declared.registers.Proposal.{Proposal}
@@ -38,7 +39,7 @@ tests_of old (Accept child school) = accept.tests old child school
 tests_of old (Decline child school) = decline.tests old child school
 tests_of old (Remind child school day) = remind.tests old child school day
 tests_of old (Lapse child school day) = lapse.tests old child school day
-tests_of old (LeaveList child school) = (false, NotWaiting) ∷ []
+tests_of old (LeaveList child school) = leave_list.tests old child school
 tests_of old (Fill draw school day lots) = (false, EmptyList) ∷ []
 tests_of old (Import rows) = (false, RowDiffers) ∷ []
 
@@ -72,7 +73,7 @@ Changes old (Accept child school) = IsDone (accept.change_of child school)
 Changes old (Decline child school) = IsDone (decline.change_of child school)
 Changes old (Remind child school day) = IsDone (remind.change_of old child school day)
 Changes old (Lapse child school day) = IsDone (decline.change_of child school)
-Changes old (LeaveList child school) = IsDone no_change
+Changes old (LeaveList child school) = IsDone (leave_list.change_of child school)
 Changes old (Fill draw school day lots) = IsDone no_change
 Changes old (Import rows) = IsDone no_change
 

@@ -8,8 +8,8 @@ ghost use Rattle.adm_register.specs.KeptByTypes.{KeptByTypes};
 use crate::child_values::{kept_by_child, put_child};
 use crate::tables::Tables;
 use crate::{
-    Difference, accept, add_child, add_school, amend, apply, decline, lapse, name_plan, remind,
-    round,
+    Difference, accept, add_child, add_school, amend, apply, decline, lapse, leave_list, name_plan,
+    remind, round,
 };
 use adm_types::{Command, Refusal, Reply};
 use std::alloc::{AllocError, Global};
@@ -45,7 +45,7 @@ fn refusal_of(old: &Tables, alloc: Global, command: &Command) -> Result<Option<R
         Command::Decline { child, school } => decline::refusal_of(old, *child, *school),
         Command::Remind { child, school, day } => remind::refusal_of(old, *child, *school, *day),
         Command::Lapse { child, school, day } => lapse::refusal_of(old, *child, *school, *day),
-        Command::LeaveList { .. } => Some(Refusal::NotWaiting),
+        Command::LeaveList { child, school } => leave_list::refusal_of(old, *child, *school),
         Command::Fill { .. } => Some(Refusal::EmptyList),
         Command::Import(_) => Some(Refusal::RowDiffers),
     };
@@ -77,9 +77,10 @@ pub(crate) fn change_of(
         Command::Remind { child, school, day } => Ok(done(remind::change_of(
             old, alloc, *child, *school, *day,
         )?)),
-        Command::LeaveList { .. } | Command::Fill { .. } | Command::Import(_) => {
-            Ok(done(Difference::none(alloc)))
+        Command::LeaveList { child, school } => {
+            Ok(done(leave_list::change_of(alloc, *child, *school)?))
         }
+        Command::Fill { .. } | Command::Import(_) => { Ok(done(Difference::none(alloc))) }
     }
 }
 

@@ -22,7 +22,7 @@ impl Tables {
     }
 
     /// Whether the child left the school.
-    fn has_left(&self, child: ChildNo, school: SchoolCode) -> bool
+    pub(crate) fn has_left(&self, child: ChildNo, school: SchoolCode) -> bool
         ensures { result ≡ has_left self.now.left child school }
     {
         self.left_pair(LeftPair { child, school }).is_some()
@@ -109,7 +109,7 @@ impl Tables {
     }
 
     /// The child of a number, as a row that can be shared.
-    fn shared_child(&self, number: ChildNo) -> Option<&Shared<Child>>
+    pub(crate) fn shared_child(&self, number: ChildNo) -> Option<&Shared<Child>>
         ensures { option_copied result ≡ rows.get self.now.children number }
     {
         self.children.get(&number)
@@ -156,7 +156,10 @@ impl Tables {
     }
 
     /// The applications, by their children's numbers.
-    fn all_applications(&self, alloc: Global) -> Result<Vec<Shared<Application>>, AllocError>
+    pub(crate) fn all_applications(
+        &self,
+        alloc: Global,
+    ) -> Result<Vec<Shared<Application>>, AllocError>
         ensures { IfOk result (λ found. found.items ≡ rows.values self.now.applications) }
     {
         self.applications.to_vec(alloc)

@@ -18,6 +18,7 @@ mod entrants;
 mod failing;
 mod lapse;
 mod laws;
+mod leave_list;
 mod name_plan;
 mod not_done;
 mod offered;
@@ -29,6 +30,7 @@ mod rounds_held;
 mod rows_fault;
 mod rows_in;
 mod tables;
+mod waits;
 
 pub use difference::Difference;
 pub use draws_so_far::DrawsSoFar;

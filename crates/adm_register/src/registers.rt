@@ -8,6 +8,7 @@ ghost use Rattle.adm_register.specs.Outcome.{Decides, decision};
 ghost use Rattle.adm_register.specs.Difference.{IsDifference};
 ghost use Rattle.adm_register.specs.Rows.{rows_in_order, AreRowsOf, place_of, round_of, vacancies};
 ghost use Rattle.adm_register.specs.Wanted.{wanted};
+ghost use Rattle.adm_register.specs.Waits.{is_waiting};
 
 use crate::checks::is_well_formed;
 use crate::commands::{change_of, kept_by_types, refused};
@@ -111,6 +112,14 @@ impl Register {
         ensures { IfOk result (λ found. found.items ≡ wanted self.now child) }
     {
         self.tables.wanted(alloc, child)
+    }
+
+    /// Whether the child waits at the school: after the first round, where it wants the school. It
+    /// takes no memory.
+    pub fn waits(&self, child: ChildNo, school: SchoolCode) -> bool
+        ensures { result ≡ is_waiting self.now child school }
+    {
+        self.tables.is_waiting(child, school)
     }
 
     /// The draw of the round of this number, from 1. It takes no memory; what it costs grows with

@@ -1,0 +1,30 @@
+-- Who waits at which school (School Admissions Code 2021, section 2: a child that was allotted a school that it wants less, or none, waits at each that it wants more; who waits from when, and what it left, are this profile's).
+use Rattle.std.specs.Prelude.{ℕ, Bool, false, ◌&&◌, List, Option, Some, None, if◌then◌else◌}
+use Rattle.std.specs.List.{filter_map}
+use Rattle.std.specs.FinMap.{get, values}
+use Rattle.adm_types.specs.Limits.{is_listed}
+use Rattle.adm_types.specs.declared.rows.Child.{Child}
+use Rattle.adm_types.specs.declared.rows.Application.{Application}
+use Rattle.adm_register.specs.State.{State}
+use Rattle.adm_register.specs.WellFormed.{has_round}
+use Rattle.adm_register.specs.Wanted.{wanted_of}
+
+-- after the first round the child of an application waits at each school that it wants; before it nobody waits
+abbrev pub waits : State → Application → List ℕ → Bool
+waits s application code = has_round s.draws && is_listed (wanted_of s application) code
+
+-- whether a child waits at the school: it does not where it has no application
+abbrev pub is_waiting : State → ℕ → List ℕ → Bool
+is_waiting s child code = by (get s.applications child)
+  where
+    by : Option Application → Bool
+    by None = false
+    by (Some application) = waits s application code
+
+-- the child of an application that waits at the school
+abbrev pub waiting_child : State → List ℕ → Application → Option Child
+waiting_child s code application = if waits s application code then get s.children application.child else None
+
+-- who waits at the school, by their numbers
+abbrev pub waiting_at : State → List ℕ → List Child
+waiting_at s code = filter_map (waiting_child s code) (values s.applications)

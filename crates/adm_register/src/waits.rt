@@ -1,0 +1,114 @@
+// Who waits at which school.
+ghost use Rattle.std.specs.Prelude.{◌≡◌, IfOk, not, nat_eq};
+ghost use Rattle.std.specs.FinMap as rows;
+ghost use Rattle.std.specs.List.{filter_map, take_while};
+ghost use Rattle.std.specs.Cmp.Lexicographic.{pointwise};
+ghost use Rattle.adm_types.specs.Limits.{is_listed};
+ghost use Rattle.adm_register.specs.Wanted.{above, wanted_of};
+ghost use Rattle.adm_register.specs.Waits.{waits, is_waiting, waiting_child, waiting_at};
+
+use crate::tables::Tables;
+use adm_table::Shared;
+use adm_types::limits::is_listed;
+use adm_types::{Application, Child, ChildNo, SchoolCode};
+use std::alloc::{AllocError, Global};
+
+impl Tables {
+    /// Whether the school is one of the list above the child's place.
+    fn is_above(&self, child: ChildNo, list: &[SchoolCode], school: SchoolCode) -> bool
+        ensures { result ≡ is_listed (above (rows.get self.now.places child) list.now) school }
+    {
+        match self.place_row(child) {
+            None => is_listed(list, &school),
+            Some(row) => is_before(list, row.place.school, school),
+        }
+    }
+
+    /// Whether the child of an application wants the school.
+    fn wants(&self, application: &Application, school: SchoolCode) -> bool
+        ensures { result ≡ is_listed (wanted_of self.now application.now) school }
+    {
+        let child = application.child;
+        self.is_above(child, application.list.as_slice(), school) && !self.has_left(child, school)
+    }
+
+    /// Whether the child of an application waits at the school. It takes no memory. Most do not
+    /// list the school, so that is looked at first.
+    #[tactic(auto, using(crate::proofs::WaitLemmas::unlisted))]
+    pub(crate) fn waits(&self, application: &Application, school: SchoolCode) -> bool
+        ensures { result ≡ waits self.now application.now school }
+    {
+        if !is_listed(application.list.as_slice(), &school) {
+            return false;
+        }
+        self.has_round() && self.wants(application, school)
+    }
+
+    /// Whether the child waits at the school. It takes no memory.
+    pub(crate) fn is_waiting(&self, child: ChildNo, school: SchoolCode) -> bool
+        ensures { result ≡ is_waiting self.now child school }
+    {
+        match self.application(child) {
+            None => false,
+            Some(application) => self.waits(application, school),
+        }
+    }
+
+    /// The child of an application, if it waits at the school.
+    fn waiting_child(
+        &self,
+        school: SchoolCode,
+        application: &Application,
+    ) -> Result<Option<Shared<Child>>, AllocError>
+        ensures { IfOk result (λ found. found ≡ waiting_child self.now school application.now) }
+    {
+        if !self.waits(application, school) {
+            return Ok(None);
+        }
+        match self.shared_child(application.child) {
+            None => Ok(None),
+            Some(child) => Ok(Some(child.clone()?)),
+        }
+    }
+
+    /// The children of these applications that wait at the school.
+    fn waiting_of(
+        &self,
+        alloc: Global,
+        school: SchoolCode,
+        applications: &[Shared<Application>],
+    ) -> Result<Vec<Shared<Child>>, AllocError>
+        ensures { IfOk result (λ found. found.items ≡ filter_map (waiting_child self.now school) applications.now) }
+    {
+        let mut found = Vec::new(alloc);
+        for index in 0..applications.len() {
+            let application = applications[index].as_ref();
+            if let Some(child) = self.waiting_child(school, application)? {
+                found.push(child)?;
+            }
+        }
+        Ok(found)
+    }
+
+    /// Who waits at the school, by their numbers. It takes memory for a pointer to each
+    /// application, and time for each.
+    pub(crate) fn waiting_at(
+        &self,
+        alloc: Global,
+        school: SchoolCode,
+    ) -> Result<Vec<Shared<Child>>, AllocError>
+        ensures { IfOk result (λ found. found.items ≡ waiting_at self.now school) }
+    {
+        let applications = self.all_applications(alloc)?;
+        self.waiting_of(alloc, school, &applications)
+    }
+}
+
+/// Whether the school stands in a list before the first that is another one.
+fn is_before(list: &[SchoolCode], other: SchoolCode, school: SchoolCode) -> bool
+    ensures { result ≡ is_listed (take_while (λ code. not (pointwise nat_eq code other)) list.now) school }
+{
+    list.iter()
+        .take_while(|code| **code != other)
+        .any(|code| *code == school)
+}
