@@ -47,7 +47,8 @@ leave_list-fit old child school well passes =
       places = record { places = tt; kept = λ other row there still. refl; room = well.places.room };
       left = record { left = (record { own_key = refl; child = pass.0; school = pass.1.0; no_place = ap not free }, tt); places = tt };
       draws = draws_stay old (leave_list.change_of child school) refl;
-      tidy = record { schools = tidy_none _ _; children = tidy_none _ _; applications = tidy_none _ _; places = tidy_none _ _; left = tidy_put _ _ pair; draws = tidy_none _ _ };
+      imported = record { each = tt; new_rows = tt };
+      tidy = record { schools = tidy_none _ _; children = tidy_none _ _; applications = tidy_none _ _; places = tidy_none _ _; left = tidy_put _ _ pair; draws = tidy_none _ _; imported = tidy_none _ _ };
     }
 
 -- who left a school does not wait there
