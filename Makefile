@@ -27,6 +27,8 @@ bench: build
 	bench/first_path/run bin/admissions
 	bench/applications/run bin/admissions
 	bench/round/run bin/admissions
+	bench/waiting/run bin/admissions
+	bench/imports/run bin/admissions
 	bench/match/run.sh
 
 install: build
