@@ -1,0 +1,82 @@
+-- The rows of an import, over the records of its file.
+use Rattle.std.specs.Prelude.{◌≡◌, ◌≤◌, ℕ, zero, suc, ◌+◌, ◌==◌, ◌&&◌, List, [], ◌∷◌, take, length, Bool, false, codes, nat_lt, Option, Some, None, option_and_then, Result, Ok, Err, IsOk, if◌then◌else◌}
+use Rattle.std.specs.Option.{option_map_or}
+use Rattle.std.specs.Str.{bytes_eq, is_utf8}
+use Rattle.csv.specs.Reading.{records, default_config, strip_bom}
+use Rattle.csv.specs.Records.{field_at}
+use Rattle.adm_types.specs.Flags.{bits_of}
+use Rattle.adm_types.specs.declared.rows.Child.{Child}
+use Rattle.adm_types.specs.declared.rows.ImportRow.{ImportRow}
+use Rattle.adm_csv.specs.declared.fault.Fault.{Fault}
+use Rattle.adm_csv.specs.declared.fault.Fault.TheVariants.{Header, FieldCount, TooManyRows, Read, Memory}
+use Rattle.adm_csv.specs.declared.fault.RowFault.{RowFault}
+use Rattle.adm_csv.specs.Reading.{◌>>=◌}
+use Rattle.adm_csv.specs.Kinds.{Text, a_child, a_text, a_number, a_truth, some_flags, some_codes, a_day}
+
+-- the fields of a record, as bytes
+abbrev pub Record : Type 0
+Record = List Text
+
+-- the records of a file: fields between commas, double quotes around them or none, any number in a record;
+-- a byte order mark at the start and empty lines are no part of any
+abbrev pub records_of : Text → List Record
+records_of text = records default_config (strip_bom text)
+
+-- ---- the fields of a row, from left to right
+
+-- the field at a place, where it is UTF-8
+abbrev pub text_at : Record → ℕ → Option Text
+text_at fields i = option_and_then (λ b. if is_utf8 b then Some b else None) (field_at fields i)
+
+unfoldable pub child_in : Record → Result Child Fault
+child_in fields = do
+  c ← a_child (text_at fields 0)
+  nm ← a_text (text_at fields 1)
+  e ← a_number (text_at fields 2)
+  nn ← a_number (text_at fields 3)
+  l ← a_truth (text_at fields 4)
+  fs ← some_flags (text_at fields 5)
+  ss ← some_codes (text_at fields 6)
+  Ok (record { no = c; name = nm; home = record { east = e; north = nn }; looked_after = l; flags = bits_of fs; siblings = ss })
+
+unfoldable pub row_in : Record → Result ImportRow Fault
+row_in fields = if length fields == 9 then (do
+  c ← child_in fields
+  t ← a_day (text_at fields 7)
+  ps ← some_codes (text_at fields 8)
+  Ok (record { child = c; day = t; preferences = ps })) else Err FieldCount
+
+-- ---- the records: a header, and a row each
+
+abbrev pub is_field : Record → ℕ → Text → Bool
+is_field fields i text = option_map_or (λ b. bytes_eq b text) (field_at fields i) false
+
+-- the first four fields of the header, and the others
+abbrev pub names_home : Record → Bool
+names_home fields = is_field fields 0 (codes "child") && (is_field fields 1 (codes "name") && (is_field fields 2 (codes "east") && is_field fields 3 (codes "north")))
+
+abbrev pub names_wishes : Record → Bool
+names_wishes fields = is_field fields 4 (codes "looked_after") && (is_field fields 5 (codes "flags") && (is_field fields 6 (codes "siblings") && (is_field fields 7 (codes "day") && is_field fields 8 (codes "preferences"))))
+
+-- exactly these nine fields
+abbrev pub is_header : Record → Bool
+is_header fields = (length fields == 9) && (names_home fields && names_wishes fields)
+
+-- how many rows a file has at the most
+abbrev pub most_rows : ℕ
+most_rows = 2000
+
+-- a fault of this row
+abbrev pub at_row : {A : Type 0} → ℕ → Result A Fault → Result A RowFault
+at_row k (Ok x) = Ok x
+at_row k (Err e) = Err (record { row = k; fault = e })
+
+-- the rows from this number on, or the first fault
+abbrev pub rows_from : ℕ → List Record → Result (List ImportRow) RowFault
+rows_from k [] = Ok []
+rows_from k (r ∷ rs) = at_row k (if nat_lt most_rows k then Err TooManyRows else row_in r) >>= λ x. rows_from (k + 1) rs >>= λ xs. Ok (x ∷ xs)
+
+-- the rows under the header, or the first fault
+unfoldable pub rows_in : List Record → Result (List ImportRow) RowFault
+rows_in [] = Err (record { row = 0; fault = Header })
+rows_in (h ∷ rs) = if is_header h then rows_from 1 rs else Err (record { row = 0; fault = Header })

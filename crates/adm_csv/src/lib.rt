@@ -1,0 +1,11 @@
+// Applications as a file of comma-separated values: bytes in, rows of an import out.
+//! The rows of an import, read from a file of comma-separated values.
+#![tactic(auto)]
+
+mod fault;
+mod field;
+mod header;
+mod kinds;
+mod row;
+
+pub use fault::{Fault, RowFault};
