@@ -1,3 +1,4 @@
 pub mod Reading
 pub mod Kinds
 pub mod Rows
+pub mod Left

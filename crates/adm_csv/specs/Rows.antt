@@ -71,12 +71,38 @@ abbrev pub at_row : {A : Type 0} → ℕ → Result A Fault → Result A RowFaul
 at_row k (Ok x) = Ok x
 at_row k (Err e) = Err (record { row = k; fault = e })
 
+-- the row of this number
+abbrev pub row_at : ℕ → Record → Result ImportRow Fault
+row_at k r = if nat_lt most_rows k then Err TooManyRows else row_in r
+
 -- the rows from this number on, or the first fault
 abbrev pub rows_from : ℕ → List Record → Result (List ImportRow) RowFault
 rows_from k [] = Ok []
-rows_from k (r ∷ rs) = at_row k (if nat_lt most_rows k then Err TooManyRows else row_in r) >>= λ x. rows_from (k + 1) rs >>= λ xs. Ok (x ∷ xs)
+rows_from k (r ∷ rs) = at_row k (row_at k r) >>= λ x. rows_from (k + 1) rs >>= λ xs. Ok (x ∷ xs)
 
 -- the rows under the header, or the first fault
 unfoldable pub rows_in : List Record → Result (List ImportRow) RowFault
 rows_in [] = Err (record { row = 0; fault = Header })
 rows_in (h ∷ rs) = if is_header h then rows_from 1 rs else Err (record { row = 0; fault = Header })
+
+-- ---- what a call returned
+
+-- A call that failed for another cause than memory failed at the first fault of the records.
+abbrev pub FailsAt : RowFault → Fault → List Record → Type 0
+FailsAt e Memory records = Unit {0}
+FailsAt e Read records = ⊥
+FailsAt e fault records = rows_in records ≡ Err e
+
+-- the rows of the records or the first fault, unless memory ran out
+abbrev pub ReadsRecords : {A : Type 0} → (A → List ImportRow) → List Record → Result A RowFault → Type 0
+ReadsRecords view records (Ok x) = rows_in records ≡ Ok (view x)
+ReadsRecords view records (Err e) = FailsAt e e.fault records
+
+-- the same of the rows under the header, from this number on
+abbrev pub FailsFrom : ℕ → RowFault → Fault → List Record → Type 0
+FailsFrom k e Memory records = Unit {0}
+FailsFrom k e fault records = rows_from k records ≡ Err e
+
+abbrev pub ReadsFrom : {A : Type 0} → (A → List ImportRow) → ℕ → List Record → Result A RowFault → Type 0
+ReadsFrom view k records (Ok x) = rows_from k records ≡ Ok (view x)
+ReadsFrom view k records (Err e) = FailsFrom k e e.fault records

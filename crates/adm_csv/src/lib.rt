@@ -7,5 +7,6 @@ mod field;
 mod header;
 mod kinds;
 mod row;
+mod rows;
 
 pub use fault::{Fault, RowFault};

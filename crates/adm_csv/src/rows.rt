@@ -1,0 +1,78 @@
+// The rows of a file: its header, and then its rows in order.
+ghost use Rattle.std.specs.Prelude.{◌≡◌, ◌≢◌, ◌∷◌, ◌<◌, ◌-◌, ◌^◌, ◌≤◌, List, Ok, Err, true, length, IfOk, IfErr, IfSome, OnOk, OnErr};
+ghost use Rattle.csv.specs.Records.{fields_of};
+ghost use Rattle.adm_csv.specs.Left.{IsPlain, left_of};
+ghost use Rattle.adm_csv.specs.Reading.{Gives};
+ghost use Rattle.adm_csv.specs.Rows.{FailsAt, Record, ReadsRecords, ReadsFrom, is_header, most_rows, records_of, row_at};
+
+use crate::header::is_header;
+use crate::row::row_in;
+use crate::{Fault, RowFault};
+use adm_types::ImportRow;
+use csv::{ByteRecord, ByteRecordsIntoIter, ReaderBuilder};
+use std::alloc::Global;
+
+/// How many rows a file has at the most.
+const MOST_ROWS: u64 = 2_000;
+
+/// Takes the header.
+fn take_header(records: &mut ByteRecordsIntoIter<&[u8]>) -> Result<(), Fault>
+    requires { IsPlain records.old }
+    ensures ok { OnOk result ((h : Record) × (left_of records.old ≡ h ∷ left_of records.new) × (is_header h ≡ true) × IsPlain records.new) }
+    ensures err { IfErr result (λ e. FailsAt (record { row = 0; fault = e }) e (left_of records.old)) }
+{
+    match records.next() {
+        Some(Ok(fields)) => {
+            if is_header(&fields) {
+                Ok(())
+            } else {
+                Err(Fault::Header)
+            }
+        }
+        Some(Err(_)) => Err(Fault::Memory),
+        None => Err(Fault::Header),
+    }
+}
+
+/// The row of this number.
+fn row_at(alloc: Global, number: u64, fields: &ByteRecord) -> Result<ImportRow, Fault>
+    ensures reads { Gives result (row_at number (fields_of fields.now)) }
+    ensures upper { OnOk result (number ≤ most_rows) }
+{
+    if number > MOST_ROWS {
+        return Err(Fault::TooManyRows);
+    }
+    row_in(alloc, fields)
+}
+
+/// The rows of the records under the header.
+fn rows_from(alloc: Global, records: ByteRecordsIntoIter<&[u8]>) -> Result<Vec<ImportRow>, RowFault>
+    requires { IsPlain records }
+    ensures { ReadsFrom (λ v. v.items) 1 (left_of records.entry) result }
+{
+    let mut rows = Vec::new(alloc);
+    let mut number = 0;
+    for record in records {
+        number += 1;
+        let Ok(fields) = record else {
+            return Err(RowFault {
+                row: number,
+                fault: Fault::Memory,
+            });
+        };
+        match row_at(alloc, number, &fields) {
+            Ok(row) => {
+                if rows.push(row).is_err() {
+                    return Err(RowFault {
+                        row: number,
+                        fault: Fault::Memory,
+                    });
+                }
+            }
+            Err(fault) => {
+                return Err(RowFault { row: number, fault });
+            }
+        }
+    }
+    Ok(rows)
+}
