@@ -1,4 +1,5 @@
 pub mod Reading
 pub mod Kinds
 pub mod Rows
+pub mod Ended
 pub mod Left

@@ -8,5 +8,6 @@ mod header;
 mod kinds;
 mod row;
 mod rows;
+mod scan;
 
 pub use fault::{Fault, RowFault};

@@ -1,0 +1,43 @@
+-- How many records end in the bytes with which a file begins.
+use Rattle.std.specs.Prelude.{◌≡◌, ◌≤◌, ℕ, ◌+◌, List, [], ◌∷◌, length, if◌then◌else◌}
+use Rattle.csv.specs.Machine.{step, is_end}
+use Rattle.csv.specs.Reading.{default_config, strip_bom}
+use Rattle.csv.specs.declared.parser.State.{State}
+use Rattle.csv.specs.declared.parser.State.TheVariants as st
+use Rattle.adm_csv.specs.declared.scan.At.{At}
+use Rattle.adm_csv.specs.declared.scan.At.TheVariants as at
+use Rattle.adm_csv.specs.declared.scan.Scan.{Scan}
+use Rattle.adm_csv.specs.Kinds.{Text}
+
+-- one for a byte that ends a record
+abbrev pub ended_by : State → ℕ → ℕ
+ended_by s b = if is_end (step default_config s b).1 then 1 else 0
+
+-- the same of bytes, from a state of the reader
+abbrev pub ended_from : State → Text → ℕ
+ended_from s [] = 0
+ended_from s (b ∷ text) = ended_by s b + ended_from (step default_config s b).0 text
+
+-- how many records of a file end in its first bytes
+abbrev pub ended_in : Text → ℕ
+ended_in text = ended_from st.StartRecord (strip_bom text)
+
+-- ---- for private clauses: what the scan keeps of bytes
+
+-- the state of the reader
+abbrev pub state_of : At → State
+state_of at.RecordStart = st.StartRecord
+state_of at.FieldStart = st.StartField
+state_of at.Field = st.InField
+state_of at.Quoted = st.InQuoted
+state_of at.AfterQuote = st.AfterQuote
+state_of at.AfterReturn = st.AfterCr
+
+-- the state after bytes
+abbrev pub state_from : State → Text → State
+state_from s [] = s
+state_from s (b ∷ text) = state_from (step default_config s b).0 text
+
+-- a scan of these bytes
+abbrev pub IsScanOf : Text → Scan → Type 0
+IsScanOf text scan = (scan.text.items ≡ text) × (state_of scan.at ≡ state_from st.StartRecord (strip_bom text)) × (scan.ended ≡ ended_in text) × (scan.ended ≤ length text)

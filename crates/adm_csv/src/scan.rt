@@ -1,0 +1,129 @@
+// How far the bytes of a file go: how many of its records have ended.
+ghost use Rattle.std.specs.Prelude.{◌≡◌, ◌<◌, ◌^◌, ◌-◌, [], ◌∷◌, ◌++◌, vec_len, OnOk};
+ghost use Rattle.csv.specs.Machine.{step, is_end, in_field, start_field, start_record};
+ghost use Rattle.csv.specs.Reading.{default_config};
+ghost use Rattle.adm_csv.specs.Ended.{IsScanOf, state_of};
+
+use std::alloc::{AllocError, Global};
+
+/// The byte order mark, which is no part of the first record.
+const MARK: [u8; 3] = [0xEF, 0xBB, 0xBF];
+
+/// Where the next byte stands, as far as the ends of records depend on it.
+#[derive(Clone, Copy, Debug, PartialEq, Eq)]
+pub(crate) enum At {
+    RecordStart,
+    FieldStart,
+    Field,
+    Quoted,
+    AfterQuote,
+    AfterReturn,
+}
+
+/// Bytes, and how many records have ended in them.
+#[derive(Drop)]
+pub(crate) struct Scan {
+    pub(crate) text: Vec<u8>,
+    pub(crate) at: At,
+    pub(crate) ended: u64,
+}
+
+fn in_field(byte: u8) -> (At, bool)
+    ensures at { state_of result.0 ≡ (in_field default_config byte).0 }
+    ensures ends { result.1 ≡ is_end (in_field default_config byte).1 }
+{
+    match byte {
+        b',' => (At::FieldStart, false),
+        b'\r' => (At::AfterReturn, true),
+        b'\n' => (At::RecordStart, true),
+        _ => (At::Field, false),
+    }
+}
+
+fn start_field(byte: u8) -> (At, bool)
+    ensures at { state_of result.0 ≡ (start_field default_config byte).0 }
+    ensures ends { result.1 ≡ is_end (start_field default_config byte).1 }
+{
+    match byte {
+        b'"' => (At::Quoted, false),
+        _ => in_field(byte),
+    }
+}
+
+fn start_record(byte: u8) -> (At, bool)
+    ensures at { state_of result.0 ≡ (start_record default_config byte).0 }
+    ensures ends { result.1 ≡ is_end (start_record default_config byte).1 }
+{
+    match byte {
+        b'\r' | b'\n' => (At::RecordStart, false),
+        _ => start_field(byte),
+    }
+}
+
+impl At {
+    /// Where the byte after this one stands, and whether this one ends a record.
+    fn after(self, byte: u8) -> (At, bool)
+        ensures at { state_of result.0 ≡ (step default_config (state_of self) byte).0 }
+        ensures ends { result.1 ≡ is_end (step default_config (state_of self) byte).1 }
+    {
+        match self {
+            At::RecordStart => start_record(byte),
+            At::FieldStart => start_field(byte),
+            At::Field => in_field(byte),
+            At::Quoted => match byte {
+                b'"' => (At::AfterQuote, false),
+                _ => (At::Quoted, false),
+            },
+            At::AfterQuote => match byte {
+                b'"' => (At::Quoted, false),
+                _ => in_field(byte),
+            },
+            At::AfterReturn => match byte {
+                b'\n' => (At::RecordStart, false),
+                _ => start_record(byte),
+            },
+        }
+    }
+}
+
+impl Scan {
+    pub(crate) fn new(alloc: Global) -> Scan
+        ensures { IsScanOf [] result }
+    {
+        Scan {
+            text: Vec::new(alloc),
+            at: At::RecordStart,
+            ended: 0,
+        }
+    }
+
+    /// One byte more.
+    fn take(&mut self, byte: u8) -> Result<(), AllocError>
+        requires { IsScanOf self.old.text.items self.old }
+        ensures { OnOk result (IsScanOf (self.old.text.items ++ byte ∷ []) self.new) }
+    {
+        self.text.push(byte)?;
+        if self.text.as_slice() == MARK.as_slice() {
+            self.at = At::RecordStart;
+            self.ended = 0;
+            return Ok(());
+        }
+        let (at, ends) = self.at.after(byte);
+        self.at = at;
+        if ends {
+            self.ended += 1;
+        }
+        Ok(())
+    }
+
+    /// Some bytes more.
+    pub(crate) fn take_all(&mut self, bytes: &[u8]) -> Result<(), AllocError>
+        requires { IsScanOf self.old.text.items self.old }
+        ensures { OnOk result (IsScanOf (self.old.text.items ++ bytes.now) self.new) }
+    {
+        for byte in bytes {
+            self.take(*byte)?;
+        }
+        Ok(())
+    }
+}
