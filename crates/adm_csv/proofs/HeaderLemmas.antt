@@ -1,7 +1,10 @@
 -- The header in the records of a file.
-use Rattle.std.proofs.Common.{◌≡◌, ◌∙◌, List, [], ◌∷◌, true, false, Err, ap, refl}
-use Rattle.adm_csv.specs.declared.fault.Fault.TheVariants.{Header}
-use Rattle.adm_csv.specs.Rows.{Record, rows_in, rows_from, is_header}
+use Rattle.std.proofs.Common.{◌≡◌, ◌∙◌, List, [], ◌∷◌, true, false, Result, Ok, Err, ap, refl}
+use Rattle.adm_types.specs.declared.rows.ImportRow.{ImportRow}
+use Rattle.adm_csv.specs.declared.fault.Fault.{Fault}
+use Rattle.adm_csv.specs.declared.fault.Fault.TheVariants.{Header, FieldCount, BadNumber, BadDate, BadText, TooManyRows, Read, Memory}
+use Rattle.adm_csv.specs.declared.fault.RowFault.{RowFault}
+use Rattle.adm_csv.specs.Rows.{Record, FailsAt, FailsFrom, ReadsRows, ReadsFrom, rows_in, rows_from, is_header}
 
 -- a first record that is no header, or none
 pub other_header : (all : List Record) (h : Record) (rest : List Record) → all ≡ h ∷ rest → is_header h ≡ false → rows_in all ≡ Err (record { row = 0; fault = Header })
@@ -16,3 +19,35 @@ no_header all is = ap rows_in is
 pub under_header : (all : List Record) (h : Record) (rest : List Record) → all ≡ h ∷ rest → is_header h ≡ true → rows_in all ≡ rows_from 1 rest
 unfolding rows_in
 under_header all h rest is header = ap rows_in is ∙ rw header refl
+
+-- what was read under the header was read of the records
+pub from_header : {A : Type 0} (view : A → List ImportRow) (all rest : List Record) (h : Record) (result : Result A RowFault) → all ≡ h ∷ rest → is_header h ≡ true
+    → ReadsFrom view 1 rest result → ReadsRows ⊥ view all result
+from_header view all rest h (Ok x) is header reads = under_header all h rest is header ∙ reads
+from_header view all rest h (Err e) is header reads = faulty e.fault reads
+  where
+    faulty : (f : Fault) → FailsFrom 1 e f rest → FailsAt ⊥ e f all
+    faulty Memory fails = tt
+    faulty Read fails = fails
+    faulty Header fails = under_header all h rest is header ∙ fails
+    faulty FieldCount fails = under_header all h rest is header ∙ fails
+    faulty BadNumber fails = under_header all h rest is header ∙ fails
+    faulty BadDate fails = under_header all h rest is header ∙ fails
+    faulty BadText fails = under_header all h rest is header ∙ fails
+    faulty TooManyRows fails = under_header all h rest is header ∙ fails
+
+-- records that say the same, where the reader may have failed
+pub same_records : {A : Type 0} (view : A → List ImportRow) (all others : List Record) (result : Result A RowFault) → rows_in all ≡ rows_in others
+    → ReadsRows ⊥ view others result → ReadsRows (Unit {0}) view all result
+same_records view all others (Ok x) same reads = same ∙ reads
+same_records view all others (Err e) same reads = faulty e.fault reads
+  where
+    faulty : (f : Fault) → FailsAt ⊥ e f others → FailsAt (Unit {0}) e f all
+    faulty Memory fails = tt
+    faulty Read fails = tt
+    faulty Header fails = same ∙ fails
+    faulty FieldCount fails = same ∙ fails
+    faulty BadNumber fails = same ∙ fails
+    faulty BadDate fails = same ∙ fails
+    faulty BadText fails = same ∙ fails
+    faulty TooManyRows fails = same ∙ fails

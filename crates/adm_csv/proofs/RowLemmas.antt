@@ -40,7 +40,7 @@ row_fault front k left r rs all BadNumber is so_far row = fault_is front k left 
 row_fault front k left r rs all BadDate is so_far row = fault_is front k left r rs all BadDate is so_far row
 row_fault front k left r rs all BadText is so_far row = fault_is front k left r rs all BadText is so_far row
 row_fault front k left r rs all TooManyRows is so_far row = fault_is front k left r rs all TooManyRows is so_far row
-row_fault front k left r rs all Read is so_far row = fault_is front k left r rs all Read is so_far row
+row_fault front k left r rs all Read is so_far row = row
 
 -- no row more
 pub rows_end : (front : List ImportRow) (k : ℕ) (left : List Record) → left ≡ [] → with_rows front (rows_from k left) ≡ Ok front

@@ -1,5 +1,6 @@
 -- How many records end in the bytes with which a file begins.
-use Rattle.std.specs.Prelude.{◌≡◌, ◌≤◌, ℕ, ◌+◌, List, [], ◌∷◌, length, if◌then◌else◌}
+use Rattle.std.specs.Prelude.{◌≡◌, ◌≤◌, ◌⊎◌, ℕ, ◌+◌, List, [], ◌∷◌, ◌++◌, length, Option, if◌then◌else◌}
+use Rattle.std.specs.Io.KnownBytes.{Consumes}
 use Rattle.csv.specs.Machine.{step, is_end}
 use Rattle.csv.specs.Reading.{default_config, strip_bom}
 use Rattle.csv.specs.declared.parser.State.{State}
@@ -21,6 +22,18 @@ ended_from s (b ∷ text) = ended_by s b + ended_from (step default_config s b).
 -- how many records of a file end in its first bytes
 abbrev pub ended_in : Text → ℕ
 ended_in text = ended_from st.StartRecord (strip_bom text)
+
+-- so many records are enough to know the rows: the header, and one row too many
+abbrev pub enough : ℕ
+enough = 2002
+
+-- the bytes with which a file begins: all of them, or enough
+abbrev pub IsEnoughOf : Text → Text → Type 0
+IsEnoughOf input text = (rest : Text) × (input ≡ text ++ rest) × ((rest ≡ []) ⊎ (enough ≤ ended_in text))
+
+-- what was read of known bytes, of which so many records ended
+abbrev pub StopsAfter : Option Text → Option Text → ℕ → Type 0
+StopsAfter old new ended = (text : Text) × Consumes old new text × (ended ≡ ended_in text)
 
 -- ---- for private clauses: what the scan keeps of bytes
 

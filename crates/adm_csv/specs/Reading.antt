@@ -1,7 +1,7 @@
 -- Reading gives a value, or the first fault.
 use Rattle.std.specs.Prelude.{◌≡◌, Option, Some, None, Result, Ok, Err}
 use Rattle.adm_csv.specs.declared.fault.Fault.{Fault}
-use Rattle.adm_csv.specs.declared.fault.Fault.TheVariants.{Memory}
+use Rattle.adm_csv.specs.declared.fault.Fault.TheVariants.{Read, Memory}
 
 -- the next reading, unless this one found a fault
 infixl 10 ◌>>=◌
@@ -14,9 +14,10 @@ abbrev pub some_or : {A : Type 0} → Fault → Option A → Result A Fault
 some_or fault None = Err fault
 some_or fault (Some x) = Ok x
 
--- A call that failed for another cause than memory failed as reading does.
+-- A call that failed for another cause than memory failed as reading does. None here knows the reader of the file.
 abbrev pub Fails : {A : Type 0} → Fault → Result A Fault → Type 0
 Fails Memory read = Unit {0}
+Fails Read read = ⊥
 Fails e read = read ≡ Err e
 
 -- What a call returned is what reading gives, unless memory ran out.

@@ -87,20 +87,21 @@ rows_in (h ∷ rs) = if is_header h then rows_from 1 rs else Err (record { row =
 
 -- ---- what a call returned
 
--- A call that failed for another cause than memory failed at the first fault of the records.
-abbrev pub FailsAt : RowFault → Fault → List Record → Type 0
-FailsAt e Memory records = Unit {0}
-FailsAt e Read records = ⊥
-FailsAt e fault records = rows_in records ≡ Err e
+-- A call that failed for another cause than memory failed at the first fault of the records; or the reader of the file failed.
+abbrev pub FailsAt : Type 0 → RowFault → Fault → List Record → Type 0
+FailsAt failed e Memory records = Unit {0}
+FailsAt failed e Read records = failed
+FailsAt failed e fault records = rows_in records ≡ Err e
 
--- the rows of the records or the first fault, unless memory ran out
-abbrev pub ReadsRecords : {A : Type 0} → (A → List ImportRow) → List Record → Result A RowFault → Type 0
-ReadsRecords view records (Ok x) = rows_in records ≡ Ok (view x)
-ReadsRecords view records (Err e) = FailsAt e e.fault records
+-- the rows of the records or the first fault, unless memory ran out, or the reader failed
+abbrev pub ReadsRows : {A : Type 0} → Type 0 → (A → List ImportRow) → List Record → Result A RowFault → Type 0
+ReadsRows failed view records (Ok x) = rows_in records ≡ Ok (view x)
+ReadsRows failed view records (Err e) = FailsAt failed e e.fault records
 
--- the same of the rows under the header, from this number on
+-- the same of the records under the header, for a private clause
 abbrev pub FailsFrom : ℕ → RowFault → Fault → List Record → Type 0
 FailsFrom k e Memory records = Unit {0}
+FailsFrom k e Read records = ⊥
 FailsFrom k e fault records = rows_from k records ≡ Err e
 
 abbrev pub ReadsFrom : {A : Type 0} → (A → List ImportRow) → ℕ → List Record → Result A RowFault → Type 0

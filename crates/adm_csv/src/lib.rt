@@ -5,9 +5,11 @@
 mod fault;
 mod field;
 mod header;
+mod input;
 mod kinds;
 mod row;
 mod rows;
 mod scan;
 
 pub use fault::{Fault, RowFault};
+pub use rows::read_rows;

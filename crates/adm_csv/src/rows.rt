@@ -2,24 +2,39 @@
 ghost use Rattle.std.specs.Prelude.{◌≡◌, ◌≢◌, ◌∷◌, ◌<◌, ◌-◌, ◌^◌, ◌≤◌, List, Ok, Err, true, length, IfOk, IfErr, IfSome, OnOk, OnErr};
 ghost use Rattle.csv.specs.Records.{fields_of};
 ghost use Rattle.adm_csv.specs.Left.{IsPlain, left_of};
+ghost use Rattle.adm_csv.specs.Ended.{StopsAfter};
 ghost use Rattle.adm_csv.specs.Reading.{Gives};
-ghost use Rattle.adm_csv.specs.Rows.{FailsAt, Record, ReadsRecords, ReadsFrom, is_header, most_rows, records_of, row_at};
+ghost use Rattle.adm_csv.specs.Rows.{FailsAt, Record, ReadsRows, ReadsFrom, is_header, most_rows, records_of, row_at};
 
 use crate::header::is_header;
+use crate::input::read_text;
 use crate::row::row_in;
 use crate::{Fault, RowFault};
 use adm_types::ImportRow;
+use adm_wire::Input;
 use csv::{ByteRecord, ByteRecordsIntoIter, ReaderBuilder};
 use std::alloc::Global;
 
 /// How many rows a file has at the most.
 const MOST_ROWS: u64 = 2_000;
 
+/// The records of a file, of any number of fields.
+fn source<'a>(alloc: Global, text: &'a [u8]) -> ByteRecordsIntoIter<&'a [u8]>
+    ensures plain { IsPlain result }
+    ensures records { left_of result ≡ records_of text.now }
+{
+    ReaderBuilder::new()
+        .has_headers(false)
+        .flexible(true)
+        .from_reader(alloc, text)
+        .into_byte_records()
+}
+
 /// Takes the header.
 fn take_header(records: &mut ByteRecordsIntoIter<&[u8]>) -> Result<(), Fault>
     requires { IsPlain records.old }
     ensures ok { OnOk result ((h : Record) × (left_of records.old ≡ h ∷ left_of records.new) × (is_header h ≡ true) × IsPlain records.new) }
-    ensures err { IfErr result (λ e. FailsAt (record { row = 0; fault = e }) e (left_of records.old)) }
+    ensures err { IfErr result (λ e. FailsAt ⊥ (record { row = 0; fault = e }) e (left_of records.old)) }
 {
     match records.next() {
         Some(Ok(fields)) => {
@@ -75,4 +90,32 @@ fn rows_from(alloc: Global, records: ByteRecordsIntoIter<&[u8]>) -> Result<Vec<I
         }
     }
     Ok(rows)
+}
+
+/// The rows of a text.
+fn rows_of(alloc: Global, text: &[u8]) -> Result<Vec<ImportRow>, RowFault>
+    ensures { ReadsRows ⊥ (λ v. v.items) (records_of text.now) result }
+{
+    let mut records = source(alloc, text);
+    match take_header(&mut records) {
+        Ok(()) => rows_from(alloc, records),
+        Err(fault) => Err(RowFault { row: 0, fault }),
+    }
+}
+
+/// Reads the rows of an import.
+pub fn read_rows<R: Input>(alloc: Global, reader: &mut R) -> Result<Vec<ImportRow>, RowFault>
+    // The rows, or the first fault, are those that the file says.
+    ensures rows { IfSome (R.remaining reader.old) (λ input. ReadsRows (Unit {0}) (λ v. v.items) (records_of input) result) }
+
+    // Read comes only where the reader failed.
+    ensures read { IfErr result (λ e. e.fault ≡ Fault.Read → R.has_failed reader.new ≡ true) }
+
+    // Its row is the number of the records that ended in what was read before.
+    ensures row { IfErr result (λ e. e.fault ≡ Fault.Read → StopsAfter (R.remaining reader.old) (R.remaining reader.new) e.row) }
+{
+    match read_text(alloc, reader) {
+        Ok(text) => rows_of(alloc, text.as_slice()),
+        Err(fault) => Err(fault),
+    }
 }

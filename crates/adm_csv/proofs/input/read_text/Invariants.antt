@@ -1,0 +1,7 @@
+use Rattle.std.specs.Io.KnownBytes.{Consumes}
+use Rattle.adm_csv.specs.Ended.{IsScanOf}
+use Rattle.adm_csv.proofs.input.read_text.Given as goal
+
+abbrev pub invariant-loop-turn : goal.invariant-loop-turn
+invariant-loop-turn g l =
+    Consumes (g.R.Input.remaining l.fn.reader) (g.R.Input.remaining l.reader) l.scan.text.items × IsScanOf l.scan.text.items l.scan
