@@ -14,6 +14,9 @@ pub mod Accepted
 pub mod OffersFit
 pub mod WaitLemmas
 pub mod LeaveFit
+pub mod FillRoom
+pub mod FillDraw
+pub mod FillFit
 pub mod CommandsFit
 pub mod Keeps
 pub mod RowLemmas

@@ -8,6 +8,10 @@ use Rattle.adm_register.specs.declared.difference.Difference.{Difference}
 use Rattle.adm_register.specs.State.{State}
 use Rattle.adm_register.specs.Change.{after}
 use Rattle.adm_register.specs.Round as round
+use Rattle.adm_register.specs.Fill as fill
+use Rattle.adm_register.specs.Waits.{waiting_at}
+use Rattle.adm_waiting.specs.Waiting.{first_by_lot}
+use Rattle.std.proofs.lemmas.Option.{same_Some}
 use Rattle.adm_register.specs.Outcome.{Changes, OneStep}
 
 -- and changes one thing
@@ -24,7 +28,10 @@ one_change law old (Decline child school) one other first second x y = x.0 ∙ s
 one_change law old (Remind child school day) one other first second x y = x.0 ∙ sym y.0
 one_change law old (Lapse child school day) one other first second x y = x.0 ∙ sym y.0
 one_change law old (LeaveList child school) one other first second x y = x.0 ∙ sym y.0
-one_change law old (Fill draw school day lots) one other first second x y = x.0 ∙ sym y.0
+one_change law old (Fill draw school day lots) one other first second x y =
+    let row = same_Some x.0 y.0 (sym x.1 ∙ y.1) in
+    let child = same_Some x.2 y.2 (sym x.3 ∙ ap (λ s. first_by_lot s (waiting_at old school) lots) row ∙ y.3) in
+    x.4 ∙ ap (fill.change_of old draw school day lots) child ∙ sym y.4
 one_change law old (Import rows) one other first second x y = x.0 ∙ sym y.0
 
 pub one_step_lem : OneAllotment → OneStep

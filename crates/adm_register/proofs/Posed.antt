@@ -137,7 +137,7 @@ All-filter_map Q h (x ∷ xs) all = next Q (h x) (filter_map h xs) all.0 (All-fi
 -- ---- the lots
 
 -- a number for each pair makes a lot for each
-pairs_again : (pairs : List Pair) (numbers : List ℕ) → length numbers ≡ length pairs → map pair_of (lots_of pairs numbers) ≡ pairs
+pub pairs_again : (pairs : List Pair) (numbers : List ℕ) → length numbers ≡ length pairs → map pair_of (lots_of pairs numbers) ≡ pairs
 pairs_again [] numbers same = refl
 pairs_again (pair ∷ pairs) [] same = absurd (omega (arith, same))
 pairs_again (pair ∷ pairs) (number ∷ numbers) same = ap (λ ps. pair ∷ ps) (pairs_again pairs numbers (omega (arith, same)))

@@ -39,6 +39,7 @@ use Rattle.adm_register.proofs.Maps.{tied, none_of, not_contains_key-removed}
 use Rattle.adm_register.proofs.Keeps.{all_pass}
 use Rattle.adm_register.proofs.CommandsFit.{no_row}
 use Rattle.adm_register.proofs.LeaveFit.{leave_again}
+use Rattle.adm_register.proofs.FillFit.{fill_again}
 
 module _ {K V : Type 0} {R : K → K → Ordering} (total : IsTotalOrder R) where
   -- what was put is there
@@ -149,7 +150,7 @@ again old new (Lapse child school day) change reply well first done is passes mo
     let offered = (all_pass (lapse.tests (after old (decline.change_of child school)) child school day) tests).1.1.0 in
     absurd (both_false offered (ap (λ o. is_some (offer_at o school)) (gone nat_cmp_total old.places child)))
 again old new (LeaveList child school) change reply well first done is passes more second next = absurd (leave_again old new child school well first (is ∙ ap (after old) done.0) passes)
-again old new (Fill draw school day lots) change reply well first done is passes more second next = cc
+again old new (Fill draw school day lots) change reply well first filled is passes more second next = absurd (fill_again old new draw school day lots filled.2 well first (is ∙ ap (after old) filled.4) passes)
 again old new (Import rows) change reply well first done is passes more second next = cc
 
 pub repeat_safe_lem : RepeatSafe

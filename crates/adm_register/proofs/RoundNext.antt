@@ -16,7 +16,7 @@ use Rattle.adm_register.proofs.Keeps.{all_pass}
 use Rattle.adm_register.proofs.Maps.{both_true}
 
 -- as many lots as there are pairs and numbers
-lots-few : (pairs : List Pair) (numbers : List ℕ) → length (lots_of pairs numbers) ≤ length numbers
+pub lots-few : (pairs : List Pair) (numbers : List ℕ) → length (lots_of pairs numbers) ≤ length numbers
 lots-few [] numbers = omega arith
 lots-few (pair ∷ pairs) [] = omega arith
 lots-few (pair ∷ pairs) (number ∷ numbers) = let rest = lots-few pairs numbers in omega (arith, rest)

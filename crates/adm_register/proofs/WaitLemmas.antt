@@ -1,6 +1,6 @@
 -- Who waits at a school, step by step, and what is known of each.
-use Rattle.std.proofs.Common.{◌≡◌, ◌∙◌, ap, sym, subst, refl, cond, Bool, true, false, List, [], ◌∷◌, map, Option, Some, None, inl, inr}
-use Rattle.std.specs.Prelude.{IfSome, not, ◌&&◌, ◌||◌, nat_eq, filter}
+use Rattle.std.proofs.Common.{◌≡◌, ◌∙◌, ap, sym, subst, refl, cond, Bool, true, false, ℕ, List, [], ◌∷◌, map, Option, Some, None, inl, inr}
+use Rattle.std.specs.Prelude.{IfSome, All, not, ◌&&◌, ◌||◌, nat_eq, filter}
 use Rattle.std.specs.List.Sorted.{IsStrictlySortedBy}
 use Rattle.std.specs.Ordering.{nat_cmp}
 use Rattle.std.specs.Cmp.{nat_cmp_total}
@@ -8,19 +8,20 @@ use Rattle.std.specs.Cmp.Lexicographic.{pointwise, bytes_decides}
 use Rattle.std.specs.FinMap.{get, values, nat_cmp-IsAntisymmetric}
 use Rattle.std.proofs.lemmas.Bool.{false≢true, cases_Bool}
 use Rattle.std.proofs.lemmas.Option.{none-some}
-use Rattle.adm_types.specs.Limits.{is_listed}
+use Rattle.std.proofs.lemmas.List.Elements.{All-from_recursion}
+use Rattle.adm_types.specs.Limits.{is_listed, is_child_in_range}
 use Rattle.adm_types.specs.declared.rows.Child.{Child}
 use Rattle.adm_types.specs.declared.rows.Application.{Application}
 use Rattle.adm_types.specs.declared.rows.PlaceRow.{PlaceRow}
 use Rattle.adm_match.specs.Market.{Code}
 use Rattle.adm_register.specs.State.{State, is_plan}
 use Rattle.adm_register.specs.WellFormed.{WellFormed, has_round, is_held}
-use Rattle.adm_register.specs.Wanted.{above, has_left, wanted_of}
+use Rattle.adm_register.specs.Wanted.{above, has_left, wanted_of, own_school}
 use Rattle.adm_register.specs.Waits.{waits, waiting_child, waiting_at}
-use Rattle.adm_register.proofs.Maps.{both_true}
+use Rattle.adm_register.proofs.Maps.{both_true, not_true}
 use Rattle.adm_register.proofs.SameRows.{entries_in_order, entries_at_own_keys}
 use Rattle.adm_register.proofs.ListsKept.{own_apart}
-use Rattle.adm_register.proofs.RoundLemmas.{In, listed_in, in_listed, from_filter_map, sorted_filter_map}
+use Rattle.adm_register.proofs.RoundLemmas.{In, in_all, listed_in, in_listed, from_filter_map, sorted_filter_map}
 use Rattle.adm_register.proofs.RoundKeys.{from_values}
 use Rattle.adm_register.proofs.RoundEntrants.{on_list, wants_is}
 
@@ -102,7 +103,7 @@ waits_is s well application code waiting =
 
 -- ---- who waits, as a list
 
-chosen : (b : Bool) (o : Option Child) (child : Child) → cond b o None ≡ Some child → (b ≡ true) × (o ≡ Some child)
+pub chosen : (b : Bool) (o : Option Child) (child : Child) → cond b o None ≡ Some child → (b ≡ true) × (o ≡ Some child)
 chosen true o child is = (refl, is)
 chosen false o child is = absurd (none-some child is)
 
@@ -137,3 +138,9 @@ module _ (s : State) (well : WellFormed s) (code : Code) where
       sorted_filter_map nat_cmp (λ (a : Application). a.child) (λ (c : Child). c.no) (waiting_child s code)
       (λ application child given. (well.base.children_fit application.child child (chosen (waits s application code) (get s.children application.child) child given).1).own_number)
       (values s.applications) (subst (IsStrictlySortedBy nat_cmp) (sym own) (entries_in_order s.applications))
+
+  -- and are in their limits
+  pub waiters_fit : (children : List Child) → children ≡ waiting_at s code → All (λ child. is_child_in_range child ≡ true) children
+  waiters_fit children are =
+      subst (All (λ child. is_child_in_range child ≡ true)) (sym are) (All-from_recursion (λ child. is_child_in_range child ≡ true) (waiting_at s code) (in_all (λ child. is_child_in_range child ≡ true) (waiting_at s code) (λ child at.
+      (well.base.children_fit child.no child (waiter_is child at).there).in_range)))

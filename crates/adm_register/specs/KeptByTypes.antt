@@ -37,5 +37,5 @@ KeptByTypes (Decline child school) = ⊤
 KeptByTypes (Remind child school day) = IsTrue (nat_le day last_day)
 KeptByTypes (Lapse child school day) = ⊤
 KeptByTypes (LeaveList child school) = ⊤
-KeptByTypes (Fill draw school day lots) = ⊤
+KeptByTypes (Fill draw school day lots) = KeptByRound day lots
 KeptByTypes (Import rows) = ⊤

@@ -23,4 +23,5 @@ pub mod Extends
 pub mod Outcome
 pub mod History
 pub mod Rows
+pub mod Fill
 pub mod Difference

@@ -3,9 +3,9 @@ use Rattle.std.specs.Prelude.{◌≡◌, ⊤, ℕ, Bool, false, List, [], ◌∷
 use Rattle.adm_types.specs.declared.commands.Command.{Command}
 use Rattle.adm_types.specs.declared.commands.Command.TheVariants.{AddSchool, AddChild, Amend, NamePlan, Apply, Round, Accept, Decline, Remind, Lapse, LeaveList, Fill, Import}
 use Rattle.adm_types.specs.declared.commands.Refusal.{Refusal}
-use Rattle.adm_types.specs.declared.commands.Refusal.TheVariants.{EmptyList, RowDiffers}
+use Rattle.adm_types.specs.declared.commands.Refusal.TheVariants.{RowDiffers}
 use Rattle.adm_types.specs.declared.commands.Reply.{Reply}
-use Rattle.adm_types.specs.declared.commands.Reply.TheVariants.{Done}
+use Rattle.adm_types.specs.declared.commands.Reply.TheVariants.{Done, Filled}
 use Rattle.adm_register.specs.declared.difference.Difference.{Difference}
 use Rattle.adm_register.specs.State.{State}
 use Rattle.adm_register.specs.Change.{after, put_child, no_change}
@@ -22,6 +22,11 @@ use Rattle.adm_register.specs.Decline as decline
 use Rattle.adm_register.specs.Remind as remind
 use Rattle.adm_register.specs.Lapse as lapse
 use Rattle.adm_register.specs.LeaveList as leave_list
+use Rattle.adm_register.specs.Fill as fill
+use Rattle.adm_register.specs.Waits.{waiting_at}
+use Rattle.adm_waiting.specs.Waiting.{first_by_lot}
+use Rattle.adm_types.specs.declared.rows.School.{School}
+use Rattle.std.specs.FinMap.{get}
 use Rattle.adm_types.specs.declared.draws.Outcome.{Outcome as OutcomeRow}
 use Rattle.adm_register.specs.declared.not_done.NotDone.{NotDone}
 use Rattle.adm_register.specs.declared.registers.Proposal.{Proposal}
@@ -40,7 +45,7 @@ tests_of old (Decline child school) = decline.tests old child school
 tests_of old (Remind child school day) = remind.tests old child school day
 tests_of old (Lapse child school day) = lapse.tests old child school day
 tests_of old (LeaveList child school) = leave_list.tests old child school
-tests_of old (Fill draw school day lots) = (false, EmptyList) ∷ []
+tests_of old (Fill draw school day lots) = fill.tests old draw school day lots
 tests_of old (Import rows) = (false, RowDiffers) ∷ []
 
 -- a refusal that names no row
@@ -61,6 +66,13 @@ abbrev pub IsHeld : State → ℕ → ℕ → List ℕ → Difference → Reply 
 IsHeld old draw day lots change reply =
     (outcomes : List OutcomeRow) × round.AreOutcomes old lots outcomes × (change ≡ round.change_of old draw day lots outcomes) × (reply ≡ round.reply_of old outcomes)
 
+-- of those that wait at the school one ranks before all others by class, distance and the lots handed in: just this child is offered the vacancy, and named
+abbrev pub IsFilled : State → ℕ → List ℕ → ℕ → List ℕ → Difference → Reply → Type 0
+IsFilled old draw school day lots change reply =
+    (row : School) × (get old.schools school ≡ Some row)
+    × (child : ℕ) × (first_by_lot row (waiting_at old school) lots ≡ Some child)
+    × (change ≡ fill.change_of old draw school day lots child) × (reply ≡ Filled child)
+
 -- what an accepted command changes, and what it answers
 abbrev pub Changes : State → Command → Difference → Reply → Type 0
 Changes old (AddSchool school) = IsDone (add_school.change_of school)
@@ -74,7 +86,7 @@ Changes old (Decline child school) = IsDone (decline.change_of child school)
 Changes old (Remind child school day) = IsDone (remind.change_of old child school day)
 Changes old (Lapse child school day) = IsDone (decline.change_of child school)
 Changes old (LeaveList child school) = IsDone (leave_list.change_of child school)
-Changes old (Fill draw school day lots) = IsDone no_change
+Changes old (Fill draw school day lots) = IsFilled old draw school day lots
 Changes old (Import rows) = IsDone no_change
 
 -- what an accepted command answers, and leaves

@@ -1,10 +1,14 @@
--- Who waits at which school (School Admissions Code 2021, section 2: a child that was allotted a school that it wants less, or none, waits at each that it wants more; who waits from when, and what it left, are this profile's).
+-- Who waits at which school (School Admissions Code 2021, section 2: waiting lists; a child waits at each school that it wants more than
+-- its place, from when it does, and which it left, are this profile's).
 use Rattle.std.specs.Prelude.{ℕ, Bool, false, ◌&&◌, List, Option, Some, None, if◌then◌else◌}
 use Rattle.std.specs.List.{filter_map}
 use Rattle.std.specs.FinMap.{get, values}
 use Rattle.adm_types.specs.Limits.{is_listed}
 use Rattle.adm_types.specs.declared.rows.Child.{Child}
 use Rattle.adm_types.specs.declared.rows.Application.{Application}
+use Rattle.adm_types.specs.declared.rows.School.{School}
+use Rattle.adm_waiting.specs.declared.lists.Waiting.{Waiting}
+use Rattle.adm_waiting.specs.Waiting.{waiting_list}
 use Rattle.adm_register.specs.State.{State}
 use Rattle.adm_register.specs.WellFormed.{has_round}
 use Rattle.adm_register.specs.Wanted.{wanted_of}
@@ -28,3 +32,7 @@ waiting_child s code application = if waits s application code then get s.childr
 -- who waits at the school, by their numbers
 abbrev pub waiting_at : State → List ℕ → List Child
 waiting_at s code = filter_map (waiting_child s code) (values s.applications)
+
+-- the waiting list of the school
+abbrev pub list_of : State → School → List Waiting
+list_of s school = waiting_list school (waiting_at s school.code)

@@ -8,8 +8,8 @@ ghost use Rattle.adm_register.specs.KeptByTypes.{KeptByTypes};
 use crate::child_values::{kept_by_child, put_child};
 use crate::tables::Tables;
 use crate::{
-    Difference, accept, add_child, add_school, amend, apply, decline, lapse, leave_list, name_plan,
-    remind, round,
+    Difference, accept, add_child, add_school, amend, apply, decline, fill, lapse, leave_list,
+    name_plan, remind, round,
 };
 use adm_types::{Command, Refusal, Reply};
 use std::alloc::{AllocError, Global};
@@ -46,7 +46,12 @@ fn refusal_of(old: &Tables, alloc: Global, command: &Command) -> Result<Option<R
         Command::Remind { child, school, day } => remind::refusal_of(old, *child, *school, *day),
         Command::Lapse { child, school, day } => lapse::refusal_of(old, *child, *school, *day),
         Command::LeaveList { child, school } => leave_list::refusal_of(old, *child, *school),
-        Command::Fill { .. } => Some(Refusal::EmptyList),
+        Command::Fill {
+            draw,
+            school,
+            day,
+            lots,
+        } => fill::refusal_of(old, alloc, *draw, *school, *day, lots)?,
         Command::Import(_) => Some(Refusal::RowDiffers),
     };
     Ok(refusal)
@@ -80,7 +85,13 @@ pub(crate) fn change_of(
         Command::LeaveList { child, school } => {
             Ok(done(leave_list::change_of(alloc, *child, *school)?))
         }
-        Command::Fill { .. } | Command::Import(_) => { Ok(done(Difference::none(alloc))) }
+        Command::Fill {
+            draw,
+            school,
+            day,
+            lots,
+        } => fill::change_of(old, alloc, *draw, *school, *day, lots),
+        Command::Import(_) => { Ok(done(Difference::none(alloc))) }
     }
 }
 
@@ -107,12 +118,13 @@ pub(crate) fn kept_by_types(command: &Command)
         | Command::Decline { .. }
         | Command::Lapse { .. }
         | Command::LeaveList { .. }
-        | Command::Fill { .. }
         | Command::Import(_) => {}
         Command::Apply(application) => {
             let _number = application.day.number();
         }
-        Command::Round { day, lots, .. } => round::kept_by_round(*day, lots),
+        Command::Round { day, lots, .. } | Command::Fill { day, lots, .. } => round::kept_by_round(
+            *day, lots,
+        ),
         Command::Remind { day, .. } => {
             let _number = day.number();
         }

@@ -1,5 +1,5 @@
 // The register, and the commands that change it.
-ghost use Rattle.std.specs.Prelude.{◌≡◌, Err, IfOk, option_copied};
+ghost use Rattle.std.specs.Prelude.{◌≡◌, ◌↔◌, None, Some, Err, IfOk, option_copied, option_map};
 ghost use Rattle.std.specs.FinMap as map;
 ghost use Rattle.adm_register.specs.State.{State, only_season};
 ghost use Rattle.adm_register.specs.WellFormed.{WellFormed};
@@ -8,16 +8,17 @@ ghost use Rattle.adm_register.specs.Outcome.{Decides, decision};
 ghost use Rattle.adm_register.specs.Difference.{IsDifference};
 ghost use Rattle.adm_register.specs.Rows.{rows_in_order, AreRowsOf, place_of, round_of, vacancies};
 ghost use Rattle.adm_register.specs.Wanted.{wanted};
-ghost use Rattle.adm_register.specs.Waits.{is_waiting};
+ghost use Rattle.adm_register.specs.Waits.{is_waiting, list_of};
 
 use crate::checks::is_well_formed;
 use crate::commands::{change_of, kept_by_types, refused};
 use crate::tables::Tables;
-use crate::{Difference, NotDone, Rows, RowsFault};
+use crate::{Difference, ListFault, NotDone, Rows, RowsFault};
 use adm_round::allotment_fits;
 use adm_types::{
     Application, Child, ChildNo, Command, Draw, Place, Reply, School, SchoolCode, Season,
 };
+use adm_waiting::Waiting;
 use std::alloc::{AllocError, Global};
 use std::marker::Model;
 
@@ -120,6 +121,17 @@ impl Register {
         ensures { result ≡ is_waiting self.now child school }
     {
         self.tables.is_waiting(child, school)
+    }
+
+    /// The waiting list of the school: each child that waits there with its position, its class and
+    /// its distance, in the order of the positions and then of the numbers. It takes memory for a
+    /// pointer to each application, and for each child that waits. What it costs grows with the
+    /// applications, and with those that wait, times their logarithm.
+    pub fn waiting(&self, alloc: Global, school: SchoolCode) -> Result<Vec<Waiting>, ListFault>
+        ensures list { IfOk result (λ list. option_map (list_of self.now) (map.get self.now.schools school) ≡ Some list.items) }
+        ensures unknown { (result ≡ Err ListFault.UnknownSchool) ↔ (map.get self.now.schools school ≡ None) }
+    {
+        self.tables.waiting(alloc, school)
     }
 
     /// The draw of the round of this number, from 1. It takes no memory; what it costs grows with
