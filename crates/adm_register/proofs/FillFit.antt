@@ -115,7 +115,8 @@ fill-fit old draw school day numbers row child well kept passes first =
       };
       left = record { left = tt; places = (ap not (ap (λ n. has_left old.left n school) (sym number) ∙ waiting.not_left), tt) };
       draws = record { each = (filled_fits old draw school day numbers passes well kept child known, tt); in_order = next };
-      tidy = record { schools = tidy_none _ _; children = tidy_none _ _; applications = tidy_none _ _; places = tidy_put _ _ place; left = tidy_none _ _; draws = tidy_put _ _ it };
+      imported = record { each = tt; new_rows = tt };
+      tidy = record { schools = tidy_none _ _; children = tidy_none _ _; applications = tidy_none _ _; places = tidy_put _ _ place; left = tidy_none _ _; draws = tidy_put _ _ it; imported = tidy_none _ _ };
     }
 
 -- a draw's number does not come again
