@@ -1,8 +1,7 @@
 -- What a step of an iterator does to the records that are left.
-use Rattle.std.proofs.Common.{◌≡◌, ◌∙◌, ◌<◌, Bor, List, [], ◌∷◌, Option, Some, None, IsSome, true, Ok, refl, sym, ap, inl}
-use Rattle.std.specs.Prelude.{unwrap_or}
+use Rattle.std.proofs.Common.{◌≡◌, ◌∙◌, Bor, List, [], ◌∷◌, Some, None, Ok, refl, sym, ap, inl}
 use Rattle.csv.specs.Machine.{Read, next_record}
-use Rattle.csv.specs.Reading.{Reached, ReadRecord, RowStep, default_config, source_of}
+use Rattle.csv.specs.Reading.{Reached, RowStep, default_config}
 use Rattle.csv.specs.Records.{Row, fields_of}
 use Rattle.csv.specs.declared.parser.State.{State}
 use Rattle.csv.proofs.ReadFacts.{rows-more, rows-end}

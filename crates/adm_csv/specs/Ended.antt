@@ -1,5 +1,5 @@
 -- How many records end in the bytes with which a file begins.
-use Rattle.std.specs.Prelude.{◌≡◌, ◌≤◌, ◌⊎◌, ℕ, ◌+◌, List, [], ◌∷◌, ◌++◌, length, Option, if◌then◌else◌}
+use Rattle.std.specs.Prelude.{◌≡◌, ◌≤◌, ◌⊎◌, ℕ, ◌+◌, [], ◌∷◌, ◌++◌, length, Option, if◌then◌else◌}
 use Rattle.std.specs.Io.KnownBytes.{Consumes}
 use Rattle.csv.specs.Machine.{step, is_end}
 use Rattle.csv.specs.Reading.{default_config, strip_bom}

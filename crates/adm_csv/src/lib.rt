@@ -10,6 +10,8 @@ mod kinds;
 mod row;
 mod rows;
 mod scan;
+#[cfg(test)]
+mod tests;
 
 pub use fault::{Fault, RowFault};
 pub use rows::read_rows;

@@ -103,7 +103,18 @@ fn rows_of(alloc: Global, text: &[u8]) -> Result<Vec<ImportRow>, RowFault>
     }
 }
 
-/// Reads the rows of an import.
+/// The rows of an import, from the bytes of a file.
+///
+/// Records are as `csv` reads them with commas, double quotes and any number of fields: a byte order
+/// mark at the start and empty lines are no part of any. The first is the header, exactly
+/// `child,name,east,north,looked_after,flags,siblings,day,preferences`; each other is a row, and the
+/// fault is that of the first row with one. Read is told whatever stands before, and Memory may come
+/// at any point: their row is the one that was being read, that is, the number of records that had
+/// ended.
+///
+/// It reads to the end, or to the piece in which the 2,002nd record ends, since the file is known to
+/// have too many rows then; the rest is neither read nor kept. Memory grows with what is read (a
+/// single record may be as long as the file), and time with its bytes.
 pub fn read_rows<R: Input>(alloc: Global, reader: &mut R) -> Result<Vec<ImportRow>, RowFault>
     // The rows, or the first fault, are those that the file says.
     ensures rows { IfSome (R.remaining reader.old) (λ input. ReadsRows (Unit {0}) (λ v. v.items) (records_of input) result) }

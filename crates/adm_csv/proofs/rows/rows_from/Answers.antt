@@ -1,8 +1,6 @@
-use Rattle.std.proofs.Common.{◌≡◌, ◌∙◌, ◌+◌, ◌≤◌, ◌++◌, ◌∷◌, [], sym, ap, rules, true, arith}
+use Rattle.std.proofs.Common.{◌≡◌, ◌∙◌, ◌+◌, sym, rules, true}
 use Rattle.std.specs.Result.{is_ok}
-use Rattle.adm_csv.specs.Left.{left_of}
-use Rattle.adm_csv.specs.Rows.{rows_from}
-use Rattle.adm_csv.proofs.RowLemmas.{with_rows, row_more, row_fault, rows_end}
+use Rattle.adm_csv.proofs.RowLemmas.{row_more, row_fault, rows_end}
 use Rattle.adm_csv.proofs.SourceLemmas.{source_more, source_none}
 use Rattle.adm_csv.proofs.rows.rows_from.Goals as goal
 

@@ -1,4 +1,4 @@
-use Rattle.std.proofs.Common.{◌∙◌, sym, rules}
+use Rattle.std.proofs.Common.{◌∙◌, sym}
 use Rattle.adm_csv.proofs.HeaderLemmas.{from_header}
 use Rattle.adm_csv.proofs.rows.rows_of.Goals as goal
 

@@ -1,4 +1,4 @@
-use Rattle.std.proofs.Common.{◌≡◌, ◌∙◌, ◌+◌, ◌++◌, ◌∷◌, [], ℕ, Bool, cond, sym, ap, refl, arith, true, false}
+use Rattle.std.proofs.Common.{◌≡◌, ◌∙◌, Bool, cond, sym, ap, arith}
 use Rattle.std.specs.Prelude.{nat_eq}
 use Rattle.std.specs.Cmp.Lexicographic.{pointwise}
 use Rattle.adm_csv.specs.Kinds.{Text}
