@@ -1,5 +1,5 @@
 // The bytes of a file, as many as are needed.
-ghost use Rattle.std.specs.Prelude.{◌≡◌, ◌≢◌, ◌⊎◌, true, IfOk, IfErr, IfSome};
+ghost use Rattle.std.specs.Prelude.{◌≡◌, ◌⊎◌, true, IfOk, IfErr, IfSome};
 ghost use Rattle.adm_csv.specs.Ended.{IsEnoughOf, StopsAfter};
 
 use crate::scan::Scan;

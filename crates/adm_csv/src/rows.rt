@@ -1,5 +1,5 @@
 // The rows of a file: its header, and then its rows in order.
-ghost use Rattle.std.specs.Prelude.{◌≡◌, ◌≢◌, ◌∷◌, ◌<◌, ◌-◌, ◌^◌, ◌≤◌, List, Ok, Err, true, length, IfOk, IfErr, IfSome, OnOk, OnErr};
+ghost use Rattle.std.specs.Prelude.{◌≡◌, ◌∷◌, ◌≤◌, true, IfErr, IfSome, OnOk};
 ghost use Rattle.csv.specs.Records.{fields_of};
 ghost use Rattle.adm_csv.specs.Left.{IsPlain, left_of};
 ghost use Rattle.adm_csv.specs.Ended.{StopsAfter};

@@ -1,5 +1,5 @@
 // How far the bytes of a file go: how many of its records have ended.
-ghost use Rattle.std.specs.Prelude.{◌≡◌, ◌<◌, ◌^◌, ◌-◌, [], ◌∷◌, ◌++◌, vec_len, OnOk};
+ghost use Rattle.std.specs.Prelude.{◌≡◌, [], ◌∷◌, ◌++◌, OnOk};
 ghost use Rattle.csv.specs.Machine.{step, is_end, in_field, start_field, start_record};
 ghost use Rattle.csv.specs.Reading.{default_config};
 ghost use Rattle.adm_csv.specs.Ended.{IsScanOf, state_of};
