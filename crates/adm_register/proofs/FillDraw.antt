@@ -1,6 +1,6 @@
 -- The draw of a fill is one of a register, and the next.
-use Rattle.std.proofs.Common.{◌≡◌, ◌∙◌, ap, sym, subst, refl, cond, Bool, true, false, ℕ, ◌+◌, ◌≤◌, ◌<◌, List, [], ◌∷◌, map, length, suc, Option, Some, None, arith, inl, inr}
-use Rattle.std.specs.Prelude.{is_some, not, ◌&&◌, nat_eq, nat_le, nat_lt, if◌then◌else◌}
+use Rattle.std.proofs.Common.{◌≡◌, ◌∙◌, ap, sym, subst, refl, Bool, true, false, ℕ, ◌+◌, ◌≤◌, ◌<◌, List, [], ◌∷◌, map, length, suc, Some, None, arith, inl}
+use Rattle.std.specs.Prelude.{is_some, ◌&&◌, nat_eq, nat_le, nat_lt, if◌then◌else◌}
 use Rattle.std.specs.declared.cmp.Ordering.{Ordering}
 use Rattle.std.specs.declared.cmp.Ordering.TheVariants.{Less, Equal, Greater}
 use Rattle.std.specs.Ordering.{nat_cmp, is_eq, ordering_then}
@@ -11,18 +11,18 @@ use Rattle.std.specs.List.Sorted.{IsStrictlySortedBy}
 use Rattle.std.specs.FinMap.{get, values, contains_key, nat_cmp-IsAntisymmetric}
 use Rattle.std.proofs.lemmas.Bool.{false≢true, le-leb, leb-true, lt-ltb}
 use Rattle.adm_types.specs.Limits.{first_day, last_day, most_draws, most_lots}
-use Rattle.adm_types.specs.Seasons.{SeasonFacts, lists_end}
+use Rattle.adm_types.specs.Seasons.{SeasonFacts}
 use Rattle.adm_types.specs.declared.rows.Child.{Child}
 use Rattle.adm_types.specs.declared.draws.Draw.{Draw}
 use Rattle.adm_types.specs.declared.draws.Lot.{Lot}
-use Rattle.adm_draws.specs.Draws.{rises, lot_cmp, is_draw, repeats_lot}
+use Rattle.adm_draws.specs.Draws.{rises, lot_cmp, is_draw}
 use Rattle.adm_match.specs.Market.{Code}
 use Rattle.adm_round.specs.declared.applicants.Pair.{Pair}
-use Rattle.adm_round.specs.Round.{lots_of, pair_of, lot_of_draw}
+use Rattle.adm_round.specs.Round.{pair_of, lot_of_draw}
 use Rattle.adm_round.specs.Lookups.{code_cmp, pair_cmp}
 use Rattle.adm_register.specs.declared.draws_so_far.DrawsSoFar.{DrawsSoFar}
 use Rattle.adm_register.specs.State.{State}
-use Rattle.adm_register.specs.Draws.{DrawFits, no_draws, with_draw, with_draws, is_round, is_due, is_next, are_in_order, is_known_lot}
+use Rattle.adm_register.specs.Draws.{DrawFits, no_draws, with_draw, with_draws, is_round, is_next, are_in_order, is_known_lot}
 use Rattle.adm_register.specs.KeptByTypes.{KeptByRound}
 use Rattle.adm_register.specs.Round.{draws_so_far}
 use Rattle.adm_register.specs.Tests.{first_failing}

@@ -1,6 +1,6 @@
 -- What a fill changes fits the register, and its draw does not come again.
 use Rattle.std.proofs.Common.{◌≡◌, ◌∙◌, ap, sym, subst, refl, cond, Bool, true, false, ℕ, ◌+◌, ◌<◌, map, length, List, [], ◌∷◌, Option, Some, None, arith, inl, inr}
-use Rattle.std.specs.Prelude.{is_some, not, ◌&&◌, ◌||◌, nat_eq, find, option_map, if◌then◌else◌}
+use Rattle.std.specs.Prelude.{is_some, not, ◌&&◌, ◌||◌, nat_eq, find, option_map}
 use Rattle.std.specs.Cmp.{nat_cmp_total, unsigned_Decides}
 use Rattle.std.specs.Cmp.Lexicographic.{pointwise, bytes_decides}
 use Rattle.std.specs.List.{zip, list_any}

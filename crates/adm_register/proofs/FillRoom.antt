@@ -1,13 +1,12 @@
 -- There is room at each school after a vacancy was filled.
-use Rattle.std.proofs.Common.{◌≡◌, ◌∙◌, ap, sym, subst, refl, cond, Bool, true, false, ℕ, ◌+◌, ◌-◌, ◌≤◌, ◌<◌, List, [], ◌∷◌, Some, None, arith, inl, inr}
-use Rattle.std.specs.Prelude.{nat_eq, nat_lt, not, ◌&&◌, count_by, Option, option_map}
-use Rattle.std.specs.declared.cmp.Ordering.{Ordering}
+use Rattle.std.proofs.Common.{◌≡◌, ◌∙◌, ap, sym, subst, refl, cond, Bool, true, false, ℕ, ◌+◌, ◌-◌, ◌≤◌, ◌<◌, List, [], ◌∷◌, Some, arith, inl, inr}
+use Rattle.std.specs.Prelude.{nat_eq, nat_lt, not, count_by, option_map}
 use Rattle.std.specs.declared.cmp.Ordering.TheVariants.{Less, Equal, Greater}
 use Rattle.std.specs.Ordering.{nat_cmp, eq_by_cmp}
 use Rattle.std.specs.Cmp.{nat_cmp_total}
 use Rattle.std.specs.Cmp.Lexicographic.{pointwise, bytes_decides}
 use Rattle.std.specs.Map.{values_of}
-use Rattle.std.specs.FinMap.{FinMap, get, insert, put, entries, entries-insert, get-insert, nat_cmp-IsAntisymmetric}
+use Rattle.std.specs.FinMap.{FinMap, get, insert, put, entries, entries-insert, get-insert}
 use Rattle.std.specs.FinMap.Entries.{by_order}
 use Rattle.std.proofs.lemmas.Bool.{false≢true, cases_Bool, ltb-true}
 use Rattle.std.proofs.lemmas.List.Sums.{sum_by-cons}
@@ -17,7 +16,7 @@ use Rattle.adm_register.specs.State.{State, is_plan}
 use Rattle.adm_register.specs.Rows.{places_at, vacancies}
 use Rattle.adm_register.specs.WellFormed.{WellFormed, AllRows, is_held, held_at}
 use Rattle.adm_register.specs.Fill.{is_vacant}
-use Rattle.adm_register.proofs.Maps.{both_true, same_key}
+use Rattle.adm_register.proofs.Maps.{both_true}
 use Rattle.adm_register.proofs.HeldLemmas.{held_le}
 
 abbrev one_if : Bool → ℕ

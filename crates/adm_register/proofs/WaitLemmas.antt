@@ -1,5 +1,5 @@
 -- Who waits at a school, step by step, and what is known of each.
-use Rattle.std.proofs.Common.{◌≡◌, ◌∙◌, ap, sym, subst, refl, cond, Bool, true, false, ℕ, List, [], ◌∷◌, map, Option, Some, None, inl, inr}
+use Rattle.std.proofs.Common.{◌≡◌, ◌∙◌, ap, sym, subst, refl, cond, Bool, true, false, List, [], ◌∷◌, map, Option, Some, None, inl, inr}
 use Rattle.std.specs.Prelude.{IfSome, All, not, ◌&&◌, ◌||◌, nat_eq, filter}
 use Rattle.std.specs.List.Sorted.{IsStrictlySortedBy}
 use Rattle.std.specs.Ordering.{nat_cmp}
@@ -16,9 +16,9 @@ use Rattle.adm_types.specs.declared.rows.PlaceRow.{PlaceRow}
 use Rattle.adm_match.specs.Market.{Code}
 use Rattle.adm_register.specs.State.{State, is_plan}
 use Rattle.adm_register.specs.WellFormed.{WellFormed, has_round, is_held}
-use Rattle.adm_register.specs.Wanted.{above, has_left, wanted_of, own_school}
+use Rattle.adm_register.specs.Wanted.{above, has_left, wanted_of}
 use Rattle.adm_register.specs.Waits.{waits, waiting_child, waiting_at}
-use Rattle.adm_register.proofs.Maps.{both_true, not_true}
+use Rattle.adm_register.proofs.Maps.{both_true}
 use Rattle.adm_register.proofs.SameRows.{entries_in_order, entries_at_own_keys}
 use Rattle.adm_register.proofs.ListsKept.{own_apart}
 use Rattle.adm_register.proofs.RoundLemmas.{In, in_all, listed_in, in_listed, from_filter_map, sorted_filter_map}

@@ -1,6 +1,6 @@
 -- Who waits at which school (School Admissions Code 2021, section 2: waiting lists; a child waits at each school that it wants more than
 -- its place, from when it does, and which it left, are this profile's).
-use Rattle.std.specs.Prelude.{ℕ, Bool, false, ◌&&◌, List, Option, Some, None, if◌then◌else◌}
+use Rattle.std.specs.Prelude.{ℕ, Bool, false, ◌&&◌, List, length, Option, Some, None, if◌then◌else◌}
 use Rattle.std.specs.List.{filter_map}
 use Rattle.std.specs.FinMap.{get, values}
 use Rattle.adm_types.specs.Limits.{is_listed}
@@ -8,7 +8,8 @@ use Rattle.adm_types.specs.declared.rows.Child.{Child}
 use Rattle.adm_types.specs.declared.rows.Application.{Application}
 use Rattle.adm_types.specs.declared.rows.School.{School}
 use Rattle.adm_waiting.specs.declared.lists.Waiting.{Waiting}
-use Rattle.adm_waiting.specs.Waiting.{waiting_list}
+use Rattle.adm_waiting.specs.Waiting.{position, waiting_list}
+use Rattle.adm_register.specs.declared.standings.Standing.{Standing}
 use Rattle.adm_register.specs.State.{State}
 use Rattle.adm_register.specs.WellFormed.{has_round}
 use Rattle.adm_register.specs.Wanted.{wanted_of}
@@ -36,3 +37,12 @@ waiting_at s code = filter_map (waiting_child s code) (values s.applications)
 -- the waiting list of the school
 abbrev pub list_of : State → School → List Waiting
 list_of s school = waiting_list school (waiting_at s school.code)
+
+-- where a child stands on the waiting list of a school, if it waits there: its position, and how many wait
+abbrev pub standing_of : State → ℕ → List ℕ → Option Standing
+standing_of s child code = if is_waiting s child code then among (get s.schools code) (get s.children child) else None
+  where
+    among : Option School → Option Child → Option Standing
+    among None child = None
+    among (Some school) None = None
+    among (Some school) (Some child) = Some (record { position = position school (waiting_at s code) child; many = length (waiting_at s code) })

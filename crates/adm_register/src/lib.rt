@@ -32,6 +32,7 @@ mod round;
 mod rounds_held;
 mod rows_fault;
 mod rows_in;
+mod standings;
 mod tables;
 mod waits;
 
@@ -43,3 +44,4 @@ pub use not_done::NotDone;
 pub use register_rows::Rows;
 pub use registers::{Proposal, Register};
 pub use rows_fault::RowsFault;
+pub use standings::Standing;

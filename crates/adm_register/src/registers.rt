@@ -8,12 +8,12 @@ ghost use Rattle.adm_register.specs.Outcome.{Decides, decision};
 ghost use Rattle.adm_register.specs.Difference.{IsDifference};
 ghost use Rattle.adm_register.specs.Rows.{rows_in_order, AreRowsOf, place_of, round_of, vacancies};
 ghost use Rattle.adm_register.specs.Wanted.{wanted};
-ghost use Rattle.adm_register.specs.Waits.{is_waiting, list_of};
+ghost use Rattle.adm_register.specs.Waits.{is_waiting, list_of, standing_of};
 
 use crate::checks::is_well_formed;
 use crate::commands::{change_of, kept_by_types, refused};
 use crate::tables::Tables;
-use crate::{Difference, ListFault, NotDone, Rows, RowsFault};
+use crate::{Difference, ListFault, NotDone, Rows, RowsFault, Standing};
 use adm_round::allotment_fits;
 use adm_types::{
     Application, Child, ChildNo, Command, Draw, Place, Reply, School, SchoolCode, Season,
@@ -132,6 +132,20 @@ impl Register {
         ensures unknown { (result ≡ Err ListFault.UnknownSchool) ↔ (map.get self.now.schools school ≡ None) }
     {
         self.tables.waiting(alloc, school)
+    }
+
+    /// Where the child stands on the waiting list of the school, and how many wait there; none where
+    /// it does not wait there. It takes memory for a pointer to each application, and for each child
+    /// that waits. What it costs grows with the applications.
+    pub fn standing(
+        &self,
+        alloc: Global,
+        child: ChildNo,
+        school: SchoolCode,
+    ) -> Result<Option<Standing>, AllocError>
+        ensures { IfOk result (λ found. found ≡ standing_of self.now child school) }
+    {
+        self.tables.standing_of(alloc, child, school)
     }
 
     /// The draw of the round of this number, from 1. It takes no memory; what it costs grows with

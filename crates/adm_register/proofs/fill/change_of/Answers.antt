@@ -1,4 +1,4 @@
-use Rattle.std.proofs.Common.{◌∙◌, ap, sym, subst, refl, map, true, false, not, [], ◌∷◌, length, nat_eq, nat_lt, ◌+◌, Some, None, List, ℕ}
+use Rattle.std.proofs.Common.{◌∙◌, ap, sym, subst, refl, map, [], ◌∷◌, List}
 use Rattle.std.specs.Prelude.{is_some}
 use Rattle.std.specs.Option.{option_copied}
 use Rattle.std.specs.Ordering.{nat_cmp}
@@ -8,7 +8,6 @@ use Rattle.adm_types.specs.declared.rows.Child.{Child}
 use Rattle.adm_round.specs.declared.applicants.Pair.{Pair}
 use Rattle.adm_round.specs.Round.{lots_of}
 use Rattle.adm_waiting.specs.Waiting.{first_by_lot}
-use Rattle.adm_register.specs.Waits.{waiting_at}
 use Rattle.adm_register.specs.Fill as fill
 use Rattle.adm_register.proofs.WaitLemmas.{waiters_rise, waiters_fit}
 use Rattle.adm_register.proofs.FillFit.{school_there, each_has_lot}

@@ -7,7 +7,6 @@ use Rattle.adm_types.specs.declared.commands.Refusal.TheVariants.{UnknownSchool,
 use Rattle.adm_draws.specs.Draws.{repeats_lot}
 use Rattle.adm_round.specs.declared.applicants.Pair.{Pair}
 use Rattle.adm_round.specs.Round.{lots_of}
-use Rattle.adm_register.specs.declared.draws_so_far.DrawsSoFar.{DrawsSoFar}
 use Rattle.adm_register.specs.Draws.{is_due}
 use Rattle.adm_register.specs.Tests.{first_failing}
 use Rattle.adm_register.specs.Fill.{tests}
