@@ -1,0 +1,4 @@
+mod Dates
+mod Joined
+mod Told
+mod Widths

@@ -1,0 +1,7 @@
+use Rattle.std.proofs.Common.{append_assoc, refl}
+use Rattle.adm_letters.proofs.Told.{told}
+use Rattle.adm_letters.proofs.Widths.{in_column}
+use Rattle.adm_letters.proofs.reports.outcome_line.Goals as goal
+
+pub returns : goal.returns
+returns c = told _ _ _ c.writeln.result c.writeln.ensures.bytes (rw (c.laid_out.ensures, in_column 9 c.args.child refl) (simp append_assoc))

@@ -1,0 +1,5 @@
+pub mod Lines
+pub mod Days
+pub mod Letters
+pub mod Lists
+pub mod Reports

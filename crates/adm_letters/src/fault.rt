@@ -1,0 +1,31 @@
+// Why there is no such text.
+ghost use Rattle.std.specs.Prelude.{◌≡◌};
+ghost use Rattle.adm_letters.specs.declared.fault.LetterFault.TheVariants.{Memory};
+
+use std::alloc::AllocError;
+use thiserror::Error;
+
+/// Why there is no such text.
+#[derive(Clone, Copy, Debug, PartialEq, Eq, Error)]
+pub enum LetterFault {
+    /// There is no child of this number.
+    #[error("UnknownChild")]
+    UnknownChild = 1,
+    /// There is no school of this code.
+    #[error("UnknownSchool")]
+    UnknownSchool = 2,
+    /// There was no round of this number.
+    #[error("NoRound")]
+    NoRound = 3,
+    /// Memory ran out before the text was made.
+    #[error("Memory")]
+    Memory = 4,
+}
+
+impl From<AllocError> for LetterFault {
+    ghost from_gives = { λ _ fault. fault ≡ Memory };
+
+    fn from(_error: AllocError) -> LetterFault {
+        LetterFault::Memory
+    }
+}

@@ -1,0 +1,11 @@
+// Texts for people: letters to children, waiting lists of schools, and reports of rounds.
+//! Letters to children, waiting lists of schools and reports of rounds, as texts. Each line ends with LF.
+#![tactic(auto)]
+
+mod days;
+mod fault;
+mod letters;
+mod lists;
+mod reports;
+
+pub use fault::LetterFault;

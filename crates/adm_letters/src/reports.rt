@@ -1,0 +1,87 @@
+// The report of a round.
+ghost use Rattle.std.specs.Prelude.{◌≡◌, ◌++◌, IfOk, map, string_bytes};
+ghost use Rattle.adm_letters.specs.Lines.{AddsLine, text_of};
+ghost use Rattle.adm_letters.specs.Days.{day_text};
+ghost use Rattle.adm_letters.specs.Reports.{report_head, outcome_line, outcome_text, report_foot, counted, report_lines, school_text};
+
+use crate::days::day_text;
+use adm_round::{Totals, counts};
+use adm_types::{Draw, Outcome, SchoolCode};
+use std::alloc::{AllocError, Global};
+use std::fmt::Write;
+
+/// The report of the round of this draw.
+fn report(alloc: Global, draw: &Draw) -> Result<String, AllocError>
+    ensures { IfOk result (λ text. string_bytes text ≡ text_of (report_lines draw.now)) }
+{
+    let mut text = String::new(alloc);
+    put_head(&mut text, draw)?;
+    let outcomes = draw.outcomes.as_slice();
+    put_outcomes(&mut text, outcomes)?;
+    put_foot(&mut text, outcomes)?;
+    Ok(text)
+}
+
+fn put_head(text: &mut String, draw: &Draw) -> Result<(), AllocError>
+    ensures { IfOk result (λ _. AddsLine text.old (report_head draw.now.round draw.now.number (day_text draw.now.day)) text.new) }
+{
+    let day = day_text(draw.day);
+    head_line(text, draw.round, draw.number, day.as_str())
+}
+
+fn head_line(text: &mut String, round: u32, draw: u32, day: &str) -> Result<(), AllocError>
+    ensures { IfOk result (λ _. AddsLine text.old (report_head round draw day.now) text.new) }
+{
+    writeln!(text, "Round {round}, draw {draw}, {day}")
+}
+
+fn put_outcomes(text: &mut String, outcomes: &[Outcome]) -> Result<(), AllocError>
+    ensures { IfOk result (λ _. string_bytes text.new ≡ string_bytes text.old ++ text_of (map outcome_text outcomes.now)) }
+{
+    for outcome in outcomes {
+        put_outcome(text, outcome)?;
+    }
+    Ok(())
+}
+
+fn put_outcome(text: &mut String, outcome: &Outcome) -> Result<(), AllocError>
+    ensures { IfOk result (λ _. AddsLine text.old (outcome_text outcome.now) text.new) }
+{
+    let Outcome {
+        child,
+        school,
+        fresh: _,
+    } = *outcome;
+    match school {
+        Some(code) => outcome_line(text, child.get(), code.as_str()),
+        None => outcome_line(text, child.get(), "-"),
+    }
+}
+
+fn outcome_line(text: &mut String, child: u32, school: &str) -> Result<(), AllocError>
+    ensures { IfOk result (λ _. AddsLine text.old (outcome_line child school.now) text.new) }
+{
+    writeln!(text, "{child:>9} {school}")
+}
+
+fn put_foot(text: &mut String, outcomes: &[Outcome]) -> Result<(), AllocError>
+    ensures { IfOk result (λ _. AddsLine text.old (counted outcomes.now) text.new) }
+{
+    let Totals {
+        offers,
+        kept,
+        unplaced,
+    } = counts(outcomes);
+    foot_line(text, offers, kept, unplaced)
+}
+
+fn foot_line(
+    text: &mut String,
+    offers: usize,
+    kept: usize,
+    unplaced: usize,
+) -> Result<(), AllocError>
+    ensures { IfOk result (λ _. AddsLine text.old (report_foot offers kept unplaced) text.new) }
+{
+    writeln!(text, "Offers {offers}, kept {kept}, unplaced {unplaced}")
+}
