@@ -1,5 +1,6 @@
 -- Texts that grow by lines.
-use Rattle.std.proofs.Common.{◌≡◌, ◌∙◌, ap, sym, refl, List, ℕ, [], ◌∷◌, ◌++◌, append_assoc, append-nil}
+use Rattle.std.proofs.Common.{◌≡◌, ◌∙◌, ap, sym, refl, ℕ, ◌+◌, ◌<◌, List, [], ◌∷◌, ◌++◌, append_assoc, take, get_or, length, map}
+use Rattle.std.proofs.lemmas.List.{take_more, map_push}
 use Rattle.adm_letters.specs.Lines.{text_of}
 
 joined : (lines more : List (List ℕ)) → text_of (lines ++ more) ≡ text_of lines ++ text_of more
@@ -9,5 +10,14 @@ joined (line ∷ lines) more = rw (joined lines more) (simp append_assoc)
 pub after_lines : (text new : List ℕ) (lines more : List (List ℕ)) → text ≡ text_of lines → new ≡ text ++ text_of more → new ≡ text_of (lines ++ more)
 after_lines text new lines more before is = is ∙ ap (λ t. t ++ text_of more) before ∙ sym (joined lines more)
 
-pub after_line : (text new : List ℕ) (lines : List (List ℕ)) (line : List ℕ) → text ≡ text_of lines → new ≡ text ++ (line ++ 10 ∷ []) → new ≡ text_of (lines ++ line ∷ [])
-after_line text new lines line before is = after_lines text new lines (line ∷ []) before (is ∙ ap (λ t. text ++ t) (sym (append-nil (line ++ 10 ∷ []))))
+-- lines that are added to a text which had lines added
+pub then_lines : (old text new : List ℕ) (lines more : List (List ℕ)) → text ≡ old ++ text_of lines → new ≡ text ++ text_of more → new ≡ old ++ text_of (lines ++ more)
+then_lines old text new lines more first second = second ∙ rw (first, joined lines more) (simp append_assoc)
+
+-- the line of the next of some rows is added to those of the rows before it
+pub next_line : {X : Type 0} (line : X → List ℕ) (rows : List X) (i : ℕ) (row : X) (old text new : List ℕ) → i < length rows → row ≡ get_or rows i row
+    → text ≡ old ++ text_of (map line (take i rows)) → new ≡ text ++ text_of (line row ∷ []) → new ≡ old ++ text_of (map line (take (i + 1) rows))
+next_line line rows i row old text new within is before added =
+    let more : map line (take (i + 1) rows) ≡ map line (take i rows) ++ line row ∷ [] =
+    ap (map line) (take_more rows i row within) ∙ map_push line (take i rows) (get_or rows i row) ∙ ap (λ x. map line (take i rows) ++ line x ∷ []) (sym is) in
+    then_lines old text new (map line (take i rows)) (line row ∷ []) before added ∙ ap (λ lines. old ++ text_of lines) (sym more)

@@ -1,49 +1,34 @@
 -- The letter to a child, line by line. This profile's own form.
-use Rattle.std.specs.Prelude.{ℕ, List, ◌++◌, codes, decimal}
-use Rattle.adm_types.specs.declared.seasons.Phase.{Phase}
-use Rattle.adm_types.specs.declared.seasons.Phase.TheVariants.{Primary, Secondary}
+use Rattle.std.specs.Prelude.{ℕ, List, [], ◌∷◌, Option, Some, None}
+use Rattle.std.specs.FinMap.{get}
+use Rattle.adm_types.specs.declared.rows.School.{School}
+use Rattle.adm_types.specs.declared.rows.Place.{Place}
+use Rattle.adm_types.specs.declared.rows.PlaceState.{PlaceState}
+use Rattle.adm_types.specs.declared.rows.PlaceState.TheVariants.{Offered, Accepted, Plan}
+use Rattle.adm_register.specs.State.{State}
+use Rattle.adm_letters.specs.Days.{day_text}
+use Rattle.adm_letters.specs.LetterLines.{no_place, offered_line, reminded_line, accepted_line, plan_line, withdrawal_line}
 
--- ---- the lines
+-- an offer of this day, and what may come of it after a reminder
+abbrev pub offer_lines : List ℕ → List ℕ → ℕ → Option ℕ → List (List ℕ)
+offer_lines code name day None = offered_line code name (day_text day) ∷ []
+offer_lines code name day (Some reminded) = reminded_line code name (day_text day) (day_text reminded) ∷ withdrawal_line (day_text reminded) ∷ []
 
-abbrev pub phase_text : Phase → List ℕ
-phase_text Primary = codes "primary"
-phase_text Secondary = codes "secondary"
+-- a place at the school of this code and name
+abbrev pub place_lines : List ℕ → List ℕ → PlaceState → List (List ℕ)
+place_lines code name (Offered day reminded) = offer_lines code name day reminded
+place_lines code name Accepted = accepted_line code name ∷ []
+place_lines code name Plan = plan_line code name ∷ []
 
--- the entry year and the phase
-abbrev pub head_line : ℕ → List ℕ → List ℕ
-head_line year phase = codes "Admission " ++ (decimal year ++ (codes " " ++ phase))
+-- the name of a school; a place and what is wanted are at schools that are there
+abbrev pub name_in : Option School → List ℕ
+name_in None = []
+name_in (Some school) = school.name
 
-abbrev pub child_line : ℕ → List ℕ → List ℕ
-child_line number name = codes "Child " ++ (decimal number ++ (codes " " ++ name))
+abbrev pub name_of : State → List ℕ → List ℕ
+name_of s code = name_in (get s.schools code)
 
--- a child without a place
-abbrev pub no_place : List ℕ
-no_place = codes "Place: none"
-
--- an offer, from its day on
-abbrev pub offered_line : List ℕ → List ℕ → List ℕ → List ℕ
-offered_line code name day = codes "Place: " ++ (code ++ (codes " " ++ (name ++ (codes ", offered " ++ day))))
-
--- an offer of which the child was reminded
-abbrev pub reminded_line : List ℕ → List ℕ → List ℕ → List ℕ → List ℕ
-reminded_line code name day reminded = codes "Place: " ++ (code ++ (codes " " ++ (name ++ (codes ", offered " ++ (day ++ (codes ", reminded " ++ reminded))))))
-
-abbrev pub accepted_line : List ℕ → List ℕ → List ℕ
-accepted_line code name = codes "Place: " ++ (code ++ (codes " " ++ (name ++ codes ", accepted")))
-
--- the place of a plan
-abbrev pub plan_line : List ℕ → List ℕ → List ℕ
-plan_line code name = codes "Place: " ++ (code ++ (codes " " ++ (name ++ codes ", plan")))
-
--- what may come after a reminder
-abbrev pub withdrawal_line : List ℕ → List ℕ
-withdrawal_line reminded = codes "The offer may be withdrawn 14 days after " ++ (reminded ++ codes " if it is not answered.")
-
--- the position of the child among so many that wait at the school
-abbrev pub waiting_line : List ℕ → List ℕ → ℕ → ℕ → ℕ → ℕ → List ℕ
-waiting_line code name position waiting class metres =
-    codes "Waiting: " ++ (code ++ (codes " " ++ (name ++ (codes ", position " ++ (decimal position ++ (codes " of " ++ (decimal waiting ++ (codes ", class " ++ (decimal class ++ (codes ", " ++ (decimal metres ++ codes " metres")))))))))))
-
--- a child that waits at no school
-abbrev pub waits_nowhere : List ℕ
-waits_nowhere = codes "Waiting: nowhere"
+-- the place of the child, or that it has none
+abbrev pub lines_of_place : State → Option Place → List (List ℕ)
+lines_of_place s None = no_place ∷ []
+lines_of_place s (Some place) = place_lines place.school (name_of s place.school) place.state

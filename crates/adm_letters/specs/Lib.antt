@@ -1,5 +1,7 @@
+pub mod Answers
 pub mod Lines
 pub mod Days
+pub mod LetterLines
 pub mod Letters
 pub mod Lists
 pub mod Reports

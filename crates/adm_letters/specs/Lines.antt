@@ -1,16 +1,16 @@
 -- Texts as lines, each ended by LF. This profile's own form.
 use Rattle.std.specs.Prelude.{◌≡◌, ℕ, ◌-◌, List, [], ◌∷◌, ◌++◌, length, replicate, string_bytes}
 use Rattle.std.specs.declared.string.String.{String}
-use Rattle.std.specs.List.{flat_map}
 
 -- the lines one after another, each with LF at its end
 abbrev pub text_of : List (List ℕ) → List ℕ
-text_of lines = flat_map (λ line. line ++ 10 ∷ []) lines
+text_of [] = []
+text_of (line ∷ lines) = line ++ 10 ∷ text_of lines
 
 -- blanks, and then the text, in so many places: a text that is wider stays whole
 abbrev pub right : ℕ → List ℕ → List ℕ
 right width text = replicate (width - length text) 32 ++ text
 
--- the new text is the old one and then this line
-abbrev pub AddsLine : {A : Type 0} → String A → List ℕ → String A → Type 0
-AddsLine old line new = string_bytes new ≡ string_bytes old ++ (line ++ 10 ∷ [])
+-- the new text is the old one and then these lines
+abbrev pub AddsLines : {A : Type 0} → String A → List (List ℕ) → String A → Type 0
+AddsLines old lines new = string_bytes new ≡ string_bytes old ++ text_of lines

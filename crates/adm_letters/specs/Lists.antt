@@ -1,19 +1,25 @@
 -- The waiting list of a school, line by line. This profile's own form.
-use Rattle.std.specs.Prelude.{ℕ, List, ◌++◌, codes, decimal}
+use Rattle.std.specs.Prelude.{ℕ, List, [], ◌∷◌, ◌++◌, codes, decimal, length, map}
+use Rattle.adm_types.specs.declared.rows.School.{School}
+use Rattle.adm_waiting.specs.declared.lists.Waiting.{Waiting}
 use Rattle.adm_letters.specs.Lines.{right}
 
 -- the school
-abbrev pub list_head : List ℕ → List ℕ → List ℕ
+unfoldable pub list_head : List ℕ → List ℕ → List ℕ
 list_head code name = codes "Waiting list of " ++ (code ++ (codes " " ++ name))
 
 -- the names of the columns
-abbrev pub columns : List ℕ
+unfoldable pub columns : List ℕ
 columns = right 5 (codes "Pos") ++ (right 9 (codes "Child") ++ (right 4 (codes "Cls") ++ right 9 (codes "Metres")))
 
 -- a child that waits
-abbrev pub list_row : ℕ → ℕ → ℕ → ℕ → List ℕ
-list_row position child class metres = right 5 (decimal position) ++ (right 9 (decimal child) ++ (right 4 (decimal class) ++ right 9 (decimal metres)))
+unfoldable pub list_row : Waiting → List ℕ
+list_row entry = right 5 (decimal entry.position) ++ (right 9 (decimal entry.child) ++ (right 4 (decimal entry.class) ++ right 9 (decimal entry.metres)))
 
 -- how many wait, and how many places are left
-abbrev pub list_foot : ℕ → ℕ → List ℕ
+unfoldable pub list_foot : ℕ → ℕ → List ℕ
 list_foot waiting vacancies = codes "Waiting " ++ (decimal waiting ++ (codes ", vacancies " ++ decimal vacancies))
+
+-- the waiting list of a school with so many places left
+unfoldable pub list_lines : School → List Waiting → ℕ → List (List ℕ)
+list_lines school waiting vacancies = list_head school.code school.name ∷ columns ∷ (map list_row waiting ++ list_foot (length waiting) vacancies ∷ [])

@@ -1,84 +1,92 @@
 // The letter to a child.
-ghost use Rattle.std.specs.Prelude.{◌≡◌, ◌++◌, IfOk, map, string_bytes};
-ghost use Rattle.adm_letters.specs.Lines.{AddsLine, text_of};
+ghost use Rattle.std.specs.Prelude.{◌≡◌, IfOk, [], ◌∷◌};
+ghost use Rattle.adm_register.specs.Rows.{place_of};
+ghost use Rattle.adm_letters.specs.Lines.{AddsLines};
 ghost use Rattle.adm_letters.specs.Days.{day_text};
-ghost use Rattle.adm_letters.specs.Letters.{head_line, child_line, no_place, offered_line, reminded_line, accepted_line, plan_line, withdrawal_line, waiting_line, waits_nowhere, phase_text};
+ghost use Rattle.adm_letters.specs.LetterLines.{head_line, child_line, phase_text, reminded_line, withdrawal_line};
+ghost use Rattle.adm_letters.specs.Letters.{offer_lines, place_lines, name_of, lines_of_place};
 
-use adm_types::{Phase, School};
+use crate::days::day_text;
+use crate::letter_lines::{
+    accepted_line, child_line, head_line, no_place, offered_line, phase_text, plan_line,
+    reminded_line, withdrawal_line,
+};
+use adm_register::Register;
+use adm_types::{Child, ChildNo, Day, PlaceState, SchoolCode, Season};
 use std::alloc::AllocError;
-use std::fmt::Write;
 
-fn phase_text(phase: Phase) -> &'static str
-    ensures { result.now ≡ phase_text phase }
+fn put_head(text: &mut String, season: &Season) -> Result<(), AllocError>
+    ensures { IfOk result (λ _. AddsLines text.old (head_line season.now.year (phase_text season.now.phase) ∷ []) text.new) }
 {
-    match phase {
-        Phase::Primary => "primary",
-        Phase::Secondary => "secondary",
+    head_line(text, season.year(), phase_text(season.phase()))
+}
+
+fn put_child(text: &mut String, child: &Child) -> Result<(), AllocError>
+    ensures { IfOk result (λ _. AddsLines text.old (child_line child.now.no child.now.name ∷ []) text.new) }
+{
+    child_line(text, child.no.get(), child.name.as_str())
+}
+
+fn put_offer(
+    text: &mut String,
+    code: &str,
+    name: &str,
+    day: Day,
+    reminded: Option<Day>,
+) -> Result<(), AllocError>
+    ensures { IfOk result (λ _. AddsLines text.old (offer_lines code.now name.now day reminded) text.new) }
+{
+    let day = day_text(day);
+    match reminded {
+        None => offered_line(text, code, name, day.as_str()),
+        Some(reminded) => put_reminded(text, code, name, day.as_str(), reminded),
     }
 }
 
-fn head_line(text: &mut String, year: u32, phase: &str) -> Result<(), AllocError>
-    ensures { IfOk result (λ _. AddsLine text.old (head_line year phase.now) text.new) }
-{
-    writeln!(text, "Admission {year} {phase}")
-}
-
-fn child_line(text: &mut String, number: u32, name: &str) -> Result<(), AllocError>
-    ensures { IfOk result (λ _. AddsLine text.old (child_line number name.now) text.new) }
-{
-    writeln!(text, "Child {number} {name}")
-}
-
-fn no_place(text: &mut String) -> Result<(), AllocError>
-    ensures { IfOk result (λ _. AddsLine text.old no_place text.new) }
-{
-    writeln!(text, "Place: none")
-}
-
-fn offered_line(text: &mut String, code: &str, name: &str, day: &str) -> Result<(), AllocError>
-    ensures { IfOk result (λ _. AddsLine text.old (offered_line code.now name.now day.now) text.new) }
-{
-    writeln!(text, "Place: {code} {name}, offered {day}")
-}
-
-fn reminded_line(
+fn put_reminded(
     text: &mut String,
     code: &str,
     name: &str,
     day: &str,
-    reminded: &str,
+    reminded: Day,
 ) -> Result<(), AllocError>
-    ensures { IfOk result (λ _. AddsLine text.old (reminded_line code.now name.now day.now reminded.now) text.new) }
+    ensures { IfOk result (λ _. AddsLines text.old (reminded_line code.now name.now day.now (day_text reminded) ∷ withdrawal_line (day_text reminded) ∷ []) text.new) }
 {
-    writeln!(
-        text,
-        "Place: {code} {name}, offered {day}, reminded {reminded}"
-    )
+    let reminded = day_text(reminded);
+    reminded_line(text, code, name, day, reminded.as_str())?;
+    withdrawal_line(text, reminded.as_str())
 }
 
-fn accepted_line(text: &mut String, code: &str, name: &str) -> Result<(), AllocError>
-    ensures { IfOk result (λ _. AddsLine text.old (accepted_line code.now name.now) text.new) }
+fn put_place(text: &mut String, code: &str, name: &str, state: PlaceState) -> Result<(), AllocError>
+    ensures { IfOk result (λ _. AddsLines text.old (place_lines code.now name.now state) text.new) }
 {
-    writeln!(text, "Place: {code} {name}, accepted")
+    match state {
+        PlaceState::Offered { day, reminded } => put_offer(text, code, name, day, reminded),
+        PlaceState::Accepted => accepted_line(text, code, name),
+        PlaceState::Plan => plan_line(text, code, name),
+    }
 }
 
-fn plan_line(text: &mut String, code: &str, name: &str) -> Result<(), AllocError>
-    ensures { IfOk result (λ _. AddsLine text.old (plan_line code.now name.now) text.new) }
+/// The name of the school, which is there wherever a child has a place or wants one.
+fn name_of(register: &Register, school: SchoolCode) -> &str
+    ensures { result.now ≡ name_of register.now school }
 {
-    writeln!(text, "Place: {code} {name}, plan")
+    match register.school(school) {
+        Some(found) => found.name.as_str(),
+        None => "",
+    }
 }
 
-fn withdrawal_line(text: &mut String, reminded: &str) -> Result<(), AllocError>
-    ensures { IfOk result (λ _. AddsLine text.old (withdrawal_line reminded.now) text.new) }
+fn put_place_of(text: &mut String, register: &Register, child: ChildNo) -> Result<(), AllocError>
+    ensures { IfOk result (λ _. AddsLines text.old (lines_of_place register.now (place_of register.now child)) text.new) }
 {
-    writeln!(
-        text,
-        "The offer may be withdrawn 14 days after {reminded} if it is not answered."
-    )
-}
-
-fn waits_nowhere(text: &mut String) -> Result<(), AllocError>
-    ensures { IfOk result (λ _. AddsLine text.old waits_nowhere text.new) }
-{
-    writeln!(text, "Waiting: nowhere")
+    match register.place(child) {
+        None => no_place(text),
+        Some(place) => put_place(
+            text,
+            place.school.as_str(),
+            name_of(register, place.school),
+            place.state,
+        ),
+    }
 }

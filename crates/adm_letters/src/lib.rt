@@ -4,8 +4,10 @@
 
 mod days;
 mod fault;
+mod letter_lines;
 mod letters;
 mod lists;
 mod reports;
 
 pub use fault::LetterFault;
+pub use reports::round_text;

@@ -1,37 +1,76 @@
 // The waiting list of a school.
-ghost use Rattle.std.specs.Prelude.{◌≡◌, ◌++◌, IfOk, map, string_bytes};
-ghost use Rattle.adm_letters.specs.Lines.{AddsLine, text_of};
-ghost use Rattle.adm_letters.specs.Lists.{list_head, columns, list_row, list_foot};
+ghost use Rattle.std.specs.Prelude.{◌≡◌, IfOk, [], ◌∷◌, map, string_bytes};
+ghost use Rattle.adm_letters.specs.Lines.{AddsLines, text_of};
+ghost use Rattle.adm_letters.specs.Lists.{list_head, columns, list_row, list_foot, list_lines};
 
-use std::alloc::AllocError;
+use adm_types::School;
+use adm_waiting::Waiting;
+use std::alloc::{AllocError, Global};
 use std::fmt::Write;
 
-fn put_head(text: &mut String, code: &str, name: &str) -> Result<(), AllocError>
-    ensures { IfOk result (λ _. AddsLine text.old (list_head code.now name.now) text.new) }
+/// The waiting list of the school, which has so many places left.
+fn list(
+    alloc: Global,
+    school: &School,
+    waiting: &[Waiting],
+    vacancies: u32,
+) -> Result<String, AllocError>
+    ensures { IfOk result (λ text. string_bytes text ≡ text_of (list_lines school.now waiting.now vacancies)) }
+{
+    let mut text = String::new(alloc);
+    put_head(&mut text, school)?;
+    put_columns(&mut text)?;
+    put_rows(&mut text, waiting)?;
+    put_foot(&mut text, waiting.len(), vacancies)?;
+    Ok(text)
+}
+
+fn put_head(text: &mut String, school: &School) -> Result<(), AllocError>
+    ensures { IfOk result (λ _. AddsLines text.old (list_head school.now.code school.now.name ∷ []) text.new) }
+{
+    head_line(text, school.code.as_str(), school.name.as_str())
+}
+
+#[tactic(auto, unfolding(crate::specs::Lists::list_head))]
+fn head_line(text: &mut String, code: &str, name: &str) -> Result<(), AllocError>
+    ensures { IfOk result (λ _. AddsLines text.old (list_head code.now name.now ∷ []) text.new) }
 {
     writeln!(text, "Waiting list of {code} {name}")
 }
 
+#[tactic(auto, unfolding(crate::specs::Lists::columns))]
 fn put_columns(text: &mut String) -> Result<(), AllocError>
-    ensures { IfOk result (λ _. AddsLine text.old columns text.new) }
+    ensures { IfOk result (λ _. AddsLines text.old (columns ∷ []) text.new) }
 {
     writeln!(text, "  Pos    Child Cls   Metres")
 }
 
-fn row_line(
-    text: &mut String,
-    position: usize,
-    child: u32,
-    class: u8,
-    metres: u32,
-) -> Result<(), AllocError>
-    ensures { IfOk result (λ _. AddsLine text.old (list_row position child class metres) text.new) }
+fn put_rows(text: &mut String, waiting: &[Waiting]) -> Result<(), AllocError>
+    ensures { IfOk result (λ _. AddsLines text.old (map list_row waiting.now) text.new) }
 {
+    for entry in waiting {
+        put_row(text, entry)?;
+    }
+    Ok(())
+}
+
+#[tactic(auto, unfolding(crate::specs::Lists::list_row))]
+fn put_row(text: &mut String, entry: &Waiting) -> Result<(), AllocError>
+    ensures { IfOk result (λ _. AddsLines text.old (list_row entry.now ∷ []) text.new) }
+{
+    let Waiting {
+        position,
+        child,
+        class,
+        metres,
+    } = *entry;
+    let child = child.get();
     writeln!(text, "{position:>5}{child:>9}{class:>4}{metres:>9}")
 }
 
+#[tactic(auto, unfolding(crate::specs::Lists::list_foot))]
 fn put_foot(text: &mut String, waiting: usize, vacancies: u32) -> Result<(), AllocError>
-    ensures { IfOk result (λ _. AddsLine text.old (list_foot waiting vacancies) text.new) }
+    ensures { IfOk result (λ _. AddsLines text.old (list_foot waiting vacancies ∷ []) text.new) }
 {
     writeln!(text, "Waiting {waiting}, vacancies {vacancies}")
 }

@@ -1,14 +1,32 @@
 // The report of a round.
-ghost use Rattle.std.specs.Prelude.{◌≡◌, ◌++◌, IfOk, map, string_bytes};
-ghost use Rattle.adm_letters.specs.Lines.{AddsLine, text_of};
+ghost use Rattle.std.specs.Prelude.{◌≡◌, IfOk, [], ◌∷◌, map, string_bytes};
+ghost use Rattle.adm_letters.specs.Answers.{Gives};
+ghost use Rattle.adm_letters.specs.declared.fault.LetterFault.TheVariants.{NoRound};
+ghost use Rattle.adm_letters.specs.Lines.{AddsLines, text_of};
 ghost use Rattle.adm_letters.specs.Days.{day_text};
-ghost use Rattle.adm_letters.specs.Reports.{report_head, outcome_line, outcome_text, report_foot, counted, report_lines, school_text};
+ghost use Rattle.adm_letters.specs.Reports.{report_head, outcome_line, outcome_text, report_foot, counted, report_lines, round_text};
 
+use crate::LetterFault;
 use crate::days::day_text;
+use adm_register::Register;
 use adm_round::{Totals, counts};
 use adm_types::{Draw, Outcome, SchoolCode};
 use std::alloc::{AllocError, Global};
 use std::fmt::Write;
+
+/// The report of the round of this number, from 1: which school each of its children was allotted,
+/// by the numbers of the children, and how many were offered a school, keep one and have none. It
+/// takes memory for the text; what it costs grows with the draws and with the round's children.
+///
+/// Where it is an error, there was no such round (`NoRound`), or memory ran out.
+pub fn round_text(alloc: Global, register: &Register, number: u32) -> Result<String, LetterFault>
+    ensures { Gives (round_text register.now number) NoRound result }
+{
+    match register.round(number) {
+        Some(draw) => Ok(report(alloc, draw)?),
+        None => Err(LetterFault::NoRound),
+    }
+}
 
 /// The report of the round of this draw.
 fn report(alloc: Global, draw: &Draw) -> Result<String, AllocError>
@@ -23,20 +41,21 @@ fn report(alloc: Global, draw: &Draw) -> Result<String, AllocError>
 }
 
 fn put_head(text: &mut String, draw: &Draw) -> Result<(), AllocError>
-    ensures { IfOk result (λ _. AddsLine text.old (report_head draw.now.round draw.now.number (day_text draw.now.day)) text.new) }
+    ensures { IfOk result (λ _. AddsLines text.old (report_head draw.now.round draw.now.number (day_text draw.now.day) ∷ []) text.new) }
 {
     let day = day_text(draw.day);
     head_line(text, draw.round, draw.number, day.as_str())
 }
 
+#[tactic(auto, unfolding(crate::specs::Reports::report_head))]
 fn head_line(text: &mut String, round: u32, draw: u32, day: &str) -> Result<(), AllocError>
-    ensures { IfOk result (λ _. AddsLine text.old (report_head round draw day.now) text.new) }
+    ensures { IfOk result (λ _. AddsLines text.old (report_head round draw day.now ∷ []) text.new) }
 {
     writeln!(text, "Round {round}, draw {draw}, {day}")
 }
 
 fn put_outcomes(text: &mut String, outcomes: &[Outcome]) -> Result<(), AllocError>
-    ensures { IfOk result (λ _. string_bytes text.new ≡ string_bytes text.old ++ text_of (map outcome_text outcomes.now)) }
+    ensures { IfOk result (λ _. AddsLines text.old (map outcome_text outcomes.now) text.new) }
 {
     for outcome in outcomes {
         put_outcome(text, outcome)?;
@@ -45,7 +64,7 @@ fn put_outcomes(text: &mut String, outcomes: &[Outcome]) -> Result<(), AllocErro
 }
 
 fn put_outcome(text: &mut String, outcome: &Outcome) -> Result<(), AllocError>
-    ensures { IfOk result (λ _. AddsLine text.old (outcome_text outcome.now) text.new) }
+    ensures { IfOk result (λ _. AddsLines text.old (outcome_text outcome.now ∷ []) text.new) }
 {
     let Outcome {
         child,
@@ -58,14 +77,15 @@ fn put_outcome(text: &mut String, outcome: &Outcome) -> Result<(), AllocError>
     }
 }
 
+#[tactic(auto, unfolding(crate::specs::Reports::outcome_line))]
 fn outcome_line(text: &mut String, child: u32, school: &str) -> Result<(), AllocError>
-    ensures { IfOk result (λ _. AddsLine text.old (outcome_line child school.now) text.new) }
+    ensures { IfOk result (λ _. AddsLines text.old (outcome_line child school.now ∷ []) text.new) }
 {
     writeln!(text, "{child:>9} {school}")
 }
 
 fn put_foot(text: &mut String, outcomes: &[Outcome]) -> Result<(), AllocError>
-    ensures { IfOk result (λ _. AddsLine text.old (counted outcomes.now) text.new) }
+    ensures { IfOk result (λ _. AddsLines text.old (counted outcomes.now ∷ []) text.new) }
 {
     let Totals {
         offers,
@@ -75,13 +95,14 @@ fn put_foot(text: &mut String, outcomes: &[Outcome]) -> Result<(), AllocError>
     foot_line(text, offers, kept, unplaced)
 }
 
+#[tactic(auto, unfolding(crate::specs::Reports::report_foot))]
 fn foot_line(
     text: &mut String,
     offers: usize,
     kept: usize,
     unplaced: usize,
 ) -> Result<(), AllocError>
-    ensures { IfOk result (λ _. AddsLine text.old (report_foot offers kept unplaced) text.new) }
+    ensures { IfOk result (λ _. AddsLines text.old (report_foot offers kept unplaced ∷ []) text.new) }
 {
     writeln!(text, "Offers {offers}, kept {kept}, unplaced {unplaced}")
 }

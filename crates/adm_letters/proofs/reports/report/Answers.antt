@@ -3,16 +3,16 @@ use Rattle.adm_types.specs.declared.draws.Draw.{Draw}
 use Rattle.adm_letters.specs.Lines.{text_of}
 use Rattle.adm_letters.specs.Days.{day_text}
 use Rattle.adm_letters.specs.Reports.{report_head, outcome_text, counted, report_lines}
-use Rattle.adm_letters.proofs.Joined.{after_line, after_lines}
+use Rattle.adm_letters.proofs.Joined.{after_lines}
 use Rattle.adm_letters.proofs.reports.report.Goals as goal
 
-whole : (start head outcomes all : List ℕ) (draw : Draw) → start ≡ [] → head ≡ start ++ (report_head draw.round draw.number (day_text draw.day) ++ 10 ∷ [])
-    → outcomes ≡ head ++ text_of (map outcome_text draw.outcomes) → all ≡ outcomes ++ (counted draw.outcomes ++ 10 ∷ []) → all ≡ text_of (report_lines draw)
+whole : (start head outcomes all : List ℕ) (draw : Draw) → start ≡ [] → head ≡ start ++ text_of (report_head draw.round draw.number (day_text draw.day) ∷ [])
+    → outcomes ≡ head ++ text_of (map outcome_text draw.outcomes) → all ≡ outcomes ++ text_of (counted draw.outcomes ∷ []) → all ≡ text_of (report_lines draw)
 unfolding report_lines
 whole start head outcomes all draw none first middle last =
     let line = report_head draw.round draw.number (day_text draw.day) in
-    after_line outcomes all (line ∷ map outcome_text draw.outcomes) (counted draw.outcomes)
-    (after_lines head outcomes (line ∷ []) (map outcome_text draw.outcomes) (after_line start head [] line none first) middle) last
+    after_lines outcomes all (line ∷ map outcome_text draw.outcomes) (counted draw.outcomes ∷ [])
+    (after_lines head outcomes (line ∷ []) (map outcome_text draw.outcomes) (after_lines start head [] (line ∷ []) none first) middle) last
 
 pub returns : goal.returns
 returns c =

@@ -1,6 +1,8 @@
 use Rattle.std.proofs.Common.{append_assoc}
+use Rattle.adm_letters.specs.LetterLines.{withdrawal_line}
 use Rattle.adm_letters.proofs.Told.{told}
-use Rattle.adm_letters.proofs.lists.put_head.Goals as goal
+use Rattle.adm_letters.proofs.letter_lines.withdrawal_line.Goals as goal
 
 pub returns : goal.returns
+unfolding withdrawal_line
 returns c = told _ _ _ c.writeln.result c.writeln.ensures.bytes (simp append_assoc)

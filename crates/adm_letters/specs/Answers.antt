@@ -1,0 +1,12 @@
+-- What a call for a text answers.
+use Rattle.std.specs.Prelude.{◌≡◌, ℕ, List, Option, Some, None, Result, Ok, Err, string_bytes}
+use Rattle.std.specs.declared.string.String.{String}
+use Rattle.adm_letters.specs.declared.fault.LetterFault.{LetterFault}
+use Rattle.adm_letters.specs.declared.fault.LetterFault.TheVariants.{Memory}
+
+-- the text, if there is one, or else this fault; for a text memory may run out
+abbrev pub Gives : {A : Type 0} → Option (List ℕ) → LetterFault → Result (String A) LetterFault → Type 0
+Gives (Some text) fault (Ok given) = string_bytes given ≡ text
+Gives (Some text) fault (Err e) = e ≡ Memory
+Gives None fault (Ok given) = ⊥
+Gives None fault (Err e) = e ≡ fault
