@@ -1,4 +1,5 @@
 mod Dates
+mod Found
 mod Joined
 mod Told
 mod Widths

@@ -2,11 +2,18 @@
 use Rattle.std.specs.Prelude.{◌≡◌, ℕ, List, Option, Some, None, Result, Ok, Err, string_bytes}
 use Rattle.std.specs.declared.string.String.{String}
 use Rattle.adm_letters.specs.declared.fault.LetterFault.{LetterFault}
-use Rattle.adm_letters.specs.declared.fault.LetterFault.TheVariants.{Memory}
+use Rattle.adm_letters.specs.declared.fault.LetterFault.TheVariants as letter
+use Rattle.adm_register.specs.declared.list_fault.ListFault.{ListFault}
+use Rattle.adm_register.specs.declared.list_fault.ListFault.TheVariants.{UnknownSchool, Memory}
 
 -- the text, if there is one, or else this fault; for a text memory may run out
 abbrev pub Gives : {A : Type 0} → Option (List ℕ) → LetterFault → Result (String A) LetterFault → Type 0
 Gives (Some text) fault (Ok given) = string_bytes given ≡ text
-Gives (Some text) fault (Err e) = e ≡ Memory
+Gives (Some text) fault (Err e) = e ≡ letter.Memory
 Gives None fault (Ok given) = ⊥
 Gives None fault (Err e) = e ≡ fault
+
+-- why there is no text, where there is no waiting list
+abbrev pub fault_of : ListFault → LetterFault
+fault_of UnknownSchool = letter.UnknownSchool
+fault_of Memory = letter.Memory

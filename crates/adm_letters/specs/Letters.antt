@@ -1,13 +1,18 @@
 -- The letter to a child, line by line. This profile's own form.
-use Rattle.std.specs.Prelude.{ℕ, List, [], ◌∷◌, Option, Some, None}
+use Rattle.std.specs.Prelude.{ℕ, List, [], ◌∷◌, ◌++◌, map, Option, Some, None, option_map}
 use Rattle.std.specs.FinMap.{get}
 use Rattle.adm_types.specs.declared.rows.School.{School}
+use Rattle.adm_types.specs.declared.rows.Child.{Child}
 use Rattle.adm_types.specs.declared.rows.Place.{Place}
 use Rattle.adm_types.specs.declared.rows.PlaceState.{PlaceState}
 use Rattle.adm_types.specs.declared.rows.PlaceState.TheVariants.{Offered, Accepted, Plan}
 use Rattle.adm_register.specs.State.{State}
+use Rattle.adm_register.specs.Rows.{place_of}
 use Rattle.adm_letters.specs.Days.{day_text}
-use Rattle.adm_letters.specs.LetterLines.{no_place, offered_line, reminded_line, accepted_line, plan_line, withdrawal_line}
+use Rattle.adm_letters.specs.LetterLines.{head_line, child_line, phase_text, no_place, offered_line, reminded_line, accepted_line, plan_line, withdrawal_line, waiting_line, waits_nowhere}
+use Rattle.adm_letters.specs.Lines.{text_of}
+use Rattle.adm_letters.specs.Waits.{waits_of}
+use Rattle.adm_letters.specs.declared.waits.Wait.{Wait}
 
 -- an offer of this day, and what may come of it after a reminder
 abbrev pub offer_lines : List ℕ → List ℕ → ℕ → Option ℕ → List (List ℕ)
@@ -32,3 +37,20 @@ name_of s code = name_in (get s.schools code)
 abbrev pub lines_of_place : State → Option Place → List (List ℕ)
 lines_of_place s None = no_place ∷ []
 lines_of_place s (Some place) = place_lines place.school (name_of s place.school) place.state
+
+-- where the child waits, or that it waits nowhere
+abbrev pub wait_line : State → Wait → List ℕ
+wait_line s wait = waiting_line wait.school (name_of s wait.school) wait.entry wait.waiting
+
+abbrev pub lines_of_waits : State → List Wait → List (List ℕ)
+lines_of_waits s [] = waits_nowhere ∷ []
+lines_of_waits s (wait ∷ waits) = map (wait_line s) (wait ∷ waits)
+
+-- the letter to a child
+unfoldable pub letter_lines : State → Child → List (List ℕ)
+letter_lines s child =
+    head_line s.season.year (phase_text s.season.phase) ∷ child_line child.no child.name ∷ (lines_of_place s (place_of s child.no) ++ lines_of_waits s (waits_of s child.no))
+
+-- the letter to the child of a number, if there is such a child
+abbrev pub letter_text : State → ℕ → Option (List ℕ)
+letter_text s number = option_map (λ child. text_of (letter_lines s child)) (get s.children number)

@@ -1,8 +1,12 @@
 -- The waiting list of a school, line by line. This profile's own form.
-use Rattle.std.specs.Prelude.{ℕ, List, [], ◌∷◌, ◌++◌, codes, decimal, length, map}
+use Rattle.std.specs.Prelude.{ℕ, ◌-◌, List, [], ◌∷◌, ◌++◌, codes, decimal, length, map, Option, option_map}
+use Rattle.std.specs.FinMap.{get}
 use Rattle.adm_types.specs.declared.rows.School.{School}
 use Rattle.adm_waiting.specs.declared.lists.Waiting.{Waiting}
-use Rattle.adm_letters.specs.Lines.{right}
+use Rattle.adm_register.specs.State.{State}
+use Rattle.adm_register.specs.Rows.{places_at}
+use Rattle.adm_register.specs.Waits.{list_of}
+use Rattle.adm_letters.specs.Lines.{right, text_of}
 
 -- the school
 unfoldable pub list_head : List ℕ → List ℕ → List ℕ
@@ -23,3 +27,7 @@ list_foot waiting vacancies = codes "Waiting " ++ (decimal waiting ++ (codes ", 
 -- the waiting list of a school with so many places left
 unfoldable pub list_lines : School → List Waiting → ℕ → List (List ℕ)
 list_lines school waiting vacancies = list_head school.code school.name ∷ columns ∷ (map list_row waiting ++ list_foot (length waiting) vacancies ∷ [])
+
+-- the waiting list of the school of a code, if there is such a school
+abbrev pub list_text : State → List ℕ → Option (List ℕ)
+list_text s code = option_map (λ school. text_of (list_lines school (list_of s school) (school.pan - places_at s code))) (get s.schools code)

@@ -1,7 +1,9 @@
 // Why there is no such text.
 ghost use Rattle.std.specs.Prelude.{◌≡◌};
 ghost use Rattle.adm_letters.specs.declared.fault.LetterFault.TheVariants.{Memory};
+ghost use Rattle.adm_letters.specs.Answers.{fault_of};
 
+use adm_register::ListFault;
 use std::alloc::AllocError;
 use thiserror::Error;
 
@@ -27,5 +29,16 @@ impl From<AllocError> for LetterFault {
 
     fn from(_error: AllocError) -> LetterFault {
         LetterFault::Memory
+    }
+}
+
+impl From<ListFault> for LetterFault {
+    ghost from_gives = { λ list fault. fault ≡ fault_of list };
+
+    fn from(fault: ListFault) -> LetterFault {
+        match fault {
+            ListFault::UnknownSchool => LetterFault::UnknownSchool,
+            ListFault::Memory => LetterFault::Memory,
+        }
     }
 }

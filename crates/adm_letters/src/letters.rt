@@ -1,19 +1,50 @@
 // The letter to a child.
-ghost use Rattle.std.specs.Prelude.{◌≡◌, IfOk, [], ◌∷◌};
+ghost use Rattle.std.specs.Prelude.{◌≡◌, IfOk, [], ◌∷◌, map, string_bytes};
 ghost use Rattle.adm_register.specs.Rows.{place_of};
-ghost use Rattle.adm_letters.specs.Lines.{AddsLines};
+ghost use Rattle.adm_letters.specs.Answers.{Gives};
+ghost use Rattle.adm_letters.specs.declared.fault.LetterFault.TheVariants.{UnknownChild};
+ghost use Rattle.adm_letters.specs.Lines.{AddsLines, text_of};
 ghost use Rattle.adm_letters.specs.Days.{day_text};
 ghost use Rattle.adm_letters.specs.LetterLines.{head_line, child_line, phase_text, reminded_line, withdrawal_line};
-ghost use Rattle.adm_letters.specs.Letters.{offer_lines, place_lines, name_of, lines_of_place};
+ghost use Rattle.adm_letters.specs.Letters.{offer_lines, place_lines, name_of, lines_of_place, wait_line, lines_of_waits, letter_lines, letter_text};
 
+use crate::LetterFault;
 use crate::days::day_text;
 use crate::letter_lines::{
     accepted_line, child_line, head_line, no_place, offered_line, phase_text, plan_line,
-    reminded_line, withdrawal_line,
+    reminded_line, waiting_line, waits_nowhere, withdrawal_line,
 };
+use crate::waits::{Wait, waits_of};
 use adm_register::Register;
 use adm_types::{Child, ChildNo, Day, PlaceState, SchoolCode, Season};
-use std::alloc::AllocError;
+use std::alloc::{AllocError, Global};
+
+/// The letter to the child of this number: its place, and where it waits at which position. It takes
+/// memory for the text and, for each school that the child wants, for that school's waiting list;
+/// what it costs grows with the schools that the child wants, times the applications and what each
+/// list costs to sort.
+///
+/// Where it is an error, there is no such child (`UnknownChild`), or memory ran out.
+pub fn letter(alloc: Global, register: &Register, child: ChildNo) -> Result<String, LetterFault>
+    ensures { Gives (letter_text register.now child) UnknownChild result }
+{
+    match register.child(child) {
+        Some(found) => Ok(letter_to(alloc, register, found)?),
+        None => Err(LetterFault::UnknownChild),
+    }
+}
+
+fn letter_to(alloc: Global, register: &Register, child: &Child) -> Result<String, AllocError>
+    ensures { IfOk result (λ text. string_bytes text ≡ text_of (letter_lines register.now child.now)) }
+{
+    let waits = waits_of(alloc, register, child.no)?;
+    let mut text = String::new(alloc);
+    put_head(&mut text, register.season())?;
+    put_child(&mut text, child)?;
+    put_place_of(&mut text, register, child.no)?;
+    put_waits(&mut text, register, &waits)?;
+    Ok(text)
+}
 
 fn put_head(text: &mut String, season: &Season) -> Result<(), AllocError>
     ensures { IfOk result (λ _. AddsLines text.old (head_line season.now.year (phase_text season.now.phase) ∷ []) text.new) }
@@ -89,4 +120,35 @@ fn put_place_of(text: &mut String, register: &Register, child: ChildNo) -> Resul
             place.state,
         ),
     }
+}
+
+fn put_waits(text: &mut String, register: &Register, waits: &[Wait]) -> Result<(), AllocError>
+    ensures { IfOk result (λ _. AddsLines text.old (lines_of_waits register.now waits.now) text.new) }
+{
+    match waits {
+        [] => waits_nowhere(text),
+        _ => put_each_wait(text, register, waits),
+    }
+}
+
+fn put_each_wait(text: &mut String, register: &Register, waits: &[Wait]) -> Result<(), AllocError>
+    ensures { IfOk result (λ _. AddsLines text.old (map (wait_line register.now) waits.now) text.new) }
+{
+    for wait in waits {
+        put_wait(text, register, wait)?;
+    }
+    Ok(())
+}
+
+fn put_wait(text: &mut String, register: &Register, wait: &Wait) -> Result<(), AllocError>
+    ensures { IfOk result (λ _. AddsLines text.old (wait_line register.now wait.now ∷ []) text.new) }
+{
+    let school = wait.school;
+    waiting_line(
+        text,
+        school.as_str(),
+        name_of(register, school),
+        wait.entry,
+        wait.waiting,
+    )
 }

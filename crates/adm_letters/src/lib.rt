@@ -8,6 +8,9 @@ mod letter_lines;
 mod letters;
 mod lists;
 mod reports;
+mod waits;
 
 pub use fault::LetterFault;
+pub use letters::letter;
+pub use lists::list_text;
 pub use reports::round_text;

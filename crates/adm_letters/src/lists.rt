@@ -1,12 +1,36 @@
 // The waiting list of a school.
 ghost use Rattle.std.specs.Prelude.{◌≡◌, IfOk, [], ◌∷◌, map, string_bytes};
+ghost use Rattle.adm_letters.specs.Answers.{Gives};
+ghost use Rattle.adm_letters.specs.declared.fault.LetterFault.TheVariants.{UnknownSchool};
 ghost use Rattle.adm_letters.specs.Lines.{AddsLines, text_of};
-ghost use Rattle.adm_letters.specs.Lists.{list_head, columns, list_row, list_foot, list_lines};
+ghost use Rattle.adm_letters.specs.Lists.{list_head, columns, list_row, list_foot, list_lines, list_text};
 
-use adm_types::School;
+use crate::LetterFault;
+use adm_register::Register;
+use adm_types::{School, SchoolCode};
 use adm_waiting::Waiting;
 use std::alloc::{AllocError, Global};
 use std::fmt::Write;
+
+/// The waiting list of the school, in the order of the positions and then of the children's numbers,
+/// and how many places the school has left. It takes memory for the list and for the text; what it
+/// costs grows with the applications, the places and, times its logarithm, the list.
+///
+/// Where it is an error, there is no such school (`UnknownSchool`), or memory ran out.
+pub fn list_text(
+    alloc: Global,
+    register: &Register,
+    school: SchoolCode,
+) -> Result<String, LetterFault>
+    ensures { Gives (list_text register.now school) UnknownSchool result }
+{
+    let waiting = register.waiting(alloc, school)?;
+    let vacancies = register.vacancies(school).unwrap_or(0);
+    match register.school(school) {
+        Some(found) => Ok(list(alloc, found, &waiting, vacancies)?),
+        None => Err(LetterFault::UnknownSchool),
+    }
+}
 
 /// The waiting list of the school, which has so many places left.
 fn list(
