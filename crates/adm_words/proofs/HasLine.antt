@@ -1,4 +1,4 @@
--- In words that clap takes, the program's line is `init` or `do`, and has all of its values.
+-- In words that clap takes, the program's line is one of its lines, and has all of its values.
 use Rattle.std.proofs.Common.{◌≡◌, ◌∙◌, ◌≤◌, ◌<◌, ◌^◌, ℕ, Bool, true, false, true≢false, cond, zero, suc, refl, sym, ap, subst, arith, List, [], ◌∷◌, length, Option, Some, None, inl, inr, leb-true}
 use Rattle.std.specs.Prelude.{if◌then◌else◌, ◌&&◌, ◌||◌, not, codes, drop, int_le, neg_ℤ, nat_le, pos, option_and_then, option_map, is_some}
 use Rattle.std.specs.List.{list_any}
@@ -25,42 +25,12 @@ use Rattle.adm_types.specs.declared.seasons.Phase.TheVariants.{Primary, Secondar
 use Rattle.adm_words.specs.Program.{IsPhases, program_app}
 use Rattle.adm_words.specs.Lines.{IsLine, init_line, do_line, phase_of, number_of, year_in_range, year_of, init_of, init_in, do_in, holidays_in, line_in}
 use Rattle.adm_words.proofs.Numbers.{decided}
-use Rattle.adm_words.proofs.FoundRows.{nonempty, both_empty, row_passes, fresh, either_false}
+use Rattle.adm_words.proofs.Arguments.{HasValue, taken, taken_uses, wanted, given_if, init_shape, do_shape, import_shape, letter_shape, list_shape, report_shape, help_of}
+use Rattle.adm_words.proofs.FoundRows.{both_empty, either_false}
+use Rattle.adm_words.proofs.PairLines.{import_there, letter_there, list_there, report_there}
 use Rattle.clap.specs.Takes.{is_given}
 use Rattle.adm_words.proofs.NoHelp.{IsNoHelp, no_help_met}
-use Rattle.adm_words.proofs.Faultless.{UsesWell, level_good, given_first}
-
--- ---- an argument that takes one value
-
-abbrev taken : Text → ℕ → ValueParser → Rule
-taken id i p = record (new_rule id) { index = Some i; action = Some Set; range = Some (record { start_inclusive = 1; end_inclusive = 1 }); value_names = 1; parser = Some p; required = true }
-
-unrepeated : (b : Bool) → (if b && not false then kind.ArgumentConflict ∷ [] else []) ≡ [] → b ≡ false
-unrepeated true e = absurd (nonempty _ refl e)
-unrepeated false e = refl
-
-passed : (b : Bool) (k : ErrorKind) → (if b then [] else k ∷ []) ≡ [] → b ≡ true
-passed true k e = refl
-passed false k e = absurd (nonempty _ refl e)
-
-taken_uses : (id : Text) (i : ℕ) (p : ValueParser) → bytes_eq id id ≡ true → UsesWell false (taken id i p)
-taken_uses id i p same [] rows none good = absurd (nonempty (kind.InvalidValue ∷ []) refl none)
-taken_uses id i p same (v ∷ vs) rows none good =
-    let parts = both_empty (range_kinds 1 1 (length (v ∷ vs))) _ none in
-    let inner = both_empty (repeat_fault false id rows) _ parts.1 in
-    let value = both_empty (value_kinds false p v) _ inner.1 in
-    ap (row_passes (taken id i p)) (fresh id (more_values CommandLine (v ∷ vs)) _ rows same (unrepeated (has_row id rows) inner.0))
-    ∙ passed (accepts false p v) _ value.0
-
--- ---- what is required is given
-
-wanted : (b : Bool) → (if b then kind.MissingRequiredArgument ∷ [] else []) ≡ [] → b ≡ false
-wanted true e = absurd (nonempty _ refl e)
-wanted false e = refl
-
-given_if : (b : Bool) → not b ≡ false → b ≡ true
-given_if true e = refl
-given_if false e = absurd (true≢false e)
+use Rattle.adm_words.proofs.Faultless.{level_good, given_first}
 
 -- ---- values
 
@@ -114,31 +84,6 @@ made : (file : Option Text) (phase : Option Phase) (year : Option ℕ) (holidays
     → file ≡ Some a → phase ≡ Some b → year ≡ Some c → IsLine (init_of file phase year holidays)
 made file phase year holidays a b c f p y =
     (init_line a b c holidays, ap (λ o. init_of o phase year holidays) f ∙ ap (λ o. init_of (Some a) o year holidays) p ∙ ap (λ o. init_of (Some a) (Some b) o holidays) y)
-
-abbrev head_shape : List Shape → Shape
-head_shape [] = new_shape []
-head_shape (s ∷ ss) = s
-
-abbrev tail_shapes : List Shape → List Shape
-tail_shapes [] = []
-tail_shapes (s ∷ ss) = ss
-
--- the subcommands as they are built
-abbrev subs_of : ValueParser → List Shape
-subs_of phases = (built (program_app phases)).subs
-
-abbrev init_shape : ValueParser → Shape
-init_shape phases = head_shape (subs_of phases)
-
-abbrev do_shape : ValueParser → Shape
-do_shape phases = head_shape (tail_shapes (subs_of phases))
-
-abbrev help_of : ValueParser → Shape
-help_of phases = head_shape (tail_shapes (tail_shapes (subs_of phases)))
-
--- a required argument of a level without a fault has a value, which passes
-abbrev HasValue : Text → ValueParser → List Row → Type 0
-HasValue id p rows = (v : Text) × (first_of id rows ≡ Some v) × (accepts false p v ≡ true)
 
 init_values : (phases : ValueParser) (words : List Text) → level_fault (init_shape phases) [] nothing_held words false [] ≡ []
     → let rows = rows_after (init_shape phases).rules [] words in
@@ -195,22 +140,30 @@ flipped x y apart = go (bytes_eq y x) refl
 
 entered_line : (phases : ValueParser) → IsPhases phases → (name : Text) (rows : List Row) (stop : Option (Text × List Text)) → IsNoHelp stop
     → entered_fault (built (program_app phases)) stop ≡ [] → entered (built (program_app phases)) stop ≡ Some (name, rows) → IsLine (line_in name rows)
-entered_line phases is name rows None no_help none found = absurd (none_is_some found)
+entered_line phases plain name rows None no_help none found = absurd (none_is_some found)
   where
     none_is_some : {X : Type 0} {x : X} → None ≡ Some x → ⊥
     none_is_some e = true≢false (sym (ap is_some e))
-entered_line phases is name rows (Some q) no_help none found =
-    go (bytes_eq (codes "init") q.0 || false) (bytes_eq (codes "do") q.0 || false) (bytes_eq (codes "help") q.0 || false) (flipped q.0 (codes "help") no_help) none found
+entered_line phases plain name rows (Some q) no_help none found =
+    go (named_as (codes "init")) (named_as (codes "do")) (named_as (codes "import")) (named_as (codes "letter")) (named_as (codes "list")) (named_as (codes "round-report")) (named_as (codes "help")) (flipped q.0 (codes "help") no_help) none found
   where
-    chosen : Bool → Bool → Bool → Option Shape
-    chosen a b c = cond a (Some (init_shape phases)) (cond b (Some (do_shape phases)) (cond c (Some (help_of phases)) None))
+    named_as : Text → Bool
+    named_as text = bytes_eq text q.0 || false
 
-    go : (a b c : Bool) → c ≡ false → option_map_or (λ s. level_fault s [] nothing_held q.1 false []) (chosen a b c) [] ≡ []
-        → option_map (λ s. rows_at s q.1) (chosen a b c) ≡ Some (name, rows) → IsLine (line_in name rows)
-    go true b c apart f e = subst LineOf e (init_there phases is q.1 f)
-    go false true c apart f e = subst LineOf e (do_there phases q.1 f)
-    go false false true apart f e = absurd (true≢false apart)
-    go false false false apart f e = absurd (true≢false (sym (ap is_some e)))
+    chosen : Bool → Bool → Bool → Bool → Bool → Bool → Bool → Option Shape
+    chosen a b c d e f g = cond a (Some (init_shape phases)) (cond b (Some (do_shape phases)) (cond c (Some (import_shape phases)) (cond d (Some (letter_shape phases)) (
+        cond e (Some (list_shape phases)) (cond f (Some (report_shape phases)) (cond g (Some (help_of phases)) None))))))
+
+    go : (a b c d e f g : Bool) → g ≡ false → option_map_or (λ s. level_fault s [] nothing_held q.1 false []) (chosen a b c d e f g) [] ≡ []
+        → option_map (λ s. rows_at s q.1) (chosen a b c d e f g) ≡ Some (name, rows) → IsLine (line_in name rows)
+    go true b c d e f g apart h is = subst LineOf is (init_there phases plain q.1 h)
+    go false true c d e f g apart h is = subst LineOf is (do_there phases q.1 h)
+    go false false true d e f g apart h is = subst LineOf is (import_there phases q.1 h)
+    go false false false true e f g apart h is = subst LineOf is (letter_there phases q.1 h)
+    go false false false false true f g apart h is = subst LineOf is (list_there phases q.1 h)
+    go false false false false false true g apart h is = subst LineOf is (report_there phases q.1 h)
+    go false false false false false false true apart h is = absurd (true≢false apart)
+    go false false false false false false false apart h is = absurd (true≢false (sym (ap is_some is)))
 
 -- words that clap takes are those of a line
 pub has_line : (phases : ValueParser) → IsPhases phases → (words : List Text) (name : Text) (rows : List Row) → fault_of (program_app phases) words ≡ []

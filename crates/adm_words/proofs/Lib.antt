@@ -1,7 +1,9 @@
+pub mod Arguments
 pub mod Days
 pub mod Faultless
 pub mod FoundRows
 pub mod HasLine
 pub mod NoHelp
 pub mod Numbers
+pub mod PairLines
 pub mod ProgramLemmas

@@ -10,9 +10,9 @@ use Rattle.clap.specs.declared.builder.value_parser.ValueParser.TheVariants as p
 use Rattle.clap.proofs.OnLiterals.{clap_on_literals}
 use Rattle.adm_words.specs.declared.actions.Action.{Action}
 use Rattle.adm_words.specs.declared.faults.WordsFault.{WordsFault}
-use Rattle.adm_words.specs.declared.faults.WordsFault.TheVariants.{Words, BadDate, Memory}
+use Rattle.adm_words.specs.declared.faults.WordsFault.TheVariants.{Words, BadDate, BadWord, Memory}
 use Rattle.adm_words.specs.Program.{IsPhases, program_app}
-use Rattle.adm_words.specs.Lines.{Line, init_line, do_line, Reads, ReadsLine, ReadsWords, line_in}
+use Rattle.adm_words.specs.Lines.{Line, init_line, do_line, import_line, letter_line, list_line, report_line, Reads, ReadsLine, ReadsWords, line_in}
 
 pub is_free : (phases : ValueParser) → IsPhases phases → is_simple_and_free (program_app phases) ≡ true
 unfolding clap_on_literals
@@ -44,11 +44,16 @@ refuses app phases words e h is f other =
 no_words : (line : Line) (e : Error) → Reads line (Err (Words e)) → ⊥
 no_words (init_line file phase year texts) e h = h
 no_words (do_line file) e h = h
+no_words (import_line file csv) e h = h
+no_words (letter_line file word) e h = h
+no_words (list_line file word) e h = h
+no_words (report_line file word) e h = h
 
 pub reads_from : (phases : ValueParser) (words : List Text) (r : Result Action WordsFault) (name : Text) (rows : List Row) → IsPhases phases
     → fault_of (program_app phases) words ≡ [] → subcommand_of (program_app phases) words ≡ Some (name, rows) → ReadsLine (line_in name rows) r → ReadsWords words r
 reads_from phases words (Ok action) name rows h none is reads = (phases, h, none, name, rows, is, reads)
 reads_from phases words (Err BadDate) name rows h none is reads = (phases, h, none, name, rows, is, reads)
+reads_from phases words (Err BadWord) name rows h none is reads = (phases, h, none, name, rows, is, reads)
 reads_from phases words (Err (Words e)) name rows h none is reads = absurd (no_words reads.0 e reads.2)
 reads_from phases words (Err Memory) name rows h none is reads = tt
 

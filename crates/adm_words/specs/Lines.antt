@@ -4,7 +4,10 @@ use Rattle.std.specs.Str.{bytes_eq}
 use Rattle.std.specs.Char.{is_ascii_digit}
 use Rattle.std.specs.List.{list_all}
 use Rattle.std.specs.Str.Parse.{digits_value, without_leading_plus}
+use Rattle.adm_types.specs.Code.{code_of}
 use Rattle.adm_types.specs.DayText.{IsDayText}
+use Rattle.adm_types.specs.Fields.{plain_of}
+use Rattle.adm_types.specs.Numbers.{child_of}
 use Rattle.adm_types.specs.declared.seasons.Phase.{Phase}
 use Rattle.adm_types.specs.declared.seasons.Phase.TheVariants.{Primary, Secondary}
 use Rattle.clap.specs.Words.{Row, Text, first_of, all_of, fault_of, subcommand_of, IsAmong, kind_of}
@@ -14,12 +17,16 @@ use Rattle.adm_words.specs.Program.{IsPhases, program_app}
 use Rattle.adm_words.specs.declared.actions.Action.{Action}
 use Rattle.adm_words.specs.declared.actions.Action.TheVariants as action
 use Rattle.adm_words.specs.declared.faults.WordsFault.{WordsFault}
-use Rattle.adm_words.specs.declared.faults.WordsFault.TheVariants.{Words, BadDate, Memory}
+use Rattle.adm_words.specs.declared.faults.WordsFault.TheVariants.{Words, BadDate, BadWord, Memory}
 
--- a line, with its holidays as texts
+-- a line, with its holidays, and the number or the code after its file, as texts
 pub data Line : Type 0 where
   init_line : Text → Phase → ℕ → List Text → Line
   do_line : Text → Line
+  import_line : Text → Text → Line
+  letter_line : Text → Text → Line
+  list_line : Text → Text → Line
+  report_line : Text → Text → Line
 
 -- ---- the values of arguments
 
@@ -42,6 +49,10 @@ year_in_range n = if nat_le 2000 n && nat_le n 2100 then Some n else None
 -- the year that a text writes
 abbrev pub year_of : Text → Option ℕ
 year_of text = option_and_then year_in_range (number_of text)
+
+-- the child number that a text writes, as a plain number
+abbrev pub child_named : Text → Option ℕ
+child_named text = option_and_then child_of (plain_of text)
 
 -- ---- the lines
 
@@ -69,9 +80,34 @@ init_in rows = init_of (file_in rows) (phase_in rows) (year_in rows) (holidays_i
 abbrev pub do_in : List Row → Option Line
 do_in rows = option_map do_line (file_in rows)
 
--- the lines `init` and `do`, by the name of the subcommand and its entries; no other name is that of a line
+-- a file, and one more word
+abbrev pub pair_of : (Text → Text → Line) → Option Text → Option Text → Option Line
+pair_of line (Some file) (Some word) = Some (line file word)
+pair_of line file word = None
+
+abbrev pub import_in : List Row → Option Line
+import_in rows = pair_of import_line (file_in rows) (first_of (codes "csv") rows)
+
+abbrev pub letter_in : List Row → Option Line
+letter_in rows = pair_of letter_line (file_in rows) (first_of (codes "child") rows)
+
+abbrev pub list_in : List Row → Option Line
+list_in rows = pair_of list_line (file_in rows) (first_of (codes "school") rows)
+
+abbrev pub report_in : List Row → Option Line
+report_in rows = pair_of report_line (file_in rows) (first_of (codes "round") rows)
+
+-- the lines that read a register, by the name of the subcommand and its entries
+abbrev pub reading_in : Text → List Row → Option Line
+reading_in name rows =
+    if bytes_eq name (codes "letter") then letter_in rows else (if bytes_eq name (codes "list") then list_in rows else (
+    if bytes_eq name (codes "round-report") then report_in rows else None))
+
+-- each line; no other name is that of one
 abbrev pub line_in : Text → List Row → Option Line
-line_in name rows = if bytes_eq name (codes "init") then init_in rows else (if bytes_eq name (codes "do") then do_in rows else None)
+line_in name rows =
+    if bytes_eq name (codes "init") then init_in rows else (if bytes_eq name (codes "do") then do_in rows else (
+    if bytes_eq name (codes "import") then import_in rows else reading_in name rows))
 
 -- ---- what a line asks for
 
@@ -91,13 +127,21 @@ abbrev pub ReadsDays : List Text → Result (List ℕ) WordsFault → Type 0
 ReadsDays texts (Ok days) = AreDays texts days
 ReadsDays texts (Err (Words e)) = ⊥
 ReadsDays texts (Err BadDate) = HasNoDay texts
+ReadsDays texts (Err BadWord) = ⊥
 ReadsDays texts (Err Memory) = Unit {0}
 
--- what the line asks for, or BadDate where a holiday is no day
+-- what the line asks for, or BadDate where a holiday is no day, or BadWord where a number or a code is none
 abbrev pub Reads : Line → Result Action WordsFault → Type 0
 Reads (init_line file phase year texts) (Ok (action.Init f p y days)) = (f.now ≡ file) × (p ≡ phase) × (y ≡ year) × AreDays texts days
 Reads (do_line file) (Ok (action.Do f)) = f.now ≡ file
+Reads (import_line file csv) (Ok (action.Import f c)) = (f.now ≡ file) × (c.now ≡ csv)
+Reads (letter_line file word) (Ok (action.Letter f child)) = (f.now ≡ file) × (child_named word ≡ Some child)
+Reads (list_line file word) (Ok (action.List f school)) = (f.now ≡ file) × (code_of word ≡ Some school)
+Reads (report_line file word) (Ok (action.RoundReport f round)) = (f.now ≡ file) × (plain_of word ≡ Some round)
 Reads (init_line file phase year texts) (Err BadDate) = HasNoDay texts
+Reads (letter_line file word) (Err BadWord) = child_named word ≡ None
+Reads (list_line file word) (Err BadWord) = code_of word ≡ None
+Reads (report_line file word) (Err BadWord) = plain_of word ≡ None
 Reads line (Err Memory) = Unit {0}
 Reads line result = ⊥
 
@@ -122,15 +166,17 @@ abbrev pub ReadsWords : List Text → Result Action WordsFault → Type 0
 ReadsWords words (Ok a) = Takes words (Ok a)
 ReadsWords words (Err (Words e)) = Refuses words (kind_of e)
 ReadsWords words (Err BadDate) = Takes words (Err BadDate)
+ReadsWords words (Err BadWord) = Takes words (Err BadWord)
 ReadsWords words (Err Memory) = Unit {0}
 
 -- a season's year is from 2000 to 2100
 abbrev pub HasYear : Action → Type 0
 HasYear (action.Init f p y days) = (2000 ≤ y) × (y ≤ 2100)
-HasYear (action.Do f) = Unit {0}
+HasYear action = Unit {0}
 
 -- `fault: `, a fault's name and LF. The text of clap is its own.
 abbrev pub IsFaultText : WordsFault → List ℕ → Type 0
 IsFaultText (Words e) text = Unit {0}
 IsFaultText BadDate text = text ≡ codes "fault: BadDate\n"
+IsFaultText BadWord text = text ≡ codes "fault: BadWord\n"
 IsFaultText Memory text = text ≡ codes "fault: Memory\n"

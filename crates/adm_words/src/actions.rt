@@ -1,5 +1,5 @@
 // What the words may ask for.
-use adm_types::{Day, Phase, Seq};
+use adm_types::{ChildNo, Day, Phase, SchoolCode, Seq};
 
 /// What the words ask for.
 #[derive(Drop)]
@@ -15,5 +15,25 @@ pub enum Action<'a> {
     /// Answer the lines of the standard input over the register in this file.
     Do {
         file: &'a str,
+    },
+    /// Import the rows of a CSV file into the register in this file.
+    Import {
+        file: &'a str,
+        csv: &'a str,
+    },
+    /// Print the letter of a child.
+    Letter {
+        file: &'a str,
+        child: ChildNo,
+    },
+    /// Print the waiting list of a school.
+    List {
+        file: &'a str,
+        school: SchoolCode,
+    },
+    /// Print the report of a round, by its number.
+    RoundReport {
+        file: &'a str,
+        round: u32,
     },
 }

@@ -1,9 +1,9 @@
 // The command line as `clap` sees it.
 ghost use Rattle.std.specs.Prelude.{◌≡◌, IfOk, false, true};
-ghost use Rattle.clap.specs.Words.{app_of, rule_of};
+ghost use Rattle.clap.specs.Words.{app_of, rule_of, new_app, with_rule};
 ghost use Rattle.clap.specs.declared.builder.command.Command.TheViews.{out-Command as fields_of};
 ghost use Rattle.clap.specs.declared.builder.value_parser.ValueParser.{ValueParser};
-ghost use Rattle.adm_words.specs.Program.{IsPhases, required_rule, file_rule, phase_rule, holiday_rule, year_rule, init_app, do_app, program_app};
+ghost use Rattle.adm_words.specs.Program.{IsPhases, required_rule, file_rule, phase_rule, holiday_rule, year_rule, init_app, do_app, import_app, letter_app, list_app, report_app, with_writers, with_readers, program_app};
 
 use clap::{Arg, ArgAction, Command, value_parser};
 use std::alloc::{AllocError, Global};
@@ -84,15 +84,94 @@ fn init_command<'a>(alloc: Global) -> Result<Command<'a>, AllocError>
         .arg(holiday(alloc))
 }
 
+/// A subcommand of a file and one more word.
+fn pair_command<'a>(
+    alloc: Global,
+    name: &'a str,
+    about: &'a str,
+    word: Arg<'a>,
+) -> Result<Command<'a>, AllocError>
+    requires { word.global ≡ false }
+    ensures app { IfOk result (λ c. app_of c ≡ with_rule (with_rule (new_app name.now) file_rule) (rule_of word.entry)) }
+    ensures local { IfOk result (λ c. (fields_of c).has_globals ≡ false) }
+{
+    Command::new(alloc, name)
+        .about(about)
+        .arg(file(alloc, "The file of the register"))?
+        .arg(word)
+}
+
+fn import_command<'a>(alloc: Global) -> Result<Command<'a>, AllocError>
+    ensures app { IfOk result (λ c. app_of c ≡ import_app) }
+    ensures local { IfOk result (λ c. (fields_of c).has_globals ≡ false) }
+{
+    let csv = required(alloc, "csv", "CSV", "The file of rows");
+    pair_command(
+        alloc,
+        "import",
+        "Adds the children and applications of a CSV file",
+        csv,
+    )
+}
+
+fn letter_command<'a>(alloc: Global) -> Result<Command<'a>, AllocError>
+    ensures app { IfOk result (λ c. app_of c ≡ letter_app) }
+    ensures local { IfOk result (λ c. (fields_of c).has_globals ≡ false) }
+{
+    let child = required(alloc, "child", "CHILD", "The number of the child");
+    pair_command(alloc, "letter", "Prints the letter of a child", child)
+}
+
+fn list_command<'a>(alloc: Global) -> Result<Command<'a>, AllocError>
+    ensures app { IfOk result (λ c. app_of c ≡ list_app) }
+    ensures local { IfOk result (λ c. (fields_of c).has_globals ≡ false) }
+{
+    let school = required(alloc, "school", "SCHOOL", "The code of the school");
+    pair_command(alloc, "list", "Prints the waiting list of a school", school)
+}
+
+fn report_command<'a>(alloc: Global) -> Result<Command<'a>, AllocError>
+    ensures app { IfOk result (λ c. app_of c ≡ report_app) }
+    ensures local { IfOk result (λ c. (fields_of c).has_globals ≡ false) }
+{
+    let round = required(alloc, "round", "ROUND", "The number of the round");
+    pair_command(alloc, "round-report", "Prints the report of a round", round)
+}
+
+/// The program with the subcommands that write to the register.
+fn with_writers<'a>(alloc: Global, program: Command<'a>) -> Result<Command<'a>, AllocError>
+    requires { (fields_of program).has_globals ≡ false }
+    ensures app { IfOk result (λ c. (phases : ValueParser) × IsPhases phases × (app_of c ≡ with_writers phases (app_of program.entry))) }
+    ensures local { IfOk result (λ c. (fields_of c).has_globals ≡ false) }
+    ensures required { IfOk result (λ c. (fields_of c).subcommand_required ≡ (fields_of program.entry).subcommand_required) }
+{
+    program
+        .subcommand(init_command(alloc)?)?
+        .subcommand(do_command(alloc)?)?
+        .subcommand(import_command(alloc)?)
+}
+
+/// The program with the subcommands that only read it.
+fn with_readers<'a>(alloc: Global, program: Command<'a>) -> Result<Command<'a>, AllocError>
+    requires { (fields_of program).has_globals ≡ false }
+    ensures app { IfOk result (λ c. app_of c ≡ with_readers (app_of program.entry)) }
+    ensures local { IfOk result (λ c. (fields_of c).has_globals ≡ false) }
+    ensures required { IfOk result (λ c. (fields_of c).subcommand_required ≡ (fields_of program.entry).subcommand_required) }
+{
+    program
+        .subcommand(letter_command(alloc)?)?
+        .subcommand(list_command(alloc)?)?
+        .subcommand(report_command(alloc)?)
+}
+
 pub(crate) fn program<'a>(alloc: Global) -> Result<Command<'a>, AllocError>
     ensures app { IfOk result (λ c. (phases : ValueParser) × IsPhases phases × (app_of c ≡ program_app phases)) }
     ensures local { IfOk result (λ c. (fields_of c).has_globals ≡ false) }
     ensures required { IfOk result (λ c. (fields_of c).subcommand_required ≡ true) }
 {
-    Command::new(alloc, "admissions")
+    let program = Command::new(alloc, "admissions")
         .about("A register for coordinated school admissions")
         .version(VERSION)
-        .subcommand_required(true)
-        .subcommand(init_command(alloc)?)?
-        .subcommand(do_command(alloc)?)
+        .subcommand_required(true);
+    with_readers(alloc, with_writers(alloc, program)?)
 }

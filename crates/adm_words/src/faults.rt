@@ -15,6 +15,9 @@ pub enum WordsFault {
     /// A holiday is no day.
     #[error("BadDate")]
     BadDate,
+    /// A child's number, a school's code or a round's number is none.
+    #[error("BadWord")]
+    BadWord,
     /// Memory ran out.
     #[error("Memory")]
     Memory,
@@ -44,6 +47,7 @@ pub fn fault_text(alloc: Global, fault: &WordsFault) -> Result<String, AllocErro
     match fault {
         WordsFault::Words(error) => format!(in alloc; "{error}"),
         WordsFault::BadDate => String::from_str(alloc, "fault: BadDate\n"),
+        WordsFault::BadWord => String::from_str(alloc, "fault: BadWord\n"),
         WordsFault::Memory => String::from_str(alloc, "fault: Memory\n"),
     }
 }

@@ -6,6 +6,7 @@ mod actions;
 mod command;
 mod faults;
 mod lines;
+mod pairs;
 mod reading;
 #[cfg(test)]
 mod tests;

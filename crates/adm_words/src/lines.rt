@@ -3,13 +3,14 @@ ghost use Rattle.std.specs.Prelude.{◌≡◌, ◌≤◌, map, option_map, IfOk,
 ghost use Rattle.clap.specs.Words.{first_of, all_of, found_of, rows_of};
 ghost use Rattle.adm_words.specs.Lines.{IsLine, ReadsLine, ReadsDays, HasYear, phase_of, number_of, year_of, phase_in, year_in, holidays_in, init_in, do_in, line_in};
 
+use crate::pairs::{import, reading};
 use crate::{Action, WordsFault};
 use adm_types::{Day, Phase, Seq};
 use clap::ArgMatches;
 use std::alloc::Global;
 
 /// The first value of an argument.
-fn text_of<'a>(found: &ArgMatches<'a>, id: &str) -> Option<&'a str>
+pub(crate) fn text_of<'a>(found: &ArgMatches<'a>, id: &str) -> Option<&'a str>
     ensures { option_map (λ s. s.now) result ≡ first_of id.now (rows_of (found_of found.now)) }
 {
     found.get_str(id)
@@ -150,7 +151,9 @@ pub(crate) fn read_line<'a>(
         init(alloc, found)
     } else if name == "do" {
         do_lines(found)
+    } else if name == "import" {
+        import(found)
     } else {
-        unreachable!()
+        reading(name, found)
     }
 }

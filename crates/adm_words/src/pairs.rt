@@ -1,0 +1,102 @@
+// Lines of a file and one more word, read from the values that clap found.
+ghost use Rattle.std.specs.Prelude.{◌≡◌, IfOk};
+ghost use Rattle.clap.specs.Words.{found_of, rows_of};
+ghost use Rattle.adm_words.specs.Lines.{IsLine, ReadsLine, HasYear, child_named, import_in, letter_in, list_in, report_in, reading_in};
+
+use crate::lines::text_of;
+use crate::{Action, WordsFault};
+use adm_types::{ChildNo, SchoolCode, plain};
+use clap::ArgMatches;
+
+/// The line `import`, whose values are there.
+pub(crate) fn import<'a>(found: &ArgMatches<'a>) -> Result<Action<'a>, WordsFault>
+    requires { IsLine (import_in (rows_of (found_of found.now))) }
+    ensures reads { ReadsLine (import_in (rows_of (found_of found.now))) result }
+    ensures year { IfOk result HasYear }
+{
+    let Some(file) = text_of(found, "file") else {
+        unreachable!()
+    };
+    let Some(csv) = text_of(found, "csv") else {
+        unreachable!()
+    };
+    Ok(Action::Import { file, csv })
+}
+
+/// The child number that a text writes.
+fn read_child(text: &str) -> Option<ChildNo>
+    ensures { result ≡ child_named text.now }
+{
+    plain(text).and_then(ChildNo::new)
+}
+
+/// The line `letter`, whose values are there.
+fn letter<'a>(found: &ArgMatches<'a>) -> Result<Action<'a>, WordsFault>
+    requires { IsLine (letter_in (rows_of (found_of found.now))) }
+    ensures reads { ReadsLine (letter_in (rows_of (found_of found.now))) result }
+    ensures year { IfOk result HasYear }
+{
+    let Some(file) = text_of(found, "file") else {
+        unreachable!()
+    };
+    let Some(word) = text_of(found, "child") else {
+        unreachable!()
+    };
+    match read_child(word) {
+        Some(child) => Ok(Action::Letter { file, child }),
+        None => Err(WordsFault::BadWord),
+    }
+}
+
+/// The line `list`, whose values are there.
+fn list<'a>(found: &ArgMatches<'a>) -> Result<Action<'a>, WordsFault>
+    requires { IsLine (list_in (rows_of (found_of found.now))) }
+    ensures reads { ReadsLine (list_in (rows_of (found_of found.now))) result }
+    ensures year { IfOk result HasYear }
+{
+    let Some(file) = text_of(found, "file") else {
+        unreachable!()
+    };
+    let Some(word) = text_of(found, "school") else {
+        unreachable!()
+    };
+    match SchoolCode::new(word) {
+        Some(school) => Ok(Action::List { file, school }),
+        None => Err(WordsFault::BadWord),
+    }
+}
+
+/// The line `round-report`, whose values are there.
+fn report<'a>(found: &ArgMatches<'a>) -> Result<Action<'a>, WordsFault>
+    requires { IsLine (report_in (rows_of (found_of found.now))) }
+    ensures reads { ReadsLine (report_in (rows_of (found_of found.now))) result }
+    ensures year { IfOk result HasYear }
+{
+    let Some(file) = text_of(found, "file") else {
+        unreachable!()
+    };
+    let Some(word) = text_of(found, "round") else {
+        unreachable!()
+    };
+    match plain(word) {
+        Some(round) => Ok(Action::RoundReport { file, round }),
+        None => Err(WordsFault::BadWord),
+    }
+}
+
+/// A line that reads a register, by its name.
+pub(crate) fn reading<'a>(name: &str, found: &ArgMatches<'a>) -> Result<Action<'a>, WordsFault>
+    requires { IsLine (reading_in name.now (rows_of (found_of found.now))) }
+    ensures reads { ReadsLine (reading_in name.now (rows_of (found_of found.now))) result }
+    ensures year { IfOk result HasYear }
+{
+    if name == "letter" {
+        letter(found)
+    } else if name == "list" {
+        list(found)
+    } else if name == "round-report" {
+        report(found)
+    } else {
+        unreachable!()
+    }
+}
