@@ -1,23 +1,18 @@
 -- In words that clap takes, the program's line is one of its lines, and has all of its values.
-use Rattle.std.proofs.Common.{◌≡◌, ◌∙◌, ◌≤◌, ◌<◌, ◌^◌, ℕ, Bool, true, false, true≢false, cond, zero, suc, refl, sym, ap, subst, arith, List, [], ◌∷◌, length, Option, Some, None, inl, inr, leb-true}
-use Rattle.std.specs.Prelude.{if◌then◌else◌, ◌&&◌, ◌||◌, not, codes, drop, int_le, neg_ℤ, nat_le, pos, option_and_then, option_map, is_some}
+use Rattle.std.proofs.Common.{◌≡◌, ◌∙◌, ◌≤◌, ◌<◌, ◌^◌, ℕ, Bool, true, false, true≢false, cond, zero, suc, refl, sym, ap, subst, arith, List, [], Option, Some, None, inl, inr, leb-true}
+use Rattle.std.specs.Prelude.{◌&&◌, ◌||◌, not, codes, drop, int_le, neg_ℤ, nat_le, pos, option_and_then, option_map, is_some}
 use Rattle.std.specs.List.{list_any}
 use Rattle.std.specs.Option.{option_map_or}
 use Rattle.std.specs.Str.{bytes_eq}
 use Rattle.std.specs.Str.Parse.{IsNumeral, digits_value, signed_digits_value, starts_with_minus, without_leading_plus, without_leading_sign}
 use Rattle.std.proofs.lemmas.Slice.Eq.{bytes_eq-Decides}
-use Rattle.clap.specs.Kinds.{range_kinds, value_kinds}
-use Rattle.clap.specs.Simple.{Shape, built, entered, names_of, argument_words, rows_at, new_rule, new_shape}
-use Rattle.clap.specs.Faults.{entered_fault, level_fault, repeat_fault, walk_fault, fault_of}
-use Rattle.clap.specs.Walk.{Row, Rule, Text, has_row, first_of, more_values, rows_after, walk, walk_from, nothing_held}
+use Rattle.clap.specs.Simple.{Shape, built, entered, names_of, argument_words, rows_at}
+use Rattle.clap.specs.Faults.{entered_fault, level_fault, walk_fault, fault_of}
+use Rattle.clap.specs.Walk.{Row, Text, rows_after, walk, walk_from, nothing_held}
 use Rattle.clap.specs.Words.{subcommand_of}
 use Rattle.clap.specs.ValueTests.{accepts, fits_i64, is_numeral}
-use Rattle.clap.specs.declared.error.kind.ErrorKind.TheVariants as kind
-use Rattle.clap.specs.declared.error.kind.ErrorKind.{ErrorKind}
-use Rattle.clap.specs.declared.builder.action.ArgAction.TheVariants.{Set}
 use Rattle.clap.specs.declared.builder.value_parser.ValueParser.{ValueParser}
 use Rattle.clap.specs.declared.builder.value_parser.ValueParser.TheVariants as parser
-use Rattle.clap.specs.declared.parser.matches.ValueSource.TheVariants.{CommandLine}
 use Rattle.clap.proofs.WalkLemmas.{list_any-map}
 use Rattle.clap.proofs.ValueTestLemmas.{accepts-Accepts}
 use Rattle.adm_types.specs.declared.seasons.Phase.{Phase}

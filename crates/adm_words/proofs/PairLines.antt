@@ -1,17 +1,15 @@
 -- In words that clap takes, a line of a file and one more word has both.
-use Rattle.std.proofs.Common.{◌≡◌, ◌∙◌, Bool, true, false, refl, ap, List, [], ◌∷◌, Option, Some, None, inl, inr}
+use Rattle.std.proofs.Common.{◌≡◌, ◌∙◌, false, refl, ap, List, [], Option, Some, inl, inr}
 use Rattle.std.specs.Prelude.{codes, not}
-use Rattle.std.specs.Str.{bytes_eq}
-use Rattle.clap.specs.Simple.{Shape}
-use Rattle.clap.specs.Faults.{check_fault, level_fault}
-use Rattle.clap.specs.Walk.{Row, Text, first_of, rows_after, nothing_held}
+use Rattle.clap.specs.Faults.{level_fault}
+use Rattle.clap.specs.Walk.{Text, rows_after, nothing_held}
 use Rattle.clap.specs.Takes.{is_given}
 use Rattle.clap.specs.declared.builder.value_parser.ValueParser.{ValueParser}
 use Rattle.clap.specs.declared.builder.value_parser.ValueParser.TheVariants as parser
-use Rattle.adm_words.specs.Lines.{Line, IsLine, import_line, letter_line, list_line, report_line, file_in, pair_of, import_in, letter_in, list_in, report_in}
-use Rattle.adm_words.proofs.Arguments.{HasValue, taken, taken_uses, wanted, given_if, import_shape, letter_shape, list_shape, report_shape}
+use Rattle.adm_words.specs.Lines.{Line, IsLine, import_line, letter_line, list_line, report_line, pair_of, import_in, letter_in, list_in, report_in}
+use Rattle.adm_words.proofs.Arguments.{taken, taken_uses, wanted, given_if, import_shape, letter_shape, list_shape, report_shape}
 use Rattle.adm_words.proofs.FoundRows.{either_false}
-use Rattle.adm_words.proofs.Faultless.{Each, IsItOr, HasNoDefaults, level_good, given_first}
+use Rattle.adm_words.proofs.Faultless.{level_good, given_first}
 
 paired : (line : Text → Text → Line) (file word : Option Text) (a b : Text) → file ≡ Some a → word ≡ Some b → IsLine (pair_of line file word)
 paired line file word a b f w = (line a b, ap (λ o. pair_of line o word) f ∙ ap (λ o. pair_of line (Some a) o) w)

@@ -130,6 +130,12 @@ ReadsDays texts (Err BadDate) = HasNoDay texts
 ReadsDays texts (Err BadWord) = ⊥
 ReadsDays texts (Err Memory) = Unit {0}
 
+-- what a word is read as, or BadWord where it is not of its kind, for a private clause
+abbrev pub ReadsWord : {A : Type 0} → Option A → Result A WordsFault → Type 0
+ReadsWord read (Ok value) = read ≡ Some value
+ReadsWord read (Err BadWord) = read ≡ None
+ReadsWord read (Err fault) = ⊥
+
 -- what the line asks for, or BadDate where a holiday is no day, or BadWord where a number or a code is none
 abbrev pub Reads : Line → Result Action WordsFault → Type 0
 Reads (init_line file phase year texts) (Ok (action.Init f p y days)) = (f.now ≡ file) × (p ≡ phase) × (y ≡ year) × AreDays texts days

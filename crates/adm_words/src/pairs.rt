@@ -1,7 +1,7 @@
 // Lines of a file and one more word, read from the values that clap found.
 ghost use Rattle.std.specs.Prelude.{◌≡◌, IfOk};
 ghost use Rattle.clap.specs.Words.{found_of, rows_of};
-ghost use Rattle.adm_words.specs.Lines.{IsLine, ReadsLine, HasYear, child_named, import_in, letter_in, list_in, report_in, reading_in};
+ghost use Rattle.adm_words.specs.Lines.{IsLine, ReadsLine, ReadsWord, HasYear, child_named, import_in, letter_in, list_in, report_in, reading_in};
 
 use crate::lines::text_of;
 use crate::{Action, WordsFault};
@@ -23,6 +23,13 @@ pub(crate) fn import<'a>(found: &ArgMatches<'a>) -> Result<Action<'a>, WordsFaul
     Ok(Action::Import { file, csv })
 }
 
+/// What a word is read as; BadWord where it is not of its kind.
+fn value<T>(read: Option<T>) -> Result<T, WordsFault>
+    ensures { ReadsWord read result }
+{
+    read.ok_or(WordsFault::BadWord)
+}
+
 /// The child number that a text writes.
 fn read_child(text: &str) -> Option<ChildNo>
     ensures { result ≡ child_named text.now }
@@ -42,9 +49,9 @@ fn letter<'a>(found: &ArgMatches<'a>) -> Result<Action<'a>, WordsFault>
     let Some(word) = text_of(found, "child") else {
         unreachable!()
     };
-    match read_child(word) {
-        Some(child) => Ok(Action::Letter { file, child }),
-        None => Err(WordsFault::BadWord),
+    match value(read_child(word)) {
+        Ok(child) => Ok(Action::Letter { file, child }),
+        Err(fault) => Err(fault),
     }
 }
 
@@ -60,9 +67,9 @@ fn list<'a>(found: &ArgMatches<'a>) -> Result<Action<'a>, WordsFault>
     let Some(word) = text_of(found, "school") else {
         unreachable!()
     };
-    match SchoolCode::new(word) {
-        Some(school) => Ok(Action::List { file, school }),
-        None => Err(WordsFault::BadWord),
+    match value(SchoolCode::new(word)) {
+        Ok(school) => Ok(Action::List { file, school }),
+        Err(fault) => Err(fault),
     }
 }
 
@@ -78,9 +85,9 @@ fn report<'a>(found: &ArgMatches<'a>) -> Result<Action<'a>, WordsFault>
     let Some(word) = text_of(found, "round") else {
         unreachable!()
     };
-    match plain(word) {
-        Some(round) => Ok(Action::RoundReport { file, round }),
-        None => Err(WordsFault::BadWord),
+    match value(plain(word)) {
+        Ok(round) => Ok(Action::RoundReport { file, round }),
+        Err(fault) => Err(fault),
     }
 }
 

@@ -95,7 +95,7 @@ fn years_are_from_2000_to_2100(rt: HostRuntime) {
     }
 }
 
-const WRONG: [&[&str]; 16] = [
+const WRONG: [&[&str]; 20] = [
     &[],
     &["admissions"],
     &["admissions", "open", "f"],
@@ -107,6 +107,10 @@ const WRONG: [&[&str]; 16] = [
     &["admissions", "init", "f", "secondary"],
     &["admissions", "init", "f", "Secondary", "2025"],
     &["admissions", "init", "f", "2025", "secondary"],
+    &["admissions", "import", "f"],
+    &["admissions", "letter", "f"],
+    &["admissions", "list", "f", "A", "B"],
+    &["admissions", "round_report", "f", "1"],
     &["admissions", "--help"],
     &["admissions", "help"],
     &["admissions", "--version"],
@@ -146,9 +150,52 @@ fn bad_dates(rt: HostRuntime) {
 }
 
 #[test]
+fn a_file_and_a_word(rt: HostRuntime) {
+    for (name, word) in [
+        ("import", "a.csv"),
+        ("letter", "9999999"),
+        ("list", "A1"),
+        ("round-report", "0"),
+    ] {
+        let read = match action(rt.alloc(), &["admissions", name, "f", word]) {
+            Ok(Action::Import { file, csv }) => { name == "import" && file == "f" && csv == word }
+            Ok(Action::Letter { file, child }) => {
+                name == "letter" && file == "f" && child.get() == 9_999_999
+            }
+            Ok(Action::List { file, school }) => {
+                name == "list" && file == "f" && school.as_str() == "A1"
+            }
+            Ok(Action::RoundReport { file, round }) => {
+                name == "round-report" && file == "f" && round == 0
+            }
+            _ => false,
+        };
+        assert!(rt; read);
+    }
+}
+
+#[test]
+fn bad_words(rt: HostRuntime) {
+    for (name, word) in [
+        ("letter", "0"),
+        ("letter", "10000000"),
+        ("letter", "07"),
+        ("list", "a"),
+        ("list", ""),
+        ("list", "ABCDEFGHI"),
+        ("round-report", "4294967296"),
+        ("round-report", "+1"),
+    ] {
+        let words = ["admissions", name, "f", word];
+        assert!(rt; matches!(action(rt.alloc(), &words), Err(WordsFault::BadWord)));
+    }
+}
+
+#[test]
 fn faults_are_told(rt: HostRuntime) -> Result<(), Fail> {
     let alloc = rt.alloc();
     assert!(rt; fault_text(alloc, &WordsFault::BadDate)?.as_str() == "fault: BadDate\n");
+    assert!(rt; fault_text(alloc, &WordsFault::BadWord)?.as_str() == "fault: BadWord\n");
     assert!(rt; fault_text(alloc, &WordsFault::Memory)?.as_str() == "fault: Memory\n");
     match action(alloc, &["admissions", "open", "f"]) {
         Err(fault) => {
