@@ -157,20 +157,22 @@ fn a_file_and_a_word(rt: HostRuntime) {
         ("list", "A1"),
         ("round-report", "0"),
     ] {
-        let read = match action(rt.alloc(), &["admissions", name, "f", word]) {
-            Ok(Action::Import { file, csv }) => { name == "import" && file == "f" && csv == word }
+        let words = ["admissions", name, "f", word];
+        let read = action(rt.alloc(), &words);
+        let is_read = match &read {
+            Ok(Action::Import { file, csv }) => name == "import" && *file == "f" && *csv == word,
             Ok(Action::Letter { file, child }) => {
-                name == "letter" && file == "f" && child.get() == 9_999_999
+                name == "letter" && *file == "f" && child.get() == 9_999_999
             }
             Ok(Action::List { file, school }) => {
-                name == "list" && file == "f" && school.as_str() == "A1"
+                name == "list" && *file == "f" && school.as_str() == "A1"
             }
             Ok(Action::RoundReport { file, round }) => {
-                name == "round-report" && file == "f" && round == 0
+                name == "round-report" && *file == "f" && *round == 0
             }
             _ => false,
         };
-        assert!(rt; read);
+        assert!(rt; is_read);
     }
 }
 
