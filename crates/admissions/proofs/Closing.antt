@@ -15,7 +15,8 @@ use Rattle.adm_desk.specs.Written.{AnsweredUpTo, StoppedWithin}
 use Rattle.adm_desk.specs.declared.run.RunFault.{RunFault}
 use Rattle.adm_desk.specs.declared.run.RunFault.TheVariants as run
 use Rattle.admissions.specs.Exits.{of_run}
-use Rattle.admissions.specs.Runs.{Stream, Closes, EndsAs}
+use Rattle.admissions.specs.Opened.{Stream, Closes}
+use Rattle.admissions.specs.Runs.{EndsAs}
 
 module _ {D : Type 0} {g : disk.Ghosts D} where
   pub closes : (c : Held (FileStore D g)) (closed : Result (Files D) (Error × FileStore D g)) (More : Error × FileStore D g → Type 0)

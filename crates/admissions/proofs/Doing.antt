@@ -17,8 +17,16 @@ use Rattle.adm_words.specs.declared.actions.Action.{Action}
 use Rattle.adm_words.specs.declared.actions.Action.TheVariants as action
 use Rattle.sqlite.specs.Held.{Held}
 use Rattle.adm_desk.specs.Standing.{Standing}
-use Rattle.admissions.specs.Exits.{of_season, has_many_holidays, IsCauseIn, ExitsBy, closing_of, ending_of, error_of, told_of, code_of}
-use Rattle.admissions.specs.Runs.{Stream, Creates, CreatesAs, Does, EndsAs}
+use Rattle.adm_desk.specs.declared.answer.Answer.{Answer}
+use Rattle.adm_desk.specs.declared.answer.Answer.TheVariants as answer
+use Rattle.admissions.specs.Exits.{of_season, has_many_holidays, IsCauseIn, ExitsBy, exit_of_answer, closing_of, ending_of, error_of, told_of, code_of}
+use Rattle.admissions.specs.Opened.{Stream, IsNotOpened}
+use Rattle.admissions.specs.Imports.{ImportsAs, ImportsFile, ImportsInto}
+use Rattle.admissions.specs.Texts.{Prints, PrintsAs, text_in}
+use Rattle.admissions.specs.Runs.{Answers, Creates, CreatesAs, EndsAs}
+use Rattle.admissions.specs.Does.{Does}
+use Rattle.admissions.specs.declared.document.Document.{Document}
+use Rattle.admissions.specs.declared.document.Document.TheVariants as document
 use Rattle.admissions.specs.declared.ended.Ended.{Ended}
 use Rattle.admissions.specs.declared.exit.Exit.{Exit}
 use Rattle.admissions.specs.declared.exit.Exit.TheVariants as exit
@@ -37,19 +45,58 @@ no_season file phase year days season.YearRange range many = inl (refl, range re
 no_season file phase year days season.TooManyHolidays range many = inr (inl (refl, many refl))
 no_season file phase year days season.Memory range many = inr (inr (SqliteFailure OutOfMemory, refl, refl))
 
--- a season was created, and its connection closed
-done_exit : (closed : Option Error) → (code_of (told_of (closing_of exit.Done closed)) ≡ 0) ⊎ (code_of (told_of (closing_of exit.Done closed)) ≡ 1)
-done_exit None = inl refl
-done_exit (Some error) = inr refl
+-- the status of a line that ended so, and of what its close came to
+abbrev status : Result Exit Fault → Option Error → ℕ
+status e closed = code_of (told_of (ending_of e closed))
+
+-- a line that ended with a fault
+fault_exit : (e : Result Exit Fault) (f : Fault) (closed : Option Error) → e ≡ Err f → status e closed ≡ 1
+fault_exit e f closed told = subst (λ (y : Result Exit Fault). status y closed ≡ 1) (sym told) refl
+
+-- something was done, and its connection closed
+done_exit : (e : Exit) (closed : Option Error) → e ≡ exit.Done → (status (Ok e) closed ≡ 0) ⊎ (status (Ok e) closed ≡ 1)
+done_exit e closed is = subst (λ (y : Exit). (status (Ok y) closed ≡ 0) ⊎ (status (Ok y) closed ≡ 1)) (sym is) (of_done closed)
+  where
+    of_done : (c : Option Error) → (status (Ok exit.Done) c ≡ 0) ⊎ (status (Ok exit.Done) c ≡ 1)
+    of_done None = inl refl
+    of_done (Some error) = inr refl
 
 -- lines were run, and their connection closed
-run_exit : (failed refused : Bool) (closed : Option Error)
-    → code_of (told_of (closing_of (if failed then exit.Failed else (if refused then exit.Refused else exit.Done)) closed)) ≢ 2
+run_exit : (failed refused : Bool) (closed : Option Error) → status (Ok (if failed then exit.Failed else (if refused then exit.Refused else exit.Done))) closed ≢ 2
 run_exit true refused closed = λ e. cc
 run_exit false true None = λ e. cc
 run_exit false true (Some error) = λ e. cc
 run_exit false false None = λ e. cc
 run_exit false false (Some error) = λ e. cc
+
+-- a command was answered, and its connection closed
+answer_exit : (a : Answer) (closed : Option Error) → status (Ok (exit_of_answer a)) closed ≢ 2
+answer_exit (answer.Done reply) None = λ e. cc
+answer_exit (answer.Done reply) (Some error) = λ e. cc
+answer_exit (answer.Refused refusal row) None = λ e. cc
+answer_exit (answer.Refused refusal row) (Some error) = λ e. cc
+answer_exit answer.Memory None = λ e. cc
+answer_exit answer.Memory (Some error) = λ e. cc
+answer_exit answer.Failed closed = λ e. cc
+
+not_two : (n : ℕ) → n ≡ 1 → n ≢ 2
+not_two n is = subst (λ (m : ℕ). m ≢ 2) (sym is) (λ e. cc)
+
+-- a text was printed, or there was none
+print_exit : (read : Result (List ℕ) Fault) (output : Stream) (e : Result Exit Fault) (closed : Option Error) → PrintsAs read output e
+    → (status e closed ≡ 0) ⊎ (status e closed ≡ 1)
+print_exit (Ok text) output (Ok x) closed prints = done_exit x closed prints.1
+print_exit (Ok text) output (Err f) closed prints = inr refl
+print_exit (Err f) output e closed prints = inr (fault_exit e f closed prints.0)
+
+-- an action that came to nothing
+unmade : (a : Action) → ExitsBy (Ok a) 1
+unmade (action.Init file phase year days) = inr refl
+unmade (action.Do file) = λ e. cc
+unmade (action.Import file csv) = λ e. cc
+unmade (action.Letter file child) = inr refl
+unmade (action.List file school) = inr refl
+unmade (action.RoundReport file round) = inr refl
 
 module _ {D : Type 0} {g : disk.Ghosts D} where
   pub season_made : (image : Image) (a : Action) (file : Bor (List ℕ)) (phase : Phase) (year : ℕ) (days given : List ℕ) (input output : Stream)
@@ -61,27 +108,60 @@ module _ {D : Type 0} {g : disk.Ghosts D} where
       subst (λ (x : Action). Does image x input output e closed) (sym is) (read, written, s, facts.0, facts.1, rising, made)
 
   created : (season : SeasonFacts) (found left : Held (FileStore D g)) (e : Result Exit Fault) (closed : Option Error) → CreatesAs season found left e
-      → (code_of (told_of (ending_of e closed)) ≡ 0) ⊎ (code_of (told_of (ending_of e closed)) ≡ 1)
+      → (status e closed ≡ 0) ⊎ (status e closed ≡ 1)
   created season found left (Err f) closed made = inr refl
-  created season found left (Ok x) closed made =
-      subst (λ (y : Exit). (code_of (told_of (closing_of y closed)) ≡ 0) ⊎ (code_of (told_of (closing_of y closed)) ≡ 1)) (sym made.0) (done_exit closed)
+  created season found left (Ok x) closed made = done_exit x closed made.0
 
   ran : (old new : Standing (Held (FileStore D g))) (input output : Stream) (e : Result Exit Fault) (closed : Option Error) → EndsAs old new input output e
-      → code_of (told_of (ending_of e closed)) ≢ 2
+      → status e closed ≢ 2
   ran old new input output (Err f) closed ends = λ e. cc
   ran old new input output (Ok x) closed ends =
-      subst (λ (y : Exit). code_of (told_of (closing_of y closed)) ≢ 2) (sym ends.1) (run_exit ends.0.failed (nat_lt 0 ends.0.refused) closed)
+      subst (λ (y : Exit). status (Ok y) closed ≢ 2) (sym ends.1) (run_exit ends.0.failed (nat_lt 0 ends.0.refused) closed)
+
+  imported : (old new : Standing (Held (FileStore D g))) (file output : Stream) (e : Result Exit Fault) (closed : Option Error) → ImportsAs old new file output e
+      → status e closed ≢ 2
+  imported old new file output (Err f) closed ends = λ e. cc
+  imported old new file output (Ok x) closed ends =
+      subst (λ (y : Exit). status (Ok y) closed ≢ 2) (sym ends.2.exit) (answer_exit ends.2.answer closed)
+
+  -- the register was not opened
+  not_opened : (image : Image) (e : Result Exit Fault) (closed : Result (Files D) (Error × FileStore D g)) → IsNotOpened image e closed → status e (error_of closed) ≡ 1
+  not_opened image e closed left = fault_exit e _ (error_of closed) left.told
+
+  do_exit : (image : Image) (input output : Stream) (e : Result Exit Fault) (closed : Result (Files D) (Error × FileStore D g)) → Answers image input output e closed
+      → status e (error_of closed) ≢ 2
+  do_exit image input output e closed (inl left) = not_two _ (not_opened image e closed left.0)
+  do_exit image input output e closed (inr does) = ran does.0 does.2.after input output e (error_of closed) does.2.ends
+
+  file_exit : (desk : Standing (Held (FileStore D g))) (output : Stream) (e : Result Exit Fault) (closed : Result (Files D) (Error × FileStore D g))
+      → ImportsFile desk output e closed → status e (error_of closed) ≢ 2
+  file_exit desk output e closed (inl left) = not_two _ (fault_exit e _ (error_of closed) left.0)
+  file_exit desk output e closed (inr does) = imported desk does.1.after does.0 output e (error_of closed) does.1.ends
+
+  import_exit : (image : Image) (output : Stream) (e : Result Exit Fault) (closed : Result (Files D) (Error × FileStore D g)) → ImportsInto image output e closed
+      → status e (error_of closed) ≢ 2
+  import_exit image output e closed (inl left) = not_two _ (not_opened image e closed left.0)
+  import_exit image output e closed (inr does) = file_exit does.0 output e closed does.2
+
+  document_exit : (image : Image) (wanted : Document) (output : Stream) (e : Result Exit Fault) (closed : Result (Files D) (Error × FileStore D g))
+      → Prints image wanted output e closed → (status e (error_of closed) ≡ 0) ⊎ (status e (error_of closed) ≡ 1)
+  document_exit image wanted output e closed (inl left) = inr (not_opened image e closed left.0)
+  document_exit image wanted output e closed (inr does) = print_exit (text_in does.0.register wanted) output e (error_of closed) does.2.0
+
+  -- what an action that was taken up did
+  made : (image : Image) (a : Action) (input output : Stream) (e : Result Exit Fault) (closed : Result (Files D) (Error × FileStore D g)) → Does image a input output e closed
+      → ExitsBy (Ok a) (status e (error_of closed))
+  made image (action.Init file phase year days) input output e closed does =
+      created does.2 does.6.found does.6.creates.left e (error_of closed) does.6.creates.made
+  made image (action.Do file) input output e closed does = do_exit image input output e closed does
+  made image (action.Import file csv) input output e closed does = import_exit image output e closed does.1
+  made image (action.Letter file child) input output e closed does = document_exit image (document.Letter child) output e closed does.1
+  made image (action.List file school) input output e closed does = document_exit image (document.List school) output e closed does.1
+  made image (action.RoundReport file round) input output e closed does = document_exit image (document.Report round) output e closed does.1
 
   -- the status of an action
   pub exits : (image : Image) (a : Action) (input output : Stream) (r : Result (Ended D g) Fault) (x : Exit)
       → IfOk r (λ ended. Does image a input output ended.exit ended.closed) → IfOk r (λ ended. x ≡ told_of (ending_of ended.exit (error_of ended.closed)))
       → IfErr r (λ _. x ≡ exit.Fault) → ExitsBy (Ok a) (code_of x)
-  exits image (action.Init file phase year days) input output (Ok ended) x does told none =
-      subst (λ (y : Exit). (code_of y ≡ 0) ⊎ (code_of y ≡ 1)) (sym told)
-      (created does.2 does.6.found does.6.creates.left ended.exit (error_of ended.closed) does.6.creates.made)
-  exits image (action.Init file phase year days) input output (Err f) x does told none = subst (λ (y : Exit). (code_of y ≡ 0) ⊎ (code_of y ≡ 1)) (sym none) (inr refl)
-  exits image (action.Do file) input output (Ok ended) x (inl left) told none =
-      subst (λ (y : Exit). code_of y ≢ 2) (sym told) (subst (λ (e : Result Exit Fault). code_of (told_of (ending_of e (error_of ended.closed))) ≢ 2) (sym left.told) (λ e. cc))
-  exits image (action.Do file) input output (Ok ended) x (inr answered) told none =
-      subst (λ (y : Exit). code_of y ≢ 2) (sym told) (ran answered.desk answered.runs.after input output ended.exit (error_of ended.closed) answered.runs.ends)
-  exits image (action.Do file) input output (Err f) x does told none = subst (λ (y : Exit). code_of y ≢ 2) (sym none) (λ e. cc)
+  exits image a input output (Ok ended) x does told none = subst (λ (y : Exit). ExitsBy (Ok a) (code_of y)) (sym told) (made image a input output ended.exit ended.closed does)
+  exits image a input output (Err f) x does told none = subst (λ (y : Exit). ExitsBy (Ok a) (code_of y)) (sym none) (unmade a)

@@ -1,2 +1,3 @@
 pub mod Closing
 pub mod Doing
+pub mod Importing

@@ -1,2 +1,6 @@
 pub mod Exits
+pub mod Opened
+pub mod Texts
+pub mod Imports
 pub mod Runs
+pub mod Does

@@ -1,9 +1,11 @@
 // How a line of the command line ended, with what the close left of the files.
 ghost use Rattle.std.specs.Prelude.{◌≡◌};
 ghost use Rattle.admissions.specs.Exits.{ending_of, error_of};
+ghost use Rattle.admissions.specs.Opened.{Closes};
 
 use crate::exit::Exit;
 use crate::fault::Fault;
+use adm_desk::Desk;
 use sqlite::{Error, FileStore, Files};
 use sqlite_disk::Disk;
 
@@ -14,6 +16,17 @@ pub type Closed<D> = Result<Files<D>, (Error, FileStore<D>)>;
 pub struct Ended<D: Disk> {
     pub exit: Result<Exit, Fault>,
     pub closed: Closed<D>,
+}
+
+/// Closes the desk's connection, after a line that ended so.
+pub fn close<D: Disk + Drop>(desk: Desk<FileStore<D>>, exit: Result<Exit, Fault>) -> Ended<D>
+    ensures exit { result.exit ≡ exit }
+    ensures closes { Closes desk.conn result.closed }
+{
+    Ended {
+        exit,
+        closed: desk.into_connection().close_files(),
+    }
 }
 
 /// How the line as a whole ended: a fault before all else, and a close that failed is one, but

@@ -1,8 +1,8 @@
 // The exit status of a run.
 ghost use Rattle.std.specs.Prelude.{◌≡◌, OnOk};
-ghost use Rattle.admissions.specs.Exits.{code_of, exit_of};
+ghost use Rattle.admissions.specs.Exits.{code_of, exit_of, exit_of_answer};
 
-use adm_desk::Run;
+use adm_desk::{Answer, Run};
 
 /// How the program exits.
 #[derive(Clone, Copy, Debug, PartialEq, Eq)]
@@ -13,7 +13,7 @@ pub enum Exit {
     Fault,
     /// Words that ask for nothing.
     Words,
-    /// Some line was refused, faulty or met want of memory.
+    /// A command or a line was refused, faulty or met want of memory.
     Refused,
     /// The store failed, and the desk answered Failed from then on.
     Failed,
@@ -30,6 +30,17 @@ impl Exit {
             Exit::Refused
         } else {
             Exit::Done
+        }
+    }
+
+    /// The exit of one answer.
+    pub fn of_answer(answer: Answer) -> Exit
+        ensures { result ≡ exit_of_answer answer }
+    {
+        match answer {
+            Answer::Done(_) => Exit::Done,
+            Answer::Refused { .. } | Answer::Memory => Exit::Refused,
+            Answer::Failed => Exit::Failed,
         }
     }
 

@@ -1,9 +1,13 @@
 // The program: it reads the words, opens the file and runs the desk on real streams.
 #![tactic(auto)]
 
+mod document;
 mod ended;
 mod exit;
 mod fault;
+mod import;
+mod opening;
+mod print;
 mod run;
 
 use sqlite::Unknown;

@@ -1,15 +1,20 @@
 // What each line of the command line does, over a reader and two writers.
 ghost use Rattle.std.specs.Prelude.{◌≡◌, false, map, codes, IsTrue, IfOk, IfErr, OnErr};
 ghost use Rattle.sqlite_wal.specs.Files.{image_at};
-ghost use Rattle.sqlite.specs.Files.{file_state};
-ghost use Rattle.adm_store.specs.StandsFor.{IsStarted};
 ghost use Rattle.admissions.specs.Exits.{told_of, ending_of, error_of, has_many_holidays, IsCauseIn, IsOpenFault, RunsWords};
 ghost use Rattle.admissions.specs.declared.fault.Fault.TheVariants.{Disk, TooManyHolidays};
-ghost use Rattle.admissions.specs.Runs.{Answers, Creates, CreatesIn, Does, IsFound, Runs};
+ghost use Rattle.admissions.specs.Does.{Does};
+ghost use Rattle.admissions.specs.Imports.{ImportsInto};
+ghost use Rattle.admissions.specs.Runs.{Answers, Creates, CreatesIn, Runs};
+ghost use Rattle.admissions.specs.Texts.{Prints};
 
-use crate::ended::{Ended, ending};
+use crate::document::Document;
+use crate::ended::{Ended, close, ending};
 use crate::exit::Exit;
 use crate::fault::Fault;
+use crate::import::import_file;
+use crate::opening::{open_desk, open_file};
+use crate::print::print_document;
 use adm_desk::Desk;
 use adm_store::create;
 use adm_types::Season;
@@ -18,7 +23,6 @@ use adm_words::{Action, WordsFault, action, fault_text};
 use sqlite::{Connection, FileFrom, FileStore, Start};
 use sqlite_disk::Disk;
 use std::alloc::Global;
-use std::fs;
 use std::io::{Read, Write};
 
 /// Does what the words ask for, with the program's name first, and gives the exit status:
@@ -74,6 +78,14 @@ fn run_action<S: Start, I: Input, O: Output>(
             Err(fault) => Err(Fault::from(fault)),
         },
         Action::Do { file } => do_lines(rt, file, start, input, output),
+        Action::Import { file, csv } => import(rt, file, csv, start, output),
+        Action::Letter { file, child } => {
+            print(rt, file, start, Document::Letter(child), output)
+        }
+        Action::List { file, school } => print(rt, file, start, Document::List(school), output),
+        Action::RoundReport { file, round } => {
+            print(rt, file, start, Document::Report(round), output)
+        }
     }
 }
 
@@ -147,24 +159,6 @@ fn create_register<D: Disk + Drop>(
     }
 }
 
-/// Opens the file, or makes it. The `Err` is Disk, or Memory where memory ran out.
-fn open_file<S: Start>(
-    rt: &HostRuntime,
-    file: &str,
-    start: S,
-) -> Result<Connection<FileStore<FileFrom<S>>>, Fault>
-    ensures ended { IfOk result (λ c. c.in_transaction ≡ false) }
-    ensures started { IfOk result (λ c. IsStarted (file_state c)) }
-    ensures found { IfOk result (IsFound (image_at S.Start)) }
-    ensures err { IfErr result IsOpenFault }
-    ensures memory { file.now ≡ codes ":memory:" → result ≡ Err Disk }
-{
-    match Connection::open_from(rt, file, false, start) {
-        Ok(conn) => Ok(conn),
-        Err((error, _left)) => Err(Fault::from(error)),
-    }
-}
-
 /// Answers the lines of the input over the register in the file, which is there: an open makes no
 /// file here. The `Err` is why it was not opened; then nothing was read or written.
 fn do_lines<S: Start, I: Input, O: Output>(
@@ -182,17 +176,9 @@ fn do_lines<S: Start, I: Input, O: Output>(
     ensures memory { file.now ≡ codes ":memory:" → result ≡ Err Disk }
     ensures untouched { OnErr result ((I.remaining input.new ≡ I.remaining input.old) × (O.contents output.new ≡ O.contents output.old)) }
 {
-    match fs::exists(rt, file) {
-        Ok(true) => {}
-        _ => return Err(Fault::Disk),
-    }
-    let conn = open_file(rt, file, start)?;
-    match Desk::open(rt.alloc(), conn) {
+    match open_desk(rt, file, start)? {
         Ok(desk) => Ok(run_desk(desk, input, output)),
-        Err((fault, conn)) => Ok(Ended {
-            exit: Err(Fault::from(fault)),
-            closed: conn.close_files(),
-        }),
+        Err(ended) => Ok(ended),
     }
 }
 
@@ -208,13 +194,51 @@ fn run_desk<D: Disk + Drop, I: Input, O: Output>(
         result.exit result.closed }
 {
     match desk.run_lines(input, output) {
-        Ok(run) => Ended {
-            exit: Ok(Exit::of(run)),
-            closed: desk.into_connection().close_files(),
-        },
-        Err(fault) => Ended {
-            exit: Err(Fault::from(fault)),
-            closed: desk.into_connection().close_files(),
-        },
+        Ok(run) => close(desk, Ok(Exit::of(run))),
+        Err(fault) => close(desk, Err(Fault::from(fault))),
+    }
+}
+
+/// Imports the rows of the file `csv` into the register in the file, which is there. The `Err` is why
+/// it was not opened; then nothing was written.
+fn import<S: Start, O: Output>(
+    rt: &HostRuntime,
+    file: &str,
+    csv: &str,
+    start: S,
+    output: &mut O,
+) -> Result<Ended<FileFrom<S>>, Fault>
+    ensures ok { IfOk result (λ ended. ImportsInto (image_at S.Start)
+        (record { old = O.contents output.old; new = O.contents output.new; has_failed = O.has_failed output.new })
+        ended.exit ended.closed) }
+    ensures err { IfErr result IsOpenFault }
+    ensures memory { file.now ≡ codes ":memory:" → result ≡ Err Disk }
+    ensures untouched { OnErr result (O.contents output.new ≡ O.contents output.old) }
+{
+    match open_desk(rt, file, start)? {
+        Ok(desk) => Ok(import_file(rt, desk, csv, output)),
+        Err(ended) => Ok(ended),
+    }
+}
+
+/// Prints a document of the register in the file, which is there. The `Err` is why it was not opened;
+/// then nothing was written.
+fn print<S: Start, O: Output>(
+    rt: &HostRuntime,
+    file: &str,
+    start: S,
+    document: Document,
+    output: &mut O,
+) -> Result<Ended<FileFrom<S>>, Fault>
+    ensures ok { IfOk result (λ ended. Prints (image_at S.Start) document
+        (record { old = O.contents output.old; new = O.contents output.new; has_failed = O.has_failed output.new })
+        ended.exit ended.closed) }
+    ensures err { IfErr result IsOpenFault }
+    ensures memory { file.now ≡ codes ":memory:" → result ≡ Err Disk }
+    ensures untouched { OnErr result (O.contents output.new ≡ O.contents output.old) }
+{
+    match open_desk(rt, file, start)? {
+        Ok(desk) => Ok(print_document(rt.alloc(), desk, document, output)),
+        Err(ended) => Ok(ended),
     }
 }
