@@ -1,10 +1,12 @@
 #!/usr/bin/env python3
 """Works the season of this example without the program, and writes its files: model.py FOLDER
 
-It makes up schools, children, applications and lots (from a fixed seed), and allots the places by deferred acceptance as Gale and Shapley told it
-in 1962: each child asks the schools of its list in turn, and each school keeps those that rank first. From that it writes the lines of the season,
-and `expected`: what the program must print. It shares no code with the program.
+It makes up a town of 20 schools and 600 children, their applications and lots (from a fixed seed), and allots the places by deferred acceptance as
+Gale and Shapley told it in 1962: each child asks the schools of its list in turn, and each school keeps those that rank first. It counts positions
+on waiting lists, fills vacancies from them, and writes letters, a list and a report. From that it writes the files of the season, and `expected`:
+what the program must print. It shares no code with the program.
 """
+import csv
 import datetime
 import json
 import math
@@ -12,9 +14,9 @@ import os
 import random
 import sys
 
-CLOSING = "2024-10-31"
 FIRST, SECOND = "2025-03-03", "2025-05-12"
 EPOCH = datetime.date(1970, 1, 1)
+WIDTHS = (5, 9, 4, 9)
 
 
 def number(day):
@@ -34,31 +36,37 @@ def meets(school, child, criterion):
     return int(value) in child["flags"]
 
 
-def rank(school, child, lot):
-    """Class, distance, lot: the smaller ranks first."""
+def standing(school, child):
+    """Class and distance: the smaller ranks first."""
     if child["looked_after"]:
-        return (0, metres(school, child), lot)
+        return (0, metres(school, child))
     for at, criterion in enumerate(school["criteria"]):
         if meets(school, child, criterion):
-            return (1 + at, metres(school, child), lot)
-    return (1 + len(school["criteria"]), metres(school, child), lot)
+            return (1 + at, metres(school, child))
+    return (1 + len(school["criteria"]), metres(school, child))
 
 
 class Season:
-    def __init__(self, schools, children, applications):
-        self.schools = {it["school"]: it for it in schools}
-        self.children = {it["child"]: it for it in children}
-        self.lists = {it["child"]: it["preferences"] for it in applications}
-        self.places, self.left, self.draws = {}, set(), []
+    def __init__(self):
+        self.schools, self.children, self.lists = {}, {}, {}
+        self.places, self.left, self.rounds, self.draws = {}, set(), [], []
 
     def wanted(self, child):
         held = self.places.get(child)
-        schools = self.lists[child]
-        above = schools[: schools.index(held["school"])] if held else schools
+        schools = self.lists.get(child, [])
+        above = schools[: schools.index(held["school"])] if held and held["school"] in schools else schools
         return [it for it in above if (child, it) not in self.left]
 
     def pairs(self):
-        return [(school, child) for school in sorted(self.schools) for child in sorted(self.lists) if school in self.wanted(child)]
+        wanted = {child: self.wanted(child) for child in sorted(self.lists)}
+        return [(school, child) for school in sorted(self.schools) for child in wanted if school in wanted[child]]
+
+    def place(self, child, school, kind, day=None):
+        self.places[child] = {"school": school, "kind": kind, "day": day, "reminded": None}
+
+    def plan(self, child, school):
+        self.lists.pop(child, None)
+        self.place(child, school, "plan")
 
     def round(self, day, lots):
         lot = dict(zip(self.pairs(), lots))
@@ -77,83 +85,144 @@ class Season:
             quota = max(0, self.schools[school]["pan"] - plans.count(school))
             guests = [it for it in kept[school] if own.get(it) != school]
             if len(kept[school]) > quota and guests:
-                last = max(guests, key=lambda it: rank(self.schools[school], self.children[it], lot[school, it]))
+                last = max(guests, key=lambda it: (*standing(self.schools[school], self.children[it]), lot[school, it]))
                 kept[school].remove(last)
                 free.append(last)
         has = {child: school for school, them in kept.items() for child in them}
         fresh = [child for child in has if own.get(child) != has[child]]
         for child in fresh:
-            self.places[child] = {"school": has[child], "kind": "offered", "day": day, "reminded": None}
-        self.draws.append((len(has) - len(fresh), len(fresh), len(self.lists) - len(has)))
-        return {"done": True, "kept": len(has) - len(fresh), "offers": len(fresh), "round": len(self.draws), "unplaced": len(self.lists) - len(has)}
+            self.place(child, has[child], "offered", day)
+        self.draws.append((len(self.draws) + 1, len(self.rounds) + 1, "", day))
+        counts = (len(fresh), len(has) - len(fresh), len(self.lists) - len(has))
+        self.rounds.append((len(self.draws), day, {child: has.get(child) for child in sorted(self.lists)}, counts))
+        return {"done": True, "kept": counts[1], "offers": counts[0], "round": len(self.rounds), "unplaced": counts[2]}
+
+    def waiting(self, school):
+        """Position, child, class and metres of each child that waits."""
+        there = {child: standing(self.schools[school], self.children[child]) for child in self.lists if school in self.wanted(child)}
+        ahead = lambda it: sum(1 for other in there.values() if other < it)
+        return sorted((1 + ahead(it), child, *it) for child, it in there.items())
+
+    def vacancies(self, school):
+        return max(0, self.schools[school]["pan"] - sum(1 for it in self.places.values() if it["school"] == school))
+
+    def fill(self, school, day, lots):
+        there = sorted(child for _, child, _, _ in self.waiting(school))
+        lot = dict(zip(there, lots))
+        first = min(there, key=lambda it: (*standing(self.schools[school], self.children[it]), lot[it]))
+        self.place(first, school, "offered", day)
+        self.draws.append((len(self.draws) + 1, 0, school, day))
+        return {"child": first, "done": True}
 
     def give_up(self, child):
         self.left.add((child, self.places.pop(child)["school"]))
 
+    def letter(self, child):
+        named = lambda school: f"{school} {self.schools[school]['name']}"
+        lines = ["Admission 2025 secondary", f"Child {child} {self.children[child]['name']}"]
+        place = self.places.get(child)
+        if place is None:
+            lines.append("Place: none")
+        elif place["kind"] == "offered":
+            reminded = f", reminded {place['reminded']}" if place["reminded"] else ""
+            lines.append(f"Place: {named(place['school'])}, offered {place['day']}{reminded}")
+            if place["reminded"]:
+                lines.append(f"The offer may be withdrawn 14 days after {place['reminded']} if it is not answered.")
+        else:
+            lines.append(f"Place: {named(place['school'])}, {place['kind']}")
+        for school in self.wanted(child):
+            there = self.waiting(school)
+            position, _, rank, away = next(it for it in there if it[1] == child)
+            lines.append(f"Waiting: {named(school)}, position {position} of {len(there)}, class {rank}, {away} metres")
+        return lines if self.wanted(child) else lines + ["Waiting: nowhere"]
+
+    def list_lines(self, school):
+        there = self.waiting(school)
+        rows = ["".join(str(it).rjust(width) for it, width in zip(row, WIDTHS)) for row in [("Pos", "Child", "Cls", "Metres"), *there]]
+        return [f"Waiting list of {school} {self.schools[school]['name']}", *rows, f"Waiting {len(there)}, vacancies {self.vacancies(school)}"]
+
+    def report(self, at):
+        draw, day, outcomes, (offers, kept, unplaced) = self.rounds[at - 1]
+        rows = [f"{child:9} {school or '-'}" for child, school in outcomes.items()]
+        return [f"Round {at}, draw {draw}, {day}", *rows, f"Offers {offers}, kept {kept}, unplaced {unplaced}"]
+
+
+NAMES = ["Ada", "Ben", "Chi", "Dai", "Eva", "Fay", "Gus", "Hal", "Ida", "Jan", "Kit", "Leo", "Mia", "Noé", "Oli", "Zoë"]
+SURNAMES = ["Abbot", "Bell, jr.", "Cole", "Dean", "Ewart", "Frost", 'Gray "Gee"', "Hill", "Ibbs", "Jones", "O'Neil"]
+PLACES = ["Ash", "Birch", "Cedar", "Dale", "Elm", "Fern", "Glen", "Heath", "Ivy", "Juniper"]
+
 
 def made(chance):
-    schools = [
-        {"cmd": "add_school", "school": code, "name": name, "pan": pan, "east": east, "north": north, "criteria": criteria}
-        for code, name, pan, east, north, criteria in [
-            ("ASH", "Ashfield High", 9, 1000, 1000, ["sibling", "within:1500"]),
-            ("BRK", "Brookside", 7, 5000, 1200, ["sibling"]),
-            ("CAS", "Castle Academy", 6, 3000, 4000, ["flag:2", "sibling", "within:2000"]),
-            ("DOV", "Dover Road", 8, 6500, 4500, ["sibling", "within:1000"]),
-            ("ELM", "Elm Grove", 5, 800, 5200, []),
-        ]
-    ]
+    schools = []
+    for at in range(20):
+        criteria = [["sibling", "within:1500"], ["sibling"], ["flag:2", "sibling", "within:2000"], []][at % 4]
+        schools.append({
+            "cmd": "add_school", "school": f"{PLACES[at % 10][0]}{at + 1}", "name": f"{PLACES[at % 10]} {'School' if at < 10 else 'Academy'}",
+            "pan": chance.randrange(18, 38), "east": 250 * chance.randrange(0, 49), "north": 250 * chance.randrange(0, 37), "criteria": criteria,
+        })
     codes = [it["school"] for it in schools]
-    names = ["Ada", "Ben", "Chi", "Dai", "Eva", "Fay", "Gus", "Hal", "Ida", "Jan", "Kit", "Leo", "Mia", "Noa", "Oli", "Pia"]
-    children = [
-        {
-            "cmd": "add_child",
-            "child": n,
-            "name": f"{names[n % 16]} {chr(65 + n % 7)}.",
-            "east": chance.randrange(0, 7500),
-            "north": chance.randrange(0, 6000),
-            "looked_after": n in (7, 31),
-            "flags": [2] if n % 11 == 0 else [],
-            "siblings": [chance.choice(codes)] if n % 5 == 0 else [],
-        }
-        for n in range(1, 42)
-    ]
-    applications = [
-        {"cmd": "apply", "child": n, "day": CLOSING, "preferences": chance.sample(codes, chance.randrange(2, 6))} for n in range(1, 41) if n != 17
-    ]
-    return schools, children, applications
+    rows = []
+    for child in range(1, 601):
+        home = {"east": 250 * chance.randrange(0, 49), "north": 250 * chance.randrange(0, 37)}
+        near = sorted(schools, key=lambda it: metres(it, home))[:9]
+        rows.append({
+            "child": child, "name": f"{NAMES[child % 16]} {SURNAMES[child % 11]}", **home, "looked_after": child % 97 == 0,
+            "flags": [2] if child % 13 == 0 else [], "siblings": [chance.choice(codes)] if child % 4 == 0 else [],
+            "day": f"2024-10-{1 + child % 31:02}", "preferences": [it["school"] for it in chance.sample(near, chance.randrange(2, 7))],
+        })
+    return schools, rows
 
 
 def main():
     folder = sys.argv[1]
     chance = random.Random(1962)
-    schools, children, applications = made(chance)
-    season = Season(schools, children, applications)
+    season = Season()
     steps, shown = [], []
-
-    def step(name, lines, answers):
-        with open(os.path.join(folder, name), "w", encoding="utf-8") as file:
-            file.writelines(json.dumps(it, ensure_ascii=False, separators=(",", ":")) + "\n" for it in lines)
-        steps.append(f"do reg.db < {name}")
-        shown.extend([f"$ admissions do reg.db < {name}"] + [json.dumps(it, separators=(",", ":")) for it in answers] + ["status 0"])
-
     done = {"done": True}
-    steps.append("init reg.db secondary 2025")
-    shown.extend(["$ admissions init reg.db secondary 2025", "status 0"])
-    step("schools.jsonl", schools, [done] * len(schools))
-    step("children.jsonl", children, [done] * len(children))
-    step("applications.jsonl", applications, [done] * len(applications))
-    plans = [(17, "CAS"), (41, "BRK")]
-    for child, school in plans:
-        season.places[child] = {"school": school, "kind": "plan", "day": None, "reminded": None}
-    step("plans.jsonl", [{"cmd": "name_plan", "child": c, "school": s} for c, s in plans], [done] * len(plans))
+    compact = lambda it: json.dumps(it, ensure_ascii=False, separators=(",", ":"))
 
-    def drawn():
-        lots = list(range(1, len(season.pairs()) + 1))
+    def show(step, lines):
+        steps.append(step)
+        shown.extend([f"$ admissions {step}" if not step.startswith("sqlite3") else f"$ {step}", *lines, "status 0"])
+
+    def write(name, lines):
+        with open(os.path.join(folder, name), "w", encoding="utf-8") as file:
+            file.writelines(it + "\n" for it in lines)
+
+    def do(name, commands, answers):
+        write(name, map(compact, commands))
+        show(f"do reg.db < {name}", map(compact, answers))
+
+    schools, rows = made(chance)
+    show("init reg.db secondary 2025", [])
+    season.schools = {it["school"]: it for it in schools}
+    do("schools.jsonl", schools, [done] * len(schools))
+    with open(os.path.join(folder, "applications.csv"), "w", encoding="utf-8", newline="") as file:
+        out = csv.writer(file, lineterminator="\n")
+        out.writerow(rows[0])
+        for row in rows:
+            season.children[row["child"]], season.lists[row["child"]] = row, row["preferences"]
+            out.writerow([";".join(map(str, it)) if isinstance(it, list) else {True: "yes", False: "no"}.get(it, it) if isinstance(it, bool) else it for it in row.values()])
+    show("import reg.db applications.csv", [compact({"added": len(rows), "done": True, "known": 0})])
+    show("import reg.db applications.csv", [compact({"added": 0, "done": True, "known": len(rows)})])
+
+    # children with plans: two that had applied, and one that did not
+    other = {"cmd": "add_child", "child": 601, "name": "Una Vale", "east": 3000, "north": 3000, "looked_after": False, "flags": [], "siblings": []}
+    season.children[601] = other
+    plans = [(17, schools[2]["school"]), (41, schools[5]["school"]), (601, schools[5]["school"])]
+    for child, school in plans:
+        season.plan(child, school)
+    do("plans.jsonl", [other] + [{"cmd": "name_plan", "child": c, "school": s} for c, s in plans], [done] * 4)
+
+    def drawn(count):
+        lots = list(range(1, count + 1))
         chance.shuffle(lots)
         return lots
 
-    lots = drawn()
-    step("first_round.jsonl", [{"cmd": "round", "draw": 1, "day": FIRST, "lots": lots}], [season.round(FIRST, lots)])
+    lots = drawn(len(season.pairs()))
+    do("first_round.jsonl", [{"cmd": "round", "draw": 1, "day": FIRST, "lots": lots}], [season.round(FIRST, lots)])
+
+    # most accept, some decline, and one is reminded
     offered = sorted(child for child, it in season.places.items() if it["kind"] == "offered")
     declined, silent = offered[3::9], offered[5]
     answers = []
@@ -161,28 +230,51 @@ def main():
         school = season.places[child]["school"]
         if child == silent:
             answers.append({"cmd": "remind", "child": child, "school": school, "day": "2025-03-17"})
+            season.places[child]["reminded"] = "2025-03-17"
         elif child in declined:
             answers.append({"cmd": "decline", "child": child, "school": school})
             season.give_up(child)
         else:
             answers.append({"cmd": "accept", "child": child, "school": school})
             season.places[child].update(kind="accepted", day=None)
-    answers.append({"cmd": "lapse", "child": silent, "school": season.places[silent]["school"], "day": "2025-03-31"})
+    do("answers.jsonl", answers, [done] * len(answers))
+    show(f"letter reg.db {silent}", season.letter(silent))
+
+    # the silent child's offer lapses; some leave a list; two vacancies are filled
+    summer, said = [{"cmd": "lapse", "child": silent, "school": season.places[silent]["school"], "day": "2025-03-31"}], [done]
     season.give_up(silent)
-    step("answers.jsonl", answers, [done] * len(answers))
-    lots = drawn()
-    step("second_round.jsonl", [{"cmd": "round", "draw": 2, "day": SECOND, "lots": lots}], [season.round(SECOND, lots)])
-    steps.append("sqlite3 reg.db < tables.sql")
-    shown.append("$ sqlite3 reg.db < tables.sql")
+    for child in [it for it in sorted(season.lists) if len(season.wanted(it)) > 1][:3]:
+        school = season.wanted(child)[0]
+        summer.append({"cmd": "leave_list", "child": child, "school": school})
+        season.left.add((child, school))
+        said.append(done)
+    for day in ["2025-04-01", "2025-04-02"]:
+        school = max(sorted(season.schools), key=lambda it: (season.vacancies(it) > 0) * len(season.waiting(it)))
+        lots = drawn(len(season.waiting(school)))
+        summer.append({"cmd": "fill", "draw": len(season.draws) + 1, "school": school, "day": day, "lots": lots})
+        said.append(season.fill(school, day, lots))
+    do("summer.jsonl", summer, said)
+    lots = drawn(len(season.pairs()))
+    do("second_round.jsonl", [{"cmd": "round", "draw": 4, "day": SECOND, "lots": lots}], [season.round(SECOND, lots)])
+
+    # what the office sends and hangs out
+    unplaced = next(it for it in sorted(season.lists) if it not in season.places and len(season.wanted(it)) > 2)
+    for child in [unplaced, said[-1]["child"], 601]:
+        show(f"letter reg.db {child}", season.letter(child))
+    longest = max(sorted(season.schools), key=lambda it: len(season.waiting(it)))
+    show(f"list reg.db {longest}", season.list_lines(longest))
+    show("round-report reg.db 2", season.report(2))
     kinds = {"offered": 1, "accepted": 2, "plan": 3}
-    for child in sorted(season.places):
-        it = season.places[child]
-        shown.append(f"{child}|{it['school']}|{kinds[it['kind']]}|{number(it['day']) if it['day'] else ''}")
-    shown.extend(f"{child}|{school}" for child, school in sorted(season.left))
-    shown.extend([f"1|1|{number(FIRST)}", f"2|2|{number(SECOND)}", "2", "status 0", "files: reg.db"])
-    for name, them in [("steps", steps), ("expected", shown)]:
-        with open(os.path.join(folder, name), "w", encoding="utf-8") as file:
-            file.writelines(it + "\n" for it in them)
+    lines = [f"{child}|{it['school']}|{kinds[it['kind']]}|{number(it['day']) if it['day'] else ''}" for child, it in sorted(season.places.items()) if child % 10 == 1]
+    lines += [f"{child}|{school}" for child, school in sorted(season.left)]
+    lines += [f"{draw}|{of}|{school}|{number(day)}" for draw, of, school, day in season.draws] + [str(len(season.draws))]
+    show("sqlite3 reg.db < tables.sql", lines)
+    write("tables.sql", [
+        "SELECT child, school, kind, day FROM place WHERE child % 10 = 1 ORDER BY child;", "SELECT child, school FROM left_list ORDER BY child, school;",
+        "SELECT draw, round, school, day FROM draw ORDER BY draw;", "SELECT draws FROM meta;",
+    ])
+    write("steps", steps)
+    write("expected", [*shown, "files: reg.db"])
 
 
 main()
