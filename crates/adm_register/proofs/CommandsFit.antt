@@ -19,6 +19,7 @@ use Rattle.adm_register.proofs.Fits.{Fit}
 use Rattle.adm_register.proofs.Accepted.{add_school-fit, add_child-fit, amend-fit, name_plan-fit, apply-fit}
 use Rattle.adm_register.proofs.LeaveFit.{leave_list-fit}
 use Rattle.adm_register.proofs.FillFit.{fill-fit}
+use Rattle.adm_register.proofs.ImportFit.{import-fit}
 use Rattle.adm_register.proofs.OffersFit.{accept-fit, decline-fit, remind-fit, lapse-fit}
 
 -- where no row is refused no test fails
@@ -42,4 +43,4 @@ command-fit old (Lapse child school day) kept well law accepted change reply don
 command-fit old (LeaveList child school) kept well law accepted change reply done = subst (Fit old) (sym done.0) (leave_list-fit old child school well (no_row _ accepted))
 command-fit old (Fill draw school day lots) kept well law accepted change reply filled =
     subst (Fit old) (sym filled.4) (fill-fit old draw school day lots filled.0 filled.2 well kept (no_row _ accepted) filled.3)
-command-fit old (Import rows) kept well law accepted change reply done = cc
+command-fit old (Import rows) kept well law accepted change reply done = subst (Fit old) (sym done.3) (import-fit old rows done.0 well kept accepted done.1 done.2)

@@ -23,6 +23,7 @@ use Rattle.adm_register.specs.LeaveList as leave_list
 use Rattle.adm_register.specs.Fill as fill
 use Rattle.adm_register.specs.Fill.{filled_draw}
 use Rattle.adm_register.proofs.FillDraw.{fill-next}
+use Rattle.adm_register.specs.Import as import
 use Rattle.adm_register.specs.Offered.{offer_at}
 use Rattle.adm_register.specs.Outcome.{Changes, refused}
 use Rattle.adm_register.specs.History.{DrawsInOrder, DrawsStay, DrawsKept, RoundHeld, drawn_on}
@@ -64,7 +65,7 @@ one_more old new change draw one is ordered next =
     )
 
 kept : (old new : State) (command : Command) (change : Difference) (reply : Reply) → DrawsInOrder old → refused old command ≡ None → Changes old command change reply → new ≡ after old change → DrawsInOrder new × DrawsStay old new
-unfolding add_school.change_of name_plan.change_of apply.change_of accept.change_of decline.change_of remind.change_of round.change_of leave_list.change_of fill.change_of
+unfolding add_school.change_of name_plan.change_of apply.change_of accept.change_of decline.change_of remind.change_of round.change_of leave_list.change_of fill.change_of import.change_of
 kept old new (AddSchool school) change reply ordered accepted done is = unchanged old new change (ap (λ (c : Difference). c.draws) done.0) is ordered
 kept old new (AddChild child) change reply ordered accepted done is = unchanged old new change (ap (λ (c : Difference). c.draws) done.0) is ordered
 kept old new (Amend child) change reply ordered accepted done is = unchanged old new change (ap (λ (c : Difference). c.draws) done.0) is ordered
@@ -80,7 +81,7 @@ kept old new (Lapse child school day) change reply ordered accepted done is = un
 kept old new (LeaveList child school) change reply ordered accepted done is = unchanged old new change (ap (λ (c : Difference). c.draws) done.0) is ordered
 kept old new (Fill draw school day lots) change reply ordered accepted filled is =
     one_more old new change (filled_draw old draw school day lots filled.2) (ap (λ (c : Difference). c.draws) filled.4) is ordered (fill-next old draw school day lots (no_row _ accepted) filled.2 ordered.in_order)
-kept old new (Import rows) change reply ordered accepted done is = unchanged old new change (ap (λ (c : Difference). c.draws) done.0) is ordered
+kept old new (Import rows) change reply ordered accepted done is = unchanged old new change (ap (λ (c : Difference). c.draws) done.3) is ordered
 
 pub draws_kept_lem : DrawsKept
 draws_kept_lem old new command ordered step =

@@ -86,7 +86,7 @@ list_all-weaker p q weaker (x ∷ xs) all =
       | false ↦ λ here rest. cc
     ] refl all
 
-no_length : {A : Type 0} (xs : List A) → length xs ≡ 0 → xs ≡ []
+pub no_length : {A : Type 0} (xs : List A) → length xs ≡ 0 → xs ≡ []
 no_length [] e = refl
 no_length (x ∷ xs) e = absurd (omega arith)
 

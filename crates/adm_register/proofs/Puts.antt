@@ -1,6 +1,6 @@
 -- What stands in a table after rows were put and rows were cut.
 use Rattle.std.proofs.Common.{◌≡◌, ◌∙◌, ap, sym, subst, refl, cond, true, false, ℕ, List, [], ◌∷◌, Some, None}
-use Rattle.std.specs.Prelude.{not}
+use Rattle.std.specs.Prelude.{is_some, map, not}
 use Rattle.std.specs.declared.cmp.Ordering.{Ordering}
 use Rattle.std.specs.Ordering.{eq_by_cmp}
 use Rattle.std.specs.List.{AllByRecursion}
@@ -12,7 +12,7 @@ use Rattle.adm_table.specs.TableRows.{row_at, put_at, cut_at}
 use Rattle.adm_register.specs.Change.{put_all, cut_all}
 use Rattle.adm_register.specs.WellFormed.{AllRows, are_schools}
 use Rattle.adm_register.proofs.TableMaps.{get_rows}
-use Rattle.adm_register.proofs.Maps.{same_key, contains_key-insert, list_all-weaker, none_of}
+use Rattle.adm_register.proofs.Maps.{same_key, tied, contains_key-insert, list_all-weaker, none_of}
 
 not_Some : {A : Type 0} (x : A) → None ≡ Some x → ⊥
 not_Some x e = cc
@@ -59,7 +59,7 @@ module _ {K V : Type 0} {R : K → K → Ordering} (total : IsTotalOrder R) wher
       ] (sym (get-remove total rows key q) ∙ there_before (remove rows key) cut q row there)
 
   -- a row of a key that is put nowhere stays
-  stays : (key : V → K) (rows : FinMap R V) (put : List V) (q : K) → AllByRecursion (λ row. eq_by_cmp R q (key row) ≡ false) put → get (put_all key rows put) q ≡ get rows q
+  pub stays : (key : V → K) (rows : FinMap R V) (put : List V) (q : K) → AllByRecursion (λ row. eq_by_cmp R q (key row) ≡ false) put → get (put_all key rows put) q ≡ get rows q
   stays key rows [] q others = refl
   stays key rows (row ∷ put) q others =
       stays key (insert rows (key row) row) put q others.1 ∙ get-insert total rows (key row) row q ∙ ap (λ b. cond b (Some row) (get rows q)) others.0
@@ -90,6 +90,15 @@ module _ {K V : Type 0} {R : K → K → Ordering} (total : IsTotalOrder R) wher
         | true ↦ λ tie here. subst (λ k. P k row) (sym (same_key same q (key first) tie)) (subst (P (key first)) (same_Some first row here) fit.0)
         | false ↦ λ tie here. stay q row here still
       ] refl (sym (get-insert total rows (key first) first q) ∙ there)) fit.1
+
+module _ {X K V : Type 0} {R : K → K → Ordering} (total : IsTotalOrder R) (key : V → K) (f : X → V) where
+  -- what is put is there
+  pub there_each : (rows : FinMap R V) (xs : List X) → AllByRecursion (λ x. contains_key (put_all key rows (map f xs)) (key (f x)) ≡ true) xs
+  there_each rows [] = tt
+  there_each rows (x ∷ xs) = (
+    put_all-grows total key (insert rows (key (f x)) (f x)) (map f xs) (key (f x)) (ap is_some (get-insert total rows (key (f x)) (f x) (key (f x)) ∙ ap (λ b. cond b (Some (f x)) (get rows (key (f x)))) (tied total (key (f x))))),
+    there_each (insert rows (key (f x)) (f x)) xs,
+  )
 
 -- schools that were there are there still
 pub are_schools-grows : (old new : FinMap code_cmp School) → Grows old new → (codes : List (List ℕ)) → are_schools old codes ≡ true → are_schools new codes ≡ true

@@ -3,6 +3,7 @@ use Rattle.std.proofs.Common.{◌≡◌, ◌∙◌, ap, sym, subst, refl, cond, 
 use Rattle.std.specs.Prelude.{not, is_some, nat_eq, Option, if◌then◌else◌}
 use Rattle.std.specs.declared.cmp.Ordering.{Ordering}
 use Rattle.std.specs.Ordering.{eq_by_cmp}
+use Rattle.std.specs.List.{AllByRecursion}
 use Rattle.std.specs.Cmp.{IsTotalOrder, nat_cmp_total, unsigned_Decides}
 use Rattle.std.specs.Cmp.Lexicographic.{nat_list_cmp_total, pointwise, bytes_decides}
 use Rattle.std.specs.FinMap.{FinMap, get, insert, remove, values, contains_key, get-insert, same_map, IsAntisymmetric, nat_cmp-IsAntisymmetric}
@@ -23,6 +24,7 @@ use Rattle.adm_register.specs.Accept as accept
 use Rattle.adm_register.specs.Decline as decline
 use Rattle.adm_register.specs.Remind as remind
 use Rattle.adm_register.specs.Lapse as lapse
+use Rattle.adm_register.specs.Import as import
 use Rattle.adm_register.specs.Offered.{offer_at, days_of, is_reminded}
 use Rattle.adm_register.specs.WellFormed.{WellFormed, is_held}
 use Rattle.adm_register.specs.Draws.{no_draws, with_draws}
@@ -34,6 +36,7 @@ use Rattle.adm_types.specs.declared.draws.Draw.{Draw}
 use Rattle.adm_types.specs.declared.draws.Outcome.{Outcome}
 use Rattle.adm_register.proofs.DrawLemmas.{values_put, with_draws-append}
 use Rattle.adm_register.proofs.RoundNext.{round-next}
+use Rattle.adm_register.proofs.ImportAgain.{IsKept, imports_known, rows_kept, none_added}
 use Rattle.adm_register.specs.Outcome.{RepeatSafe, tests_of, Changes, refused}
 use Rattle.adm_register.proofs.Maps.{tied, none_of, not_contains_key-removed}
 use Rattle.adm_register.proofs.Keeps.{all_pass}
@@ -109,9 +112,9 @@ round_again old new draw day numbers outcomes well first is passes =
     row = record { number = draw; round = so_far.rounds + 1; school = None; day = day; outcomes = outcomes; lots = round_lots old numbers }
 
 -- what a command changed makes its tests fail, or the command changes nothing more
-again : (old new : State) (command : Command) (change : Difference) (reply : Reply) → WellFormed old → first_failing (tests_of old command) ≡ None → Changes old command change reply → new ≡ after old change
+again : (old new : State) (command : Command) (change : Difference) (reply : Reply) → WellFormed old → refused old command ≡ None → Changes old command change reply → new ≡ after old change
     → first_failing (tests_of new command) ≡ None → (more : Difference) (second : Reply) → Changes new command more second → after new more ≡ new
-unfolding add_school.tests add_school.change_of add_child.tests name_plan.tests name_plan.change_of apply.tests apply.change_of accept.tests accept.change_of decline.tests decline.change_of lapse.tests
+unfolding add_school.tests add_school.change_of add_child.tests name_plan.tests name_plan.change_of apply.tests apply.change_of accept.tests accept.change_of decline.tests decline.change_of lapse.tests import.change_of
 again old new (AddSchool school) change reply well first done is passes more second next =
     let tests = subst (λ s. first_failing (add_school.tests s school) ≡ None) (is ∙ ap (after old) done.0) passes in
     absurd (not_again nat_list_cmp_total old.schools school.code school (all_pass (add_school.tests (after old (add_school.change_of school)) school) tests).0)
@@ -130,7 +133,7 @@ again old new (NamePlan child school) change reply well first done is passes mor
 again old new (Apply application) change reply well first done is passes more second next =
     let tests = subst (λ s. first_failing (apply.tests s application) ≡ None) (is ∙ ap (after old) done.0) passes in
     absurd (not_again nat_cmp_total old.applications application.child application (all_pass (apply.tests (after old (apply.change_of application)) application) tests).1.1.0)
-again old new (Round draw day lots) change reply well first held is passes more second next = absurd (round_again old new draw day lots held.0 well first (is ∙ ap (after old) held.2) passes)
+again old new (Round draw day lots) change reply well first held is passes more second next = absurd (round_again old new draw day lots held.0 well (no_row _ first) (is ∙ ap (after old) held.2) passes)
 again old new (Accept child school) change reply well first done is passes more second next =
     let tests = subst (λ s. first_failing (accept.tests s child school) ≡ None) (is ∙ ap (after old) done.0) passes in
     let offered = (all_pass (accept.tests (after old (accept.change_of child school)) child school) tests).1.1.0 in
@@ -144,19 +147,38 @@ again old new (Decline child school) change reply well first done is passes more
     let tests = subst (λ s. first_failing (decline.tests s child school) ≡ None) (is ∙ ap (after old) done.0) passes in
     let held = (all_pass (decline.tests (after old (decline.change_of child school)) child school) tests).1.1.0 in
     absurd (both_false held (ap (λ o. is_held o school) (gone nat_cmp_total old.places child)))
-again old new (Remind child school day) change reply well first done is passes more second next = absurd (remind_again old new child school day first (is ∙ ap (after old) done.0) passes)
+again old new (Remind child school day) change reply well first done is passes more second next = absurd (remind_again old new child school day (no_row _ first) (is ∙ ap (after old) done.0) passes)
 again old new (Lapse child school day) change reply well first done is passes more second next =
     let tests = subst (λ s. first_failing (lapse.tests s child school day) ≡ None) (is ∙ ap (after old) done.0) passes in
     let offered = (all_pass (lapse.tests (after old (decline.change_of child school)) child school day) tests).1.1.0 in
     absurd (both_false offered (ap (λ o. is_some (offer_at o school)) (gone nat_cmp_total old.places child)))
 again old new (LeaveList child school) change reply well first done is passes more second next = absurd (leave_again old new child school well first (is ∙ ap (after old) done.0) passes)
 again old new (Fill draw school day lots) change reply well first filled is passes more second next = absurd (fill_again old new draw school day lots filled.2 well first (is ∙ ap (after old) filled.4) passes)
-again old new (Import rows) change reply well first done is passes more second next = cc
+again old new (Import rows) change reply well first done is passes more second next =
+    let now = is ∙ ap (after old) done.3 in
+    let kept = subst (λ s. AllByRecursion (IsKept s) rows) (sym now) (rows_kept old rows done.0 (imports_known old well) first done.1 done.2) in
+    ap (after new) (next.3 ∙ ap import.change_of (none_added new rows next.0 kept next.1))
+
+-- no test of an accepted command fails
+passed : (s : State) (command : Command) → refused s command ≡ None → first_failing (tests_of s command) ≡ None
+passed s (AddSchool school) none = no_row _ none
+passed s (AddChild child) none = no_row _ none
+passed s (Amend child) none = no_row _ none
+passed s (NamePlan child school) none = no_row _ none
+passed s (Apply application) none = no_row _ none
+passed s (Round draw day lots) none = no_row _ none
+passed s (Accept child school) none = no_row _ none
+passed s (Decline child school) none = no_row _ none
+passed s (Remind child school day) none = no_row _ none
+passed s (Lapse child school day) none = no_row _ none
+passed s (LeaveList child school) none = no_row _ none
+passed s (Fill draw school day lots) none = no_row _ none
+passed s (Import rows) none = refl
 
 pub repeat_safe_lem : RepeatSafe
 repeat_safe_lem old mid new command (Ok first) (Ok second) well step next =
     let effect = next.1 in
-    effect.2 ∙ again old mid command step.1.0 first well (no_row _ step.0) step.1.1 step.1.2 (no_row _ next.0) effect.0 second effect.1
+    effect.2 ∙ again old mid command step.1.0 first well step.0 step.1.1 step.1.2 (passed mid command next.0) effect.0 second effect.1
 repeat_safe_lem old mid new command (Ok first) (Err refusal) well step next = next.1
 repeat_safe_lem old mid new command (Err refusal) (Err other) well step next = next.1
 repeat_safe_lem old mid new command (Err refusal) (Ok second) well step next =

@@ -51,3 +51,11 @@ same_order {R = R} total same key rows table made sorted =
     let permuted = subst (IsPermutation (values (from_entries {R = R} table))) (sym listed) (IsPermutation-sym rows _ (rows_of_table total same key rows table made)) in
     let is = same_maps total same key (from_entries table) (from_entries keyed) (rows_at_own_keys total same key table made.1) own permuted in
     sym (values_rows total table made.2) ∙ ap values is ∙ listed
+
+-- so rows are in order in one way
+pub one_order : {K V : Type 0} {R : K → K → Ordering} → IsTotalOrder R → IsAntisymmetric R → (key : V → K) (xs ys : List V)
+    → IsPermutation xs ys → IsStrictlySortedBy R (map key xs) → IsStrictlySortedBy R (map key ys) → xs ≡ ys
+one_order {R = R} total same key xs ys permuted sorted other =
+    let listed = values_of-with_keys key ys in
+    let keys = keys_of-with_keys key ys in
+    sym (same_order total same key xs (with_keys key ys) (subst (IsPermutation xs) (sym listed) permuted, ap (map key) listed ∙ sym keys, subst (IsStrictlySortedBy R) (sym keys) other) sorted) ∙ listed

@@ -39,6 +39,11 @@ module _ {K V : Type 0} (R : K → K → Ordering) (key : V → K) where
   unfolding IsStrictlySortedBy
   tidy_put row = record { put_sorted = (tt, tt); cut_sorted = tt; apart = tt }
 
+  -- and rows in order
+  pub tidy_puts : (put : List V) → IsStrictlySortedBy R (map key put) → IsTidyIn R key [] put
+  unfolding IsStrictlySortedBy
+  tidy_puts put sorted = record { put_sorted = sorted; cut_sorted = tt; apart = tt }
+
   pub tidy_cut : (k : K) → IsTidyIn R key (k ∷ []) []
   unfolding IsStrictlySortedBy
   tidy_cut k = record { put_sorted = tt; cut_sorted = (tt, tt); apart = (refl, tt) }

@@ -12,16 +12,19 @@ use Rattle.adm_register.specs.Change.{no_change}
 use Rattle.adm_register.specs.Plans.{has_plan}
 use Rattle.adm_register.specs.WellFormed.{are_schools}
 
--- the child is there, with no plan and no application, the lists are open, and the list has 1 to 6 schools of the register without repeat
-unfoldable pub tests : State → Application → List (Bool × Refusal)
-tests old application =
-    (contains_key old.children application.child, UnknownChild)
-    ∷ (not (has_plan old.places application.child), HasPlan)
+-- the tests but the first: its child has no plan and no application, the lists are open, and the list has 1 to 6 schools of the register without repeat
+abbrev pub further_tests : State → Application → List (Bool × Refusal)
+further_tests old application =
+    (not (has_plan old.places application.child), HasPlan)
     ∷ (not (contains_key old.applications application.child), AlreadyApplied)
     ∷ (nat_le application.day (lists_end old.season), ListClosed)
     ∷ (is_from 1 6 (length application.list) && is_without_repeat application.list, BadPreferences)
     ∷ (are_schools old.schools application.list, UnknownSchool)
     ∷ []
+
+-- the child is there, with no plan and no application, the lists are open, and the list has 1 to 6 schools of the register without repeat
+unfoldable pub tests : State → Application → List (Bool × Refusal)
+tests old application = (contains_key old.children application.child, UnknownChild) ∷ further_tests old application
 
 -- the application is put
 unfoldable pub change_of : Application → Difference

@@ -18,10 +18,12 @@ pub mod Decline
 pub mod Remind
 pub mod Lapse
 pub mod LeaveList
+pub mod Import
 pub mod Round
 pub mod Extends
 pub mod Outcome
 pub mod History
+pub mod Imports
 pub mod Rows
 pub mod Fill
 pub mod Difference

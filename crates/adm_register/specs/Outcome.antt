@@ -1,14 +1,13 @@
 -- What a command leaves and answers.
-use Rattle.std.specs.Prelude.{◌≡◌, ⊤, ℕ, Bool, false, List, [], ◌∷◌, Option, Some, None, Result, Ok, Err}
+use Rattle.std.specs.Prelude.{◌≡◌, ⊤, ℕ, Bool, List, [], Option, Some, None, Result, Ok, Err}
 use Rattle.adm_types.specs.declared.commands.Command.{Command}
 use Rattle.adm_types.specs.declared.commands.Command.TheVariants.{AddSchool, AddChild, Amend, NamePlan, Apply, Round, Accept, Decline, Remind, Lapse, LeaveList, Fill, Import}
 use Rattle.adm_types.specs.declared.commands.Refusal.{Refusal}
-use Rattle.adm_types.specs.declared.commands.Refusal.TheVariants.{RowDiffers}
 use Rattle.adm_types.specs.declared.commands.Reply.{Reply}
 use Rattle.adm_types.specs.declared.commands.Reply.TheVariants.{Done, Filled}
 use Rattle.adm_register.specs.declared.difference.Difference.{Difference}
 use Rattle.adm_register.specs.State.{State}
-use Rattle.adm_register.specs.Change.{after, put_child, no_change}
+use Rattle.adm_register.specs.Change.{after, put_child}
 use Rattle.adm_register.specs.Tests.{first_failing}
 use Rattle.adm_register.specs.WellFormed.{WellFormed}
 use Rattle.adm_register.specs.AddSchool as add_school
@@ -27,12 +26,13 @@ use Rattle.adm_register.specs.Waits.{waiting_at}
 use Rattle.adm_waiting.specs.Waiting.{first_by_lot}
 use Rattle.adm_types.specs.declared.rows.School.{School}
 use Rattle.std.specs.FinMap.{get}
+use Rattle.adm_register.specs.Import as import
 use Rattle.adm_types.specs.declared.draws.Outcome.{Outcome as OutcomeRow}
 use Rattle.adm_register.specs.declared.not_done.NotDone.{NotDone}
 use Rattle.adm_register.specs.declared.registers.Proposal.{Proposal}
 use Rattle.adm_register.specs.declared.not_done.NotDone.TheVariants.{Refused, Memory}
 
--- the tests of a command, in their order
+-- the tests of a command, in their order; those of an import are its rows', below
 abbrev pub tests_of : State → Command → List (Bool × Refusal)
 tests_of old (AddSchool school) = add_school.tests old school
 tests_of old (AddChild child) = add_child.tests old child
@@ -46,15 +46,16 @@ tests_of old (Remind child school day) = remind.tests old child school day
 tests_of old (Lapse child school day) = lapse.tests old child school day
 tests_of old (LeaveList child school) = leave_list.tests old child school
 tests_of old (Fill draw school day lots) = fill.tests old draw school day lots
-tests_of old (Import rows) = (false, RowDiffers) ∷ []
+tests_of old (Import rows) = []
 
 -- a refusal that names no row
 abbrev pub without_row : Option Refusal → Option (Refusal × ℕ)
 without_row None = None
 without_row (Some refusal) = Some (refusal, 0)
 
--- why a command is refused: by the first of its tests that fails. Beside it stands the row of an import, from 1, and 0 for a command without rows
+-- why a command is refused: by the first of its tests that fails. Beside it stands 0; for an import, the number of the first row that is refused, from 1
 abbrev pub refused : State → Command → Option (Refusal × ℕ)
+refused old (Import rows) = import.refused_from old 1 rows
 refused old command = without_row (first_failing (tests_of old command))
 
 -- just this is changed, and the reply is Done
@@ -87,7 +88,7 @@ Changes old (Remind child school day) = IsDone (remind.change_of old child schoo
 Changes old (Lapse child school day) = IsDone (decline.change_of child school)
 Changes old (LeaveList child school) = IsDone (leave_list.change_of child school)
 Changes old (Fill draw school day lots) = IsFilled old draw school day lots
-Changes old (Import rows) = IsDone no_change
+Changes old (Import rows) = import.IsImported old rows
 
 -- what an accepted command answers, and leaves
 abbrev pub Effect : State → Command → Reply → State → Type 0

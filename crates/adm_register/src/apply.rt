@@ -2,7 +2,7 @@
 ghost use Rattle.std.specs.Prelude.{◌≡◌, ◌&&◌, length, IfOk};
 ghost use Rattle.adm_types.specs.Limits.{is_from, is_without_repeat};
 ghost use Rattle.adm_register.specs.Tests.{first_failing};
-ghost use Rattle.adm_register.specs.Apply.{tests, change_of};
+ghost use Rattle.adm_register.specs.Apply.{tests, further_tests, change_of};
 
 use crate::Difference;
 use crate::difference::one;
@@ -10,7 +10,7 @@ use crate::failing::first_failing;
 use crate::tables::Tables;
 use adm_table::Shared;
 use adm_types::limits::is_without_repeat;
-use adm_types::{Application, Refusal, SchoolCode};
+use adm_types::{Application, ChildNo, Day, Refusal, SchoolCode};
 use std::alloc::{AllocError, Global};
 
 /// Why the application is refused.
@@ -18,11 +18,28 @@ use std::alloc::{AllocError, Global};
 pub(crate) fn refusal_of(old: &Tables, application: &Application) -> Option<Refusal>
     ensures { result ≡ first_failing (tests old.now application.now) }
 {
-    let child = application.child;
-    let list = application.list.as_slice();
-    let in_time = application.day <= old.season().lists_end();
+    if !old.has_child(application.child) {
+        return Some(Refusal::UnknownChild);
+    }
+    further_refusal_of(
+        old,
+        application.child,
+        application.day,
+        application.list.as_slice(),
+    )
+}
+
+/// Why an application of these values is refused, for a child that is there.
+pub(crate) fn further_refusal_of(
+    old: &Tables,
+    child: ChildNo,
+    day: Day,
+    list: &[SchoolCode],
+) -> Option<Refusal>
+    ensures { result ≡ first_failing (further_tests old.now (record { child = child; day = day; list = list.now })) }
+{
+    let in_time = day <= old.season().lists_end();
     first_failing(&[
-        (old.has_child(child), Refusal::UnknownChild),
         (!old.has_plan(child), Refusal::HasPlan),
         (!old.has_application(child), Refusal::AlreadyApplied),
         (in_time, Refusal::ListClosed),

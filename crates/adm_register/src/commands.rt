@@ -8,8 +8,8 @@ ghost use Rattle.adm_register.specs.KeptByTypes.{KeptByTypes};
 use crate::child_values::{kept_by_child, put_child};
 use crate::tables::Tables;
 use crate::{
-    Difference, accept, add_child, add_school, amend, apply, decline, fill, lapse, leave_list,
-    name_plan, remind, round,
+    Difference, accept, add_child, add_school, amend, apply, decline, fill, import, lapse,
+    leave_list, name_plan, remind, round,
 };
 use adm_types::{Command, Refusal, Reply};
 use std::alloc::{AllocError, Global};
@@ -24,6 +24,9 @@ pub(crate) fn refused(
     requires { WellFormed old.now }
     ensures { IfOk result (λ why. why ≡ refused old.now command.now) }
 {
+    if let Command::Import(rows) = command {
+        return import::refused(old, alloc, rows.as_slice());
+    }
     match refusal_of(old, alloc, command)? {
         Some(refusal) => Ok(Some((refusal, 0))),
         None => Ok(None),
@@ -52,7 +55,7 @@ fn refusal_of(old: &Tables, alloc: Global, command: &Command) -> Result<Option<R
             day,
             lots,
         } => fill::refusal_of(old, alloc, *draw, *school, *day, lots)?,
-        Command::Import(_) => Some(Refusal::RowDiffers),
+        Command::Import(_) => None,
     };
     Ok(refusal)
 }
@@ -91,7 +94,7 @@ pub(crate) fn change_of(
             day,
             lots,
         } => fill::change_of(old, alloc, *draw, *school, *day, lots),
-        Command::Import(_) => { Ok(done(Difference::none(alloc))) }
+        Command::Import(rows) => import::change_of(old, alloc, rows.as_slice()),
     }
 }
 
@@ -117,8 +120,8 @@ pub(crate) fn kept_by_types(command: &Command)
         | Command::Accept { .. }
         | Command::Decline { .. }
         | Command::Lapse { .. }
-        | Command::LeaveList { .. }
-        | Command::Import(_) => {}
+        | Command::LeaveList { .. } => {}
+        Command::Import(rows) => import::kept_by_rows(rows.as_slice()),
         Command::Apply(application) => {
             let _number = application.day.number();
         }

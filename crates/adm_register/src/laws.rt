@@ -1,5 +1,6 @@
 // Laws of the steps of a register.
 ghost use Rattle.adm_register.specs.History.{DrawsKept, RoundHeld};
+ghost use Rattle.adm_register.specs.Imports.{ImportOnce};
 ghost use Rattle.adm_register.specs.Outcome.{OneStep, RepeatSafe};
 
 use adm_round::one_allotment;
@@ -25,4 +26,10 @@ pub fn draws_kept()
 /// child-optimal stable allocation of the round's problem on the register in which it began.
 pub fn round_held()
     ensures { RoundHeld }
+{}
+
+/// An import that was accepted is accepted again, whatever accepted commands came since. It leaves
+/// the register as it was, and counts each of its rows as known.
+pub fn import_once()
+    ensures { ImportOnce }
 {}

@@ -17,6 +17,7 @@ mod draws_so_far;
 mod entrants;
 mod failing;
 mod fill;
+mod import;
 mod lapse;
 mod laws;
 mod leave_list;
@@ -38,7 +39,7 @@ mod waits;
 
 pub use difference::Difference;
 pub use draws_so_far::DrawsSoFar;
-pub use laws::{draws_kept, one_step, repeat_safe, round_held};
+pub use laws::{draws_kept, import_once, one_step, repeat_safe, round_held};
 pub use list_fault::ListFault;
 pub use not_done::NotDone;
 pub use register_rows::Rows;

@@ -105,6 +105,13 @@ impl Tables {
         self.applications.row(&number)
     }
 
+    /// The imported row of a child.
+    pub(crate) fn imported_row(&self, child: ChildNo) -> Option<&ImportRow>
+        ensures { option_copied result ≡ map.get self.now.imported child }
+    {
+        self.imported.row(&child)
+    }
+
     pub(crate) fn place_row(&self, child: ChildNo) -> Option<&PlaceRow>
         ensures { option_copied result ≡ map.get self.now.places child }
     {
