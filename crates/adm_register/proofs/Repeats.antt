@@ -152,8 +152,8 @@ again old new (Lapse child school day) change reply well first done is passes mo
     let tests = subst (λ s. first_failing (lapse.tests s child school day) ≡ None) (is ∙ ap (after old) done.0) passes in
     let offered = (all_pass (lapse.tests (after old (decline.change_of child school)) child school day) tests).1.1.0 in
     absurd (both_false offered (ap (λ o. is_some (offer_at o school)) (gone nat_cmp_total old.places child)))
-again old new (LeaveList child school) change reply well first done is passes more second next = absurd (leave_again old new child school well first (is ∙ ap (after old) done.0) passes)
-again old new (Fill draw school day lots) change reply well first filled is passes more second next = absurd (fill_again old new draw school day lots filled.2 well first (is ∙ ap (after old) filled.4) passes)
+again old new (LeaveList child school) change reply well first done is passes more second next = absurd (leave_again old new child school well (no_row _ first) (is ∙ ap (after old) done.0) passes)
+again old new (Fill draw school day lots) change reply well first filled is passes more second next = absurd (fill_again old new draw school day lots filled.2 well (no_row _ first) (is ∙ ap (after old) filled.4) passes)
 again old new (Import rows) change reply well first done is passes more second next =
     let now = is ∙ ap (after old) done.3 in
     let kept = subst (λ s. AllByRecursion (IsKept s) rows) (sym now) (rows_kept old rows done.0 (imports_known old well) first done.1 done.2) in
