@@ -67,12 +67,13 @@ fn walk(old: &Tables, alloc: Global, rows: &[ImportRow]) -> Result<Walked, Alloc
     let mut number = 1;
     let mut rest = rows;
     while let Some((row, others)) = rest.split_first() {
-        if let Some(refusal) = refusal_of_row(seen.as_ref(), row) {
+        let now = seen.as_ref();
+        if let Some(refusal) = refusal_of_row(now, row) {
             let why = Some((refusal, number));
             return Ok(Walked { why, added });
         }
-        if !is_known(seen.as_ref(), row) {
-            seen = with_row(seen.as_ref(), alloc, row, &mut added)?;
+        if !is_known(now, row) {
+            seen = with_row(now, alloc, row, &mut added)?;
         }
         number += 1;
         rest = others;

@@ -12,7 +12,7 @@ returns-in-Some-refusal_of_row-clause-why c =
     let row = c.in-Some.row.now in
     let so_far = subst (λ rest. Seen old rows c.loop-row.seen c.loop-row.number rest c.loop-row.added.items) c.in-Some.ensures.cases.0 c.loop-row.invariant.0 in
     sym (refused_here old rows c.loop-row.seen c.loop-row.number row c.in-Some.others.now c.loop-row.added.items so_far c.in-Some-refusal_of_row.refusal
-    (ap (λ s. refusal_of_row s row) (sym c.as_ref.ensures) ∙ sym c.refusal_of_row.ensures ∙ c.in-Some-refusal_of_row.is))
+    (ap (λ s. refusal_of_row s row) (sym c.as_ref-now.ensures) ∙ sym c.refusal_of_row.ensures ∙ c.in-Some-refusal_of_row.is))
 
 pub loop-row-preserved : goal.loop-row-preserved
 loop-row-preserved c =
@@ -22,14 +22,14 @@ loop-row-preserved c =
     let others = c.in-Some.others.now in
     let so_far = subst (λ rest. Seen old rows c.loop-row.seen c.loop-row.number rest c.loop-row.added.items) c.in-Some.ensures.cases.0 c.loop-row.invariant.0 in
     let seen = c.loop-row.seen in
-    let same = ap (λ s. is_known s row) (sym c.as_ref-in-Some.ensures) ∙ sym c.is_known.ensures in
-    let passes : refusal_of_row seen row ≡ None = ap (λ s. refusal_of_row s row) (sym c.as_ref.ensures) ∙ sym c.refusal_of_row.ensures ∙ c.in_default-refusal_of_row.is in
+    let same = ap (λ s. is_known s row) (sym c.as_ref-now.ensures) ∙ sym c.is_known.ensures in
+    let passes : refusal_of_row seen row ≡ None = ap (λ s. refusal_of_row s row) (sym c.as_ref-now.ensures) ∙ sym c.refusal_of_row.ensures ∙ c.in_default-refusal_of_row.is in
     let count = ap length c.in-Some.ensures.cases.0 in
     let number = c.loop-row.invariant.1 in (
       elim c.if-not-is_known.branch [
         | then-not-is_known+in_ok-seen-2 w ↦
             let unknown : is_known seen row ≡ false = same ∙ w.if-not-is_known.true in
-            let next : c.if-not-is_known.seen ≡ with_row seen row = w.seen-is ∙ w.in_ok-seen-2.ensures.next ∙ ap (λ s. with_row s row) w.as_ref-then-not-is_known.ensures in
+            let next : c.if-not-is_known.seen ≡ with_row seen row = w.seen-is ∙ w.in_ok-seen-2.ensures.next ∙ ap (λ s. with_row s row) c.as_ref-now.ensures in
             let more : c.if-not-is_known.added.items ≡ c.loop-row.added.items ++ row ∷ [] = ap (λ v. v.items) w.added-is ∙ w.in_ok-seen-2.ensures.added in
             subst (λ s. Seen old rows s (c.loop-row.number + 1) others c.if-not-is_known.added.items) (sym next)
             (subst (Seen old rows (with_row seen row) (c.loop-row.number + 1) others) (sym more) (new_seen old rows seen c.loop-row.number row others c.loop-row.added.items so_far passes unknown))
