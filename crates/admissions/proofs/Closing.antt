@@ -1,5 +1,5 @@
 -- What the close of a connection left, from its clauses; how an outcome is told.
-use Rattle.std.proofs.Common.{◌≡◌, ◌≢◌, ◌<◌, ◌-◌, ◌^◌, ℕ, true, refl, List, length, Option, Result, Ok, Err}
+use Rattle.std.proofs.Common.{◌≡◌, ◌≢◌, ◌<◌, ◌-◌, ◌^◌, ℕ, true, refl, List, length, Result, Ok, Err}
 use Rattle.std.specs.Prelude.{IfOk, IfErr, IfSome}
 use Rattle.std.specs.Io.KnownBytes.{Consumes}
 use Rattle.sqlite_disk.specs.declared.Disk as disk

@@ -19,7 +19,7 @@ use Rattle.sqlite.specs.Held.{Held}
 use Rattle.adm_desk.specs.Standing.{Standing}
 use Rattle.adm_desk.specs.declared.answer.Answer.{Answer}
 use Rattle.adm_desk.specs.declared.answer.Answer.TheVariants as answer
-use Rattle.admissions.specs.Exits.{of_season, has_many_holidays, IsCauseIn, ExitsBy, exit_of_answer, closing_of, ending_of, error_of, told_of, code_of}
+use Rattle.admissions.specs.Exits.{of_season, has_many_holidays, IsCauseIn, ExitsBy, exit_of_answer, ending_of, error_of, told_of, code_of}
 use Rattle.admissions.specs.Opened.{Stream, IsNotOpened}
 use Rattle.admissions.specs.Imports.{ImportsAs, ImportsFile, ImportsInto}
 use Rattle.admissions.specs.Texts.{Prints, PrintsAs, text_in}

@@ -5,7 +5,6 @@ use Rattle.adm_types.specs.declared.seasons.SeasonFault.{SeasonFault}
 use Rattle.adm_types.specs.declared.seasons.SeasonFault.TheVariants as season
 use Rattle.adm_csv.specs.declared.fault.Fault.{Fault as CsvFault}
 use Rattle.adm_csv.specs.declared.fault.Fault.TheVariants as csv
-use Rattle.adm_csv.specs.declared.fault.RowFault.{RowFault}
 use Rattle.adm_letters.specs.declared.fault.LetterFault.{LetterFault}
 use Rattle.adm_letters.specs.declared.fault.LetterFault.TheVariants as letter
 use Rattle.adm_words.specs.Lines.{ReadsWords}

@@ -13,7 +13,7 @@ pub enum Exit {
     Fault,
     /// Words that ask for nothing.
     Words,
-    /// A command or a line was refused, faulty or met want of memory.
+    /// An import or some line was refused, faulty or met want of memory.
     Refused,
     /// The store failed, and the desk answered Failed from then on.
     Failed,

@@ -27,7 +27,7 @@ use std::io::{Read, Write};
 
 /// Does what the words ask for, with the program's name first, and gives the exit status:
 /// 0 done; 1 a fault, printed to `errors` as `fault: ` and its name; 2 words that ask for nothing;
-/// 3 some line was refused, faulty or met want of memory; 4 the store failed.
+/// 3 an import or some line was refused, faulty or met want of memory; 4 the store failed.
 pub fn run_words<S: Start, I: Read + Drop, O: Write + Drop, E: Write>(
     rt: &HostRuntime,
     words: &[&str],

@@ -1,4 +1,4 @@
-use Rattle.std.proofs.Common.{Result, Ok, Err, refl, sym, subst}
+use Rattle.std.proofs.Common.{Result, Err, refl, sym, subst}
 use Rattle.admissions.specs.Opened.{Stream}
 use Rattle.admissions.specs.Imports.{ImportsAs}
 use Rattle.admissions.specs.declared.exit.Exit.{Exit}
