@@ -157,7 +157,7 @@ def made(chance):
     for at in range(20):
         criteria = [["sibling", "within:1500"], ["sibling"], ["flag:2", "sibling", "within:2000"], []][at % 4]
         schools.append({
-            "cmd": "add_school", "school": f"{PLACES[at % 10][0]}{at + 1}", "name": f"{PLACES[at % 10]} {'School' if at < 10 else 'Academy'}",
+            "cmd": "add_school", "school": PLACES[at % 10][:3].upper() + ('S' if at < 10 else 'A'), "name": f"{PLACES[at % 10]} {'School' if at < 10 else 'Academy'}",
             "pan": chance.randrange(18, 38), "east": 250 * chance.randrange(0, 49), "north": 250 * chance.randrange(0, 37), "criteria": criteria,
         })
     codes = [it["school"] for it in schools]
