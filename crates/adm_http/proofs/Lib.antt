@@ -1,0 +1,9 @@
+pub mod HeadLemmas
+pub mod ResponseLemmas
+pub mod ReadingLemmas
+pub mod StepLemmas
+pub mod RowLemmas
+pub mod RouteLemmas
+pub mod WalkLemmas
+pub mod FormLemmas
+pub mod LawLemmas

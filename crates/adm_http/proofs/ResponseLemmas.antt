@@ -1,0 +1,35 @@
+-- The steps of the relation between a request and its response.
+use Rattle.std.proofs.Common.{◌≡◌, ℕ, ◌≤◌, ◌<◌, ◌==◌, List, [], ◌∷◌, length, take, true, false, nat_le, refl, subst, arith}
+use Rattle.std.specs.List.{slice_range}
+use Rattle.std.proofs.lemmas.Bool.Decides.{nat_tests}
+use Rattle.std.proofs.lemmas.Grind.{common_steps}
+use Rattle.adm_http.specs.Texts.{Response, response_bytes, bare}
+use Rattle.adm_http.specs.Responses.{of_answer, Carries, Answers, Responds}
+use Rattle.adm_http.specs.declared.heads.Verdict.TheVariants.{Run}
+use Rattle.adm_http.specs.declared.targets.Resource.{Resource}
+use Rattle.adm_http.specs.declared.reply.LineAnswer.{LineAnswer}
+use Rattle.adm_http.specs.declared.answering.Shown.{Shown}
+
+-- a range from the start is the front
+pub front_is : (xs : List ℕ) (n : ℕ) → slice_range xs 0 n ≡ take n xs
+front_is xs n = grind (arith, common_steps)
+
+module _ {S : Type 0} (runs : S → List ℕ → LineAnswer → S → Type 0) (shows : S → Resource → Shown → Type 0) where
+  pub responded : (old new : S) (input : List ℕ) (response : Response) → false ≡ (length input == 0)
+      → Answers runs shows old input response new → Responds runs shows old input (response_bytes response) new
+  responded old new [] response some a = absurd (cc some)
+  responded old new (b ∷ input) response some a = (response, a, refl)
+
+  -- the body is there, and was run
+  pub ran : (old new : S) (rest body : List ℕ) (n : ℕ) (answer : LineAnswer) → n ≤ length rest → body ≡ take n rest
+      → runs old body answer new → Carries runs shows old rest (Run n) (of_answer answer) new
+  ran old new rest body n answer fits body_is ran_it =
+      let e : nat_le n (length rest) ≡ true = grind (arith, nat_tests) in
+      rw e (answer, subst (λ b. runs old b answer new) body_is ran_it, refl)
+
+  -- the body is not there
+  pub was_short : (old : S) (rest : List ℕ) (n : ℕ) → length rest < n
+      → Carries runs shows old rest (Run n) (bare 400) old
+  was_short old rest n short =
+      let e : nat_le n (length rest) ≡ false = grind (arith, nat_tests) in
+      rw e (refl, refl)

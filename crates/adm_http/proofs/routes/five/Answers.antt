@@ -1,0 +1,46 @@
+use Rattle.std.proofs.Common.{refl}
+use Rattle.matchit.proofs.OnLiterals.{matchit_on_literals}
+use Rattle.adm_http.specs.Rows.{five_routes}
+use Rattle.adm_http.proofs.routes.five.Goals as goal
+
+pub add-requires : goal.add-requires
+unfolding matchit_on_literals
+add-requires c = rw c.new-router.ensures refl
+
+pub add-requires-2 : goal.add-requires-2
+unfolding matchit_on_literals
+add-requires-2 c = let a = c.in_ok-add.ensures in rw (a.1, c.new-router.ensures) refl
+
+pub add-requires-3 : goal.add-requires-3
+unfolding matchit_on_literals
+add-requires-3 c =
+    let a = c.in_ok-add.ensures in
+    let b = c.in_ok-add-2.ensures in
+    rw (b.1, a.1, c.new-router.ensures) refl
+
+pub add-requires-4 : goal.add-requires-4
+unfolding matchit_on_literals
+add-requires-4 c =
+    let a = c.in_ok-add.ensures in
+    let b = c.in_ok-add-2.ensures in
+    let d = c.in_ok-add-3.ensures in
+    rw (d.1, b.1, a.1, c.new-router.ensures) refl
+
+pub add-requires-5 : goal.add-requires-5
+unfolding matchit_on_literals
+add-requires-5 c =
+    let a = c.in_ok-add.ensures in
+    let b = c.in_ok-add-2.ensures in
+    let d = c.in_ok-add-3.ensures in
+    let e = c.in_ok-add-4.ensures in
+    rw (e.1, d.1, b.1, a.1, c.new-router.ensures) refl
+
+pub returns : goal.returns
+unfolding matchit_on_literals five_routes
+returns c =
+    let a = c.in_ok-add.ensures in
+    let b = c.in_ok-add-2.ensures in
+    let d = c.in_ok-add-3.ensures in
+    let e = c.in_ok-add-4.ensures in
+    let f = c.in_ok-add-5.ensures in
+    rw (f.1, e.1, d.1, b.1, a.1, c.new-router.ensures) refl

@@ -1,0 +1,123 @@
+-- What the head of a request decides.
+use Rattle.std.specs.Prelude.{◌≡◌, ℕ, ◌≤◌, ◌<◌, ◌-◌, ◌++◌, ◌⊎◌, get_or, Bool, List, [], ◌∷◌, length, take, drop, map, filter, nat_lt, if◌then◌else◌, Option, Some, None, codes, bytes_eq, ⊤}
+use Rattle.std.specs.Char.{to_ascii_lowercase}
+use Rattle.httparse.specs.Grammar.{RequestHead, print_request, ReadsRequest, HasNoRequest, MayBecomeRequest, EndsInTarget}
+use Rattle.httparse.specs.Spans.{RequestOverflows, name_and_value}
+use Rattle.adm_http.specs.Lengths.{body_length_of}
+use Rattle.adm_http.specs.Targets.{target_of}
+use Rattle.adm_http.specs.declared.targets.Target.{Target}
+use Rattle.adm_http.specs.declared.targets.Target.TheVariants.{Commands, Text}
+use Rattle.adm_http.specs.declared.heads.Verb.{Verb}
+use Rattle.adm_http.specs.declared.heads.Verb.TheVariants.{Get, Post}
+use Rattle.adm_http.specs.declared.heads.Verdict.{Verdict}
+use Rattle.adm_http.specs.declared.heads.Verdict.TheVariants.{Reject, NotAllowed, Show, Run}
+use Rattle.adm_http.specs.declared.heads.Judgement.{Judgement}
+use Rattle.adm_http.specs.declared.heads.Judgement.TheVariants.{Whole, Malformed, Unfinished}
+
+-- the bytes in which a head is looked for
+abbrev pub window : List ℕ → List ℕ
+window input = take 8192 input
+
+-- a field's name, and its value without the white space around it
+abbrev pub Pair : Type 0
+Pair = List ℕ × List ℕ
+
+-- the field has this name, without regard to ASCII case
+abbrev pub is_named : List ℕ → Pair → Bool
+is_named name field = bytes_eq (map to_ascii_lowercase field.0) (map to_ascii_lowercase name)
+
+-- the values of the fields of this name
+abbrev pub values_of : List ℕ → List Pair → List (List ℕ)
+values_of name fields = map (λ field. field.1) (filter (is_named name) fields)
+
+-- there are this many values, and this is the last of them
+pub record AreCounted (values : List (List ℕ)) (count : ℕ) (last : List ℕ) : Type 0 where
+  pub count_is : count ≡ length values
+  pub last_is : 0 < count → last ≡ get_or values (count - 1) []
+
+-- the methods that the desk serves
+abbrev pub verb_of : List ℕ → Option Verb
+verb_of method =
+    if bytes_eq method (codes "GET") then Some Get else (if bytes_eq method (codes "POST") then Some Post else None)
+
+-- a body of this length: more than a mebibyte is refused
+abbrev pub by_length : Option ℕ → Verdict
+by_length None = Reject 400
+by_length (Some n) = if nat_lt 1048576 n then Reject 413 else Run n
+
+-- by the values of Content-Length, of which there must be one
+abbrev pub by_lengths : List (List ℕ) → Verdict
+by_lengths [] = Reject 411
+by_lengths (value ∷ []) = by_length (body_length_of value)
+by_lengths (value ∷ (other ∷ more)) = Reject 400
+
+-- no transfer coding is taken
+abbrev pub by_codings : List (List ℕ) → List (List ℕ) → Verdict
+by_codings [] lengths = by_lengths lengths
+by_codings (coding ∷ more) lengths = Reject 501
+
+-- by the fields of a command
+abbrev pub command_verdict : List Pair → Verdict
+command_verdict fields =
+    by_codings (values_of (codes "Transfer-Encoding") fields) (values_of (codes "Content-Length") fields)
+
+-- by what the target names, and the method that its route is for
+abbrev pub on_target : Verb → Option Target → List Pair → Verdict
+on_target verb None fields = Reject 404
+on_target Get (Some Commands) fields = NotAllowed Post
+on_target Post (Some Commands) fields = command_verdict fields
+on_target Get (Some (Text resource)) fields = Show resource
+on_target Post (Some (Text resource)) fields = NotAllowed Get
+
+abbrev pub on_verb : Option Verb → Option Target → List Pair → Verdict
+on_verb None target fields = Reject 501
+on_verb (Some verb) target fields = on_target verb target fields
+
+-- what a method, a target and fields decide: a refusal, a text to show, or a command's body of this length
+abbrev pub verdict_of : List ℕ → List ℕ → List Pair → Verdict
+verdict_of method target fields = on_verb (verb_of method) (target_of target) fields
+
+abbrev pub head_verdict : RequestHead → Verdict
+head_verdict h = verdict_of h.method h.target (map name_and_value h.fields)
+
+-- the bytes begin with the head h, which has at most 64 fields
+pub record HasHead (bytes : List ℕ) (h : RequestHead) : Type 0 where
+  pub reads : ReadsRequest bytes h (drop (length (print_request h)) bytes)
+  pub room : length h.fields ≤ 64
+
+-- the window begins with a head of this length, which decides this
+pub record Decides (bytes : List ℕ) (len : ℕ) (verdict : Verdict) : Type 0 where
+  pub head : RequestHead
+  pub has : HasHead (window bytes) head
+  pub len_is : len ≡ length (print_request head)
+  pub verdict_is : verdict ≡ head_verdict head
+
+-- what the bytes are so far: a whole head; no head, and none of at most 64 fields whatever bytes come; or none yet, and one may come
+abbrev pub IsJudgement : List ℕ → Judgement → Type 0
+IsJudgement bytes (Whole len verdict) = Decides bytes len verdict
+IsJudgement bytes Malformed = RequestOverflows 64 (window bytes)
+IsJudgement bytes Unfinished = HasNoRequest (window bytes) × MayBecomeRequest (window bytes)
+
+-- a body is no longer than a mebibyte
+abbrev pub IsSmall : Verdict → Type 0
+IsSmall (Reject status) = ⊤
+IsSmall (NotAllowed verb) = ⊤
+IsSmall (Show resource) = ⊤
+IsSmall (Run n) = n ≤ 1048576
+
+-- a whole head lies in the bytes and in the limits
+abbrev pub IsInside : List ℕ → Judgement → Type 0
+IsInside bytes (Whole len verdict) = (len ≤ length bytes) × (len ≤ 8192) × IsSmall verdict
+IsInside bytes Malformed = ⊤
+IsInside bytes Unfinished = ⊤
+
+-- the window ends within a target, or a head with more than 64 fields may still come: the reader of heads may then refuse the bytes or ask for more
+abbrev pub IsOpen : List ℕ → Type 0
+IsOpen bytes =
+    EndsInTarget (window bytes)
+    ⊎ ((more : List ℕ) × (h : RequestHead) × ReadsRequest (window bytes ++ more) h [] × (64 < length h.fields))
+
+-- elsewhere the same bytes are judged in one way
+abbrev pub JudgedInOneWay : Type 0
+JudgedInOneWay =
+    (bytes : List ℕ) (j k : Judgement) → IsJudgement bytes j → IsJudgement bytes k → (j ≡ k) ⊎ IsOpen bytes

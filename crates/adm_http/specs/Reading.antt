@@ -1,0 +1,97 @@
+-- Where reading a request stops, and what serving one leaves.
+use Rattle.std.specs.Prelude.{◌≡◌, ℕ, ◌+◌, ◌<◌, ◌≤◌, ◌⊎◌, Bool, true, false, List, ◌++◌, length, take, drop, Option, Result, Ok, Err, ⊤}
+use Rattle.std.specs.Io.KnownBytes.{Consumes, Appends, Keeps, IsAtEnd}
+use Rattle.adm_http.specs.Heads.{IsJudgement}
+use Rattle.adm_http.specs.Responses.{Responds}
+use Rattle.adm_http.specs.declared.heads.Verdict.{Verdict}
+use Rattle.adm_http.specs.declared.heads.Verdict.TheVariants.{Reject, NotAllowed, Show, Run}
+use Rattle.adm_http.specs.declared.heads.Judgement.{Judgement}
+use Rattle.adm_http.specs.declared.heads.Judgement.TheVariants.{Whole, Malformed, Unfinished}
+use Rattle.adm_http.specs.declared.targets.Resource.{Resource}
+use Rattle.adm_http.specs.declared.reply.LineAnswer.{LineAnswer}
+use Rattle.adm_http.specs.declared.answering.Shown.{Shown}
+use Rattle.adm_http.specs.declared.serve.ServeFault.{ServeFault}
+use Rattle.adm_http.specs.declared.serve.ServeFault.TheVariants.{Read, Write, Memory}
+
+-- the body has its length, or none is needed
+abbrev pub HasBody : List ℕ → Verdict → Type 0
+HasBody rest (Reject status) = ⊤
+HasBody rest (NotAllowed verb) = ⊤
+HasBody rest (Show resource) = ⊤
+HasBody rest (Run n) = n ≤ length rest
+
+-- no more bytes are needed: the head is whole and its body is there or none is needed, no head can come, or 8,192 bytes hold no whole head
+abbrev pub IsSettled : List ℕ → Judgement → Type 0
+IsSettled bytes (Whole len verdict) = HasBody (drop len bytes) verdict
+IsSettled bytes Malformed = ⊤
+IsSettled bytes Unfinished = 8192 ≤ length bytes
+
+-- reading may stop: the bytes may be judged as settled
+abbrev pub MayStop : List ℕ → Type 0
+MayStop bytes = (judgement : Judgement) × IsJudgement bytes judgement × IsSettled bytes judgement
+
+-- reading must have stopped: the bytes are settled, however they are judged
+abbrev pub MustStop : List ℕ → Type 0
+MustStop bytes = (judgement : Judgement) → IsJudgement bytes judgement → IsSettled bytes judgement
+
+-- reading may go on: the bytes may be judged as not settled
+abbrev pub MayGoOn : List ℕ → Type 0
+MayGoOn bytes = (judgement : Judgement) × IsJudgement bytes judgement × ¬ (IsSettled bytes judgement)
+
+-- reading may go on until there are this many bytes, whatever they are, and there are fewer
+pub record GoesOnTo (total : ℕ) (bytes : List ℕ) : Type 0 where
+  pub fewer : length bytes < total
+  pub limit : total ≤ 1056768
+  pub on : (more : List ℕ) → length (bytes ++ more) < total → MayGoOn (bytes ++ more)
+
+-- at most 8,192 bytes were read past the first place where reading must have stopped
+abbrev pub IsNotFarPast : List ℕ → Type 0
+IsNotFarPast got = (n : ℕ) → n ≤ length got → MustStop (take n got) → length got ≤ n + 8192
+
+-- a request was read from the reader's bytes: these, up to a place where reading may stop or to the end
+pub record HasRead (old new : Option (List ℕ)) (got : List ℕ) : Type 0 where
+  pub consumed : Consumes old new got
+  pub near : IsNotFarPast got
+  pub stopped : MayStop got ⊎ IsAtEnd new
+
+-- reading stopped at a fault
+pub record HasReadSome (old new : Option (List ℕ)) (got : List ℕ) : Type 0 where
+  pub consumed : Consumes old new got
+  pub near : IsNotFarPast got
+
+-- a beginning of the bytes was written
+abbrev pub WritesFront : Option (List ℕ) → Option (List ℕ) → List ℕ → Type 0
+WritesFront old new bytes = (n : ℕ) × Appends old new (take n bytes)
+
+module _ {S : Type 0} (runs : S → List ℕ → LineAnswer → S → Type 0) (shows : S → Resource → Shown → Type 0) where
+  -- what serving one request leaves of the desk, the reader and the writer
+  abbrev pub Served : S → S → Option (List ℕ) → Option (List ℕ) → Option (List ℕ) → Option (List ℕ) → Result ℕ ServeFault → Type 0
+  -- the response to the bytes that were read was written, and this is its length
+  Served old new unread left was written (Ok n) =
+      (got : List ℕ) × (output : List ℕ) × HasRead unread left got × Responds runs shows old got output new
+      × Appends was written output × (n ≡ length output)
+  -- a beginning of it was written
+  Served old new unread left was written (Err Write) =
+      (got : List ℕ) × (output : List ℕ) × HasRead unread left got × Responds runs shows old got output new
+      × WritesFront was written output
+  -- no command was run, and nothing was written
+  Served old new unread left was written (Err Read) =
+      (got : List ℕ) × HasReadSome unread left got × (new ≡ old) × Keeps was written
+  -- nothing was written; the desk is as before, or as a response to the bytes says
+  Served old new unread left was written (Err Memory) =
+      (got : List ℕ) × HasReadSome unread left got × Keeps was written
+      × ((new ≡ old) ⊎ ((output : List ℕ) × HasRead unread left got × Responds runs shows old got output new))
+
+-- whether the fault is the reader's
+abbrev pub is_read_fault : {A : Type 0} → Result A ServeFault → Bool
+is_read_fault (Ok a) = false
+is_read_fault (Err Read) = true
+is_read_fault (Err Write) = false
+is_read_fault (Err Memory) = false
+
+-- whether the fault is the writer's
+abbrev pub is_write_fault : {A : Type 0} → Result A ServeFault → Bool
+is_write_fault (Ok a) = false
+is_write_fault (Err Read) = false
+is_write_fault (Err Write) = true
+is_write_fault (Err Memory) = false

@@ -1,0 +1,66 @@
+-- The response to a request.
+use Rattle.std.specs.Prelude.{◌≡◌, ℕ, List, [], ◌∷◌, length, take, drop, nat_le, if◌then◌else◌, MatchBool, string_bytes}
+use Rattle.adm_http.specs.Heads.{IsJudgement}
+use Rattle.adm_wire.specs.Texts.{memory_text, failed_text}
+use Rattle.adm_http.specs.Replies.{line_text, status_of}
+use Rattle.adm_http.specs.Texts.{Response, response_bytes, json, bare, not_allowed}
+use Rattle.adm_http.specs.declared.targets.Resource.{Resource}
+use Rattle.adm_http.specs.declared.targets.Resource.TheVariants.{ChildState, ChildLetter, WaitingList, RoundReport}
+use Rattle.adm_http.specs.declared.heads.Verdict.{Verdict}
+use Rattle.adm_http.specs.declared.heads.Verdict.TheVariants.{Reject, NotAllowed, Show, Run}
+use Rattle.adm_http.specs.declared.heads.Judgement.{Judgement}
+use Rattle.adm_http.specs.declared.heads.Judgement.TheVariants.{Whole, Malformed, Unfinished}
+use Rattle.adm_http.specs.declared.responses.Media.TheVariants.{Json, PlainText}
+use Rattle.adm_http.specs.declared.responses.Media.{Media}
+use Rattle.adm_http.specs.declared.answering.Shown.{Shown}
+use Rattle.adm_http.specs.declared.answering.Shown.TheVariants as shown
+use Rattle.adm_http.specs.declared.reply.LineAnswer.{LineAnswer}
+
+-- the response to what running a body as a command answered: its text
+abbrev pub of_answer : LineAnswer → Response
+of_answer answer = json (status_of answer) (line_text answer)
+
+-- a child's state is JSON, and what people read is text
+abbrev pub media_of : Resource → Media
+media_of (ChildState child) = Json
+media_of (ChildLetter child) = PlainText
+media_of (WaitingList school) = PlainText
+media_of (RoundReport round) = PlainText
+
+-- the response to what asking for a text gave
+abbrev pub of_shown : Resource → Shown → Response
+of_shown resource (shown.Text text) = record (json 200 (string_bytes text)) { media = media_of resource }
+of_shown resource shown.Missing = bare 404
+of_shown resource shown.Memory = json 503 memory_text
+of_shown resource shown.Failed = json 503 failed_text
+
+-- `runs old body answer new`: running the body as a command may answer this, and leave `new`; `shows old resource text`: asking for a text may give this
+module _ {S : Type 0} (runs : S → List ℕ → LineAnswer → S → Type 0) (shows : S → Resource → Shown → Type 0) where
+  -- what a verdict on a head makes of the bytes that follow the head: at most the one command is run
+  abbrev pub Carries : S → List ℕ → Verdict → Response → S → Type 0
+  Carries old rest (Reject status) response new = (response ≡ bare status) × (new ≡ old)
+  Carries old rest (NotAllowed verb) response new = (response ≡ not_allowed verb) × (new ≡ old)
+  Carries old rest (Show resource) response new =
+      (text : Shown) × shows old resource text × (response ≡ of_shown resource text) × (new ≡ old)
+  Carries old rest (Run n) response new =
+      MatchBool (nat_le n (length rest))
+      ((answer : LineAnswer) × runs old (take n rest) answer new × (response ≡ of_answer answer))
+      ((response ≡ bare 400) × (new ≡ old))
+
+  -- by what the bytes are judged to be
+  abbrev pub OnJudgement : S → List ℕ → Judgement → Response → S → Type 0
+  OnJudgement old input (Whole len verdict) response new = Carries old (drop len input) verdict response new
+  OnJudgement old input Malformed response new = (response ≡ bare 400) × (new ≡ old)
+  OnJudgement old input Unfinished response new =
+      (response ≡ bare (if nat_le 8192 (length input) then 431 else 400)) × (new ≡ old)
+
+  -- the request that the bytes are may be answered by this response, and leave that desk
+  abbrev pub Answers : S → List ℕ → Response → S → Type 0
+  Answers old input response new =
+      (judgement : Judgement) × IsJudgement input judgement × OnJudgement old input judgement response new
+
+  -- the bytes of the response; no bytes get none
+  abbrev pub Responds : S → List ℕ → List ℕ → S → Type 0
+  Responds old [] output new = (output ≡ []) × (new ≡ old)
+  Responds old (b ∷ input) output new =
+      (response : Response) × Answers old (b ∷ input) response new × (output ≡ response_bytes response)

@@ -1,0 +1,72 @@
+-- The targets of the five routes, and what each names.
+use Rattle.std.specs.Prelude.{ℕ, ◌==◌, ◌&&◌, List, [], ◌∷◌, length, nat_lt, if◌then◌else◌, Option, Some, None, option_map, option_and_then, codes, bytes_eq}
+use Rattle.adm_types.specs.Numbers.{child_of}
+use Rattle.adm_types.specs.Code.{code_of}
+use Rattle.adm_types.specs.Fields.{plain_of}
+use Rattle.adm_http.specs.declared.targets.Route.{Route}
+use Rattle.adm_http.specs.declared.targets.Route.TheVariants.{Command, Child, Letter, Waiting, Round}
+use Rattle.adm_http.specs.declared.targets.Target.{Target}
+use Rattle.adm_http.specs.declared.targets.Target.TheVariants.{Commands, Text}
+use Rattle.adm_http.specs.declared.targets.Resource.TheVariants.{ChildState, ChildLetter, WaitingList, RoundReport}
+
+-- what follows the text, where the bytes begin with it
+abbrev pub after : List ℕ → List ℕ → Option (List ℕ)
+after [] bytes = Some bytes
+after (c ∷ text) [] = None
+after (c ∷ text) (b ∷ bytes) = if c == b then after text bytes else None
+
+-- the bytes before the first slash
+abbrev pub part_of : List ℕ → List ℕ
+part_of [] = []
+part_of (b ∷ bytes) = if b == 47 then [] else b ∷ part_of bytes
+
+-- the bytes from the first slash on
+abbrev pub tail_of : List ℕ → List ℕ
+tail_of [] = []
+tail_of (b ∷ bytes) = if b == 47 then b ∷ bytes else tail_of bytes
+
+-- a route, and the part of the target that its parameter takes
+abbrev pub Found : Type 0
+Found = Option (Route × List ℕ)
+
+-- the first of two that is found
+abbrev pub or_found : Found → Found → Found
+or_found None other = other
+or_found (Some found) other = Some found
+
+-- nothing may follow
+abbrev pub command_after : List ℕ → Found
+command_after rest = if bytes_eq rest [] then Some (Command, []) else None
+
+-- a part that is not empty, and then exactly this text
+abbrev pub with_part : Route → List ℕ → List ℕ → Found
+with_part route text rest =
+    if nat_lt 0 (length (part_of rest)) && bytes_eq (tail_of rest) text then Some (route, part_of rest) else None
+
+-- after /child/ a number, and the end or /letter
+abbrev pub child_after : List ℕ → Found
+child_after rest = or_found (with_part Letter (codes "/letter") rest) (with_part Child [] rest)
+
+-- the route of a target: /child/{no}, /child/{no}/letter, /command, /round/{no} or /school/{code}/waiting
+unfoldable pub route_of : List ℕ → Found
+route_of target =
+    or_found (option_and_then child_after (after (codes "/child/") target))
+    (or_found (option_and_then command_after (after (codes "/command") target))
+    (or_found (option_and_then (with_part Round []) (after (codes "/round/") target))
+    (option_and_then (with_part Waiting (codes "/waiting")) (after (codes "/school/") target))))
+
+-- a plain number from 1 to 9,999,999
+abbrev pub child_number_of : List ℕ → Option ℕ
+child_number_of text = option_and_then child_of (plain_of text)
+
+-- what the part of a route names, where it has the form that the route asks for
+abbrev pub named_by : Route × List ℕ → Option Target
+named_by (Command, part) = Some Commands
+named_by (Child, part) = option_map (λ n. Text (ChildState n)) (child_number_of part)
+named_by (Letter, part) = option_map (λ n. Text (ChildLetter n)) (child_number_of part)
+named_by (Waiting, part) = option_map (λ code. Text (WaitingList code)) (code_of part)
+named_by (Round, part) = option_map (λ n. Text (RoundReport n)) (plain_of part)
+
+-- what the target names, if it has a route
+abbrev pub target_of : List ℕ → Option Target
+target_of target = option_and_then named_by (route_of target)

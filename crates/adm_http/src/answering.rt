@@ -1,0 +1,42 @@
+// What requests are asked of.
+ghost use Rattle.std.specs.Prelude.{◌≡◌, List, ℕ};
+
+use crate::reply::LineAnswer;
+use crate::targets::Resource;
+use std::alloc::Global;
+
+/// What asking for a text gave.
+#[derive(Drop)]
+pub enum Shown {
+    Text(String),
+    /// There is no such child, school or round.
+    Missing,
+    Memory,
+    Failed,
+}
+
+/// What runs commands and shows texts.
+pub(crate) trait Answering {
+    ghost use Rattle.adm_http.specs.declared.reply.LineAnswer.{LineAnswer};
+    ghost use Rattle.adm_http.specs.declared.targets.Resource.{Resource};
+    ghost use Rattle.adm_http.specs.declared.answering.Shown.{Shown};
+
+    // What is asked, as contracts see it.
+    ghost View: { Type 0 };
+
+    ghost view: { Self → View };
+
+    // What running a body as a command may answer, and what is there then.
+    ghost runs: { View → List ℕ → LineAnswer → View → Type 0 };
+
+    // What asking for a text may give.
+    ghost shows: { View → Resource → Shown → Type 0 };
+
+    /// Reads the body as a command, and runs it.
+    fn run(&mut self, alloc: Global, body: &[u8]) -> LineAnswer
+        ensures { runs (view self.old) body.now result (view self.new) };
+
+    /// The text that is asked for.
+    fn show(&self, alloc: Global, resource: &Resource) -> Shown
+        ensures { shows (view self.now) resource.now result };
+}

@@ -1,0 +1,137 @@
+// One request of a connection: what is read, and what is written.
+ghost use Rattle.std.specs.Prelude.{◌≡◌, ◌≢◌, ◌||◌, ◌≤◌, ℕ, List, ◌++◌, length, MatchResult, MatchOption, MatchBool};
+ghost use Rattle.std.specs.Io.KnownBytes.{Consumes, Keeps, IsAtEnd};
+ghost use Rattle.adm_http.specs.Reading.{MayStop, GoesOnTo, IsNotFarPast, HasRead, HasReadSome, Served, is_read_fault, is_write_fault};
+
+use crate::answering::Answering;
+use crate::heads::{HEAD_LIMIT, Judgement, Verdict, judge};
+use crate::respond::respond;
+use crate::routes::Routes;
+use adm_wire::{Input, Output};
+use std::alloc::Global;
+
+/// Why a request was not served to its end.
+#[derive(Clone, Copy)]
+pub enum ServeFault {
+    /// The reader failed.
+    Read,
+    /// The writer failed.
+    Write,
+    /// There was no memory.
+    Memory,
+}
+
+/// Reads one request, runs at most its one command and writes the response. `Ok` gives how many
+/// bytes were written.
+pub(crate) fn serve<A: Answering, R: Input, W: Output>(
+    alloc: Global,
+    routes: &Routes,
+    desk: &mut A,
+    reader: &mut R,
+    writer: &mut W,
+) -> Result<usize, ServeFault>
+    ensures served { Served A.runs A.shows (A.view desk.old) (A.view desk.new) (R.remaining reader.old) (R.remaining reader.new)
+        (W.contents writer.old) (W.contents writer.new) result }
+    ensures reader { R.has_failed reader.new ≡ (R.has_failed reader.old || is_read_fault result) }
+    ensures writer { W.has_failed writer.new ≡ (W.has_failed writer.old || is_write_fault result) }
+{
+    let input = match read_request(alloc, routes, reader) {
+        Ok(input) => input,
+        Err(fault) => return Err(fault),
+    };
+    let Ok(output) = respond(alloc, routes, desk, &input) else {
+        return Err(ServeFault::Memory);
+    };
+    match writer.put(&output) {
+        Ok(()) => Ok(output.len()),
+        Err(_) => Err(ServeFault::Write),
+    }
+}
+
+// Reads until the bytes are settled, or to the end of the input.
+fn read_request<R: Input>(
+    alloc: Global,
+    routes: &Routes,
+    reader: &mut R,
+) -> Result<Vec<u8>, ServeFault>
+    ensures bytes { MatchResult result
+        (λ input. HasRead (R.remaining reader.old) (R.remaining reader.new) input.items)
+        (λ fault. (fault ≢ ServeFault.Write) × ((got : List ℕ) × HasReadSome (R.remaining reader.old) (R.remaining reader.new) got)) }
+    ensures reader { R.has_failed reader.new ≡ (R.has_failed reader.old || is_read_fault result) }
+{
+    let mut input = Vec::new(alloc);
+    while let Some(total) = wanted(routes, &input) {
+        match read_to(reader, &mut input, total) {
+            Ok(true) => {}
+            Ok(false) => return Ok(input),
+            Err(fault) => return Err(fault),
+        }
+    }
+    Ok(input)
+}
+
+// How many bytes there must be before the request can be settled; none where it is.
+fn wanted(routes: &Routes, input: &[u8]) -> Option<usize>
+    ensures { MatchOption result (MayStop input.now) (λ total. GoesOnTo total input.now) }
+{
+    match judge(routes, input) {
+        Judgement::Whole(len, Verdict::Run(length)) => {
+            let total = len + length as usize;
+            if input.len() < total {
+                Some(total)
+            } else {
+                None
+            }
+        }
+        Judgement::Whole(_, _) | Judgement::Malformed => None,
+        Judgement::Unfinished => {
+            if input.len() < HEAD_LIMIT {
+                Some(input.len() + 1)
+            } else {
+                None
+            }
+        }
+    }
+}
+
+// Reads until there are this many bytes (true), or to the end of the input.
+fn read_to<R: Input>(reader: &mut R, input: &mut Vec<u8>, total: usize) -> Result<bool, ServeFault>
+    requires on { GoesOnTo total input.old.items }
+    requires near { IsNotFarPast input.old.items }
+    ensures bytes { (more : List ℕ) × Consumes (R.remaining reader.old) (R.remaining reader.new) more
+        × (input.new.items ≡ input.old.items ++ more) × IsNotFarPast input.new.items }
+    ensures reached { MatchResult result
+        (λ reached. MatchBool reached (total ≤ length input.new.items) (IsAtEnd (R.remaining reader.new)))
+        (λ fault. fault ≢ ServeFault.Write) }
+    ensures reader { R.has_failed reader.new ≡ (R.has_failed reader.old || is_read_fault result) }
+{
+    while input.len() < total {
+        match read_more(reader, input) {
+            Ok(0) => return Ok(false),
+            Ok(_) => {}
+            Err(fault) => return Err(fault),
+        }
+    }
+    Ok(true)
+}
+
+// Reads up to 8,192 bytes more: none only at the end. Room for them is made first.
+fn read_more<R: Input>(reader: &mut R, input: &mut Vec<u8>) -> Result<usize, ServeFault>
+    ensures bytes { MatchResult result
+        (λ n. (more : List ℕ) × Consumes (R.remaining reader.old) (R.remaining reader.new) more
+        × (input.new.items ≡ input.old.items ++ more) × (n ≡ length more) × (n ≤ 8192)
+        × (n ≡ 0 → IsAtEnd (R.remaining reader.new)))
+        (λ fault. (fault ≢ ServeFault.Write) × (input.new.items ≡ input.old.items)
+        × Keeps (R.remaining reader.old) (R.remaining reader.new)) }
+    ensures reader { R.has_failed reader.new ≡ (R.has_failed reader.old || is_read_fault result) }
+{
+    let mut buffer = [0u8; 8192];
+    if input.reserve(buffer.len()).is_err() {
+        return Err(ServeFault::Memory);
+    }
+    let Ok(count) = reader.read_some(&mut buffer) else {
+        return Err(ServeFault::Read);
+    };
+    input.extend_from_slice(&buffer[..count]).unwrap();
+    Ok(count)
+}
