@@ -7,3 +7,5 @@ pub mod RouteLemmas
 pub mod WalkLemmas
 pub mod FormLemmas
 pub mod LawLemmas
+pub mod StateLemmas
+pub mod ShowLemmas

@@ -7,7 +7,7 @@ use Rattle.adm_http.specs.Texts.{Response, response_bytes, bare}
 use Rattle.adm_http.specs.Responses.{of_answer, Carries, Answers, Responds}
 use Rattle.adm_http.specs.declared.heads.Verdict.TheVariants.{Run}
 use Rattle.adm_http.specs.declared.targets.Resource.{Resource}
-use Rattle.adm_http.specs.declared.reply.LineAnswer.{LineAnswer}
+use Rattle.adm_desk.specs.declared.answer.LineAnswer.{LineAnswer}
 use Rattle.adm_http.specs.declared.answering.Shown.{Shown}
 
 -- a range from the start is the front

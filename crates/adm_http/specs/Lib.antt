@@ -6,3 +6,5 @@ pub mod Replies
 pub mod Texts
 pub mod Responses
 pub mod Reading
+pub mod States
+pub mod Shows

@@ -1,22 +1,11 @@
--- The texts and the status of what is answered to a body that is read as a command.
-use Rattle.std.specs.Prelude.{ℕ, List}
-use Rattle.adm_wire.specs.Texts.{reply_text, refusal_text, fault_text, memory_text, failed_text}
+-- The status of what is answered to a body that is read as a command.
+use Rattle.std.specs.Prelude.{ℕ}
 use Rattle.adm_wire.specs.declared.fault.WireFault.{WireFault}
 use Rattle.adm_wire.specs.declared.fault.WireFault.TheVariants as fault
-use Rattle.adm_http.specs.declared.reply.Answer.{Answer}
-use Rattle.adm_http.specs.declared.reply.Answer.TheVariants.{Done, Refused, Memory, Failed}
-use Rattle.adm_http.specs.declared.reply.LineAnswer.{LineAnswer}
-use Rattle.adm_http.specs.declared.reply.LineAnswer.TheVariants.{Handled, Faulty}
-
-abbrev pub answer_text : Answer → List ℕ
-answer_text (Done reply) = reply_text reply
-answer_text (Refused refusal row) = refusal_text refusal row
-answer_text Memory = memory_text
-answer_text Failed = failed_text
-
-abbrev pub line_text : LineAnswer → List ℕ
-line_text (Handled answer) = answer_text answer
-line_text (Faulty f) = fault_text f
+use Rattle.adm_desk.specs.declared.answer.Answer.{Answer}
+use Rattle.adm_desk.specs.declared.answer.Answer.TheVariants.{Done, Refused, Memory, Failed}
+use Rattle.adm_desk.specs.declared.answer.LineAnswer.{LineAnswer}
+use Rattle.adm_desk.specs.declared.answer.LineAnswer.TheVariants.{Handled, Faulty}
 
 -- the status of what a command came to
 abbrev pub status_of_command : Answer → ℕ

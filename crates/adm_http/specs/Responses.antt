@@ -2,7 +2,8 @@
 use Rattle.std.specs.Prelude.{◌≡◌, ℕ, List, [], ◌∷◌, length, take, drop, nat_le, if◌then◌else◌, MatchBool, string_bytes}
 use Rattle.adm_http.specs.Heads.{IsJudgement}
 use Rattle.adm_wire.specs.Texts.{memory_text, failed_text}
-use Rattle.adm_http.specs.Replies.{line_text, status_of}
+use Rattle.adm_desk.specs.Lines.{line_text}
+use Rattle.adm_http.specs.Replies.{status_of}
 use Rattle.adm_http.specs.Texts.{Response, response_bytes, json, bare, not_allowed}
 use Rattle.adm_http.specs.declared.targets.Resource.{Resource}
 use Rattle.adm_http.specs.declared.targets.Resource.TheVariants.{ChildState, ChildLetter, WaitingList, RoundReport}
@@ -14,7 +15,7 @@ use Rattle.adm_http.specs.declared.responses.Media.TheVariants.{Json, PlainText}
 use Rattle.adm_http.specs.declared.responses.Media.{Media}
 use Rattle.adm_http.specs.declared.answering.Shown.{Shown}
 use Rattle.adm_http.specs.declared.answering.Shown.TheVariants as shown
-use Rattle.adm_http.specs.declared.reply.LineAnswer.{LineAnswer}
+use Rattle.adm_desk.specs.declared.answer.LineAnswer.{LineAnswer}
 
 -- the response to what running a body as a command answered: its text
 abbrev pub of_answer : LineAnswer → Response

@@ -1,8 +1,8 @@
 // What requests are asked of.
 ghost use Rattle.std.specs.Prelude.{◌≡◌, List, ℕ};
 
-use crate::reply::LineAnswer;
 use crate::targets::Resource;
+use adm_desk::LineAnswer;
 use std::alloc::Global;
 
 /// What asking for a text gave.
@@ -17,7 +17,7 @@ pub enum Shown {
 
 /// What runs commands and shows texts.
 pub(crate) trait Answering {
-    ghost use Rattle.adm_http.specs.declared.reply.LineAnswer.{LineAnswer};
+    ghost use Rattle.adm_desk.specs.declared.answer.LineAnswer.{LineAnswer};
     ghost use Rattle.adm_http.specs.declared.targets.Resource.{Resource};
     ghost use Rattle.adm_http.specs.declared.answering.Shown.{Shown};
 

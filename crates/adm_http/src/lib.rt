@@ -2,16 +2,19 @@
 #![tactic(auto)]
 
 mod answering;
+mod desk;
 mod heads;
 mod laws;
 mod lengths;
-mod reply;
 mod respond;
 mod responses;
 mod routes;
 mod serve;
+mod shows;
+mod states;
 mod targets;
 
+pub use desk::{answer, serve_one};
 pub use laws::judged_in_one_way;
 pub use routes::Routes;
 pub use serve::ServeFault;

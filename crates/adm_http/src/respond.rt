@@ -6,10 +6,10 @@ ghost use Rattle.adm_http.specs.Responses.{of_answer, of_shown, media_of, Carrie
 
 use crate::answering::{Answering, Shown};
 use crate::heads::{HEAD_LIMIT, Judgement, Verdict, judge};
-use crate::reply::{Answer, LineAnswer};
 use crate::responses::{Media, bare, response};
 use crate::routes::Routes;
 use crate::targets::Resource;
+use adm_desk::{Answer, LineAnswer};
 use adm_wire::{WireFault, failed_text, memory_text};
 use http::StatusCode;
 use std::alloc::{AllocError, Global};

@@ -9,15 +9,19 @@ use crate::respond::respond;
 use crate::routes::Routes;
 use adm_wire::{Input, Output};
 use std::alloc::Global;
+use thiserror::Error;
 
 /// Why a request was not served to its end.
-#[derive(Clone, Copy)]
+#[derive(Clone, Copy, Debug, PartialEq, Eq, Error)]
 pub enum ServeFault {
-    /// The reader failed.
+    /// The reader failed, before a command was run.
+    #[error("Read")]
     Read,
-    /// The writer failed.
+    /// The writer failed, after the request was answered.
+    #[error("Write")]
     Write,
-    /// There was no memory.
+    /// Memory ran out, before or after the request was answered.
+    #[error("Memory")]
     Memory,
 }
 

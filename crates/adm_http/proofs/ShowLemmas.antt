@@ -1,0 +1,46 @@
+-- What is shown of a desk.
+use Rattle.std.proofs.Common.{◌≡◌, ℕ, List, Option, Some, None, Result, Ok, Err, Bool, true, false, cond, refl, sym, ap, ◌∙◌, subst}
+use Rattle.std.specs.Prelude.{MatchBool}
+use Rattle.std.specs.declared.string.String.{String}
+use Rattle.adm_register.specs.State.{State}
+use Rattle.adm_desk.specs.Standing.{Standing}
+use Rattle.adm_letters.specs.Answers.{Gives}
+use Rattle.adm_letters.specs.declared.fault.LetterFault.{LetterFault}
+use Rattle.adm_letters.specs.declared.fault.LetterFault.TheVariants as letter
+use Rattle.adm_http.specs.Shows.{text_in, IsShown, IsShownAs, Shows}
+use Rattle.adm_http.specs.declared.answering.Shown.{Shown}
+use Rattle.adm_http.specs.declared.answering.Shown.TheVariants.{Text, Missing, Memory, Failed}
+use Rattle.adm_http.specs.declared.targets.Resource.{Resource}
+
+-- what was given is shown
+pub given_shown : {A : Type 0} (text : Option (List ℕ)) (fault : LetterFault) (given : Result (String A) LetterFault) (shown : Shown)
+    → (fault ≡ letter.Memory → ⊥) → Gives text fault given → IsShownAs given shown → IsShown text shown
+given_shown (Some text) fault (Ok given) (Text made) other gives is = ap Some (sym gives ∙ sym is)
+given_shown None fault (Ok given) (Text made) other gives is = absurd gives
+given_shown text fault (Ok given) Missing other gives is = absurd is
+given_shown text fault (Ok given) Memory other gives is = absurd is
+given_shown text fault (Ok given) Failed other gives is = absurd is
+given_shown text fault (Err e) (Text made) other gives is = absurd is
+given_shown (Some text) fault (Err e) Missing other gives is = absurd (is gives)
+given_shown None fault (Err e) Missing other gives is = refl
+given_shown (Some text) fault (Err e) Memory other gives is = (text, refl)
+given_shown None fault (Err e) Memory other gives is = absurd (other (sym gives ∙ is))
+given_shown text fault (Err e) Failed other gives is = absurd is
+
+module _ {C : Type 0} (desk : Standing C) (resource : Resource) where
+  -- of a desk that has not failed its register is shown
+  pub shows_register : (register : State) (shown : Shown) → Some register ≡ cond desk.failed None (Some desk.register)
+      → IsShown (text_in register resource) shown → Shows desk resource shown
+  shows_register register shown found is = by desk.failed found
+    where
+      by : (v : Bool) → Some register ≡ cond v None (Some desk.register) → MatchBool v (shown ≡ Failed) (IsShown (text_in desk.register resource) shown)
+      by true e = absurd (cc e)
+      by false e = subst (λ r. IsShown (text_in r resource) shown) (cc e) is
+
+  -- of a desk that has failed nothing is
+  pub shows_failed : None ≡ cond desk.failed None (Some desk.register) → Shows desk resource Failed
+  shows_failed found = by desk.failed found
+    where
+      by : (v : Bool) → None ≡ cond v None (Some desk.register) → MatchBool v (Failed ≡ Failed) (IsShown (text_in desk.register resource) Failed)
+      by true e = refl
+      by false e = absurd (cc e)

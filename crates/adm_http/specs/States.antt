@@ -1,0 +1,56 @@
+-- The state of a child: its place, and where it waits, as JSON. This profile's own form.
+use Rattle.std.specs.Prelude.{ℕ, List, ◌++◌, Option, Some, None, option_map, codes, decimal}
+use Rattle.std.specs.List.{filter_map, join_by}
+use Rattle.std.specs.FinMap.{get}
+use Rattle.adm_types.specs.declared.rows.Place.{Place}
+use Rattle.adm_types.specs.declared.rows.PlaceState.{PlaceState}
+use Rattle.adm_types.specs.declared.rows.PlaceState.TheVariants.{Offered, Accepted, Plan}
+use Rattle.adm_register.specs.State.{State}
+use Rattle.adm_register.specs.Rows.{place_of}
+use Rattle.adm_register.specs.Wanted.{wanted}
+use Rattle.adm_register.specs.Waits.{standing_of}
+
+-- how a child holds its place
+abbrev pub kind_of : PlaceState → List ℕ
+kind_of (Offered day reminded) = codes "offered"
+kind_of Accepted = codes "accepted"
+kind_of Plan = codes "plan"
+
+-- a place of this kind at a school
+abbrev pub held_json : List ℕ → List ℕ → List ℕ
+held_json kind school = codes "{\"kind\":\"" ++ (kind ++ (codes "\",\"school\":\"" ++ (school ++ codes "\"}")))
+
+abbrev pub place_json : Option Place → List ℕ
+place_json None = codes "null"
+place_json (Some place) = held_json (kind_of place.state) place.school
+
+-- where a child waits: the school, and its position there
+pub record Wait : Type 0 where
+  pub school : List ℕ
+  pub position : ℕ
+
+abbrev pub wait_json : Wait → List ℕ
+wait_json wait = codes "{\"position\":" ++ (decimal wait.position ++ (codes ",\"school\":\"" ++ (wait.school ++ codes "\"}")))
+
+-- at the school, if the child waits there
+abbrev pub wait_at : State → ℕ → List ℕ → Option Wait
+wait_at s child code = option_map (λ standing. record { school = code; position = standing.position }) (standing_of s child code)
+
+-- where the child waits, in the order of its own list
+abbrev pub waits_of : State → ℕ → List Wait
+waits_of s child = filter_map (wait_at s child) (wanted s child)
+
+-- with a comma between each two
+abbrev pub waits_json : List Wait → List ℕ
+waits_json waits = join_by wait_json (codes ",") waits
+
+-- a child's number, its place, and where it waits
+abbrev pub state_json : ℕ → List ℕ → List ℕ → List ℕ
+state_json child place waits = codes "{\"child\":" ++ (decimal child ++ (codes ",\"place\":" ++ (place ++ (codes ",\"waiting\":[" ++ (waits ++ codes "]}")))))
+
+abbrev pub child_json : State → ℕ → List ℕ
+child_json s child = state_json child (place_json (place_of s child)) (waits_json (waits_of s child))
+
+-- the state of the child of a number, if there is such a child
+abbrev pub child_text : State → ℕ → Option (List ℕ)
+child_text s number = option_map (λ child. child_json s number) (get s.children number)

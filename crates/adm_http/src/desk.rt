@@ -1,0 +1,80 @@
+// Requests answered and served over a desk.
+ghost use Rattle.std.specs.Prelude.{◌≡◌, ◌||◌, IfOk, ℕ, List};
+ghost use Rattle.sqlite.specs.Held.{Held, state};
+ghost use Rattle.adm_desk.specs.Standing.{Handles, Standing};
+ghost use Rattle.adm_desk.specs.Lines.{AnswersLine};
+ghost use Rattle.adm_http.specs.Responses.{Responds};
+ghost use Rattle.adm_http.specs.Reading.{Served, is_read_fault, is_write_fault};
+ghost use Rattle.adm_http.specs.Shows.{Shows};
+
+use crate::answering::{Answering, Shown};
+use crate::respond::respond;
+use crate::routes::Routes;
+use crate::serve::{ServeFault, serve};
+use crate::shows::show;
+use crate::targets::Resource;
+use adm_desk::{Desk, LineAnswer};
+use adm_wire::{Input, Output, read_command};
+use sqlite::Alter;
+use std::alloc::{AllocError, Global};
+
+/// The bytes of the response to the request that the input is, and none to no bytes. At most one
+/// command is handled, as by `Desk::handle`.
+///
+/// The `Err` is want of memory for the response: the desk is then as after a response to this
+/// request, so that its one command may have been handled, and stands.
+pub fn answer<S: Alter>(
+    alloc: Global,
+    routes: &Routes,
+    desk: &mut Desk<S>,
+    input: &[u8],
+) -> Result<Vec<u8>, AllocError>
+    ensures { (output : List ℕ) × Responds (AnswersLine (Handles (state S.Store))) Shows desk.old input.now output desk.new
+        × IfOk result (λ bytes. bytes.items ≡ output) }
+{
+    respond(alloc, routes, desk, input)
+}
+
+/// Reads one request, answers it and writes the response. `Ok` gives how many bytes were written.
+///
+/// Reading stops where the head is whole and the body has its length or needs none, where no head
+/// can come, where 8,192 bytes hold no whole head, or at the end of the input, and at most 8,192
+/// bytes are read past the first such place.
+pub fn serve_one<S: Alter, R: Input, W: Output>(
+    alloc: Global,
+    routes: &Routes,
+    desk: &mut Desk<S>,
+    reader: &mut R,
+    writer: &mut W,
+) -> Result<usize, ServeFault>
+    ensures served { Served (AnswersLine (Handles (state S.Store))) Shows desk.old desk.new (R.remaining reader.old) (R.remaining reader.new)
+        (W.contents writer.old) (W.contents writer.new) result }
+    ensures reader { R.has_failed reader.new ≡ (R.has_failed reader.old || is_read_fault result) }
+    ensures writer { W.has_failed writer.new ≡ (W.has_failed writer.old || is_write_fault result) }
+{
+    serve(alloc, routes, desk, reader, writer)
+}
+
+impl<S: Alter> Answering for Desk<S> {
+    ghost View = { Standing (Held S) };
+
+    ghost view = { λ desk. desk };
+
+    ghost runs = { AnswersLine (Handles (state S.Store)) };
+
+    ghost shows = { Shows };
+
+    fn run(&mut self, alloc: Global, body: &[u8]) -> LineAnswer {
+        match read_command(alloc, body) {
+            Ok(command) => LineAnswer::Handled(self.handle(&command)),
+            Err(fault) => LineAnswer::Faulty(fault),
+        }
+    }
+
+    fn show(&self, alloc: Global, resource: &Resource) -> Shown {
+        match self.register() {
+            Some(register) => show(alloc, register, resource),
+            None => Shown::Failed,
+        }
+    }
+}

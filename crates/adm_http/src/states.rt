@@ -1,0 +1,105 @@
+// The state of a child: its place, and where it waits, as JSON.
+ghost use Rattle.std.specs.Prelude.{◌≡◌, IfOk, map, string_bytes};
+ghost use Rattle.std.specs.List.{filter_map};
+ghost use Rattle.adm_letters.specs.Answers.{Gives};
+ghost use Rattle.adm_letters.specs.declared.fault.LetterFault.TheVariants.{UnknownChild};
+ghost use Rattle.adm_http.specs.States.{kind_of, held_json, place_json, Wait, wait_json, wait_at, waits_of, waits_json, state_json, child_json, child_text};
+
+use adm_letters::LetterFault;
+use adm_register::Register;
+use adm_types::{ChildNo, Place, PlaceState, SchoolCode};
+use std::alloc::{AllocError, Global};
+
+/// The state of the child of this number. It takes memory for the text and, for each school that the
+/// child wants, for a pointer to each application and for each child that waits there.
+///
+/// Where it is an error, there is no such child (`UnknownChild`), or memory ran out.
+pub(crate) fn child_text(
+    alloc: Global,
+    register: &Register,
+    child: ChildNo,
+) -> Result<String, LetterFault>
+    ensures { Gives (child_text register.now child) UnknownChild result }
+{
+    match register.child(child) {
+        Some(_) => Ok(known_child_text(alloc, register, child)?),
+        None => Err(LetterFault::UnknownChild),
+    }
+}
+
+fn known_child_text(
+    alloc: Global,
+    register: &Register,
+    child: ChildNo,
+) -> Result<String, AllocError>
+    ensures { IfOk result (λ text. string_bytes text ≡ child_json register.now child) }
+{
+    let place = place_text(alloc, register.place(child))?;
+    let waits = waits_text(alloc, register, child)?;
+    state_text(alloc, child, place.as_str(), waits.as_str())
+}
+
+fn state_text(alloc: Global, child: ChildNo, place: &str, waits: &str) -> Result<String, AllocError>
+    ensures { IfOk result (λ text. string_bytes text ≡ state_json child place.now waits.now) }
+{
+    let number = child.get();
+    format!(in alloc; "{{\"child\":{number},\"place\":{place},\"waiting\":[{waits}]}}")
+}
+
+fn place_text(alloc: Global, place: Option<Place>) -> Result<String, AllocError>
+    ensures { IfOk result (λ text. string_bytes text ≡ place_json place) }
+{
+    match place {
+        None => String::from_str(alloc, "null"),
+        Some(place) => held_text(alloc, kind(place.state), place.school.as_str()),
+    }
+}
+
+fn held_text(alloc: Global, kind: &str, school: &str) -> Result<String, AllocError>
+    ensures { IfOk result (λ text. string_bytes text ≡ held_json kind.now school.now) }
+{
+    format!(in alloc; "{{\"kind\":\"{kind}\",\"school\":\"{school}\"}}")
+}
+
+// How a place is held, in a word.
+fn kind(state: PlaceState) -> &'static str
+    ensures { result.now ≡ kind_of state }
+{
+    match state {
+        PlaceState::Offered { .. } => "offered",
+        PlaceState::Accepted => "accepted",
+        PlaceState::Plan => "plan",
+    }
+}
+
+fn waits_text(alloc: Global, register: &Register, child: ChildNo) -> Result<String, AllocError>
+    ensures { IfOk result (λ text. string_bytes text ≡ waits_json (waits_of register.now child)) }
+{
+    let schools = register.wanted(alloc, child)?;
+    let waits = waits_at(alloc, register, child, &schools)?;
+    waits.join(alloc, ",")
+}
+
+// A text for each of the schools at which the child waits.
+fn waits_at(
+    alloc: Global,
+    register: &Register,
+    child: ChildNo,
+    schools: &[SchoolCode],
+) -> Result<Vec<String>, AllocError>
+    ensures { IfOk result (λ texts. map string_bytes texts.items ≡ map wait_json (filter_map (wait_at register.now child) schools.now)) }
+{
+    let mut waits = Vec::new(alloc);
+    for school in schools {
+        if let Some(standing) = register.standing(alloc, child, *school)? {
+            waits.push(wait_text(alloc, school.as_str(), standing.position)?)?;
+        }
+    }
+    Ok(waits)
+}
+
+fn wait_text(alloc: Global, school: &str, position: usize) -> Result<String, AllocError>
+    ensures { IfOk result (λ text. string_bytes text ≡ wait_json (record { school = school.now; position = position })) }
+{
+    format!(in alloc; "{{\"position\":{position},\"school\":\"{school}\"}}")
+}
