@@ -8,3 +8,4 @@ pub mod Responses
 pub mod Reading
 pub mod States
 pub mod Shows
+pub mod Connections

@@ -6,6 +6,7 @@ mod desk;
 mod heads;
 mod laws;
 mod lengths;
+mod listen;
 mod respond;
 mod responses;
 mod routes;
@@ -16,5 +17,6 @@ mod targets;
 
 pub use desk::{answer, serve_one};
 pub use laws::judged_in_one_way;
+pub use listen::serve_on;
 pub use routes::Routes;
 pub use serve::ServeFault;
