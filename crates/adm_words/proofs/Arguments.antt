@@ -1,5 +1,5 @@
 -- Arguments that take one value: in words without a fault each required one has a value, which passes.
-use Rattle.std.proofs.Common.{◌≡◌, ◌∙◌, ℕ, Bool, true, false, true≢false, refl, ap, List, [], ◌∷◌, length, Some}
+use Rattle.std.proofs.Common.{◌≡◌, ◌∙◌, ℕ, Bool, true, false, true≢false, refl, ap, List, [], ◌∷◌, length, Option, Some, None}
 use Rattle.std.specs.Prelude.{if◌then◌else◌, ◌&&◌, not}
 use Rattle.std.specs.Str.{bytes_eq}
 use Rattle.clap.specs.Kinds.{range_kinds, value_kinds}
@@ -16,8 +16,17 @@ use Rattle.adm_words.specs.Program.{program_app}
 use Rattle.adm_words.proofs.FoundRows.{nonempty, both_empty, row_passes, fresh}
 use Rattle.adm_words.proofs.Faultless.{UsesWell}
 
+-- an argument of one value, by its long name, its place, and whether it is required
+abbrev single : Text → Option Text → Option ℕ → Bool → ValueParser → Rule
+single id long index required p = record (new_rule id) { long = long; index = index; action = Some Set; range = Some (record { start_inclusive = 1; end_inclusive = 1 }); value_names = 1; parser = Some p; required = required }
+
+-- a required argument at this place
 abbrev pub taken : Text → ℕ → ValueParser → Rule
-taken id i p = record (new_rule id) { index = Some i; action = Some Set; range = Some (record { start_inclusive = 1; end_inclusive = 1 }); value_names = 1; parser = Some p; required = true }
+taken id i p = single id None (Some i) true p
+
+-- an option that may be left out
+abbrev pub optional : Text → ValueParser → Rule
+optional id p = single id (Some id) None false p
 
 unrepeated : (b : Bool) → (if b && not false then kind.ArgumentConflict ∷ [] else []) ≡ [] → b ≡ false
 unrepeated true e = absurd (nonempty _ refl e)
@@ -27,14 +36,20 @@ passed : (b : Bool) (k : ErrorKind) → (if b then [] else k ∷ []) ≡ [] → 
 passed true k e = refl
 passed false k e = absurd (nonempty _ refl e)
 
-pub taken_uses : (id : Text) (i : ℕ) (p : ValueParser) → bytes_eq id id ≡ true → UsesWell false (taken id i p)
-taken_uses id i p same [] rows none good = absurd (nonempty (kind.InvalidValue ∷ []) refl none)
-taken_uses id i p same (v ∷ vs) rows none good =
+single_uses : (id : Text) (long : Option Text) (index : Option ℕ) (required : Bool) (p : ValueParser) → bytes_eq id id ≡ true → UsesWell false (single id long index required p)
+single_uses id long index required p same [] rows none good = absurd (nonempty (kind.InvalidValue ∷ []) refl none)
+single_uses id long index required p same (v ∷ vs) rows none good =
     let parts = both_empty (range_kinds 1 1 (length (v ∷ vs))) _ none in
     let inner = both_empty (repeat_fault false id rows) _ parts.1 in
     let value = both_empty (value_kinds false p v) _ inner.1 in
-    ap (row_passes (taken id i p)) (fresh id (more_values CommandLine (v ∷ vs)) _ rows same (unrepeated (has_row id rows) inner.0))
+    ap (row_passes (single id long index required p)) (fresh id (more_values CommandLine (v ∷ vs)) _ rows same (unrepeated (has_row id rows) inner.0))
     ∙ passed (accepts false p v) _ value.0
+
+pub taken_uses : (id : Text) (i : ℕ) (p : ValueParser) → bytes_eq id id ≡ true → UsesWell false (taken id i p)
+taken_uses id i p same = single_uses id None (Some i) true p same
+
+pub optional_uses : (id : Text) (p : ValueParser) → bytes_eq id id ≡ true → UsesWell false (optional id p)
+optional_uses id p same = single_uses id (Some id) None false p same
 
 -- ---- what is required is given
 
@@ -64,7 +79,7 @@ abbrev pub subs_of : ValueParser → List Shape
 subs_of phases = (built (program_app phases)).subs
 
 abbrev pub reading_shapes : ValueParser → List Shape
-reading_shapes phases = tail_shapes (tail_shapes (tail_shapes (subs_of phases)))
+reading_shapes phases = tail_shapes (tail_shapes (tail_shapes (tail_shapes (subs_of phases))))
 
 abbrev pub init_shape : ValueParser → Shape
 init_shape phases = head_shape (subs_of phases)
@@ -74,6 +89,9 @@ do_shape phases = head_shape (tail_shapes (subs_of phases))
 
 abbrev pub import_shape : ValueParser → Shape
 import_shape phases = head_shape (tail_shapes (tail_shapes (subs_of phases)))
+
+abbrev pub serve_shape : ValueParser → Shape
+serve_shape phases = head_shape (tail_shapes (tail_shapes (tail_shapes (subs_of phases))))
 
 abbrev pub letter_shape : ValueParser → Shape
 letter_shape phases = head_shape (reading_shapes phases)

@@ -225,20 +225,32 @@ level_good s a each uses no_defaults names words has_subcommand below none =
     let good = settle_good s a each uses end settle.0 (walk_good s a each uses names (w.walk_from w.nothing_held) words walk.0 refl) in
     (subst (Good a) (sym (undefaulted s.rules (w.settled s.rules end).rows no_defaults)) good, defaults.1)
 
+-- the first value of a row
+abbrev first_in : Option Row → Option Text
+first_in o = option_and_then (λ (r : Row). slice_get r.values 0) o
+
+-- it passes the argument's parser
+abbrev Passes : Rule → Text → Type 0
+Passes a v = accepts a.ignore_case (parser_of_value a.parser) v ≡ true
+
+head_there : (a : Rule) (values : List Text) → head_passes a values ≡ true → (v : Text) × (slice_get values 0 ≡ Some v) × Passes a v
+head_there a [] g = absurd (true≢false (sym g))
+head_there a (v ∷ vs) g = (v, refl, g)
+
 -- an argument that is given has a first value, which passes
 pub given_first : (a : Rule) (rows : List Row) → Good a rows → is_given a.id rows ≡ true
-    → (v : Text) × (first_of a.id rows ≡ Some v) × (accepts a.ignore_case (parser_of_value a.parser) v ≡ true)
+    → (v : Text) × (first_of a.id rows ≡ Some v) × Passes a v
 given_first a rows good given = go (row_in a.id rows) good given
   where
-    first : Option Row → Option Text
-    first o = option_and_then (λ (r : Row). slice_get r.values 0) o
-
-    head : (values : List Text) → head_passes a values ≡ true
-        → (v : Text) × (slice_get values 0 ≡ Some v) × (accepts a.ignore_case (parser_of_value a.parser) v ≡ true)
-    head [] g = absurd (true≢false (sym g))
-    head (v ∷ vs) g = (v, refl, g)
-
     go : (o : Option Row) → row_passes a o ≡ true → option_map_or (λ r. explicit_source r.source) o false ≡ true
-        → (v : Text) × (first o ≡ Some v) × (accepts a.ignore_case (parser_of_value a.parser) v ≡ true)
+        → (v : Text) × (first_in o ≡ Some v) × Passes a v
     go None g e = absurd (true≢false (sym e))
-    go (Some r) g e = head r.values g
+    go (Some r) g e = head_there a r.values g
+
+-- an argument has no value, or a first one, which passes
+pub none_or_first : (a : Rule) (rows : List Row) → Good a rows → (first_of a.id rows ≡ None) ⊎ ((v : Text) × (first_of a.id rows ≡ Some v) × Passes a v)
+none_or_first a rows good = go (row_in a.id rows) good
+  where
+    go : (o : Option Row) → row_passes a o ≡ true → (first_in o ≡ None) ⊎ ((v : Text) × (first_in o ≡ Some v) × Passes a v)
+    go None g = inl refl
+    go (Some r) g = inr (head_there a r.values g)

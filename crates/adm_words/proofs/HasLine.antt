@@ -1,28 +1,27 @@
 -- In words that clap takes, the program's line is one of its lines, and has all of its values.
-use Rattle.std.proofs.Common.{◌≡◌, ◌∙◌, ◌≤◌, ◌<◌, ◌^◌, ℕ, Bool, true, false, true≢false, cond, zero, suc, refl, sym, ap, subst, arith, List, [], Option, Some, None, inl, inr, leb-true}
-use Rattle.std.specs.Prelude.{◌&&◌, ◌||◌, not, codes, drop, int_le, neg_ℤ, nat_le, pos, option_and_then, option_map, is_some}
+use Rattle.std.proofs.Common.{◌≡◌, ◌∙◌, ℕ, Bool, true, false, true≢false, cond, refl, sym, ap, subst, arith, List, [], Option, Some, None, inl, inr}
+use Rattle.std.specs.Prelude.{◌||◌, not, codes, pos, option_and_then, option_map, is_some}
 use Rattle.std.specs.List.{list_any}
 use Rattle.std.specs.Option.{option_map_or}
 use Rattle.std.specs.Str.{bytes_eq}
-use Rattle.std.specs.Str.Parse.{IsNumeral, digits_value, signed_digits_value, starts_with_minus, without_leading_plus, without_leading_sign}
 use Rattle.std.proofs.lemmas.Slice.Eq.{bytes_eq-Decides}
 use Rattle.clap.specs.Simple.{Shape, built, entered, names_of, argument_words, rows_at}
 use Rattle.clap.specs.Faults.{entered_fault, level_fault, walk_fault, fault_of}
 use Rattle.clap.specs.Walk.{Row, Text, rows_after, walk, walk_from, nothing_held}
 use Rattle.clap.specs.Words.{subcommand_of}
-use Rattle.clap.specs.ValueTests.{accepts, fits_i64, is_numeral}
+use Rattle.clap.specs.ValueTests.{accepts}
 use Rattle.clap.specs.declared.builder.value_parser.ValueParser.{ValueParser}
 use Rattle.clap.specs.declared.builder.value_parser.ValueParser.TheVariants as parser
 use Rattle.clap.proofs.WalkLemmas.{list_any-map}
-use Rattle.clap.proofs.ValueTestLemmas.{accepts-Accepts}
 use Rattle.adm_types.specs.declared.seasons.Phase.{Phase}
 use Rattle.adm_types.specs.declared.seasons.Phase.TheVariants.{Primary, Secondary}
 use Rattle.adm_words.specs.Program.{IsPhases, program_app}
-use Rattle.adm_words.specs.Lines.{IsLine, init_line, do_line, phase_of, number_of, year_in_range, year_of, init_of, init_in, do_in, holidays_in, line_in}
-use Rattle.adm_words.proofs.Numbers.{decided}
-use Rattle.adm_words.proofs.Arguments.{HasValue, taken, taken_uses, wanted, given_if, init_shape, do_shape, import_shape, letter_shape, list_shape, report_shape, help_of}
+use Rattle.adm_words.specs.Lines.{IsLine, init_line, do_line, phase_of, year_of, init_of, init_in, do_in, holidays_in, line_in}
+use Rattle.adm_words.proofs.Arguments.{HasValue, taken, taken_uses, wanted, given_if, init_shape, do_shape, import_shape, serve_shape, letter_shape, list_shape, report_shape, help_of}
 use Rattle.adm_words.proofs.FoundRows.{both_empty, either_false}
 use Rattle.adm_words.proofs.PairLines.{import_there, letter_there, list_there, report_there}
+use Rattle.adm_words.proofs.Ranges.{number_named}
+use Rattle.adm_words.proofs.ServeLine.{serve_there}
 use Rattle.clap.specs.Takes.{is_given}
 use Rattle.adm_words.proofs.NoHelp.{IsNoHelp, no_help_met}
 use Rattle.adm_words.proofs.Faultless.{level_good, given_first}
@@ -41,37 +40,6 @@ phase_named : (phases : ValueParser) → IsPhases phases → (v : Text) → acce
 phase_named (parser.Names given) is v e =
     named v (ap (list_any (λ n. bytes_eq n v)) (sym is) ∙ sym (list_any-map (λ n. bytes_eq n v) (λ n. n.now) given.now) ∙ e)
 phase_named _ is v e = absurd is
-
--- a number that is no less than 2000 is none with a minus
-not_minus : (d : ℕ) → int_le (pos 2000) (neg_ℤ (pos d)) ≡ true → ⊥
-not_minus zero e = true≢false (sym e)
-not_minus (suc n) e = true≢false (sym e)
-
-year_read : (v : Text) (d : ℕ) → number_of v ≡ Some d → nat_le 2000 d ≡ true → nat_le d 2100 ≡ true → (year : ℕ) × (year_of v ≡ Some year)
-year_read v d is least most = (d, ap (option_and_then year_in_range) is ∙ rw (least, most) refl)
-
-year_named : (v : Text) → accepts false (parser.Signed (pos 2000) (pos 2100)) v ≡ true → (year : ℕ) × (year_of v ≡ Some year)
-year_named v e =
-    let z = signed_digits_value 10 v in
-    let both = bounds (is_numeral (without_leading_sign v)) (fits_i64 z) (int_le (pos 2000) z) (int_le z (pos 2100)) e in
-    go (starts_with_minus v) (accepts-Accepts false (parser.Signed (pos 2000) (pos 2100)) v e).0 both.0 both.1
-  where
-    bounds : (a b c d : Bool) → (a && (b && (c && d))) ≡ true → (c ≡ true) × (d ≡ true)
-    bounds true true true d h = (refl, h)
-    bounds true true false d h = absurd (true≢false (sym h))
-    bounds true false c d h = absurd (true≢false (sym h))
-    bounds false b c d h = absurd (true≢false (sym h))
-
-    go : (m : Bool) → IsNumeral 10 (cond m (drop 1 v) (without_leading_plus v))
-        → int_le (pos 2000) (cond m (neg_ℤ (pos (digits_value 10 (cond m (drop 1 v) (without_leading_plus v))))) (pos (digits_value 10 (cond m (drop 1 v) (without_leading_plus v))))) ≡ true
-        → int_le (cond m (neg_ℤ (pos (digits_value 10 (cond m (drop 1 v) (without_leading_plus v))))) (pos (digits_value 10 (cond m (drop 1 v) (without_leading_plus v))))) (pos 2100) ≡ true
-        → (year : ℕ) × (year_of v ≡ Some year)
-    go true numeral least most = absurd (not_minus _ least)
-    go false numeral least most =
-        let d : ℕ = digits_value 10 (without_leading_plus v) in
-        let below : d ≤ 2100 = leb-true _ _ most in
-        let fits : d < 2 ^ 32 = omega arith in
-        year_read v d (rw ((decided (without_leading_plus v)).1 (numeral, fits)) refl) least most
 
 -- ---- the lines
 
@@ -106,7 +74,7 @@ init_there phases is words none =
     let rows = rows_after (init_shape phases).rules [] words in
     let values = init_values phases words none in
     let phase = phase_named phases is values.1.0 values.1.2 in
-    let year = year_named values.2.0 values.2.2 in
+    let year = number_named 2000 2100 (omega arith) (omega arith) values.2.0 values.2.2 in
     made _ _ _ (holidays_in rows) values.0.0 phase.0 year.0 values.0.1
     (ap (option_and_then phase_of) values.1.1 ∙ phase.1) (ap (option_and_then year_of) values.2.1 ∙ year.1)
 
@@ -140,25 +108,26 @@ entered_line phases plain name rows None no_help none found = absurd (none_is_so
     none_is_some : {X : Type 0} {x : X} → None ≡ Some x → ⊥
     none_is_some e = true≢false (sym (ap is_some e))
 entered_line phases plain name rows (Some q) no_help none found =
-    go (named_as (codes "init")) (named_as (codes "do")) (named_as (codes "import")) (named_as (codes "letter")) (named_as (codes "list")) (named_as (codes "round-report")) (named_as (codes "help")) (flipped q.0 (codes "help") no_help) none found
+    go (named_as (codes "init")) (named_as (codes "do")) (named_as (codes "import")) (named_as (codes "serve")) (named_as (codes "letter")) (named_as (codes "list")) (named_as (codes "round-report")) (named_as (codes "help")) (flipped q.0 (codes "help") no_help) none found
   where
     named_as : Text → Bool
     named_as text = bytes_eq text q.0 || false
 
-    chosen : Bool → Bool → Bool → Bool → Bool → Bool → Bool → Option Shape
-    chosen a b c d e f g = cond a (Some (init_shape phases)) (cond b (Some (do_shape phases)) (cond c (Some (import_shape phases)) (cond d (Some (letter_shape phases)) (
-        cond e (Some (list_shape phases)) (cond f (Some (report_shape phases)) (cond g (Some (help_of phases)) None))))))
+    chosen : Bool → Bool → Bool → Bool → Bool → Bool → Bool → Bool → Option Shape
+    chosen a b c d e f g h = cond a (Some (init_shape phases)) (cond b (Some (do_shape phases)) (cond c (Some (import_shape phases)) (cond d (Some (serve_shape phases)) (
+        cond e (Some (letter_shape phases)) (cond f (Some (list_shape phases)) (cond g (Some (report_shape phases)) (cond h (Some (help_of phases)) None)))))))
 
-    go : (a b c d e f g : Bool) → g ≡ false → option_map_or (λ s. level_fault s [] nothing_held q.1 false []) (chosen a b c d e f g) [] ≡ []
-        → option_map (λ s. rows_at s q.1) (chosen a b c d e f g) ≡ Some (name, rows) → IsLine (line_in name rows)
-    go true b c d e f g apart h is = subst LineOf is (init_there phases plain q.1 h)
-    go false true c d e f g apart h is = subst LineOf is (do_there phases q.1 h)
-    go false false true d e f g apart h is = subst LineOf is (import_there phases q.1 h)
-    go false false false true e f g apart h is = subst LineOf is (letter_there phases q.1 h)
-    go false false false false true f g apart h is = subst LineOf is (list_there phases q.1 h)
-    go false false false false false true g apart h is = subst LineOf is (report_there phases q.1 h)
-    go false false false false false false true apart h is = absurd (true≢false apart)
-    go false false false false false false false apart h is = absurd (true≢false (sym (ap is_some is)))
+    go : (a b c d e f g h : Bool) → h ≡ false → option_map_or (λ s. level_fault s [] nothing_held q.1 false []) (chosen a b c d e f g h) [] ≡ []
+        → option_map (λ s. rows_at s q.1) (chosen a b c d e f g h) ≡ Some (name, rows) → IsLine (line_in name rows)
+    go true b c d e f g h apart well is = subst LineOf is (init_there phases plain q.1 well)
+    go false true c d e f g h apart well is = subst LineOf is (do_there phases q.1 well)
+    go false false true d e f g h apart well is = subst LineOf is (import_there phases q.1 well)
+    go false false false true e f g h apart well is = subst LineOf is (serve_there phases q.1 well)
+    go false false false false true f g h apart well is = subst LineOf is (letter_there phases q.1 well)
+    go false false false false false true g h apart well is = subst LineOf is (list_there phases q.1 well)
+    go false false false false false false true h apart well is = subst LineOf is (report_there phases q.1 well)
+    go false false false false false false false true apart well is = absurd (true≢false apart)
+    go false false false false false false false false apart well is = absurd (true≢false (sym (ap is_some is)))
 
 -- words that clap takes are those of a line
 pub has_line : (phases : ValueParser) → IsPhases phases → (words : List Text) (name : Text) (rows : List Row) → fault_of (program_app phases) words ≡ []

@@ -7,3 +7,5 @@ pub mod NoHelp
 pub mod Numbers
 pub mod PairLines
 pub mod ProgramLemmas
+pub mod Ranges
+pub mod ServeLine

@@ -3,6 +3,7 @@ use Rattle.std.specs.Prelude.{◌≡◌, ℕ, ◌^◌, ◌≤◌, ◌⊎◌, ◌
 use Rattle.std.specs.Str.{bytes_eq}
 use Rattle.std.specs.Char.{is_ascii_digit}
 use Rattle.std.specs.List.{list_all}
+use Rattle.std.specs.Option.{option_map_or}
 use Rattle.std.specs.Str.Parse.{digits_value, without_leading_plus}
 use Rattle.adm_types.specs.Code.{code_of}
 use Rattle.adm_types.specs.DayText.{IsDayText}
@@ -19,11 +20,12 @@ use Rattle.adm_words.specs.declared.actions.Action.TheVariants as action
 use Rattle.adm_words.specs.declared.faults.WordsFault.{WordsFault}
 use Rattle.adm_words.specs.declared.faults.WordsFault.TheVariants.{Words, BadDate, BadWord, Memory}
 
--- a line, with its holidays, and the number or the code after its file, as texts
+-- a line, with its holidays, and the number or the code after its file, as texts; a port and a count are numbers
 pub data Line : Type 0 where
   init_line : Text → Phase → ℕ → List Text → Line
   do_line : Text → Line
   import_line : Text → Text → Line
+  serve_line : Text → ℕ → ℕ → Line
   letter_line : Text → Text → Line
   list_line : Text → Text → Line
   report_line : Text → Text → Line
@@ -42,13 +44,25 @@ digits_number digits = if nat_lt 0 (length digits) && (list_all is_ascii_digit d
 abbrev pub number_of : Text → Option ℕ
 number_of text = digits_number (without_leading_plus text)
 
--- the year, from 2000 to 2100
-abbrev pub year_in_range : ℕ → Option ℕ
-year_in_range n = if nat_le 2000 n && nat_le n 2100 then Some n else None
+-- a number that is no less than the least and no more than the most
+abbrev pub within : ℕ → ℕ → ℕ → Option ℕ
+within least most n = if nat_le least n && nat_le n most then Some n else None
 
--- the year that a text writes
+-- the number that a text writes, from the least to the most
+abbrev pub number_from : ℕ → ℕ → Text → Option ℕ
+number_from least most text = option_and_then (within least most) (number_of text)
+
+-- the year that a text writes, from 2000 to 2100
 abbrev pub year_of : Text → Option ℕ
-year_of text = option_and_then year_in_range (number_of text)
+year_of text = number_from 2000 2100 text
+
+-- the port that a text writes, from 1 to 65535
+abbrev pub port_of : Text → Option ℕ
+port_of text = number_from 1 65535 text
+
+-- how many connections a text writes, from 1 to 1,000,000
+abbrev pub count_of : Text → Option ℕ
+count_of text = number_from 1 1000000 text
 
 -- the child number that a text writes, as a plain number
 abbrev pub child_named : Text → Option ℕ
@@ -66,6 +80,13 @@ phase_in rows = option_and_then phase_of (first_of (codes "phase") rows)
 abbrev pub year_in : List Row → Option ℕ
 year_in rows = option_and_then year_of (first_of (codes "year") rows)
 
+abbrev pub port_in : List Row → Option ℕ
+port_in rows = option_and_then port_of (first_of (codes "port") rows)
+
+-- 1,000,000 connections where their number is left out
+abbrev pub count_in : List Row → Option ℕ
+count_in rows = option_map_or count_of (first_of (codes "count") rows) (Some 1000000)
+
 abbrev pub holidays_in : List Row → List Text
 holidays_in rows = unwrap_or (all_of (codes "holiday") rows) []
 
@@ -79,6 +100,13 @@ init_in rows = init_of (file_in rows) (phase_in rows) (year_in rows) (holidays_i
 
 abbrev pub do_in : List Row → Option Line
 do_in rows = option_map do_line (file_in rows)
+
+abbrev pub serve_of : Option Text → Option ℕ → Option ℕ → Option Line
+serve_of (Some file) (Some port) (Some count) = Some (serve_line file port count)
+serve_of file port count = None
+
+abbrev pub serve_in : List Row → Option Line
+serve_in rows = serve_of (file_in rows) (port_in rows) (count_in rows)
 
 -- a file, and one more word
 abbrev pub pair_of : (Text → Text → Line) → Option Text → Option Text → Option Line
@@ -107,7 +135,7 @@ reading_in name rows =
 abbrev pub line_in : Text → List Row → Option Line
 line_in name rows =
     if bytes_eq name (codes "init") then init_in rows else (if bytes_eq name (codes "do") then do_in rows else (
-    if bytes_eq name (codes "import") then import_in rows else reading_in name rows))
+    if bytes_eq name (codes "import") then import_in rows else (if bytes_eq name (codes "serve") then serve_in rows else reading_in name rows)))
 
 -- ---- what a line asks for
 
@@ -141,6 +169,7 @@ abbrev pub Reads : Line → Result Action WordsFault → Type 0
 Reads (init_line file phase year texts) (Ok (action.Init f p y days)) = (f.now ≡ file) × (p ≡ phase) × (y ≡ year) × AreDays texts days
 Reads (do_line file) (Ok (action.Do f)) = f.now ≡ file
 Reads (import_line file csv) (Ok (action.Import f c)) = (f.now ≡ file) × (c.now ≡ csv)
+Reads (serve_line file port count) (Ok (action.Serve f p n)) = (f.now ≡ file) × (p ≡ port) × (n ≡ count)
 Reads (letter_line file word) (Ok (action.Letter f child)) = (f.now ≡ file) × (child_named word ≡ Some child)
 Reads (list_line file word) (Ok (action.List f school)) = (f.now ≡ file) × (code_of word ≡ Some school)
 Reads (report_line file word) (Ok (action.RoundReport f round)) = (f.now ≡ file) × (plain_of word ≡ Some round)
@@ -175,10 +204,11 @@ ReadsWords words (Err BadDate) = Takes words (Err BadDate)
 ReadsWords words (Err BadWord) = Takes words (Err BadWord)
 ReadsWords words (Err Memory) = Unit {0}
 
--- a season's year is from 2000 to 2100
-abbrev pub HasYear : Action → Type 0
-HasYear (action.Init f p y days) = (2000 ≤ y) × (y ≤ 2100)
-HasYear action = Unit {0}
+-- a season's year is from 2000 to 2100, a port from 1 to 65535, and a number of connections from 1 to 1,000,000
+abbrev pub IsInRange : Action → Type 0
+IsInRange (action.Init f p y days) = (2000 ≤ y) × (y ≤ 2100)
+IsInRange (action.Serve f p n) = ((1 ≤ p) × (p ≤ 65535)) × ((1 ≤ n) × (n ≤ 1000000))
+IsInRange action = Unit {0}
 
 -- `fault: `, a fault's name and LF. The text of clap is its own.
 abbrev pub IsFaultText : WordsFault → List ℕ → Type 0

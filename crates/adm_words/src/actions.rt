@@ -21,6 +21,13 @@ pub enum Action<'a> {
         file: &'a str,
         csv: &'a str,
     },
+    /// Answer requests over HTTP on this port of 127.0.0.1, from 1 to 65535, over the register in
+    /// this file, until this many connections were served, from 1 to 1,000,000.
+    Serve {
+        file: &'a str,
+        port: u16,
+        count: u32,
+    },
     /// Print the letter of a child.
     Letter {
         file: &'a str,

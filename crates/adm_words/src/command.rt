@@ -3,7 +3,7 @@ ghost use Rattle.std.specs.Prelude.{◌≡◌, IfOk, false, true};
 ghost use Rattle.clap.specs.Words.{app_of, rule_of, new_app, with_rule};
 ghost use Rattle.clap.specs.declared.builder.command.Command.TheViews.{out-Command as fields_of};
 ghost use Rattle.clap.specs.declared.builder.value_parser.ValueParser.{ValueParser};
-ghost use Rattle.adm_words.specs.Program.{IsPhases, required_rule, file_rule, phase_rule, holiday_rule, year_rule, init_app, do_app, import_app, letter_app, list_app, report_app, with_writers, with_readers, program_app};
+ghost use Rattle.adm_words.specs.Program.{IsPhases, required_rule, file_rule, phase_rule, holiday_rule, year_rule, port_rule, count_rule, init_app, do_app, import_app, serve_app, letter_app, list_app, report_app, with_file_writers, with_writers, with_readers, program_app};
 
 use clap::{Arg, ArgAction, Command, value_parser};
 use std::alloc::{AllocError, Global};
@@ -50,6 +50,26 @@ fn year<'a>(alloc: Global) -> Arg<'a>
         "The year of entry, from 2000 to 2100",
     )
     .value_parser(value_parser!(u32).range(2000..=2100))
+}
+
+fn port<'a>(alloc: Global) -> Arg<'a>
+    ensures rule { rule_of result ≡ port_rule }
+    ensures local { result.global ≡ false }
+{
+    let port = required(alloc, "port", "PORT", "The port, from 1 to 65535");
+    port.value_parser(value_parser!(u32).range(1..=65_535))
+}
+
+fn count<'a>(alloc: Global) -> Arg<'a>
+    ensures rule { rule_of result ≡ count_rule }
+    ensures local { result.global ≡ false }
+{
+    Arg::new(alloc, "count")
+        .long("count")
+        .value_name("N")
+        .help("How many connections to serve, from 1 to 1000000")
+        .action(ArgAction::Set)
+        .value_parser(value_parser!(u32).range(1..=1_000_000))
 }
 
 fn holiday<'a>(alloc: Global) -> Arg<'a>
@@ -114,6 +134,17 @@ fn import_command<'a>(alloc: Global) -> Result<Command<'a>, AllocError>
     )
 }
 
+fn serve_command<'a>(alloc: Global) -> Result<Command<'a>, AllocError>
+    ensures app { IfOk result (λ c. app_of c ≡ serve_app) }
+    ensures local { IfOk result (λ c. (fields_of c).has_globals ≡ false) }
+{
+    Command::new(alloc, "serve")
+        .about("Answers requests over HTTP on 127.0.0.1")
+        .arg(file(alloc, "The file of the register"))?
+        .arg(port(alloc))?
+        .arg(count(alloc))
+}
+
 fn letter_command<'a>(alloc: Global) -> Result<Command<'a>, AllocError>
     ensures app { IfOk result (λ c. app_of c ≡ letter_app) }
     ensures local { IfOk result (λ c. (fields_of c).has_globals ≡ false) }
@@ -138,10 +169,11 @@ fn report_command<'a>(alloc: Global) -> Result<Command<'a>, AllocError>
     pair_command(alloc, "round-report", "Prints the report of a round", round)
 }
 
-/// The program with the subcommands that write to the register.
-fn with_writers<'a>(alloc: Global, program: Command<'a>) -> Result<Command<'a>, AllocError>
+/// The program with the subcommands that make the register, or write to it what a file or the
+/// standard input holds.
+fn with_file_writers<'a>(alloc: Global, program: Command<'a>) -> Result<Command<'a>, AllocError>
     requires { (fields_of program).has_globals ≡ false }
-    ensures app { IfOk result (λ c. (phases : ValueParser) × IsPhases phases × (app_of c ≡ with_writers phases (app_of program.entry))) }
+    ensures app { IfOk result (λ c. (phases : ValueParser) × IsPhases phases × (app_of c ≡ with_file_writers phases (app_of program.entry))) }
     ensures local { IfOk result (λ c. (fields_of c).has_globals ≡ false) }
     ensures required { IfOk result (λ c. (fields_of c).subcommand_required ≡ (fields_of program.entry).subcommand_required) }
 {
@@ -149,6 +181,16 @@ fn with_writers<'a>(alloc: Global, program: Command<'a>) -> Result<Command<'a>, 
         .subcommand(init_command(alloc)?)?
         .subcommand(do_command(alloc)?)?
         .subcommand(import_command(alloc)?)
+}
+
+/// The program with the subcommands that write to the register.
+fn with_writers<'a>(alloc: Global, program: Command<'a>) -> Result<Command<'a>, AllocError>
+    requires { (fields_of program).has_globals ≡ false }
+    ensures app { IfOk result (λ c. (phases : ValueParser) × IsPhases phases × (app_of c ≡ with_writers phases (app_of program.entry))) }
+    ensures local { IfOk result (λ c. (fields_of c).has_globals ≡ false) }
+    ensures required { IfOk result (λ c. (fields_of c).subcommand_required ≡ (fields_of program.entry).subcommand_required) }
+{
+    with_file_writers(alloc, program)?.subcommand(serve_command(alloc)?)
 }
 
 /// The program with the subcommands that only read it.

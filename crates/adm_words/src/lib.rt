@@ -8,6 +8,7 @@ mod faults;
 mod lines;
 mod pairs;
 mod reading;
+mod serving;
 #[cfg(test)]
 mod tests;
 

@@ -1,9 +1,10 @@
 // One line of the command line, read from the values that clap found.
 ghost use Rattle.std.specs.Prelude.{◌≡◌, ◌≤◌, map, option_map, IfOk, IfSome};
 ghost use Rattle.clap.specs.Words.{first_of, all_of, found_of, rows_of};
-ghost use Rattle.adm_words.specs.Lines.{IsLine, ReadsLine, ReadsDays, HasYear, phase_of, number_of, year_of, phase_in, year_in, holidays_in, init_in, do_in, line_in};
+ghost use Rattle.adm_words.specs.Lines.{IsLine, ReadsLine, ReadsDays, IsInRange, phase_of, number_of, number_from, year_of, phase_in, year_in, holidays_in, init_in, do_in, line_in};
 
 use crate::pairs::{import, reading};
+use crate::serving::serve;
 use crate::{Action, WordsFault};
 use adm_types::{Day, Phase, Seq};
 use clap::ArgMatches;
@@ -43,21 +44,29 @@ fn read_number(text: &str) -> Option<u32>
     text.parse().ok()
 }
 
-/// The year that a text writes, from 2000 to 2100.
-fn read_year(text: &str) -> Option<u32>
-    ensures value { result ≡ year_of text.now }
-    ensures in_range { IfSome result (λ year. (2000 ≤ year) × (year ≤ 2100)) }
+/// The number that a text writes, from the least to the most.
+pub(crate) fn read_from(text: &str, least: u32, most: u32) -> Option<u32>
+    ensures value { result ≡ number_from least most text.now }
+    ensures in_range { IfSome result (λ number. (least ≤ number) × (number ≤ most)) }
 {
     match read_number(text) {
-        Some(year) => {
-            if 2000 <= year && year <= 2100 {
-                Some(year)
+        Some(number) => {
+            if least <= number && number <= most {
+                Some(number)
             } else {
                 None
             }
         }
         None => None,
     }
+}
+
+/// The year that a text writes, from 2000 to 2100.
+fn read_year(text: &str) -> Option<u32>
+    ensures value { result ≡ year_of text.now }
+    ensures in_range { IfSome result (λ year. (2000 ≤ year) × (year ≤ 2100)) }
+{
+    read_from(text, 2000, 2100)
 }
 
 fn phase_in(found: &ArgMatches<'_>) -> Option<Phase>
@@ -103,7 +112,7 @@ fn holidays_in(alloc: Global, found: &ArgMatches<'_>) -> Result<Seq<Day>, WordsF
 fn init<'a>(alloc: Global, found: &ArgMatches<'a>) -> Result<Action<'a>, WordsFault>
     requires { IsLine (init_in (rows_of (found_of found.now))) }
     ensures reads { ReadsLine (init_in (rows_of (found_of found.now))) result }
-    ensures year { IfOk result HasYear }
+    ensures in_range { IfOk result IsInRange }
 {
     let Some(file) = text_of(found, "file") else {
         unreachable!()
@@ -129,7 +138,7 @@ fn init<'a>(alloc: Global, found: &ArgMatches<'a>) -> Result<Action<'a>, WordsFa
 fn do_lines<'a>(found: &ArgMatches<'a>) -> Result<Action<'a>, WordsFault>
     requires { IsLine (do_in (rows_of (found_of found.now))) }
     ensures reads { ReadsLine (do_in (rows_of (found_of found.now))) result }
-    ensures year { IfOk result HasYear }
+    ensures in_range { IfOk result IsInRange }
 {
     match text_of(found, "file") {
         Some(file) => Ok(Action::Do { file }),
@@ -145,7 +154,7 @@ pub(crate) fn read_line<'a>(
 ) -> Result<Action<'a>, WordsFault>
     requires { IsLine (line_in name.now (rows_of (found_of found.now))) }
     ensures reads { ReadsLine (line_in name.now (rows_of (found_of found.now))) result }
-    ensures year { IfOk result HasYear }
+    ensures in_range { IfOk result IsInRange }
 {
     if name == "init" {
         init(alloc, found)
@@ -153,6 +162,8 @@ pub(crate) fn read_line<'a>(
         do_lines(found)
     } else if name == "import" {
         import(found)
+    } else if name == "serve" {
+        serve(found)
     } else {
         reading(name, found)
     }

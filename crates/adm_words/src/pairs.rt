@@ -1,7 +1,7 @@
 // Lines of a file and one more word, read from the values that clap found.
 ghost use Rattle.std.specs.Prelude.{◌≡◌, IfOk};
 ghost use Rattle.clap.specs.Words.{found_of, rows_of};
-ghost use Rattle.adm_words.specs.Lines.{IsLine, ReadsLine, ReadsWord, HasYear, child_named, import_in, letter_in, list_in, report_in, reading_in};
+ghost use Rattle.adm_words.specs.Lines.{IsLine, ReadsLine, ReadsWord, IsInRange, child_named, import_in, letter_in, list_in, report_in, reading_in};
 
 use crate::lines::text_of;
 use crate::{Action, WordsFault};
@@ -12,7 +12,7 @@ use clap::ArgMatches;
 pub(crate) fn import<'a>(found: &ArgMatches<'a>) -> Result<Action<'a>, WordsFault>
     requires { IsLine (import_in (rows_of (found_of found.now))) }
     ensures reads { ReadsLine (import_in (rows_of (found_of found.now))) result }
-    ensures year { IfOk result HasYear }
+    ensures in_range { IfOk result IsInRange }
 {
     let Some(file) = text_of(found, "file") else {
         unreachable!()
@@ -41,7 +41,7 @@ fn read_child(text: &str) -> Option<ChildNo>
 fn letter<'a>(found: &ArgMatches<'a>) -> Result<Action<'a>, WordsFault>
     requires { IsLine (letter_in (rows_of (found_of found.now))) }
     ensures reads { ReadsLine (letter_in (rows_of (found_of found.now))) result }
-    ensures year { IfOk result HasYear }
+    ensures in_range { IfOk result IsInRange }
 {
     let Some(file) = text_of(found, "file") else {
         unreachable!()
@@ -59,7 +59,7 @@ fn letter<'a>(found: &ArgMatches<'a>) -> Result<Action<'a>, WordsFault>
 fn list<'a>(found: &ArgMatches<'a>) -> Result<Action<'a>, WordsFault>
     requires { IsLine (list_in (rows_of (found_of found.now))) }
     ensures reads { ReadsLine (list_in (rows_of (found_of found.now))) result }
-    ensures year { IfOk result HasYear }
+    ensures in_range { IfOk result IsInRange }
 {
     let Some(file) = text_of(found, "file") else {
         unreachable!()
@@ -77,7 +77,7 @@ fn list<'a>(found: &ArgMatches<'a>) -> Result<Action<'a>, WordsFault>
 fn report<'a>(found: &ArgMatches<'a>) -> Result<Action<'a>, WordsFault>
     requires { IsLine (report_in (rows_of (found_of found.now))) }
     ensures reads { ReadsLine (report_in (rows_of (found_of found.now))) result }
-    ensures year { IfOk result HasYear }
+    ensures in_range { IfOk result IsInRange }
 {
     let Some(file) = text_of(found, "file") else {
         unreachable!()
@@ -95,7 +95,7 @@ fn report<'a>(found: &ArgMatches<'a>) -> Result<Action<'a>, WordsFault>
 pub(crate) fn reading<'a>(name: &str, found: &ArgMatches<'a>) -> Result<Action<'a>, WordsFault>
     requires { IsLine (reading_in name.now (rows_of (found_of found.now))) }
     ensures reads { ReadsLine (reading_in name.now (rows_of (found_of found.now))) result }
-    ensures year { IfOk result HasYear }
+    ensures in_range { IfOk result IsInRange }
 {
     if name == "letter" {
         letter(found)

@@ -125,6 +125,70 @@ fn wrong_words(rt: HostRuntime) {
     }
 }
 
+const SERVED: [(&[&str], u16, u32); 7] = [
+    (&["admissions", "serve", "f", "8080"], 8080, 1_000_000),
+    (&["admissions", "serve", "f", "1", "--count", "1"], 1, 1),
+    (
+        &["admissions", "serve", "f", "65535", "--count", "1000000"],
+        65_535,
+        1_000_000,
+    ),
+    (
+        &["admissions", "serve", "--count", "5", "f", "8080"],
+        8080,
+        5,
+    ),
+    (&["admissions", "serve", "f", "--count=5", "8080"], 8080, 5),
+    (
+        &["admissions", "serve", "f", "+8080", "--count", "+05"],
+        8080,
+        5,
+    ),
+    (
+        &["admissions", "serve", "--count=5", "--", "f", "08080"],
+        8080,
+        5,
+    ),
+];
+
+#[test]
+fn requests_are_served(rt: HostRuntime) {
+    for (words, wanted_port, wanted_count) in SERVED {
+        let is_read = match action(rt.alloc(), words) {
+            Ok(Action::Serve { file, port, count }) => {
+                file == "f" && port == wanted_port && count == wanted_count
+            }
+            _ => false,
+        };
+        assert!(rt; is_read);
+    }
+}
+
+const NOT_SERVED: [&[&str]; 15] = [
+    &["admissions", "serve"],
+    &["admissions", "serve", "f"],
+    &["admissions", "serve", "f", "--count", "5"],
+    &["admissions", "serve", "f", "0"],
+    &["admissions", "serve", "f", "65536"],
+    &["admissions", "serve", "f", "http"],
+    &["admissions", "serve", "f", "-1"],
+    &["admissions", "serve", "f", "8080", "5"],
+    &["admissions", "serve", "f", "8080", "--count"],
+    &["admissions", "serve", "f", "8080", "--count", "0"],
+    &["admissions", "serve", "f", "8080", "--count", "1000001"],
+    &["admissions", "serve", "f", "8080", "--count", "many"],
+    &["admissions", "serve", "f", "8080", "--count", "4294967297"],
+    &["admissions", "serve", "f", "8080", "--count=5", "--count=5"],
+    &["admissions", "serve", "--", "f", "8080", "--count", "5"],
+];
+
+#[test]
+fn wrong_words_serve_nothing(rt: HostRuntime) {
+    for words in NOT_SERVED {
+        assert!(rt; matches!(action(rt.alloc(), words), Err(WordsFault::Words(_))));
+    }
+}
+
 #[test]
 fn bad_dates(rt: HostRuntime) {
     for date in [
