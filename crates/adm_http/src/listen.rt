@@ -14,11 +14,20 @@ use adm_wire::Watched;
 use sqlite::Alter;
 use std::alloc::Global;
 use std::io::Write;
-use std::net::TcpListener;
+use std::net::{TcpListener, TcpStream};
+use std::time::Duration;
+
+/// How many seconds a read or a write of a connection may wait.
+const LONGEST_WAIT: u64 = 30;
 
 /// Serves as many connections, one after the other, and waits for each. A connection's fault is
 /// printed as `fault: `, its name and LF, and the next one is served; a print that fails is passed
 /// over. The exit status is 4 where the desk has failed, and else 0.
+///
+/// A read that brings nothing for 30 seconds is the fault Read of its connection, and a write of
+/// which nothing is taken for 30 seconds is Write. That is for each read and each write: who sends
+/// a byte now and then is waited for longer. Where a connection can't be given these limits, it is
+/// dropped with the same fault. No clause speaks of time.
 pub fn serve_on<S: Alter, E: Write>(
     alloc: Global,
     routes: &Routes,
@@ -65,9 +74,24 @@ fn serve_next<A: Answering>(
     let Ok((stream, _)) = listener.accept() else {
         return Err(ServeFault::Read);
     };
+    if let Err(fault) = limit_waits(&stream) {
+        return Err(fault);
+    }
     let mut reader = Watched::new(&stream);
     let mut writer = Watched::new(&stream);
     serve(alloc, routes, desk, &mut reader, &mut writer)
+}
+
+// Limits how long a read and a write of the connection may wait.
+fn limit_waits(stream: &TcpStream) -> Result<(), ServeFault> {
+    let longest = Some(Duration::from_secs(LONGEST_WAIT));
+    if stream.set_read_timeout(longest).is_err() {
+        return Err(ServeFault::Read);
+    }
+    if stream.set_write_timeout(longest).is_err() {
+        return Err(ServeFault::Write);
+    }
+    Ok(())
 }
 
 // What is printed of a fault.
