@@ -67,6 +67,13 @@ impl SchoolCode {
         })
     }
 
+    /// The bytes of the code.
+    fn as_bytes(&self) -> &[u8]
+        ensures { result.now ≡ self.now }
+    {
+        &self.bytes[..usize::from(self.len)]
+    }
+
     /// The code as a text.
     pub fn as_str(&self) -> &str
         ensures value { result.now ≡ self.now }
@@ -84,7 +91,7 @@ impl PartialEq for SchoolCode {
     ghost laws = { partial_equiv_from_equiv nat_list_eq_equiv };
 
     fn eq(&self, other: &Self) -> bool {
-        self.as_str() == other.as_str()
+        self.as_bytes() == other.as_bytes()
     }
 }
 
@@ -113,6 +120,6 @@ impl Ord for SchoolCode {
     ghost matches_eq = { texts_ties };
 
     fn cmp(&self, other: &Self) -> Ordering {
-        self.as_str().cmp(other.as_str())
+        self.as_bytes().cmp(other.as_bytes())
     }
 }
