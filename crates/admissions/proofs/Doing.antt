@@ -22,6 +22,7 @@ use Rattle.adm_desk.specs.declared.answer.Answer.TheVariants as answer
 use Rattle.admissions.specs.Exits.{of_season, has_many_holidays, IsCauseIn, ExitsBy, exit_of_answer, ending_of, error_of, told_of, code_of}
 use Rattle.admissions.specs.Opened.{Stream, IsNotOpened}
 use Rattle.admissions.specs.Imports.{ImportsAs, ImportsFile, ImportsInto}
+use Rattle.admissions.specs.Served.{ServesAs, ServesOver}
 use Rattle.admissions.specs.Texts.{Prints, PrintsAs, text_in}
 use Rattle.admissions.specs.Runs.{Answers, Creates, CreatesAs, EndsAs}
 use Rattle.admissions.specs.Does.{Does}
@@ -79,6 +80,15 @@ answer_exit answer.Memory None = λ e. cc
 answer_exit answer.Memory (Some error) = λ e. cc
 answer_exit answer.Failed closed = λ e. cc
 
+-- connections were served, or none
+abbrev IsOfServing : ℕ → Type 0
+IsOfServing n = (n ≡ 0) ⊎ ((n ≡ 1) ⊎ (n ≡ 4))
+
+served_exit : (failed : Bool) (closed : Option Error) → IsOfServing (status (Ok (if failed then exit.Failed else exit.Done)) closed)
+served_exit true closed = inr (inr refl)
+served_exit false None = inl refl
+served_exit false (Some error) = inr (inl refl)
+
 not_two : (n : ℕ) → n ≡ 1 → n ≢ 2
 not_two n is = subst (λ (m : ℕ). m ≢ 2) (sym is) (λ e. cc)
 
@@ -94,6 +104,7 @@ unmade : (a : Action) → ExitsBy (Ok a) 1
 unmade (action.Init file phase year days) = inr refl
 unmade (action.Do file) = λ e. cc
 unmade (action.Import file csv) = λ e. cc
+unmade (action.Serve file port count) = inr (inl refl)
 unmade (action.Letter file child) = inr refl
 unmade (action.List file school) = inr refl
 unmade (action.RoundReport file round) = inr refl
@@ -148,6 +159,16 @@ module _ {D : Type 0} {g : disk.Ghosts D} where
   document_exit image wanted output e closed (inl left) = inr (not_opened image e closed left.0)
   document_exit image wanted output e closed (inr does) = print_exit (text_in does.0.register wanted) output e (error_of closed) does.2.0
 
+  served : (old new : Standing (Held (FileStore D g))) (port count : ℕ) (output : Stream) (e : Result Exit Fault) (closed : Option Error)
+      → ServesAs old new port count output e → IsOfServing (status e closed)
+  served old new port count output (Err f) closed ends = inr (inl refl)
+  served old new port count output (Ok x) closed ends = subst (λ (y : Exit). IsOfServing (status (Ok y) closed)) (sym ends.2) (served_exit new.failed closed)
+
+  serve_exit : (image : Image) (port count : ℕ) (output : Stream) (e : Result Exit Fault) (closed : Result (Files D) (Error × FileStore D g))
+      → ServesOver image port count output e closed → IsOfServing (status e (error_of closed))
+  serve_exit image port count output e closed (inl left) = inr (inl (not_opened image e closed left.0))
+  serve_exit image port count output e closed (inr does) = served does.0 does.2.after port count output e (error_of closed) does.2.ends
+
   -- what an action that was taken up did
   made : (image : Image) (a : Action) (input output : Stream) (e : Result Exit Fault) (closed : Result (Files D) (Error × FileStore D g)) → Does image a input output e closed
       → ExitsBy (Ok a) (status e (error_of closed))
@@ -155,6 +176,7 @@ module _ {D : Type 0} {g : disk.Ghosts D} where
       created does.2 does.6.found does.6.creates.left e (error_of closed) does.6.creates.made
   made image (action.Do file) input output e closed does = do_exit image input output e closed does
   made image (action.Import file csv) input output e closed does = import_exit image output e closed does.1
+  made image (action.Serve file port count) input output e closed does = serve_exit image port count output e closed does.1
   made image (action.Letter file child) input output e closed does = document_exit image (document.Letter child) output e closed does.1
   made image (action.List file school) input output e closed does = document_exit image (document.List school) output e closed does.1
   made image (action.RoundReport file round) input output e closed does = document_exit image (document.Report round) output e closed does.1

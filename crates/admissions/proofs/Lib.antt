@@ -1,3 +1,4 @@
 pub mod Closing
 pub mod Doing
 pub mod Importing
+pub mod Served

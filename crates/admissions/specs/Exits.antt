@@ -1,5 +1,5 @@
 -- What is printed of a fault, and the exit status.
-use Rattle.std.specs.Prelude.{◌≡◌, ◌≢◌, ◌⊎◌, ◌&&◌, ℕ, Bool, false, IsTrue, List, ◌++◌, codes, decimal, length, nat_lt, if◌then◌else◌, Result, Ok, Err, Option, Some, None}
+use Rattle.std.specs.Prelude.{◌≡◌, ◌≢◌, ◌⊎◌, ◌&&◌, ◌==◌, ℕ, Bool, false, IsTrue, List, ◌++◌, codes, decimal, length, nat_lt, if◌then◌else◌, Result, Ok, Err, Option, Some, None}
 use Rattle.adm_types.specs.Numbers.{is_from}
 use Rattle.adm_types.specs.declared.seasons.SeasonFault.{SeasonFault}
 use Rattle.adm_types.specs.declared.seasons.SeasonFault.TheVariants as season
@@ -26,7 +26,7 @@ use Rattle.sqlite.specs.declared.error.Error.{Error}
 use Rattle.sqlite.specs.declared.error.Error.TheVariants as error
 use Rattle.sqlite.specs.declared.error.ErrorCode.TheVariants as code
 use Rattle.admissions.specs.declared.fault.Fault.{Fault}
-use Rattle.admissions.specs.declared.fault.Fault.TheVariants.{TooManyHolidays, YearRange, InUse, NotOurs, Version, BadRow, Disk, Memory, Read, Write, UnknownChild, UnknownSchool, NoRound, Row}
+use Rattle.admissions.specs.declared.fault.Fault.TheVariants.{TooManyHolidays, YearRange, InUse, NotOurs, Version, BadRow, Disk, Memory, Read, Write, UnknownChild, UnknownSchool, NoRound, Listen, Row}
 use Rattle.admissions.specs.declared.exit.Exit.{Exit}
 use Rattle.admissions.specs.declared.exit.Exit.TheVariants as exit
 
@@ -60,6 +60,7 @@ text_of Write = codes "fault: Write\n"
 text_of UnknownChild = codes "fault: UnknownChild\n"
 text_of UnknownSchool = codes "fault: UnknownSchool\n"
 text_of NoRound = codes "fault: NoRound\n"
+text_of Listen = codes "fault: Listen\n"
 text_of (Row fault) = row_text fault.row (row_fault_name fault.fault)
 
 -- ---- each fault keeps its name
@@ -106,6 +107,7 @@ abbrev pub has_many_holidays : Action → Bool
 has_many_holidays (action.Init file phase year days) = is_from 2000 2100 year && nat_lt 40 (length days)
 has_many_holidays (action.Do file) = false
 has_many_holidays (action.Import file csv) = false
+has_many_holidays (action.Serve file port count) = false
 has_many_holidays (action.Letter file child) = false
 has_many_holidays (action.List file school) = false
 has_many_holidays (action.RoundReport file round) = false
@@ -116,6 +118,7 @@ IsCauseIn (action.Init file phase year days) f = ((f ≡ YearRange) × (is_from 
     ⊎ (((f ≡ TooManyHolidays) × IsTrue (has_many_holidays (action.Init file phase year days))) ⊎ IsOpenFault f)
 IsCauseIn (action.Do file) f = IsOpenFault f
 IsCauseIn (action.Import file csv) f = IsOpenFault f
+IsCauseIn (action.Serve file port count) f = IsOpenFault f
 IsCauseIn (action.Letter file child) f = IsOpenFault f
 IsCauseIn (action.List file school) f = IsOpenFault f
 IsCauseIn (action.RoundReport file round) f = IsOpenFault f
@@ -132,6 +135,10 @@ exit_of_answer (answer.Done reply) = exit.Done
 exit_of_answer (answer.Refused refusal row) = exit.Refused
 exit_of_answer answer.Memory = exit.Refused
 exit_of_answer answer.Failed = exit.Failed
+
+-- the same of the status that serving gave
+abbrev pub exit_of_served : ℕ → Exit
+exit_of_served status = if status == 4 then exit.Failed else exit.Done
 
 -- a fault before all else; a close that failed is one, but after a Failed
 abbrev pub closing_of : Exit → Option Error → Result Exit Fault
@@ -159,11 +166,12 @@ abbrev pub error_of : {X Y : Type 0} → Result X (Error × Y) → Option Error
 error_of (Ok files) = None
 error_of (Err e) = Some e.0
 
--- what the words were read as: `init` and what prints a text end with 0 or 1, and `do` and `import` never with 2; 2 where they ask for nothing
+-- what the words were read as: `init` and what prints a text end with 0 or 1, `do` and `import` never with 2, and `serve` with 0, 1 or 4; 2 where they ask for nothing
 abbrev pub ExitsBy : Result Action WordsFault → ℕ → Type 0
 ExitsBy (Ok (action.Init file phase year days)) status = (status ≡ 0) ⊎ (status ≡ 1)
 ExitsBy (Ok (action.Do file)) status = status ≢ 2
 ExitsBy (Ok (action.Import file csv)) status = status ≢ 2
+ExitsBy (Ok (action.Serve file port count)) status = (status ≡ 0) ⊎ ((status ≡ 1) ⊎ (status ≡ 4))
 ExitsBy (Ok (action.Letter file child)) status = (status ≡ 0) ⊎ (status ≡ 1)
 ExitsBy (Ok (action.List file school)) status = (status ≡ 0) ⊎ (status ≡ 1)
 ExitsBy (Ok (action.RoundReport file round)) status = (status ≡ 0) ⊎ (status ≡ 1)

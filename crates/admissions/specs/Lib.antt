@@ -3,4 +3,5 @@ pub mod Opened
 pub mod Texts
 pub mod Imports
 pub mod Runs
+pub mod Served
 pub mod Does

@@ -1,6 +1,6 @@
 // The exit status of a run.
 ghost use Rattle.std.specs.Prelude.{◌≡◌, OnOk};
-ghost use Rattle.admissions.specs.Exits.{code_of, exit_of, exit_of_answer};
+ghost use Rattle.admissions.specs.Exits.{code_of, exit_of, exit_of_answer, exit_of_served};
 
 use adm_desk::{Answer, Run};
 
@@ -41,6 +41,17 @@ impl Exit {
             Answer::Done(_) => Exit::Done,
             Answer::Refused { .. } | Answer::Memory => Exit::Refused,
             Answer::Failed => Exit::Failed,
+        }
+    }
+
+    /// The exit of serving, by the status that it gave.
+    pub fn of_served(status: u8) -> Exit
+        ensures { result ≡ exit_of_served status }
+    {
+        if status == 4 {
+            Exit::Failed
+        } else {
+            Exit::Done
         }
     }
 

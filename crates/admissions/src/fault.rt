@@ -27,6 +27,8 @@ pub enum Fault {
     UnknownChild,
     UnknownSchool,
     NoRound,
+    /// The port cannot be taken.
+    Listen,
     /// The file of an import has no rows.
     Row(RowFault),
 }
@@ -51,6 +53,7 @@ impl Fault {
             Fault::UnknownChild => print_text("fault: UnknownChild\n", errors),
             Fault::UnknownSchool => print_text("fault: UnknownSchool\n", errors),
             Fault::NoRound => print_text("fault: NoRound\n", errors),
+            Fault::Listen => print_text("fault: Listen\n", errors),
             Fault::Row(fault) => print_row(fault.row, row_fault_name(fault.fault), errors),
         }
     }

@@ -9,6 +9,7 @@ mod import;
 mod opening;
 mod print;
 mod run;
+mod serving;
 
 use sqlite::Unknown;
 use std::process::ExitCode;

@@ -6,6 +6,7 @@ ghost use Rattle.admissions.specs.declared.fault.Fault.TheVariants.{Disk, TooMan
 ghost use Rattle.admissions.specs.Does.{Does};
 ghost use Rattle.admissions.specs.Imports.{ImportsInto};
 ghost use Rattle.admissions.specs.Runs.{Answers, Creates, CreatesIn, Runs};
+ghost use Rattle.admissions.specs.Served.{ServesOver};
 ghost use Rattle.admissions.specs.Texts.{Prints};
 
 use crate::document::Document;
@@ -15,6 +16,7 @@ use crate::fault::Fault;
 use crate::import::import_file;
 use crate::opening::{open_desk, open_file};
 use crate::print::print_document;
+use crate::serving::serve_connections;
 use adm_desk::Desk;
 use adm_store::create;
 use adm_types::Season;
@@ -42,7 +44,7 @@ pub fn run_words<S: Start, I: Read + Drop, O: Write + Drop, E: Write>(
         Ok(action) => {
             let mut input = Watched::new(input);
             let mut output = Watched::new(output);
-            let ended = run_action(rt, action, start, &mut input, &mut output);
+            let ended = run_action(rt, action, start, &mut input, &mut output, errors);
             end(ended, errors).code()
         }
         Err(WordsFault::Memory) => tell(Err(Fault::Memory), errors).code(),
@@ -52,12 +54,13 @@ pub fn run_words<S: Start, I: Read + Drop, O: Write + Drop, E: Write>(
 
 /// Does what a line of the command line asks for. The `Err` is why there is no season of these
 /// values, or why the file was not opened; then nothing was read or written.
-fn run_action<S: Start, I: Input, O: Output>(
+fn run_action<S: Start, I: Input, O: Output, E: Write>(
     rt: &HostRuntime,
     action: Action<'_>,
     start: S,
     input: &mut I,
     output: &mut O,
+    errors: &mut E,
 ) -> Result<Ended<FileFrom<S>>, Fault>
     ensures ok { IfOk result (λ ended. Does (image_at S.Start) action.entry
         (record { old = I.remaining input.old; new = I.remaining input.new; has_failed = I.has_failed input.new })
@@ -79,6 +82,9 @@ fn run_action<S: Start, I: Input, O: Output>(
         },
         Action::Do { file } => do_lines(rt, file, start, input, output),
         Action::Import { file, csv } => import(rt, file, csv, start, output),
+        Action::Serve { file, port, count } => {
+            serve(rt, file, start, port, count, output, errors)
+        }
         Action::Letter { file, child } => {
             print(rt, file, start, Document::Letter(child), output)
         }
@@ -239,6 +245,30 @@ fn print<S: Start, O: Output>(
 {
     match open_desk(rt, file, start)? {
         Ok(desk) => Ok(print_document(rt.alloc(), desk, document, output)),
+        Err(ended) => Ok(ended),
+    }
+}
+
+/// Serves connections to a port over the register in the file, which is there. The `Err` is why it was
+/// not opened; then nothing was written.
+fn serve<S: Start, O: Output, E: Write>(
+    rt: &HostRuntime,
+    file: &str,
+    start: S,
+    port: u16,
+    count: u32,
+    output: &mut O,
+    errors: &mut E,
+) -> Result<Ended<FileFrom<S>>, Fault>
+    ensures ok { IfOk result (λ ended. ServesOver (image_at S.Start) port count
+        (record { old = O.contents output.old; new = O.contents output.new; has_failed = O.has_failed output.new })
+        ended.exit ended.closed) }
+    ensures err { IfErr result IsOpenFault }
+    ensures memory { file.now ≡ codes ":memory:" → result ≡ Err Disk }
+    ensures untouched { OnErr result (O.contents output.new ≡ O.contents output.old) }
+{
+    match open_desk(rt, file, start)? {
+        Ok(desk) => Ok(serve_connections(rt, desk, port, count, output, errors)),
         Err(ended) => Ok(ended),
     }
 }

@@ -1,0 +1,80 @@
+// The desk as the steps before left it, and what each step does.
+use crate::desks::{MemoryDesk, answers, desk_after};
+use crate::served::Served;
+use crate::sweeps::Sweep;
+use crate::texts::bytes_of;
+use adm_http::Routes;
+use run_steps::NO_LIMITS;
+use std::alloc::Global;
+use std::{io, str};
+
+/// The desk as the steps before left it.
+#[derive(Drop)]
+pub(crate) struct Bench {
+    routes: Routes,
+    desk: MemoryDesk,
+    /// The lines of the commands of `do`.
+    lines: Vec<u8>,
+}
+
+impl Bench {
+    pub(crate) fn new(alloc: Global) -> io::Result<Bench> {
+        Ok(Bench {
+            routes: Routes::new(alloc)?,
+            desk: desk_after(alloc, &[])?,
+            lines: Vec::new(alloc),
+        })
+    }
+
+    /// Takes a step:
+    ///
+    /// - `do COMMAND`: the desk answers a command.
+    /// - `request TEXT`: the desk serves the request that the bytes of the text are, over a reader and a writer
+    ///   without limits.
+    /// - `pieces TEXT`: the same, over readers and then writers of 1, 2 and 7 bytes a call.
+    /// - `beginnings TEXT`: each beginning of the bytes as a request.
+    /// - `fails TEXT`: the request, over a reader and then a writer of 1 byte a call that fails at each call in turn.
+    /// - `reads TEXT`: how much is read where 100,000 bytes follow the request.
+    pub(crate) fn take(
+        &mut self,
+        rt: &impl Print,
+        alloc: Global,
+        word: &str,
+        text: &str,
+    ) -> io::Result<()> {
+        let input = bytes_of(alloc, text)?;
+        let sweep = Sweep {
+            alloc,
+            routes: &self.routes,
+            lines: &self.lines,
+            input: &input,
+        };
+        match word {
+            "do" => self.command(rt, alloc, text),
+            "request" => self.request(rt, alloc, &input),
+            "pieces" => sweep.pieces(rt),
+            "beginnings" => sweep.beginnings(rt),
+            "fails" => {
+                sweep.reader_fails(rt)?;
+                sweep.writer_fails(rt)
+            }
+            "reads" => sweep.reads(rt),
+            _ => println!(rt; "  NOT A STEP"),
+        }
+    }
+
+    fn command(&mut self, rt: &impl Print, alloc: Global, text: &str) -> io::Result<()> {
+        let line = format!(in alloc; "{text}\n")?;
+        let answer = answers(alloc, &mut self.desk, line.as_bytes())?;
+        self.lines.extend_from_slice(line.as_bytes())?;
+        match str::from_utf8(&answer) {
+            Ok(answer) => print!(rt; "  {answer}"),
+            Err(_) => println!(rt; "  PROBLEM: not UTF-8"),
+        }
+    }
+
+    fn request(&mut self, rt: &impl Print, alloc: Global, input: &[u8]) -> io::Result<()> {
+        let limits = (NO_LIMITS, NO_LIMITS);
+        Served::of(alloc, &self.routes, &mut self.desk, input, limits).print(rt, alloc)
+    }
+}

@@ -1,0 +1,155 @@
+// A request, served again and again: over readers and writers in pieces, over those that fail, and each beginning of it.
+use crate::desks::{MemoryDesk, desk_after};
+use crate::served::Served;
+use adm_http::{Routes, ServeFault};
+use run_steps::{Limits, NO_LIMITS};
+use std::alloc::Global;
+use std::io;
+
+/// A request, and the lines of the commands that are done to the register before it.
+#[derive(Clone, Copy)]
+pub(crate) struct Sweep<'a> {
+    pub(crate) alloc: Global,
+    pub(crate) routes: &'a Routes,
+    pub(crate) lines: &'a [u8],
+    pub(crate) input: &'a [u8],
+}
+
+/// A reader or a writer that passes so many calls, each of so many bytes at most.
+fn limits(calls: usize, bytes: usize) -> Limits {
+    Limits {
+        calls,
+        bytes,
+        interrupts: 0,
+    }
+}
+
+/// Prints each status, and for which counts of bytes it came.
+fn print_statuses(rt: &impl Print, statuses: &[Option<u16>]) -> io::Result<()> {
+    let mut first = 0;
+    for (len, status) in statuses.iter().enumerate() {
+        let next = len.saturating_add(1);
+        if statuses.get(next) != Some(status) {
+            match status {
+                None => println!(rt; "  {first}..{len}: nothing")?,
+                Some(status) => println!(rt; "  {first}..{len}: {status}")?,
+            }
+            first = next;
+        }
+    }
+    Ok(())
+}
+
+impl<'a> Sweep<'a> {
+    /// A desk of its own.
+    fn desk(&self) -> io::Result<MemoryDesk> {
+        desk_after(self.alloc, self.lines)
+    }
+
+    /// What a desk makes of an input, over a reader and a writer with limits.
+    fn at(&self, desk: &mut MemoryDesk, input: &[u8], limits: (Limits, Limits)) -> Served {
+        Served::of(self.alloc, self.routes, desk, input, limits)
+    }
+
+    /// What a desk makes of the request, over a reader and a writer without limits.
+    fn whole(&self, desk: &mut MemoryDesk) -> Served {
+        self.at(desk, self.input, (NO_LIMITS, NO_LIMITS))
+    }
+
+    /// Serves the request over readers and writers of some bytes a call, each time by a desk of its own. What is
+    /// written is to be the same as in one piece.
+    pub(crate) fn pieces(&self, rt: &impl Print) -> io::Result<()> {
+        let whole = self.whole(&mut self.desk()?);
+        for bytes in [1usize, 2, 7] {
+            let piece = limits(usize::MAX, bytes);
+            let read = self.at(&mut self.desk()?, self.input, (piece, NO_LIMITS));
+            let written = self.at(&mut self.desk()?, self.input, (NO_LIMITS, piece));
+            if read.is_same(&whole) && written.is_same(&whole) {
+                println!(rt; "  {bytes}: the same")?;
+            } else {
+                println!(rt; "  PROBLEM: {bytes} bytes a call")?;
+            }
+        }
+        Ok(())
+    }
+
+    /// Serves each beginning of the request, all by one desk. That desk is then to answer the whole request as one that
+    /// served no other: no beginning changed the register.
+    pub(crate) fn beginnings(&self, rt: &impl Print) -> io::Result<()> {
+        let mut desk = self.desk()?;
+        let mut statuses = Vec::new(self.alloc);
+        for len in 0..self.input.len() {
+            let front = self.input.get(..len).unwrap_or(self.input);
+            let served = self.at(&mut desk, front, (NO_LIMITS, NO_LIMITS));
+            statuses.push(served.status())?;
+        }
+        print_statuses(rt, &statuses)?;
+        if self
+            .whole(&mut desk)
+            .is_same(&self.whole(&mut self.desk()?))
+        {
+            Ok(())
+        } else {
+            println!(rt; "  PROBLEM: the register was changed")
+        }
+    }
+
+    /// Serves the request over a reader that fails at its first call, at its second, and so on, all by one desk, until
+    /// no call fails. Then it is to be answered as by a desk that served no other: no command was run before.
+    pub(crate) fn reader_fails(&self, rt: &impl Print) -> io::Result<()> {
+        let whole = self.whole(&mut self.desk()?);
+        let mut desk = self.desk()?;
+        for calls in 0..self.input.len().saturating_add(2) {
+            let served = self.at(&mut desk, self.input, (limits(calls, 1), NO_LIMITS));
+            if served.is_same(&whole) {
+                println!(rt; "  fault: Read at each of {calls} calls, nothing written")?;
+                break;
+            }
+            if served.ended != Err(ServeFault::Read) || !served.written.is_empty() {
+                println!(rt; "  PROBLEM: after {calls} reads")?;
+            }
+        }
+        Ok(())
+    }
+
+    /// Serves the request over a writer that fails at its first call, at its second, and so on, each time by a desk of
+    /// its own, until no call fails. Each desk is to answer the request the next time as one that had written it all:
+    /// its command was run.
+    pub(crate) fn writer_fails(&self, rt: &impl Print) -> io::Result<()> {
+        let mut desk = self.desk()?;
+        let whole = self.whole(&mut desk);
+        let again = self.whole(&mut desk);
+        for calls in 0..whole.written.len().saturating_add(2) {
+            let mut desk = self.desk()?;
+            let served = self.at(&mut desk, self.input, (NO_LIMITS, limits(calls, 1)));
+            if served.is_same(&whole) {
+                println!(rt;
+                    "  fault: Write at each of {calls} calls, the bytes before it written"
+                )?;
+                break;
+            }
+            let front = whole.written.get(..calls);
+            if served.ended != Err(ServeFault::Write) || front != Some(served.written.as_slice()) {
+                println!(rt; "  PROBLEM: after {calls} writes")?;
+            }
+            if !self.whole(&mut desk).is_same(&again) {
+                println!(rt; "  PROBLEM: the request again, after {calls} writes")?;
+            }
+        }
+        Ok(())
+    }
+
+    /// Prints how many bytes are taken from readers of some bytes a call, where 100,000 bytes follow the request.
+    pub(crate) fn reads(&self, rt: &impl Print) -> io::Result<()> {
+        let mut input = Vec::from_slice(self.alloc, self.input)?;
+        for _turn in 0..100_000 {
+            input.push(b'x')?;
+        }
+        for bytes in [1usize, 7, 8192] {
+            let reader = limits(usize::MAX, bytes);
+            let served = self.at(&mut self.desk()?, &input, (reader, NO_LIMITS));
+            println!(rt; "  {bytes}: took {}", served.taken)?;
+        }
+        Ok(())
+    }
+}
