@@ -136,6 +136,11 @@ class Season:
             lines.append(f"Waiting: {named(school)}, position {position} of {len(there)}, class {rank}, {away} metres")
         return lines if self.wanted(child) else lines + ["Waiting: nowhere"]
 
+    def state(self, child):
+        place = self.places.get(child)
+        waits = [{"position": next(it[0] for it in self.waiting(school) if it[1] == child), "school": school} for school in self.wanted(child)]
+        return {"child": child, "place": place and {"kind": place["kind"], "school": place["school"]}, "waiting": waits}
+
     def list_lines(self, school):
         there = self.waiting(school)
         rows = ["".join(str(it).rjust(width) for it, width in zip(row, WIDTHS)) for row in [("Pos", "Child", "Cls", "Metres"), *there]]
@@ -183,7 +188,7 @@ def main():
 
     def show(step, lines):
         steps.append(step)
-        shown.extend([f"$ admissions {step}" if not step.startswith("sqlite3") else f"$ {step}", *lines, "status 0"])
+        shown.extend([f"$ admissions {step}" if step.split()[0] not in ("sqlite3", "serving") else f"$ {step}", *lines, "status 0"])
 
     def write(name, lines):
         with open(os.path.join(folder, name), "w", encoding="utf-8") as file:
@@ -273,8 +278,22 @@ def main():
         "SELECT child, school, kind, day FROM place WHERE child % 10 = 1 ORDER BY child;", "SELECT child, school FROM left_list ORDER BY child, school;",
         "SELECT draw, round, school, day FROM draw ORDER BY draw;", "SELECT draws FROM meta;",
     ])
+
+    # the desk is asked on each of its routes; the same answer to an offer again is refused
+    child = said[-1]["child"]
+    accept = {"cmd": "accept", "child": child, "school": season.places[child]["school"]}
+    states = [compact(season.state(child)), compact(season.state(unplaced))]
+    season.places[child].update(kind="accepted", day=None)
+    shortest = min(sorted(season.schools), key=lambda it: (len(season.waiting(it)) == 0, len(season.waiting(it))))
+    write("asks", [
+        "# Each route of the desk at $at, by curl", *[f"curl -s $at/child/{it}; echo" for it in (child, unplaced)], *[f"curl -s -d '{compact(accept)}' $at/command; echo"] * 2,
+        f"curl -s $at/child/{child}/letter", f"curl -s $at/school/{shortest}/waiting", "curl -s $at/round/2 | tail -n 1",
+    ])
+    said_to = [*states, compact(done), compact({"name": "NotOffered", "refused": 15}), *season.letter(child), *season.list_lines(shortest), season.report(2)[-1]]
+    show("serving reg.db 7 bash asks", said_to)
     write("steps", steps)
-    write("expected", [*shown, "files: reg.db"])
+    # (the log beside the file, which holds no page, stays as the last program left it)
+    write("expected", [*shown, "files: reg.db reg.db-wal"])
 
 
 main()
