@@ -82,18 +82,32 @@ def baseline(room, tables, writes):
     return seconds, used
 
 
-class Desk:
-    """A run of the program, to which commands go some at a time."""
+def spent(process):
+    """Seconds of processor time that a process has used so far."""
+    with open(f"/proc/{process.pid}/schedstat") as it:
+        return int(it.read().split()[0]) / 1e9
 
-    def __init__(self, program, file):
+
+def memory(process):
+    """The memory of a process in megabytes: what it has now, and the most that it had."""
+    with open(f"/proc/{process.pid}/status") as it:
+        told = dict(line.split(":", 1) for line in it)
+    return tuple(int(told[name].split()[0]) / 1024 for name in ("VmRSS", "VmHWM"))
+
+
+class Desk:
+    """A run of the program, to which commands go some at a time, and which must end with this status."""
+
+    def __init__(self, program, file, status=0):
         self.process = subprocess.Popen([program, "do", file], stdin=subprocess.PIPE, stdout=subprocess.PIPE, bufsize=0)
+        self.status = status
 
     def __enter__(self):
         return self
 
     def __exit__(self, *_):
         self.process.stdin.close()
-        assert self.process.wait() == 0
+        assert self.process.wait() == self.status
 
     def take(self, commands):
         """Hands these commands in and waits for their answers. Each must be done."""
@@ -104,10 +118,23 @@ class Desk:
             answers += self.process.stdout.read(len(wanted) - len(answers))
         assert answers == wanted, answers
 
+    def answers(self, commands):
+        """Hands these commands in and waits for their answers, a line for each. The commands are few enough that the answers find room in a pipe."""
+        self.process.stdin.write(lines(commands))
+        said = b""
+        while said.count(b"\n") < len(commands):
+            more = self.process.stdout.read(65536)
+            assert more, "the program ended"
+            said += more
+        return said.decode().splitlines()
+
     def spent(self):
         """Seconds of processor time that the run has used so far."""
-        with open(f"/proc/{self.process.pid}/schedstat") as it:
-            return int(it.read().split()[0]) / 1e9
+        return spent(self.process)
+
+    def memory(self):
+        """The memory of the run in megabytes: what it has now, and the most that it had."""
+        return memory(self.process)
 
     def cost(self, commands):
         """Seconds of processor time for one of these commands, on the average."""

@@ -27,25 +27,15 @@ static uint64_t next(uint64_t &state) {
     return state >> 33;
 }
 
-int main(int argc, char **argv) {
-    if (argc != 4) return 2;
-    uint32_t entrants = strtoul(argv[1], nullptr, 10);
-    uint32_t wishes = strtoul(argv[2], nullptr, 10);
-    uint32_t schools = strtoul(argv[3], nullptr, 10);
-    const uint64_t steps[] = {1, 3, 7, 9, 11, 13};
-    std::vector<std::vector<Wish>> lists(entrants);
-    uint64_t state = 42;
-    for (uint32_t e = 0; e < entrants; e++) {
-        uint64_t number = next(state), step = steps[next(state) % 6];
-        for (uint32_t w = 0; w < wishes; w++, number += step) {
-            uint8_t level = next(state) % 3;
-            uint32_t distance = next(state) % 30000;
-            lists[e].push_back({uint32_t(number % schools), Key(level, distance, e)});
-        }
-    }
-    size_t quota = uint64_t(entrants) * 9 / 10 / schools;
+// What an allocation leaves: how many schools have rejected each entrant, and whether one holds it.
+struct Given {
+    std::vector<uint32_t> gone;
+    std::vector<bool> placed;
+};
 
-    auto start = std::chrono::steady_clock::now();
+// In a function of its own, so that its instructions can be counted.
+[[gnu::noinline]] static Given allot(const std::vector<std::vector<Wish>> &lists, uint32_t schools, size_t quota) {
+    uint32_t entrants = lists.size();
     std::vector<std::priority_queue<Held>> held(schools);
     std::vector<uint32_t> gone(entrants, 0);
     std::vector<bool> placed(entrants, false);
@@ -66,6 +56,29 @@ int main(int argc, char **argv) {
             waiting.push(out);
         }
     }
+    return {std::move(gone), std::move(placed)};
+}
+
+int main(int argc, char **argv) {
+    if (argc != 4) return 2;
+    uint32_t entrants = strtoul(argv[1], nullptr, 10);
+    uint32_t wishes = strtoul(argv[2], nullptr, 10);
+    uint32_t schools = strtoul(argv[3], nullptr, 10);
+    const uint64_t steps[] = {1, 3, 7, 9, 11, 13};
+    std::vector<std::vector<Wish>> lists(entrants);
+    uint64_t state = 42;
+    for (uint32_t e = 0; e < entrants; e++) {
+        uint64_t number = next(state), step = steps[next(state) % 6];
+        for (uint32_t w = 0; w < wishes; w++, number += step) {
+            uint8_t level = next(state) % 3;
+            uint32_t distance = next(state) % 30000;
+            lists[e].push_back({uint32_t(number % schools), Key(level, distance, e)});
+        }
+    }
+    size_t quota = uint64_t(entrants) * 9 / 10 / schools;
+
+    auto start = std::chrono::steady_clock::now();
+    auto [gone, placed] = allot(lists, schools, quota);
     auto end = std::chrono::steady_clock::now();
 
     uint64_t sum = 0, proposals = 0;

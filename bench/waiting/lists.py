@@ -39,4 +39,5 @@ def main():
     print(f"Waiting {len(there)}, vacancies {max(0, school[2] - sum(1 for it in places.values() if it == code))}")
 
 
-main()
+if __name__ == "__main__":
+    main()
