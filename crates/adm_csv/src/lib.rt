@@ -10,8 +10,6 @@ mod kinds;
 mod row;
 mod rows;
 mod scan;
-#[cfg(test)]
-mod tests;
 
 pub use fault::{Fault, RowFault};
 pub use rows::read_rows;

@@ -14,8 +14,6 @@ mod serve;
 mod shows;
 mod states;
 mod targets;
-#[cfg(test)]
-mod tests;
 
 pub use desk::{answer, serve_one};
 pub use laws::judged_in_one_way;

@@ -11,5 +11,3 @@ pub use distances::distance;
 pub use keys::{RankKey, key};
 pub use laws::order_is_total;
 
-#[cfg(test)]
-mod tests;

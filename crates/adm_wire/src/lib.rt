@@ -8,8 +8,6 @@ mod keys;
 mod name;
 mod read;
 mod streams;
-#[cfg(test)]
-mod tests;
 mod texts;
 
 pub use fault::WireFault;

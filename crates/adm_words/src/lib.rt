@@ -9,8 +9,6 @@ mod lines;
 mod pairs;
 mod reading;
 mod serving;
-#[cfg(test)]
-mod tests;
 
 pub use actions::Action;
 pub use faults::{WordsFault, fault_text};

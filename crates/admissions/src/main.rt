@@ -1,16 +1,7 @@
-// The program: it reads the words, opens the file and runs the desk on real streams.
+// The program: it takes its words and the streams of its process, and runs on real files.
 #![tactic(auto)]
 
-mod document;
-mod ended;
-mod exit;
-mod fault;
-mod import;
-mod opening;
-mod print;
-mod run;
-mod serving;
-
+use adm_program::run_words;
 use sqlite::Unknown;
 use std::process::ExitCode;
 use std::{env, io};
@@ -24,7 +15,7 @@ fn main(rt: HostRuntime) -> io::Result<ExitCode> {
     for word in &given {
         words.push(word.as_str())?;
     }
-    Ok(ExitCode::from(run::run_words(
+    Ok(ExitCode::from(run_words(
         &rt,
         words.as_slice(),
         Unknown,

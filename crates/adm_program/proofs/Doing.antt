@@ -1,0 +1,189 @@
+-- What an action comes to, from the clauses of what it calls.
+use Rattle.std.proofs.Common.{◌≡◌, ◌≢◌, ◌⊎◌, ℕ, Bool, true, false, if◌then◌else◌, nat_lt, refl, List, Option, None, Some, Result, Ok, Err, inl, inr, Bor, sym, subst}
+use Rattle.std.specs.Prelude.{IfOk, IfErr, IsTrue}
+use Rattle.sqlite_disk.specs.declared.Disk as disk
+use Rattle.sqlite_disk.specs.declared.Files.{Files}
+use Rattle.sqlite_wal.specs.Recovery.{Image}
+use Rattle.sqlite_store.specs.declared.store.FileStore.{FileStore}
+use Rattle.sqlite.specs.declared.error.Error.{Error}
+use Rattle.sqlite.specs.declared.error.Error.TheVariants.{SqliteFailure}
+use Rattle.sqlite.specs.declared.error.ErrorCode.TheVariants.{OutOfMemory}
+use Rattle.adm_types.specs.Numbers.{is_from}
+use Rattle.adm_types.specs.Seasons.{SeasonFacts, IsRising}
+use Rattle.adm_types.specs.declared.seasons.Phase.{Phase}
+use Rattle.adm_types.specs.declared.seasons.SeasonFault.{SeasonFault}
+use Rattle.adm_types.specs.declared.seasons.SeasonFault.TheVariants as season
+use Rattle.adm_words.specs.declared.actions.Action.{Action}
+use Rattle.adm_words.specs.declared.actions.Action.TheVariants as action
+use Rattle.sqlite.specs.Held.{Held}
+use Rattle.adm_desk.specs.Standing.{Standing}
+use Rattle.adm_desk.specs.declared.answer.Answer.{Answer}
+use Rattle.adm_desk.specs.declared.answer.Answer.TheVariants as answer
+use Rattle.adm_program.specs.Exits.{of_season, has_many_holidays, IsCauseIn, ExitsBy, exit_of_answer, ending_of, error_of, told_of, code_of}
+use Rattle.adm_program.specs.Opened.{Stream, IsNotOpened}
+use Rattle.adm_program.specs.Imports.{ImportsAs, ImportsFile, ImportsInto}
+use Rattle.adm_program.specs.Served.{ServesAs, ServesOver}
+use Rattle.adm_program.specs.Texts.{Prints, PrintsAs, text_in}
+use Rattle.adm_program.specs.Runs.{Answers, Creates, CreatesAs, EndsAs}
+use Rattle.adm_program.specs.Does.{Does}
+use Rattle.adm_program.specs.declared.document.Document.{Document}
+use Rattle.adm_program.specs.declared.document.Document.TheVariants as document
+use Rattle.adm_program.specs.declared.ended.Ended.{Ended}
+use Rattle.adm_program.specs.declared.exit.Exit.{Exit}
+use Rattle.adm_program.specs.declared.exit.Exit.TheVariants as exit
+use Rattle.adm_program.specs.declared.fault.Fault.{Fault}
+
+pub if_ok : {X E : Type 0} {P Q : X → Type 0} → ((x : X) → P x → Q x) → (r : Result X E) → IfOk r P → IfOk r Q
+if_ok more (Ok x) holds = more x holds
+if_ok more (Err e) holds = holds
+
+-- why there is no season
+pub no_season : (file : Bor (List ℕ)) (phase : Phase) (year : ℕ) (days : List ℕ) (fault : SeasonFault)
+    → (fault ≡ season.YearRange → is_from 2000 2100 year ≡ false)
+    → (fault ≡ season.TooManyHolidays → IsTrue (has_many_holidays (action.Init file phase year days)))
+    → IsCauseIn (action.Init file phase year days) (of_season fault)
+no_season file phase year days season.YearRange range many = inl (refl, range refl)
+no_season file phase year days season.TooManyHolidays range many = inr (inl (refl, many refl))
+no_season file phase year days season.Memory range many = inr (inr (SqliteFailure OutOfMemory, refl, refl))
+
+-- the status of a line that ended so, and of what its close came to
+abbrev status : Result Exit Fault → Option Error → ℕ
+status e closed = code_of (told_of (ending_of e closed))
+
+-- a line that ended with a fault
+fault_exit : (e : Result Exit Fault) (f : Fault) (closed : Option Error) → e ≡ Err f → status e closed ≡ 1
+fault_exit e f closed told = subst (λ (y : Result Exit Fault). status y closed ≡ 1) (sym told) refl
+
+-- something was done, and its connection closed
+done_exit : (e : Exit) (closed : Option Error) → e ≡ exit.Done → (status (Ok e) closed ≡ 0) ⊎ (status (Ok e) closed ≡ 1)
+done_exit e closed is = subst (λ (y : Exit). (status (Ok y) closed ≡ 0) ⊎ (status (Ok y) closed ≡ 1)) (sym is) (of_done closed)
+  where
+    of_done : (c : Option Error) → (status (Ok exit.Done) c ≡ 0) ⊎ (status (Ok exit.Done) c ≡ 1)
+    of_done None = inl refl
+    of_done (Some error) = inr refl
+
+-- lines were run, and their connection closed
+run_exit : (failed refused : Bool) (closed : Option Error) → status (Ok (if failed then exit.Failed else (if refused then exit.Refused else exit.Done))) closed ≢ 2
+run_exit true refused closed = λ e. cc
+run_exit false true None = λ e. cc
+run_exit false true (Some error) = λ e. cc
+run_exit false false None = λ e. cc
+run_exit false false (Some error) = λ e. cc
+
+-- a command was answered, and its connection closed
+answer_exit : (a : Answer) (closed : Option Error) → status (Ok (exit_of_answer a)) closed ≢ 2
+answer_exit (answer.Done reply) None = λ e. cc
+answer_exit (answer.Done reply) (Some error) = λ e. cc
+answer_exit (answer.Refused refusal row) None = λ e. cc
+answer_exit (answer.Refused refusal row) (Some error) = λ e. cc
+answer_exit answer.Memory None = λ e. cc
+answer_exit answer.Memory (Some error) = λ e. cc
+answer_exit answer.Failed closed = λ e. cc
+
+-- connections were served, or none
+abbrev IsOfServing : ℕ → Type 0
+IsOfServing n = (n ≡ 0) ⊎ ((n ≡ 1) ⊎ (n ≡ 4))
+
+served_exit : (failed : Bool) (closed : Option Error) → IsOfServing (status (Ok (if failed then exit.Failed else exit.Done)) closed)
+served_exit true closed = inr (inr refl)
+served_exit false None = inl refl
+served_exit false (Some error) = inr (inl refl)
+
+not_two : (n : ℕ) → n ≡ 1 → n ≢ 2
+not_two n is = subst (λ (m : ℕ). m ≢ 2) (sym is) (λ e. cc)
+
+-- a text was printed, or there was none
+print_exit : (read : Result (List ℕ) Fault) (output : Stream) (e : Result Exit Fault) (closed : Option Error) → PrintsAs read output e
+    → (status e closed ≡ 0) ⊎ (status e closed ≡ 1)
+print_exit (Ok text) output (Ok x) closed prints = done_exit x closed prints.1
+print_exit (Ok text) output (Err f) closed prints = inr refl
+print_exit (Err f) output e closed prints = inr (fault_exit e f closed prints.0)
+
+-- an action that came to nothing
+unmade : (a : Action) → ExitsBy (Ok a) 1
+unmade (action.Init file phase year days) = inr refl
+unmade (action.Do file) = λ e. cc
+unmade (action.Import file csv) = λ e. cc
+unmade (action.Serve file port count) = inr (inl refl)
+unmade (action.Letter file child) = inr refl
+unmade (action.List file school) = inr refl
+unmade (action.RoundReport file round) = inr refl
+
+module _ {D : Type 0} {g : disk.Ghosts D} where
+  pub season_made : (image : Image) (a : Action) (file : Bor (List ℕ)) (phase : Phase) (year : ℕ) (days given : List ℕ) (input output : Stream)
+      (e : Result Exit Fault) (closed : Result (Files D) (Error × FileStore D g)) (s : SeasonFacts) → a ≡ action.Init file phase year days → given ≡ days
+      → input.new ≡ input.old → output.new ≡ output.old → (s.phase ≡ phase) × (s.year ≡ year) × IsRising given s.holidays
+      → Creates image s e closed → Does image a input output e closed
+  season_made image a file phase year days given input output e closed s is same read written facts made =
+      let rising = subst (λ (l : List ℕ). IsRising l s.holidays) same facts.2 in
+      subst (λ (x : Action). Does image x input output e closed) (sym is) (read, written, s, facts.0, facts.1, rising, made)
+
+  created : (season : SeasonFacts) (found left : Held (FileStore D g)) (e : Result Exit Fault) (closed : Option Error) → CreatesAs season found left e
+      → (status e closed ≡ 0) ⊎ (status e closed ≡ 1)
+  created season found left (Err f) closed made = inr refl
+  created season found left (Ok x) closed made = done_exit x closed made.0
+
+  ran : (old new : Standing (Held (FileStore D g))) (input output : Stream) (e : Result Exit Fault) (closed : Option Error) → EndsAs old new input output e
+      → status e closed ≢ 2
+  ran old new input output (Err f) closed ends = λ e. cc
+  ran old new input output (Ok x) closed ends =
+      subst (λ (y : Exit). status (Ok y) closed ≢ 2) (sym ends.1) (run_exit ends.0.failed (nat_lt 0 ends.0.refused) closed)
+
+  imported : (old new : Standing (Held (FileStore D g))) (file output : Stream) (e : Result Exit Fault) (closed : Option Error) → ImportsAs old new file output e
+      → status e closed ≢ 2
+  imported old new file output (Err f) closed ends = λ e. cc
+  imported old new file output (Ok x) closed ends =
+      subst (λ (y : Exit). status (Ok y) closed ≢ 2) (sym ends.2.exit) (answer_exit ends.2.answer closed)
+
+  -- the register was not opened
+  not_opened : (image : Image) (e : Result Exit Fault) (closed : Result (Files D) (Error × FileStore D g)) → IsNotOpened image e closed → status e (error_of closed) ≡ 1
+  not_opened image e closed left = fault_exit e _ (error_of closed) left.told
+
+  do_exit : (image : Image) (input output : Stream) (e : Result Exit Fault) (closed : Result (Files D) (Error × FileStore D g)) → Answers image input output e closed
+      → status e (error_of closed) ≢ 2
+  do_exit image input output e closed (inl left) = not_two _ (not_opened image e closed left.0)
+  do_exit image input output e closed (inr does) = ran does.0 does.2.after input output e (error_of closed) does.2.ends
+
+  file_exit : (desk : Standing (Held (FileStore D g))) (output : Stream) (e : Result Exit Fault) (closed : Result (Files D) (Error × FileStore D g))
+      → ImportsFile desk output e closed → status e (error_of closed) ≢ 2
+  file_exit desk output e closed (inl left) = not_two _ (fault_exit e _ (error_of closed) left.0)
+  file_exit desk output e closed (inr does) = imported desk does.1.after does.0 output e (error_of closed) does.1.ends
+
+  import_exit : (image : Image) (output : Stream) (e : Result Exit Fault) (closed : Result (Files D) (Error × FileStore D g)) → ImportsInto image output e closed
+      → status e (error_of closed) ≢ 2
+  import_exit image output e closed (inl left) = not_two _ (not_opened image e closed left.0)
+  import_exit image output e closed (inr does) = file_exit does.0 output e closed does.2
+
+  document_exit : (image : Image) (wanted : Document) (output : Stream) (e : Result Exit Fault) (closed : Result (Files D) (Error × FileStore D g))
+      → Prints image wanted output e closed → (status e (error_of closed) ≡ 0) ⊎ (status e (error_of closed) ≡ 1)
+  document_exit image wanted output e closed (inl left) = inr (not_opened image e closed left.0)
+  document_exit image wanted output e closed (inr does) = print_exit (text_in does.0.register wanted) output e (error_of closed) does.2.0
+
+  served : (old new : Standing (Held (FileStore D g))) (port count : ℕ) (output : Stream) (e : Result Exit Fault) (closed : Option Error)
+      → ServesAs old new port count output e → IsOfServing (status e closed)
+  served old new port count output (Err f) closed ends = inr (inl refl)
+  served old new port count output (Ok x) closed ends = subst (λ (y : Exit). IsOfServing (status (Ok y) closed)) (sym ends.2) (served_exit new.failed closed)
+
+  serve_exit : (image : Image) (port count : ℕ) (output : Stream) (e : Result Exit Fault) (closed : Result (Files D) (Error × FileStore D g))
+      → ServesOver image port count output e closed → IsOfServing (status e (error_of closed))
+  serve_exit image port count output e closed (inl left) = inr (inl (not_opened image e closed left.0))
+  serve_exit image port count output e closed (inr does) = served does.0 does.2.after port count output e (error_of closed) does.2.ends
+
+  -- what an action that was taken up did
+  made : (image : Image) (a : Action) (input output : Stream) (e : Result Exit Fault) (closed : Result (Files D) (Error × FileStore D g)) → Does image a input output e closed
+      → ExitsBy (Ok a) (status e (error_of closed))
+  made image (action.Init file phase year days) input output e closed does =
+      created does.2 does.6.found does.6.creates.left e (error_of closed) does.6.creates.made
+  made image (action.Do file) input output e closed does = do_exit image input output e closed does
+  made image (action.Import file csv) input output e closed does = import_exit image output e closed does.1
+  made image (action.Serve file port count) input output e closed does = serve_exit image port count output e closed does.1
+  made image (action.Letter file child) input output e closed does = document_exit image (document.Letter child) output e closed does.1
+  made image (action.List file school) input output e closed does = document_exit image (document.List school) output e closed does.1
+  made image (action.RoundReport file round) input output e closed does = document_exit image (document.Report round) output e closed does.1
+
+  -- the status of an action
+  pub exits : (image : Image) (a : Action) (input output : Stream) (r : Result (Ended D g) Fault) (x : Exit)
+      → IfOk r (λ ended. Does image a input output ended.exit ended.closed) → IfOk r (λ ended. x ≡ told_of (ending_of ended.exit (error_of ended.closed)))
+      → IfErr r (λ _. x ≡ exit.Fault) → ExitsBy (Ok a) (code_of x)
+  exits image a input output (Ok ended) x does told none = subst (λ (y : Exit). ExitsBy (Ok a) (code_of y)) (sym told) (made image a input output ended.exit ended.closed does)
+  exits image a input output (Err f) x does told none = subst (λ (y : Exit). ExitsBy (Ok a) (code_of y)) (sym none) (unmade a)

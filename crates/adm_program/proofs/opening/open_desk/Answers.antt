@@ -1,0 +1,33 @@
+use Rattle.std.proofs.Common.{refl, ap, Err}
+use Rattle.sqlite.specs.declared.error.Error.TheVariants.{SqliteFailure}
+use Rattle.sqlite.specs.declared.error.ErrorCode.TheVariants.{CannotOpen}
+use Rattle.adm_program.proofs.Closing.{closes}
+use Rattle.adm_program.proofs.opening.open_desk.Goals as goal
+
+pub returns-in-Ok-clause-ok : goal.returns-in-Ok-clause-ok
+returns-in-Ok-clause-ok g c =
+    record {
+      found = c.in_ok-conn.conn;
+      is_found = c.in_ok-conn.ensures.found;
+      alive = c.in-Ok.ensures.opened.0;
+      leaves = c.in-Ok.ensures.opened.1;
+      kept = c.in-Ok.ensures.kept;
+    }
+
+pub returns-in-Err-clause-ok : goal.returns-in-Err-clause-ok
+returns-in-Err-clause-ok g c =
+    record {
+      found = c.in_ok-conn.conn;
+      is_found = c.in_ok-conn.ensures.found;
+      cause = c.in-Err.fault;
+      told = ap Err c.from.ensures;
+      left = c.in-Err.conn;
+      none = c.in-Err.ensures.bad;
+      first = c.in-Err.ensures.first;
+      kept = c.in-Err.ensures.left;
+      closes = closes c.in-Err.conn c.close_files.result _ c.close_files.ensures.copied c.close_files.ensures.err;
+    }
+
+-- there is no such file
+pub returns-in_default-clause-err : goal.returns-in_default-clause-err
+returns-in_default-clause-err g c = (SqliteFailure CannotOpen, refl, refl)

@@ -1,0 +1,42 @@
+use Rattle.std.proofs.Common.{Result, Ok, Err, sym, refl, subst}
+use Rattle.adm_program.specs.Opened.{Stream}
+use Rattle.adm_program.specs.Served.{ServesAs}
+use Rattle.adm_program.specs.declared.exit.Exit.{Exit}
+use Rattle.adm_program.specs.declared.fault.Fault.{Fault}
+use Rattle.adm_program.proofs.Served.{exit_served, not_printed, not_ready}
+use Rattle.adm_program.proofs.serving.serve_connections.Goals as goal
+
+-- connections were served
+pub returns-in-Ok-put_serving : goal.returns-in-Ok-put_serving
+returns-in-Ok-put_serving g c =
+    let output : Stream = record { old = g.O.Output.contents c.args.output.now; new = g.O.Output.contents c.put_serving.new.output; has_failed = g.O.Output.has_failed c.put_serving.new.output } in
+    let exit = exit_served c.serve_on-status.new.desk.failed c.serve_on-status.result c.of_served.result c.serve_on-status.ensures.status c.of_served.ensures in
+    let ends : ServesAs c.args.desk c.serve_on-status.new.desk c.args.port c.args.count output (Ok c.of_served.result) =
+    (c.in-Ok-put_serving.ensures, c.serve_on-status.ensures.desk, exit) in
+    record {
+      after = c.serve_on-status.new.desk;
+      ends = subst (λ (e : Result Exit Fault). ServesAs c.args.desk c.serve_on-status.new.desk c.args.port c.args.count output e) (sym c.close.ensures.exit) ends;
+      closes = c.close.ensures.closes;
+    }
+
+-- the line was not printed
+pub returns-in-Ok : goal.returns-in-Ok
+returns-in-Ok g c =
+    let output : Stream = record { old = g.O.Output.contents c.args.output.now; new = g.O.Output.contents c.put_serving.new.output; has_failed = g.O.Output.has_failed c.put_serving.new.output } in
+    let ends = not_printed (Unit {0}) c.args.desk c.args.port c.args.count output c.in-Err-put_serving.fault c.in-Err-put_serving.ensures in
+    record {
+      after = c.args.desk;
+      ends = subst (λ (e : Result Exit Fault). ServesAs c.args.desk c.args.desk c.args.port c.args.count output e) (sym c.close-in-Err-put_serving.ensures.exit) ends;
+      closes = c.close-in-Err-put_serving.ensures.closes;
+    }
+
+-- no connection could be waited for
+pub returns : goal.returns
+returns g c =
+    let output : Stream = record { old = g.O.Output.contents c.args.output.now; new = g.O.Output.contents c.args.output.now; has_failed = g.O.Output.has_failed c.args.output.now } in
+    let ends = not_ready c.args.desk c.args.port c.args.count output c.in-Err.fault c.in-Err.ensures refl in
+    record {
+      after = c.args.desk;
+      ends = subst (λ (e : Result Exit Fault). ServesAs c.args.desk c.args.desk c.args.port c.args.count output e) (sym c.close-in-Err.ensures.exit) ends;
+      closes = c.close-in-Err.ensures.closes;
+    }

@@ -1,0 +1,182 @@
+-- What is printed of a fault, and the exit status.
+use Rattle.std.specs.Prelude.{◌≡◌, ◌≢◌, ◌⊎◌, ◌&&◌, ◌==◌, ℕ, Bool, false, IsTrue, List, ◌++◌, codes, decimal, length, nat_lt, if◌then◌else◌, Result, Ok, Err, Option, Some, None}
+use Rattle.adm_types.specs.Numbers.{is_from}
+use Rattle.adm_types.specs.declared.seasons.SeasonFault.{SeasonFault}
+use Rattle.adm_types.specs.declared.seasons.SeasonFault.TheVariants as season
+use Rattle.adm_csv.specs.declared.fault.Fault.{Fault as CsvFault}
+use Rattle.adm_csv.specs.declared.fault.Fault.TheVariants as csv
+use Rattle.adm_letters.specs.declared.fault.LetterFault.{LetterFault}
+use Rattle.adm_letters.specs.declared.fault.LetterFault.TheVariants as letter
+use Rattle.adm_words.specs.Lines.{ReadsWords}
+use Rattle.adm_words.specs.declared.actions.Action.{Action}
+use Rattle.adm_words.specs.declared.actions.Action.TheVariants as action
+use Rattle.adm_words.specs.declared.faults.WordsFault.{WordsFault}
+use Rattle.adm_words.specs.declared.faults.WordsFault.TheVariants as words
+use Rattle.adm_store.specs.declared.fault.CreateFault.{CreateFault}
+use Rattle.adm_store.specs.declared.fault.CreateFault.TheVariants as create
+use Rattle.adm_store.specs.declared.fault.OpenFault.{OpenFault}
+use Rattle.adm_store.specs.declared.fault.OpenFault.TheVariants as opened
+use Rattle.adm_desk.specs.declared.answer.Answer.{Answer}
+use Rattle.adm_desk.specs.declared.answer.Answer.TheVariants as answer
+use Rattle.adm_desk.specs.declared.run.Run.{Run}
+use Rattle.adm_desk.specs.declared.run.RunFault.{RunFault}
+use Rattle.adm_desk.specs.declared.run.RunFault.TheVariants as run
+use Rattle.sqlite.specs.Opening.{is_open_error}
+use Rattle.sqlite.specs.declared.error.Error.{Error}
+use Rattle.sqlite.specs.declared.error.Error.TheVariants as error
+use Rattle.sqlite.specs.declared.error.ErrorCode.TheVariants as code
+use Rattle.adm_program.specs.declared.fault.Fault.{Fault}
+use Rattle.adm_program.specs.declared.fault.Fault.TheVariants.{TooManyHolidays, YearRange, InUse, NotOurs, Version, BadRow, Disk, Memory, Read, Write, UnknownChild, UnknownSchool, NoRound, Listen, Row}
+use Rattle.adm_program.specs.declared.exit.Exit.{Exit}
+use Rattle.adm_program.specs.declared.exit.Exit.TheVariants as exit
+
+-- the name of a fault in the file of an import
+abbrev pub row_fault_name : CsvFault → List ℕ
+row_fault_name csv.Header = codes "Header"
+row_fault_name csv.FieldCount = codes "FieldCount"
+row_fault_name csv.BadNumber = codes "BadNumber"
+row_fault_name csv.BadDate = codes "BadDate"
+row_fault_name csv.BadText = codes "BadText"
+row_fault_name csv.TooManyRows = codes "TooManyRows"
+row_fault_name csv.Read = codes "Read"
+row_fault_name csv.Memory = codes "Memory"
+
+-- the row, and the name of its fault
+abbrev pub row_text : ℕ → List ℕ → List ℕ
+row_text row name = codes "fault: row " ++ (decimal row ++ (codes ": " ++ (name ++ codes "\n")))
+
+-- `fault: `, the fault's name and LF; before the name of a fault in the file of an import its row
+abbrev pub text_of : Fault → List ℕ
+text_of TooManyHolidays = codes "fault: TooManyHolidays\n"
+text_of YearRange = codes "fault: YearRange\n"
+text_of InUse = codes "fault: InUse\n"
+text_of NotOurs = codes "fault: NotOurs\n"
+text_of Version = codes "fault: Version\n"
+text_of BadRow = codes "fault: BadRow\n"
+text_of Disk = codes "fault: Disk\n"
+text_of Memory = codes "fault: Memory\n"
+text_of Read = codes "fault: Read\n"
+text_of Write = codes "fault: Write\n"
+text_of UnknownChild = codes "fault: UnknownChild\n"
+text_of UnknownSchool = codes "fault: UnknownSchool\n"
+text_of NoRound = codes "fault: NoRound\n"
+text_of Listen = codes "fault: Listen\n"
+text_of (Row fault) = row_text fault.row (row_fault_name fault.fault)
+
+-- ---- each fault keeps its name
+
+abbrev pub of_season : SeasonFault → Fault
+of_season season.YearRange = YearRange
+of_season season.TooManyHolidays = TooManyHolidays
+of_season season.Memory = Memory
+
+abbrev pub of_create : CreateFault → Fault
+of_create create.InUse = InUse
+of_create create.Disk = Disk
+of_create create.Memory = Memory
+
+abbrev pub of_open : OpenFault → Fault
+of_open opened.NotOurs = NotOurs
+of_open opened.Version = Version
+of_open opened.BadRow = BadRow
+of_open opened.Disk = Disk
+of_open opened.Memory = Memory
+
+abbrev pub of_run : RunFault → Fault
+of_run run.Read = Read
+of_run run.Write = Write
+of_run run.Memory = Memory
+
+abbrev pub of_letter : LetterFault → Fault
+of_letter letter.UnknownChild = UnknownChild
+of_letter letter.UnknownSchool = UnknownSchool
+of_letter letter.NoRound = NoRound
+of_letter letter.Memory = Memory
+
+-- want of memory of the store; all else that it tells is of the disk
+abbrev pub of_error : Error → Fault
+of_error (error.SqliteFailure code.OutOfMemory) = Memory
+of_error _ = Disk
+
+-- why a file was not opened
+abbrev pub IsOpenFault : Fault → Type 0
+IsOpenFault fault = (error : Error) × IsTrue (is_open_error error) × (fault ≡ of_error error)
+
+-- a year of the range, and more than 40 holidays
+abbrev pub has_many_holidays : Action → Bool
+has_many_holidays (action.Init file phase year days) = is_from 2000 2100 year && nat_lt 40 (length days)
+has_many_holidays (action.Do file) = false
+has_many_holidays (action.Import file csv) = false
+has_many_holidays (action.Serve file port count) = false
+has_many_holidays (action.Letter file child) = false
+has_many_holidays (action.List file school) = false
+has_many_holidays (action.RoundReport file round) = false
+
+-- why an action came to nothing: the year or the holidays are no season's, or the file was not opened, or memory ran out
+abbrev pub IsCauseIn : Action → Fault → Type 0
+IsCauseIn (action.Init file phase year days) f = ((f ≡ YearRange) × (is_from 2000 2100 year ≡ false))
+    ⊎ (((f ≡ TooManyHolidays) × IsTrue (has_many_holidays (action.Init file phase year days))) ⊎ IsOpenFault f)
+IsCauseIn (action.Do file) f = IsOpenFault f
+IsCauseIn (action.Import file csv) f = IsOpenFault f
+IsCauseIn (action.Serve file port count) f = IsOpenFault f
+IsCauseIn (action.Letter file child) f = IsOpenFault f
+IsCauseIn (action.List file school) f = IsOpenFault f
+IsCauseIn (action.RoundReport file round) f = IsOpenFault f
+
+-- ---- exits
+
+-- 4 before 3: some answer was Failed; some line was refused, faulty or met want of memory; or all were done
+abbrev pub exit_of : Run → Exit
+exit_of r = if r.failed then exit.Failed else (if nat_lt 0 r.refused then exit.Refused else exit.Done)
+
+-- the same of one answer
+abbrev pub exit_of_answer : Answer → Exit
+exit_of_answer (answer.Done reply) = exit.Done
+exit_of_answer (answer.Refused refusal row) = exit.Refused
+exit_of_answer answer.Memory = exit.Refused
+exit_of_answer answer.Failed = exit.Failed
+
+-- the same of the status that serving gave
+abbrev pub exit_of_served : ℕ → Exit
+exit_of_served status = if status == 4 then exit.Failed else exit.Done
+
+-- a fault before all else; a close that failed is one, but after a Failed
+abbrev pub closing_of : Exit → Option Error → Result Exit Fault
+closing_of exit.Failed closed = Ok exit.Failed
+closing_of e None = Ok e
+closing_of e (Some error) = Err (of_error error)
+
+abbrev pub ending_of : Result Exit Fault → Option Error → Result Exit Fault
+ending_of (Err fault) closed = Err fault
+ending_of (Ok e) closed = closing_of e closed
+
+abbrev pub code_of : Exit → ℕ
+code_of exit.Done = 0
+code_of exit.Fault = 1
+code_of exit.Words = 2
+code_of exit.Refused = 3
+code_of exit.Failed = 4
+
+abbrev pub told_of : Result Exit Fault → Exit
+told_of (Ok e) = e
+told_of (Err fault) = exit.Fault
+
+-- why a close failed
+abbrev pub error_of : {X Y : Type 0} → Result X (Error × Y) → Option Error
+error_of (Ok files) = None
+error_of (Err e) = Some e.0
+
+-- what the words were read as: `init` and what prints a text end with 0 or 1, `do` and `import` never with 2, and `serve` with 0, 1 or 4; 2 where they ask for nothing
+abbrev pub ExitsBy : Result Action WordsFault → ℕ → Type 0
+ExitsBy (Ok (action.Init file phase year days)) status = (status ≡ 0) ⊎ (status ≡ 1)
+ExitsBy (Ok (action.Do file)) status = status ≢ 2
+ExitsBy (Ok (action.Import file csv)) status = status ≢ 2
+ExitsBy (Ok (action.Serve file port count)) status = (status ≡ 0) ⊎ ((status ≡ 1) ⊎ (status ≡ 4))
+ExitsBy (Ok (action.Letter file child)) status = (status ≡ 0) ⊎ (status ≡ 1)
+ExitsBy (Ok (action.List file school)) status = (status ≡ 0) ⊎ (status ≡ 1)
+ExitsBy (Ok (action.RoundReport file round)) status = (status ≡ 0) ⊎ (status ≡ 1)
+ExitsBy (Err words.Memory) status = status ≡ 1
+ExitsBy (Err _) status = status ≡ 2
+
+abbrev pub RunsWords : List (List ℕ) → ℕ → Type 0
+RunsWords given status = (read : Result Action WordsFault) × ReadsWords given read × ExitsBy read status

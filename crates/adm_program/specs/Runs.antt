@@ -1,0 +1,67 @@
+-- What a run of lines and the creation of a register do to the files at a path, from the open to the close.
+use Rattle.std.specs.Prelude.{◌≡◌, ◌≢◌, ◌-◌, ◌^◌, ◌<◌, ℕ, true, List, length, Result, Ok, Err, IfSome}
+use Rattle.std.specs.Io.KnownBytes.{Consumes, IsAtEnd}
+use Rattle.sqlite_disk.specs.declared.Disk as disk
+use Rattle.sqlite_disk.specs.declared.Files.{Files}
+use Rattle.sqlite_wal.specs.Recovery.{Image}
+use Rattle.sqlite_store.specs.declared.store.FileStore.{FileStore}
+use Rattle.sqlite.specs.declared.error.Error.{Error}
+use Rattle.sqlite.specs.Held.{Held}
+use Rattle.sqlite.specs.Files.{file_state}
+use Rattle.adm_types.specs.Seasons.{SeasonFacts}
+use Rattle.adm_schema.specs.Schema.{no_schema}
+use Rattle.adm_register.specs.State.{only_season}
+use Rattle.adm_store.specs.StandsFor.{LeavesOnly, LeavesOldOrNew}
+use Rattle.adm_store.specs.declared.fault.CreateFault.{CreateFault}
+use Rattle.adm_store.specs.declared.fault.CreateFault.TheVariants as create
+use Rattle.adm_desk.specs.Standing.{Handles, Standing}
+use Rattle.adm_desk.specs.Lines.{lines_of}
+use Rattle.adm_desk.specs.Written.{Finished, AnsweredUpTo, StoppedWithin}
+use Rattle.adm_desk.specs.declared.run.Run.{Run}
+use Rattle.adm_program.specs.Exits.{exit_of, of_create}
+use Rattle.adm_program.specs.Opened.{Stream, Closes, IsFound, Opens}
+use Rattle.adm_program.specs.declared.exit.Exit.{Exit}
+use Rattle.adm_program.specs.declared.exit.Exit.TheVariants as exit
+use Rattle.adm_program.specs.declared.fault.Fault.{Fault}
+use Rattle.adm_program.specs.declared.fault.Fault.TheVariants as fault
+
+module _ {D : Type 0} {g : disk.Ghosts D} where
+  -- how a run of lines ended, from the desk as it was to the desk as it is
+  abbrev pub EndsAs : Standing (Held (FileStore D g)) → Standing (Held (FileStore D g)) → Stream → Stream → Result Exit Fault → Type 0
+  EndsAs old new input output (Ok e) = (run : Run) × (e ≡ exit_of run) × IsAtEnd input.new
+      × (bytes : List ℕ) × Consumes input.old input.new bytes × Finished (Handles file_state) old new output.old output.new run (lines_of bytes)
+  EndsAs old new input output (Err fault.Read) = IfSome input.old (λ bytes. length bytes < 2 ^ 64 - 1 → input.has_failed ≡ true)
+      × (bytes : List ℕ) × Consumes input.old input.new bytes × AnsweredUpTo (Handles file_state) old new output.old output.new bytes
+  EndsAs old new input output (Err fault.Write) = (output.has_failed ≡ true)
+      × (bytes : List ℕ) × Consumes input.old input.new bytes × StoppedWithin (Handles file_state) old new output.old output.new bytes input.new
+  EndsAs old new input output (Err fault.Memory) = (bytes : List ℕ) × Consumes input.old input.new bytes
+      × StoppedWithin (Handles file_state) old new output.old output.new bytes input.new
+  EndsAs old new input output (Err _) = ⊥
+
+  -- the lines are run over the desk, and then its connection is closed
+  pub record Runs (desk : Standing (Held (FileStore D g))) (input output : Stream) (e : Result Exit Fault) (closed : Result (Files D) (Error × FileStore D g)) : Type 0 where
+    pub after : Standing (Held (FileStore D g))
+    pub ends : EndsAs desk after input output e
+    pub closes : Closes after.conn closed
+
+  -- a desk has the register that the files stood for, and runs the lines
+  abbrev pub Answers : Image → Stream → Stream → Result Exit Fault → Result (Files D) (Error × FileStore D g) → Type 0
+  Answers image input output e closed = Opens image output e closed (λ desk. Runs desk input output e closed)
+
+  -- what a create leaves
+  abbrev pub CreatesAs : SeasonFacts → Held (FileStore D g) → Held (FileStore D g) → Result Exit Fault → Type 0
+  CreatesAs season found left (Ok e) = (e ≡ exit.Done) × LeavesOnly (only_season season) (file_state left)
+  CreatesAs season found left (Err f) = (cause : CreateFault) × (f ≡ of_create cause) × LeavesOldOrNew season (file_state found) (file_state left)
+      × (cause ≡ create.InUse → (found.schema ≢ no_schema) × (left ≡ found))
+
+  -- the register of the season is created over a connection, which is then closed
+  pub record CreatesIn (found : Held (FileStore D g)) (season : SeasonFacts) (e : Result Exit Fault) (closed : Result (Files D) (Error × FileStore D g)) : Type 0 where
+    pub left : Held (FileStore D g)
+    pub made : CreatesAs season found left e
+    pub closes : Closes left closed
+
+  -- the same over files that held this
+  pub record Creates (image : Image) (season : SeasonFacts) (e : Result Exit Fault) (closed : Result (Files D) (Error × FileStore D g)) : Type 0 where
+    pub found : Held (FileStore D g)
+    pub is_found : IsFound image found
+    pub creates : CreatesIn found season e closed

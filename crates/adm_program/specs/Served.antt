@@ -1,0 +1,51 @@
+-- What serving connections to a port comes to.
+use Rattle.std.specs.Prelude.{◌≡◌, ◌++◌, ℕ, List, codes, decimal, Result, Ok, Err, if◌then◌else◌}
+use Rattle.std.specs.Io.KnownBytes.{Appends}
+use Rattle.sqlite_disk.specs.declared.Disk as disk
+use Rattle.sqlite_disk.specs.declared.Files.{Files}
+use Rattle.sqlite_wal.specs.Recovery.{Image}
+use Rattle.sqlite_store.specs.declared.store.FileStore.{FileStore}
+use Rattle.sqlite.specs.declared.error.Error.{Error}
+use Rattle.sqlite.specs.Held.{Held}
+use Rattle.sqlite.specs.Files.{file_state}
+use Rattle.adm_desk.specs.Lines.{AnswersLine}
+use Rattle.adm_desk.specs.Standing.{Handles, Standing}
+use Rattle.adm_http.specs.Connections.{AnswersUpTo}
+use Rattle.adm_http.specs.Shows.{Shows}
+use Rattle.adm_program.specs.Opened.{Stream, Closes, Opens}
+use Rattle.adm_program.specs.Texts.{Puts}
+use Rattle.adm_program.specs.declared.exit.Exit.{Exit}
+use Rattle.adm_program.specs.declared.exit.Exit.TheVariants as exit
+use Rattle.adm_program.specs.declared.fault.Fault.{Fault}
+use Rattle.adm_program.specs.declared.fault.Fault.TheVariants as fault
+
+-- what is printed before the first connection
+abbrev pub serving_text : ℕ → List ℕ
+serving_text port = codes "serving on 127.0.0.1:" ++ (decimal port ++ codes "\n")
+
+module _ {D : Type 0} {g : disk.Ghosts D} where
+  -- How serving ended, from the desk as it was to the desk as it is: the line was printed and at most as many requests were answered, and a store that
+  -- failed makes the exit; or the port could not be taken, the line not printed or memory ran out, and no request was answered.
+  abbrev pub ServesAs : Standing (Held (FileStore D g)) → Standing (Held (FileStore D g)) → ℕ → ℕ → Stream → Result Exit Fault → Type 0
+  ServesAs old new port count output (Ok e) = Appends output.old output.new (serving_text port)
+      × AnswersUpTo (AnswersLine (Handles file_state)) Shows count old new × (e ≡ (if new.failed then exit.Failed else exit.Done))
+  ServesAs old new port count output (Err fault.Listen) = (new ≡ old) × (output.new ≡ output.old)
+  ServesAs old new port count output (Err f) = (new ≡ old) × Puts {A = Exit} (serving_text port) output (Err f)
+
+  -- connections to the port are served over the desk, and then its own connection is closed
+  pub record Serves (desk : Standing (Held (FileStore D g))) (port count : ℕ) (output : Stream) (e : Result Exit Fault) (closed : Result (Files D) (Error × FileStore D g)) : Type 0 where
+    pub after : Standing (Held (FileStore D g))
+    pub ends : ServesAs desk after port count output e
+    pub closes : Closes after.conn closed
+
+  -- the same over files that held this
+  abbrev pub ServesOver : Image → ℕ → ℕ → Stream → Result Exit Fault → Result (Files D) (Error × FileStore D g) → Type 0
+  ServesOver image port count output e closed = Opens image output e closed (λ desk. Serves desk port count output e closed)
+
+-- ---- for a private clause
+
+-- why no connection could be waited for
+abbrev pub IsListenFault : Fault → Type 0
+IsListenFault fault.Listen = Unit {0}
+IsListenFault fault.Memory = Unit {0}
+IsListenFault f = ⊥

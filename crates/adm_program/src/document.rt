@@ -1,0 +1,32 @@
+// What can be printed of a register, as texts.
+ghost use Rattle.adm_program.specs.Texts.{Says, text_in};
+
+use crate::fault::Fault;
+use adm_letters::{letter, list_text, round_text};
+use adm_register::Register;
+use adm_types::{ChildNo, SchoolCode};
+use std::alloc::Global;
+
+/// What can be printed of a register.
+#[derive(Clone, Copy)]
+pub enum Document {
+    /// The letter to a child.
+    Letter(ChildNo),
+    /// The waiting list of a school.
+    List(SchoolCode),
+    /// The report of the round of a number.
+    Report(u32),
+}
+
+impl Document {
+    /// Its text, over the register. The `Err` is why there is none, or want of memory.
+    pub fn text(self, alloc: Global, register: &Register) -> Result<String, Fault>
+        ensures { Says (text_in register.now self) result }
+    {
+        match self {
+            Document::Letter(child) => Ok(letter(alloc, register, child)?),
+            Document::List(school) => Ok(list_text(alloc, register, school)?),
+            Document::Report(round) => Ok(round_text(alloc, register, round)?),
+        }
+    }
+}

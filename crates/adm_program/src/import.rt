@@ -1,0 +1,94 @@
+// The rows of a file of comma-separated values, imported into a register.
+ghost use Rattle.std.specs.Prelude.{◌++◌, [], ◌∷◌};
+ghost use Rattle.sqlite.specs.Held.{state};
+ghost use Rattle.adm_desk.specs.Lines.{answer_text};
+ghost use Rattle.adm_program.specs.Imports.{IsHandled, Imports, ImportsFile};
+ghost use Rattle.adm_program.specs.Texts.{Puts};
+
+use crate::ended::{Ended, close};
+use crate::exit::Exit;
+use crate::fault::Fault;
+use crate::print::put;
+use adm_csv::{RowFault, read_rows};
+use adm_desk::{Answer, Desk};
+use adm_types::{Command, ImportRow, Seq};
+use adm_wire::{Input, Output, Watched};
+use sqlite::{Alter, FileStore};
+use sqlite_disk::Disk;
+use std::alloc::Global;
+use std::fs::File;
+
+/// Writes an answer as a line. The `Err` is Write, or Memory where memory ran out before.
+fn put_answer<O: Output>(alloc: Global, output: &mut O, answer: &Answer) -> Result<(), Fault>
+    ensures { Puts (answer_text answer.now ++ 10 ∷ [])
+        (record { old = O.contents output.old; new = O.contents output.new; has_failed = O.has_failed output.new }) result }
+{
+    let Ok(mut text) = answer.text(alloc) else {
+        return Err(Fault::Memory);
+    };
+    if text.push_str("\n").is_err() {
+        return Err(Fault::Memory);
+    }
+    put(output, text.as_str())
+}
+
+/// Hands the rows to the desk as one command, and writes its answer.
+fn handle_rows<S: Alter, O: Output>(
+    alloc: Global,
+    desk: &mut Desk<S>,
+    rows: Vec<ImportRow>,
+    output: &mut O,
+) -> Result<Exit, Fault>
+    ensures { IsHandled (state S.Store) desk.old desk.new rows.items
+        (record { old = O.contents output.old; new = O.contents output.new; has_failed = O.has_failed output.new }) result }
+{
+    let answer = desk.handle(&Command::Import(Seq::from_vec(rows)));
+    match put_answer(alloc, output, &answer) {
+        Ok(()) => Ok(Exit::of_answer(answer)),
+        Err(fault) => Err(fault),
+    }
+}
+
+/// Imports the rows that the reader gives, and closes the connection, whatever comes.
+fn import_rows<D: Disk + Drop, I: Input, O: Output>(
+    alloc: Global,
+    mut desk: Desk<FileStore<D>>,
+    rows: &mut I,
+    output: &mut O,
+) -> Ended<D>
+    ensures { Imports desk
+        (record { old = I.remaining rows.old; new = I.remaining rows.new; has_failed = I.has_failed rows.new })
+        (record { old = O.contents output.old; new = O.contents output.new; has_failed = O.has_failed output.new })
+        result.exit result.closed }
+{
+    match read_rows(alloc, rows) {
+        Ok(rows) => {
+            let exit = handle_rows(alloc, &mut desk, rows, output);
+            close(desk, exit)
+        }
+        Err(fault) => close(desk, Err(Fault::Row(fault))),
+    }
+}
+
+/// Imports the rows of the file, and closes the connection, whatever comes.
+pub fn import_file<D: Disk + Drop, O: Output>(
+    rt: &HostRuntime,
+    desk: Desk<FileStore<D>>,
+    csv: &str,
+    output: &mut O,
+) -> Ended<D>
+    ensures { ImportsFile desk
+        (record { old = O.contents output.old; new = O.contents output.new; has_failed = O.has_failed output.new })
+        result.exit result.closed }
+{
+    match File::open(rt, csv) {
+        Ok(file) => import_rows(rt.alloc(), desk, &mut Watched::new(file), output),
+        Err(_) => close(
+            desk,
+            Err(Fault::Row(RowFault {
+                row: 0,
+                fault: adm_csv::Fault::Read,
+            })),
+        ),
+    }
+}

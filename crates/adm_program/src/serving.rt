@@ -1,0 +1,75 @@
+// Connections to a port, served over a desk.
+ghost use Rattle.std.specs.Prelude.{◌≡◌, IfOk, IfErr, string_bytes};
+ghost use Rattle.adm_program.specs.Served.{IsListenFault, Serves, serving_text};
+ghost use Rattle.adm_program.specs.Texts.{Puts};
+
+use crate::ended::{Ended, close};
+use crate::exit::Exit;
+use crate::fault::Fault;
+use crate::print::put;
+use adm_desk::Desk;
+use adm_http::{Routes, serve_on};
+use adm_wire::Output;
+use sqlite::FileStore;
+use sqlite_disk::Disk;
+use std::alloc::{AllocError, Global};
+use std::io::Write;
+use std::net::{Ipv4Addr, TcpListener};
+
+/// What is printed before the first connection is waited for.
+fn serving_text(alloc: Global, port: u16) -> Result<String, AllocError>
+    ensures { IfOk result (λ text. string_bytes text ≡ serving_text port) }
+{
+    format!(in alloc; "serving on 127.0.0.1:{port}\n")
+}
+
+/// Prints that the port is served. The `Err` is Write, or Memory where memory ran out before.
+fn put_serving<O: Output>(alloc: Global, port: u16, output: &mut O) -> Result<(), Fault>
+    ensures { Puts (serving_text port)
+        (record { old = O.contents output.old; new = O.contents output.new; has_failed = O.has_failed output.new }) result }
+{
+    match serving_text(alloc, port) {
+        Ok(text) => put(output, text.as_str()),
+        Err(_) => Err(Fault::Memory),
+    }
+}
+
+/// The routes of requests, and the port of this machine alone to which they come. The `Err` is
+/// Listen where the port cannot be taken, or Memory.
+fn listen(rt: &HostRuntime, port: u16) -> Result<(Routes, TcpListener), Fault>
+    ensures { IfErr result IsListenFault }
+{
+    let Ok(routes) = Routes::new(rt.alloc()) else {
+        return Err(Fault::Memory);
+    };
+    match TcpListener::bind(rt, (Ipv4Addr::LOCALHOST, port)) {
+        Ok(listener) => Ok((routes, listener)),
+        Err(_) => Err(Fault::Listen),
+    }
+}
+
+/// Prints that the port is served, serves as many connections over the desk, and closes its own
+/// connection, whatever comes.
+pub fn serve_connections<D: Disk + Drop, O: Output, E: Write>(
+    rt: &HostRuntime,
+    mut desk: Desk<FileStore<D>>,
+    port: u16,
+    count: u32,
+    output: &mut O,
+    errors: &mut E,
+) -> Ended<D>
+    ensures { Serves desk port count
+        (record { old = O.contents output.old; new = O.contents output.new; has_failed = O.has_failed output.new })
+        result.exit result.closed }
+{
+    match listen(rt, port) {
+        Ok((routes, listener)) => match put_serving(rt.alloc(), port, output) {
+            Ok(()) => {
+                let status = serve_on(rt.alloc(), &routes, &mut desk, &listener, count, errors);
+                close(desk, Ok(Exit::of_served(status)))
+            }
+            Err(fault) => close(desk, Err(fault)),
+        },
+        Err(fault) => close(desk, Err(fault)),
+    }
+}

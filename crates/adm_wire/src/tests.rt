@@ -1,3 +1,0 @@
-// What no clause says: worked examples, and streams that are interrupted or fail.
-mod streams;
-mod texts;
