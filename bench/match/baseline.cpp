@@ -1,4 +1,4 @@
-// Deferred acceptance with a heap at each school, on the same markets as crates/match_bench.
+// Deferred acceptance with a heap at each school, on the same markets as crates/match_runs.
 // baseline ENTRANTS WISHES SCHOOLS prints the checksum of what is given, and the microseconds.
 #include <chrono>
 #include <cstdint>

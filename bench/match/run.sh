@@ -9,8 +9,8 @@ here=$(cd "$(dirname "$0")" && pwd)
 root=$(cd "$here/../.." && pwd)
 work=$(mktemp -d)
 trap 'rm -rf "$work"' EXIT
-(cd "$root/crates/match_bench" && rt run > "$work/build.log" 2>&1) || { cat "$work/build.log"; exit 1; }
-program=$root/crates/match_bench/out/match_bench
+(cd "$root/crates/match_runs" && rt run > "$work/build.log" 2>&1) || { cat "$work/build.log"; exit 1; }
+program=$root/crates/match_runs/out/match_runs
 "${CXX:-clang++}" -O2 -std=c++17 -o "$work/baseline" "$here/baseline.cpp"
 
 # the least of a field over five runs

@@ -1,15 +1,10 @@
-// Goes through every problem of three entrants and two seats with quotas 0 to 2, and prints counts.
-#![tactic(auto)]
-
-mod cases;
-mod totals;
-
+// Every problem of three entrants and two seats with quotas 0 to 2: both bodies, and every list of every child.
+use crate::cases::{CASES, Case, Names, case_of, problem_of};
+use crate::totals::{Totals, nothing, number_of};
 use adm_match::{BadProblem, Problem, offers, offers_by_scan, what_if};
 use adm_types::{ChildNo, SchoolCode};
-use cases::{CASES, Case, Names, case_of, problem_of};
 use std::alloc::{AllocError, Global};
 use std::io;
-use totals::{Totals, nothing, number_of};
 
 /// The lists of the two schools that a child may hand in.
 fn lists_of(alloc: Global, names: &Names) -> Result<Vec<Vec<SchoolCode>>, AllocError> {
@@ -69,7 +64,8 @@ fn names_of() -> Option<Names> {
     })
 }
 
-fn main(rt: HostRuntime) -> io::Result<()> {
+/// Goes through them all, and prints counts.
+pub fn run(rt: &HostRuntime) -> io::Result<()> {
     let Some(names) = names_of() else {
         return Ok(());
     };

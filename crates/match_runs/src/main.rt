@@ -1,8 +1,11 @@
-// Allots the places of a market, and prints a checksum of what is given; with a size as its
-// arguments (entrants, wishes, schools) also the microseconds that it took.
+// Allots places. Without arguments it goes through every small problem, and then allots a market of 100 entrants. With a
+// size as its arguments (entrants, wishes, schools) it allots that market alone, and prints the microseconds that it took.
 #![tactic(auto)]
 
+mod cases;
 mod market;
+mod sweep;
+mod totals;
 
 use adm_match::{Offers, offers};
 use adm_types::ChildNo;
@@ -78,6 +81,9 @@ fn run(rt: &HostRuntime, size: Size, timed: bool) -> io::Result<()> {
 fn main(rt: HostRuntime) -> io::Result<()> {
     match size(&rt)? {
         Some(size) => run(&rt, size, true),
-        None => run(&rt, SMALL, false),
+        None => {
+            sweep::run(&rt)?;
+            run(&rt, SMALL, false)
+        }
     }
 }
