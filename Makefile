@@ -4,12 +4,13 @@
 #   make demo     the examples, run and compared with what they must print
 #   make cases    the cases, the same way; they take seconds once the program is built
 #   make test     every proof, wrong body, test, example and case; its last line is 'N passed, M failed'
+#   make wrong-bodies  those that the gate leaves to the hand, each of which must be refused
 #   make bench    what commands cost, beside a baseline in the same run
 #   make install  PREFIX=/usr/local by default
 PREFIX ?= /usr/local
 EXAMPLES := first_path applications season
 
-.PHONY: build demo cases test bench install
+.PHONY: build demo cases test wrong-bodies bench install
 
 build:
 	tools/build
@@ -22,6 +23,9 @@ cases: build
 
 test:
 	@tools/test $(EXAMPLES)
+
+wrong-bodies:
+	tools/wrong-bodies
 
 bench: build
 	bench/first_path/run bin/admissions
