@@ -10,4 +10,3 @@ pub use classes::class;
 pub use distances::distance;
 pub use keys::{RankKey, key};
 pub use laws::order_is_total;
-
