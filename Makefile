@@ -3,7 +3,7 @@
 #   make build    the proved program, at bin/admissions
 #   make demo     the examples, run and compared with what they must print
 #   make cases    the cases, the same way; they take seconds once the program is built
-#   make test     every proof, wrong body, test, example and case; its last line is 'N passed, M failed'
+#   make test     every proof, wrong bodies, tests, examples and cases; its last line is 'N passed, M failed'
 #   make wrong-bodies  those that the gate leaves to the hand, each of which must be refused
 #   make bench    what commands cost, beside a baseline in the same run
 #   make install  PREFIX=/usr/local by default
