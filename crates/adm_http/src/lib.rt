@@ -7,6 +7,7 @@ mod heads;
 mod laws;
 mod lengths;
 mod listen;
+mod patience;
 mod respond;
 mod responses;
 mod routes;

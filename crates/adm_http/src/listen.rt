@@ -7,28 +7,40 @@ ghost use Rattle.adm_http.specs.Connections.{AnswersOne, AnswersUpTo, fault_line
 ghost use Rattle.adm_http.specs.Shows.{Shows};
 
 use crate::answering::Answering;
+use crate::patience::Patient;
 use crate::routes::Routes;
 use crate::serve::{ServeFault, serve};
 use adm_desk::Desk;
-use adm_wire::Watched;
+use adm_wire::{Input, Watched};
 use sqlite::Alter;
 use std::alloc::Global;
 use std::io::Write;
-use std::net::{TcpListener, TcpStream};
-use std::time::Duration;
+use std::net::{Shutdown, TcpListener, TcpStream};
+use std::time::{Clock, Duration};
 
-/// How many seconds a read or a write of a connection may wait.
-const LONGEST_WAIT: u64 = 30;
+/// How many seconds a request may take to come, from when its connection is accepted.
+const SECONDS_OF_REQUEST: u64 = 5;
+
+/// How many seconds a response may take to go out.
+const SECONDS_OF_RESPONSE: u64 = 3;
+
+/// How many seconds are given to what still comes after the response.
+const SECONDS_OF_REST: u64 = 2;
+
+/// How many bytes are read and dropped after the response: 2 MiB.
+const BYTES_OF_REST: usize = 2_097_152;
 
 /// Serves as many connections, one after the other, and waits for each. A connection's fault is
 /// printed as `fault: `, its name and LF, and the next one is served; a print that fails is passed
 /// over. The exit status is 4 where the desk has failed, and else 0.
 ///
-/// A read that brings nothing for 30 seconds is the fault Read of its connection, and a write of
-/// which nothing is taken for 30 seconds is Write. That is for each read and each write: who sends
-/// a byte now and then is waited for longer. Where a connection can't be given these limits, it is
-/// dropped with the same fault. No clause speaks of time.
-pub fn serve_on<S: Alter, E: Write>(
+/// A request that has not come whole within 5 seconds is the fault Read of its connection, and a
+/// response that has not gone out within 3 is Write, both by the clock that is handed in. After a
+/// response the connection's sending side is ended, and what still comes is read and dropped, to
+/// its end, for 2 seconds and up to 2 MiB at most: a close over bytes that nobody read would reset the connection,
+/// and its client could lose the response. So one client holds the desk for 10 seconds at most. No clause speaks of time.
+pub fn serve_on<C: Clock, S: Alter, E: Write>(
+    clock: &C,
     alloc: Global,
     routes: &Routes,
     desk: &mut Desk<S>,
@@ -39,12 +51,13 @@ pub fn serve_on<S: Alter, E: Write>(
     ensures status { result ≡ (if desk.new.failed then 4 else 0) }
     ensures desk { AnswersUpTo (AnswersLine (Handles (state S.Store))) Shows count desk.old desk.new }
 {
-    serve_each(alloc, routes, desk, listener, count, errors);
+    serve_each(clock, alloc, routes, desk, listener, count, errors);
     if desk.register().is_none() { 4 } else { 0 }
 }
 
 /// Serves as many connections, one after the other.
-pub(crate) fn serve_each<A: Answering, E: Write>(
+pub(crate) fn serve_each<C: Clock, A: Answering, E: Write>(
+    clock: &C,
     alloc: Global,
     routes: &Routes,
     desk: &mut A,
@@ -55,7 +68,7 @@ pub(crate) fn serve_each<A: Answering, E: Write>(
     ensures { AnswersUpTo A.runs A.shows count (A.view desk.old) (A.view desk.new) }
 {
     for _turn in 0..count {
-        if let Err(fault) = serve_next(alloc, routes, desk, listener) {
+        if let Err(fault) = serve_next(clock, alloc, routes, desk, listener) {
             // A print that fails is passed over.
             let _ = errors.write_all(fault_line(fault).as_bytes());
         }
@@ -63,7 +76,8 @@ pub(crate) fn serve_each<A: Answering, E: Write>(
 }
 
 // Waits for a connection, and serves it.
-fn serve_next<A: Answering>(
+fn serve_next<C: Clock, A: Answering>(
+    clock: &C,
     alloc: Global,
     routes: &Routes,
     desk: &mut A,
@@ -74,24 +88,32 @@ fn serve_next<A: Answering>(
     let Ok((stream, _)) = listener.accept() else {
         return Err(ServeFault::Read);
     };
-    if let Err(fault) = limit_waits(&stream) {
-        return Err(fault);
+    let request = Patient::new(&stream, clock, Duration::from_secs(SECONDS_OF_REQUEST));
+    let response = Patient::new(&stream, clock, Duration::from_secs(SECONDS_OF_RESPONSE));
+    let mut reader = Watched::new(request);
+    let mut writer = Watched::new(response);
+    let served = serve(alloc, routes, desk, &mut reader, &mut writer);
+    if served.is_ok() {
+        take_rest(clock, &stream);
     }
-    let mut reader = Watched::new(&stream);
-    let mut writer = Watched::new(&stream);
-    serve(alloc, routes, desk, &mut reader, &mut writer)
+    served
 }
 
-// Limits how long a read and a write of the connection may wait.
-fn limit_waits(stream: &TcpStream) -> Result<(), ServeFault> {
-    let longest = Some(Duration::from_secs(LONGEST_WAIT));
-    if stream.set_read_timeout(longest).is_err() {
-        return Err(ServeFault::Read);
+// Ends the sending side, and reads and drops what still comes.
+fn take_rest<C: Clock>(clock: &C, stream: &TcpStream) {
+    if stream.shutdown(Shutdown::Write).is_err() {
+        return;
     }
-    if stream.set_write_timeout(longest).is_err() {
-        return Err(ServeFault::Write);
+    let rest = Patient::new(stream, clock, Duration::from_secs(SECONDS_OF_REST));
+    let mut reader = Watched::new(rest);
+    let mut buffer = [0u8; 8192];
+    let mut left = BYTES_OF_REST;
+    while left > 0 {
+        match reader.read_some(&mut buffer) {
+            Ok(count) if count > 0 => left = left.saturating_sub(count),
+            _ => return,
+        }
     }
-    Ok(())
 }
 
 // What is printed of a fault.

@@ -65,7 +65,7 @@ pub fn serve_connections<D: Disk + Drop, O: Output, E: Write>(
     match listen(rt, port) {
         Ok((routes, listener)) => match put_serving(rt.alloc(), port, output) {
             Ok(()) => {
-                let status = serve_on(rt.alloc(), &routes, &mut desk, &listener, count, errors);
+                let status = serve_on(rt, rt.alloc(), &routes, &mut desk, &listener, count, errors);
                 close(desk, Ok(Exit::of_served(status)))
             }
             Err(fault) => close(desk, Err(fault)),

@@ -1,0 +1,62 @@
+// One side of a connection, which is waited for until its time is over.
+use std::io::{self, Read, Write};
+use std::net::TcpStream;
+use std::time::{Clock, Duration, Instant};
+
+/// The reads, or the writes, of a connection. From the first of them on they all together wait for so
+/// long at most; then each is an error. So it is where the clock cannot be read.
+#[derive(Drop)]
+pub(crate) struct Patient<'a, C: Clock> {
+    stream: &'a TcpStream,
+    clock: &'a C,
+    time: Duration,
+    since: Option<Instant>,
+}
+
+impl<'a, C: Clock> Patient<'a, C> {
+    /// A side that has not been waited for yet.
+    pub(crate) fn new(stream: &'a TcpStream, clock: &'a C, time: Duration) -> Self {
+        Patient {
+            stream,
+            clock,
+            time,
+            since: None,
+        }
+    }
+
+    /// How long the next call may wait.
+    fn left(&mut self) -> io::Result<Duration> {
+        let now = Instant::now(self.clock)?;
+        let spent = match self.since {
+            Some(since) => now.duration_since(since),
+            None => {
+                self.since = Some(now);
+                Duration::ZERO
+            }
+        };
+        Ok(self.time.saturating_sub(spent))
+    }
+}
+
+impl<C: Clock> Read for Patient<'_, C> {
+    fn read(&mut self, buf: &mut [u8]) -> io::Result<usize> {
+        let left = self.left()?;
+        // no time at all is an error
+        self.stream.set_read_timeout(Some(left))?;
+        let mut stream = self.stream;
+        stream.read(buf)
+    }
+}
+
+impl<C: Clock> Write for Patient<'_, C> {
+    fn write(&mut self, buf: &[u8]) -> io::Result<usize> {
+        let left = self.left()?;
+        self.stream.set_write_timeout(Some(left))?;
+        let mut stream = self.stream;
+        stream.write(buf)
+    }
+
+    fn flush(&mut self) -> io::Result<()> {
+        Ok(())
+    }
+}
