@@ -25,6 +25,8 @@ use Rattle.sqlite.specs.Opening.{is_open_error}
 use Rattle.sqlite.specs.declared.error.Error.{Error}
 use Rattle.sqlite.specs.declared.error.Error.TheVariants as error
 use Rattle.sqlite.specs.declared.error.ErrorCode.TheVariants as code
+use Rattle.adm_program.specs.declared.cause.Cause.{Cause}
+use Rattle.adm_program.specs.declared.cause.Cause.TheVariants as cause
 use Rattle.adm_program.specs.declared.fault.Fault.{Fault}
 use Rattle.adm_program.specs.declared.fault.Fault.TheVariants.{TooManyHolidays, YearRange, InUse, NotOurs, Version, BadRow, Disk, Memory, Read, Write, UnknownChild, UnknownSchool, NoRound, Listen, Row}
 use Rattle.adm_program.specs.declared.exit.Exit.{Exit}
@@ -45,7 +47,17 @@ row_fault_name csv.Memory = codes "Memory"
 abbrev pub row_text : ℕ → List ℕ → List ℕ
 row_text row name = codes "fault: row " ++ (decimal row ++ (codes ": " ++ (name ++ codes "\n")))
 
--- `fault: `, the fault's name and LF; before the name of a fault in the file of an import its row
+-- the name of the fault, and where its cause is known a second line
+abbrev pub disk_text : Option Cause → List ℕ
+disk_text None = codes "fault: Disk\n"
+disk_text (Some cause.Missing) = codes "fault: Disk\ncause: no such file or folder\n"
+disk_text (Some cause.Folder) = codes "fault: Disk\ncause: it is a folder\n"
+disk_text (Some cause.Forbidden) = codes "fault: Disk\ncause: no permission\n"
+disk_text (Some cause.InUse) = codes "fault: Disk\ncause: it is in use\n"
+disk_text (Some cause.NoDatabase) = codes "fault: Disk\ncause: it is no database, or damaged\n"
+disk_text (Some cause.Full) = codes "fault: Disk\ncause: the disk is full\n"
+
+-- `fault: `, the fault's name and LF; before the name of a fault in the file of an import its row, and after Disk its cause
 abbrev pub text_of : Fault → List ℕ
 text_of TooManyHolidays = codes "fault: TooManyHolidays\n"
 text_of YearRange = codes "fault: YearRange\n"
@@ -53,7 +65,7 @@ text_of InUse = codes "fault: InUse\n"
 text_of NotOurs = codes "fault: NotOurs\n"
 text_of Version = codes "fault: Version\n"
 text_of BadRow = codes "fault: BadRow\n"
-text_of Disk = codes "fault: Disk\n"
+text_of (Disk cause) = disk_text cause
 text_of Memory = codes "fault: Memory\n"
 text_of Read = codes "fault: Read\n"
 text_of Write = codes "fault: Write\n"
@@ -72,14 +84,14 @@ of_season season.Memory = Memory
 
 abbrev pub of_create : CreateFault → Fault
 of_create create.InUse = InUse
-of_create create.Disk = Disk
+of_create create.Disk = Disk None
 of_create create.Memory = Memory
 
 abbrev pub of_open : OpenFault → Fault
 of_open opened.NotOurs = NotOurs
 of_open opened.Version = Version
 of_open opened.BadRow = BadRow
-of_open opened.Disk = Disk
+of_open opened.Disk = Disk None
 of_open opened.Memory = Memory
 
 abbrev pub of_run : RunFault → Fault
@@ -93,14 +105,22 @@ of_letter letter.UnknownSchool = UnknownSchool
 of_letter letter.NoRound = NoRound
 of_letter letter.Memory = Memory
 
--- want of memory of the store; all else that it tells is of the disk
+-- want of memory of the store; all else that it tells is of the disk, with the cause where it names one
 abbrev pub of_error : Error → Fault
 of_error (error.SqliteFailure code.OutOfMemory) = Memory
-of_error _ = Disk
+of_error (error.SqliteFailure code.DatabaseBusy) = Disk (Some cause.InUse)
+of_error (error.SqliteFailure code.NotADatabase) = Disk (Some cause.NoDatabase)
+of_error (error.SqliteFailure code.DatabaseCorrupt) = Disk (Some cause.NoDatabase)
+of_error (error.SqliteFailure code.DiskFull) = Disk (Some cause.Full)
+of_error _ = Disk None
 
--- why a file was not opened
+-- the fault Disk, with any cause or none
+abbrev pub IsDisk : Fault → Type 0
+IsDisk fault = (cause : Option Cause) × (fault ≡ Disk cause)
+
+-- why a file was not opened: Disk, or want of memory
 abbrev pub IsOpenFault : Fault → Type 0
-IsOpenFault fault = (error : Error) × IsTrue (is_open_error error) × (fault ≡ of_error error)
+IsOpenFault fault = (fault ≡ Memory) ⊎ IsDisk fault
 
 -- a year of the range, and more than 40 holidays
 abbrev pub has_many_holidays : Action → Bool

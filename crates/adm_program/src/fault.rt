@@ -1,8 +1,9 @@
 // Why a line of the command line came to nothing, and what is printed of it.
 ghost use Rattle.std.specs.Prelude.{◌≡◌, OnOk};
 ghost use Rattle.std.specs.Io.KnownBytes.{Appends};
-ghost use Rattle.adm_program.specs.Exits.{text_of, row_text, row_fault_name, of_season, of_create, of_open, of_run, of_letter, of_error};
+ghost use Rattle.adm_program.specs.Exits.{text_of, disk_text, row_text, row_fault_name, of_season, of_create, of_open, of_run, of_letter, of_error};
 
+use crate::cause::Cause;
 use adm_csv::RowFault;
 use adm_desk::RunFault;
 use adm_letters::LetterFault;
@@ -20,7 +21,8 @@ pub enum Fault {
     NotOurs,
     Version,
     BadRow,
-    Disk,
+    /// The file, or the disk, with what is known of the cause.
+    Disk(Option<Cause>),
     Memory,
     Read,
     Write,
@@ -35,7 +37,7 @@ pub enum Fault {
 
 impl Fault {
     /// Prints `fault: `, the fault's name and LF; before the name of a fault in the file of an import
-    /// its row. It takes no memory.
+    /// its row, and after Disk a line with its cause, where one is known. It takes no memory.
     pub fn print<E: Write>(self, errors: &mut E) -> io::Result<()>
         ensures { OnOk result (Appends (E.contents errors.old) (E.contents errors.new) (text_of self)) }
     {
@@ -46,7 +48,7 @@ impl Fault {
             Fault::NotOurs => print_text("fault: NotOurs\n", errors),
             Fault::Version => print_text("fault: Version\n", errors),
             Fault::BadRow => print_text("fault: BadRow\n", errors),
-            Fault::Disk => print_text("fault: Disk\n", errors),
+            Fault::Disk(cause) => print_text(disk_text(cause), errors),
             Fault::Memory => print_text("fault: Memory\n", errors),
             Fault::Read => print_text("fault: Read\n", errors),
             Fault::Write => print_text("fault: Write\n", errors),
@@ -63,6 +65,21 @@ fn print_text<E: Write>(text: &str, errors: &mut E) -> io::Result<()>
     ensures { OnOk result (Appends (E.contents errors.old) (E.contents errors.new) text.now) }
 {
     errors.write_all(text.as_bytes())
+}
+
+/// The name of the fault, and where its cause is known a second line.
+fn disk_text(cause: Option<Cause>) -> &'static str
+    ensures { result.now ≡ disk_text cause }
+{
+    match cause {
+        None => "fault: Disk\n",
+        Some(Cause::Missing) => "fault: Disk\ncause: no such file or folder\n",
+        Some(Cause::Folder) => "fault: Disk\ncause: it is a folder\n",
+        Some(Cause::Forbidden) => "fault: Disk\ncause: no permission\n",
+        Some(Cause::InUse) => "fault: Disk\ncause: it is in use\n",
+        Some(Cause::NoDatabase) => "fault: Disk\ncause: it is no database, or damaged\n",
+        Some(Cause::Full) => "fault: Disk\ncause: the disk is full\n",
+    }
 }
 
 /// Prints the fault of a row in the file of an import.
@@ -105,7 +122,7 @@ impl From<CreateFault> for Fault {
     fn from(fault: CreateFault) -> Fault {
         match fault {
             CreateFault::InUse => Fault::InUse,
-            CreateFault::Disk => Fault::Disk,
+            CreateFault::Disk => Fault::Disk(None),
             CreateFault::Memory => Fault::Memory,
         }
     }
@@ -119,7 +136,7 @@ impl From<OpenFault> for Fault {
             OpenFault::NotOurs => Fault::NotOurs,
             OpenFault::Version => Fault::Version,
             OpenFault::BadRow => Fault::BadRow,
-            OpenFault::Disk => Fault::Disk,
+            OpenFault::Disk => Fault::Disk(None),
             OpenFault::Memory => Fault::Memory,
         }
     }
@@ -156,7 +173,12 @@ impl From<Error> for Fault {
     fn from(error: Error) -> Fault {
         match error {
             Error::SqliteFailure(ErrorCode::OutOfMemory) => Fault::Memory,
-            _ => Fault::Disk,
+            Error::SqliteFailure(ErrorCode::DatabaseBusy) => Fault::Disk(Some(Cause::InUse)),
+            Error::SqliteFailure(ErrorCode::NotADatabase | ErrorCode::DatabaseCorrupt) => {
+                Fault::Disk(Some(Cause::NoDatabase))
+            }
+            Error::SqliteFailure(ErrorCode::DiskFull) => Fault::Disk(Some(Cause::Full)),
+            _ => Fault::Disk(None),
         }
     }
 }

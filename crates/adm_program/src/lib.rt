@@ -1,6 +1,7 @@
 // What each line of the command line does, over files that can be started, a reader and two writers.
 #![tactic(auto)]
 
+mod cause;
 mod document;
 mod ended;
 mod exit;

@@ -1,12 +1,12 @@
 // How the file of a register is opened.
-ghost use Rattle.std.specs.Prelude.{◌≡◌, false, codes, IfOk, IfErr};
+ghost use Rattle.std.specs.Prelude.{◌≡◌, None, false, codes, IfOk, IfErr, IsErrAnd};
 ghost use Rattle.sqlite_wal.specs.Files.{image_at};
 ghost use Rattle.sqlite.specs.Files.{file_state};
 ghost use Rattle.adm_store.specs.StandsFor.{IsStarted};
-ghost use Rattle.adm_program.specs.Exits.{IsOpenFault};
+ghost use Rattle.adm_program.specs.Exits.{IsOpenFault, IsDisk};
 ghost use Rattle.adm_program.specs.Opened.{IsFound, OpensAs};
-ghost use Rattle.adm_program.specs.declared.fault.Fault.TheVariants.{Disk};
 
+use crate::cause::{Cause, cause_of, cause_of_new, is_foreign};
 use crate::ended::Ended;
 use crate::fault::Fault;
 use adm_desk::Desk;
@@ -26,16 +26,19 @@ pub fn open_file<S: Start>(
     ensures started { IfOk result (λ c. IsStarted (file_state c)) }
     ensures found { IfOk result (IsFound (image_at S.Start)) }
     ensures err { IfErr result IsOpenFault }
-    ensures memory { file.now ≡ codes ":memory:" → result ≡ Err Disk }
+    ensures memory { file.now ≡ codes ":memory:" → IsErrAnd result IsDisk }
 {
     match Connection::open_from(rt, file, false, start) {
         Ok(conn) => Ok(conn),
-        Err((error, _left)) => Err(Fault::from(error)),
+        Err((error, _left)) => match Fault::from(error) {
+            Fault::Disk(None) => Err(Fault::Disk(cause_of_new(rt, file))),
+            fault => Err(fault),
+        },
     }
 }
 
-/// Opens the register in the file, which is there: an open makes no file here. The `Err` is why the
-/// file was not opened.
+/// Opens the register in the file, which is there: an open makes no file here, and leaves a file that
+/// begins as no database as it was. The `Err` is why the file was not opened.
 pub fn open_desk<S: Start>(
     rt: &HostRuntime,
     file: &str,
@@ -43,11 +46,14 @@ pub fn open_desk<S: Start>(
 ) -> Result<Opened<FileFrom<S>>, Fault>
     ensures ok { IfOk result (OpensAs (image_at S.Start)) }
     ensures err { IfErr result IsOpenFault }
-    ensures memory { file.now ≡ codes ":memory:" → result ≡ Err Disk }
+    ensures memory { file.now ≡ codes ":memory:" → IsErrAnd result IsDisk }
 {
     match fs::exists(rt, file) {
         Ok(true) => {}
-        _ => return Err(Fault::Disk),
+        _ => return Err(Fault::Disk(cause_of(rt, file))),
+    }
+    if is_foreign(rt, file) {
+        return Err(Fault::Disk(Some(Cause::NoDatabase)));
     }
     let conn = open_file(rt, file, start)?;
     match Desk::open(rt.alloc(), conn) {

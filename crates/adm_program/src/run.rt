@@ -1,8 +1,8 @@
 // What each line of the command line does, over a reader and two writers.
-ghost use Rattle.std.specs.Prelude.{◌≡◌, false, map, codes, IsTrue, IfOk, IfErr, OnErr};
+ghost use Rattle.std.specs.Prelude.{◌≡◌, false, map, codes, IsTrue, IfOk, IfErr, OnErr, IsErrAnd};
 ghost use Rattle.sqlite_wal.specs.Files.{image_at};
-ghost use Rattle.adm_program.specs.Exits.{told_of, ending_of, error_of, has_many_holidays, IsCauseIn, IsOpenFault, RunsWords};
-ghost use Rattle.adm_program.specs.declared.fault.Fault.TheVariants.{Disk, TooManyHolidays};
+ghost use Rattle.adm_program.specs.Exits.{told_of, ending_of, error_of, has_many_holidays, IsCauseIn, IsOpenFault, RunsWords, IsDisk};
+ghost use Rattle.adm_program.specs.declared.fault.Fault.TheVariants.{TooManyHolidays};
 ghost use Rattle.adm_program.specs.Does.{Does};
 ghost use Rattle.adm_program.specs.Imports.{ImportsInto};
 ghost use Rattle.adm_program.specs.Runs.{Answers, Creates, CreatesIn, Runs};
@@ -138,7 +138,7 @@ fn init<S: Start>(
 ) -> Result<Ended<FileFrom<S>>, Fault>
     ensures ok { IfOk result (λ ended. Creates (image_at S.Start) season.now ended.exit ended.closed) }
     ensures err { IfErr result IsOpenFault }
-    ensures memory { file.now ≡ codes ":memory:" → result ≡ Err Disk }
+    ensures memory { file.now ≡ codes ":memory:" → IsErrAnd result IsDisk }
 {
     let conn = open_file(rt, file, start)?;
     Ok(create_register(rt.alloc(), conn, season))
@@ -179,7 +179,7 @@ fn do_lines<S: Start, I: Input, O: Output>(
         (record { old = O.contents output.old; new = O.contents output.new; has_failed = O.has_failed output.new })
         ended.exit ended.closed) }
     ensures err { IfErr result IsOpenFault }
-    ensures memory { file.now ≡ codes ":memory:" → result ≡ Err Disk }
+    ensures memory { file.now ≡ codes ":memory:" → IsErrAnd result IsDisk }
     ensures untouched { OnErr result ((I.remaining input.new ≡ I.remaining input.old) × (O.contents output.new ≡ O.contents output.old)) }
 {
     match open_desk(rt, file, start)? {
@@ -218,7 +218,7 @@ fn import<S: Start, O: Output>(
         (record { old = O.contents output.old; new = O.contents output.new; has_failed = O.has_failed output.new })
         ended.exit ended.closed) }
     ensures err { IfErr result IsOpenFault }
-    ensures memory { file.now ≡ codes ":memory:" → result ≡ Err Disk }
+    ensures memory { file.now ≡ codes ":memory:" → IsErrAnd result IsDisk }
     ensures untouched { OnErr result (O.contents output.new ≡ O.contents output.old) }
 {
     match open_desk(rt, file, start)? {
@@ -240,7 +240,7 @@ fn print<S: Start, O: Output>(
         (record { old = O.contents output.old; new = O.contents output.new; has_failed = O.has_failed output.new })
         ended.exit ended.closed) }
     ensures err { IfErr result IsOpenFault }
-    ensures memory { file.now ≡ codes ":memory:" → result ≡ Err Disk }
+    ensures memory { file.now ≡ codes ":memory:" → IsErrAnd result IsDisk }
     ensures untouched { OnErr result (O.contents output.new ≡ O.contents output.old) }
 {
     match open_desk(rt, file, start)? {
@@ -264,7 +264,7 @@ fn serve<S: Start, O: Output, E: Write>(
         (record { old = O.contents output.old; new = O.contents output.new; has_failed = O.has_failed output.new })
         ended.exit ended.closed) }
     ensures err { IfErr result IsOpenFault }
-    ensures memory { file.now ≡ codes ":memory:" → result ≡ Err Disk }
+    ensures memory { file.now ≡ codes ":memory:" → IsErrAnd result IsDisk }
     ensures untouched { OnErr result (O.contents output.new ≡ O.contents output.old) }
 {
     match open_desk(rt, file, start)? {
