@@ -6,7 +6,7 @@
 #   make test     every proof, wrong bodies, tests, examples and cases; its last line is 'N passed, M failed'
 #   make wrong-bodies  those that the gate leaves to the hand, each of which must be refused
 #   make bench    what commands cost, beside a baseline in the same run
-#   make install  PREFIX=/usr/local by default
+#   make install  the program, admissions-backup and admissions-restore; PREFIX=/usr/local by default
 PREFIX ?= /usr/local
 EXAMPLES := first_path applications season
 
@@ -38,3 +38,5 @@ bench: build
 
 install: build
 	install -D -m 755 bin/admissions $(DESTDIR)$(PREFIX)/bin/admissions
+	install -D -m 755 tools/backup $(DESTDIR)$(PREFIX)/bin/admissions-backup
+	install -D -m 755 tools/restore $(DESTDIR)$(PREFIX)/bin/admissions-restore
