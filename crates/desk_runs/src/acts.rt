@@ -6,20 +6,21 @@ ghost use Rattle.adm_store.specs.StandsFor.{IsStarted};
 use crate::desks::{asked, given_back, opened};
 use adm_desk::{Answer, Desk};
 use adm_store::{CreateFault, OpenFault};
-use adm_types::{Command, Season};
+use adm_types::{Command, Reply, Season};
 use run_disks::{Work, created};
 use run_steps::Act;
 use sqlite::{Alter, Connection};
 use std::alloc::Global;
 
 /// How far an act came.
-#[derive(Clone, Copy, Debug)]
+#[derive(Clone, Copy, PartialEq, Eq, Debug)]
 pub(crate) enum Came {
     NoDatabase,
+    Created,
     NotCreated(CreateFault),
     NotOpened(OpenFault),
     NotDone(Answer),
-    Done,
+    Done(Reply),
     /// The desk answered Failed, and Failed again.
     Failed,
     /// The desk answered Failed, and then something else.
@@ -30,7 +31,7 @@ fn made<S: Alter>(alloc: Global, conn: Connection<S>, season: &Season) -> (Came,
     requires { conn.in_transaction ≡ false }
 {
     match created(alloc, conn, season) {
-        (Ok(()), conn) => (Came::Done, conn),
+        (Ok(()), conn) => (Came::Created, conn),
         (Err(fault), conn) => (Came::NotCreated(fault), conn),
     }
 }
@@ -38,7 +39,7 @@ fn made<S: Alter>(alloc: Global, conn: Connection<S>, season: &Season) -> (Came,
 /// How far a command came. Where the answer is Failed, it comes a second time.
 fn answer<S: Alter>(desk: &mut Desk<S>, command: &Command) -> Came {
     match asked(desk, command) {
-        Answer::Done(_) => Came::Done,
+        Answer::Done(reply) => Came::Done(reply),
         Answer::Failed => match asked(desk, command) {
             Answer::Failed => Came::Failed,
             _ => Came::WentOn,

@@ -1,5 +1,5 @@
 // An act over disks that stop at each of their calls in turn. Opened again, also after a loss of power,
-// they have the register before the act or the one after it.
+// they have the register before the act or the one after it, and the same act comes to what it comes to there.
 use crate::acts::{Came, Doing};
 use adm_store::{CreateFault, OpenFault};
 use run_disks::{Disks, Ends, Left};
@@ -10,23 +10,61 @@ use std::io;
 /// An act is stopped at so many calls at most.
 const MOST: u64 = 1000;
 
-/// How far an act came where a disk stopped, and which register that left.
+/// Which register a stop left on disks, and how far the same act comes over it when it is sent again.
+#[derive(Clone, Copy, Debug)]
+struct Found {
+    left: Left,
+    again: Came,
+}
+
+/// How far an act came where a disk stopped, and what that left.
 #[derive(Clone, Copy, Debug)]
 struct Stop {
     came: Came,
     /// On the disks as they were written.
-    written: Left,
+    written: Found,
     /// On the disks after a loss of power, which leaves what was synced.
-    synced: Left,
+    synced: Found,
 }
 
 impl Stop {
     fn is_done(&self) -> bool {
-        matches!(self.came, Came::Done)
+        matches!(self.came, Came::Created | Came::Done(_))
     }
 
-    fn is_right(&self) -> bool {
-        may_leave(self.came, self.written) && may_leave(self.came, self.synced)
+    fn is_right(&self, turns: Turns) -> bool {
+        may_leave(self.came, self.written.left)
+            && may_leave(self.came, self.synced.left)
+            && turns.are_kept(self.written)
+            && turns.are_kept(self.synced)
+    }
+}
+
+/// How far an act comes that nothing stops, over the register before it and then over the one after it.
+#[derive(Clone, Copy)]
+struct Turns {
+    first: Came,
+    second: Came,
+}
+
+impl Turns {
+    fn of(alloc: Global, disks: &Disks, act: &Act) -> io::Result<Turns> {
+        let (first, after) = sent(alloc, disks, act)?;
+        let (second, _disks) = sent(alloc, &after, act)?;
+        Ok(Turns { first, second })
+    }
+
+    /// Whether the act that was sent again came as far as it does over the register that was found.
+    fn are_kept(&self, found: Found) -> bool {
+        match found.left {
+            Left::Before => found.again == self.first,
+            Left::After => found.again == self.second,
+            Left::Both | Left::Neither => false,
+        }
+    }
+
+    fn print(&self, rt: &impl Print) -> io::Result<()> {
+        println!(rt; "  {:?}, and then {:?}", self.first, self.second)
     }
 }
 
@@ -34,7 +72,7 @@ impl Stop {
 /// stops is told as Disk, and as no other fault.
 fn may_leave(came: Came, left: Left) -> bool {
     match (came, left) {
-        (Came::Done, Left::After) => true,
+        (Came::Created | Came::Done(_), Left::After) => true,
         (Came::NotCreated(CreateFault::Disk) | Came::Failed, Left::Before | Left::After) => true,
         (Came::NoDatabase | Came::NotOpened(OpenFault::Disk), Left::Before) => true,
         _ => false,
@@ -65,6 +103,19 @@ impl Counts {
     }
 }
 
+/// How far an act comes that nothing stops, and the disks after it.
+fn sent(alloc: Global, disks: &Disks, act: &Act) -> io::Result<(Came, Disks)> {
+    let (came, disks) = disks.after(alloc, None, &Doing { act })?;
+    Ok((came.unwrap_or(Came::NoDatabase), disks))
+}
+
+/// What a stop of the act left on these disks.
+fn found_on(alloc: Global, disks: &Disks, act: &Act, ends: &Ends) -> io::Result<Found> {
+    let left = ends.left_on(alloc, disks)?;
+    let (again, _disks) = sent(alloc, disks, act)?;
+    Ok(Found { left, again })
+}
+
 /// How far an act comes where a disk passes so many calls, and the disks after it: as they were written, and after a loss
 /// of power.
 fn came_to(
@@ -88,8 +139,8 @@ fn stopped(
     let (came, written, synced) = came_to(alloc, disks, act, stop)?;
     Ok(Stop {
         came,
-        written: ends.left_on(alloc, &written)?,
-        synced: ends.left_on(alloc, &synced)?,
+        written: found_on(alloc, &written, act, ends)?,
+        synced: found_on(alloc, &synced, act, ends)?,
     })
 }
 
@@ -100,20 +151,21 @@ fn stops_of(
     disks: &Disks,
     act: &Act,
     ends: &Ends,
+    turns: Turns,
     disk: Which,
 ) -> io::Result<()> {
     let mut written = Counts::new();
     let mut synced = Counts::new();
     for calls in 0..MOST {
         let stop = stopped(alloc, disks, act, ends, (disk, calls))?;
-        if !stop.is_right() {
+        if !stop.is_right(turns) {
             return println!(rt; "  PROBLEM: {disk:?} at call {calls}: {stop:?}");
         }
         if stop.is_done() {
             return print_counts(rt, disk, calls, written, synced);
         }
-        written.add(stop.written);
-        synced.add(stop.synced);
+        written.add(stop.written.left);
+        synced.add(stop.synced.left);
     }
     println!(rt; "  PROBLEM: {disk:?} stops always")
 }
@@ -131,8 +183,8 @@ fn print_counts(
     )
 }
 
-/// Stops the act at each call of each disk, and prints how many stops left which register. The one after
-/// it is that of the other act.
+/// Stops the act at each call of each disk, and sends it again. Prints how far it comes where nothing stops it, and then once more, and
+/// how many stops left which register. The one after it is that of the other act.
 pub(crate) fn stops(
     rt: &impl Print,
     alloc: Global,
@@ -143,8 +195,10 @@ pub(crate) fn stops(
     match Ends::of(alloc, disks, other)? {
         None => println!(rt; "  there is no register after it"),
         Some(ends) => {
-            stops_of(rt, alloc, disks, act, &ends, Which::Log)?;
-            stops_of(rt, alloc, disks, act, &ends, Which::Database)
+            let turns = Turns::of(alloc, disks, act)?;
+            turns.print(rt)?;
+            stops_of(rt, alloc, disks, act, &ends, turns, Which::Log)?;
+            stops_of(rt, alloc, disks, act, &ends, turns, Which::Database)
         }
     }
 }
