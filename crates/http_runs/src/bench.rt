@@ -1,6 +1,7 @@
 // The desk as the steps before left it, and what each step does.
 use crate::desks::{MemoryDesk, answers, desk_after};
 use crate::served::Served;
+use crate::sockets::Connection;
 use crate::sweeps::Sweep;
 use crate::texts::bytes_of;
 use adm_http::Routes;
@@ -31,13 +32,14 @@ impl Bench {
     /// - `do COMMAND`: the desk answers a command.
     /// - `request TEXT`: the desk serves the request that the bytes of the text are, over a reader and a writer
     ///   without limits.
-    /// - `pieces TEXT`: the same, over readers and then writers of 1, 2 and 7 bytes a call.
+    /// - `connection TEXT`: the same, over a connection to a free port of this machine.
+    /// - `pieces TEXT`: the request, over readers and then writers of 1, 2 and 7 bytes a call.
     /// - `beginnings TEXT`: each beginning of the bytes as a request.
     /// - `fails TEXT`: the request, over a reader and then a writer of 1 byte a call that fails at each call in turn.
     /// - `reads TEXT`: how much is read where 100,000 bytes follow the request.
     pub(crate) fn take(
         &mut self,
-        rt: &impl Print,
+        rt: &HostRuntime,
         alloc: Global,
         word: &str,
         text: &str,
@@ -52,6 +54,7 @@ impl Bench {
         match word {
             "do" => self.command(rt, alloc, text),
             "request" => self.request(rt, alloc, &input),
+            "connection" => self.connection(rt, alloc, &input),
             "pieces" => sweep.pieces(rt),
             "beginnings" => sweep.beginnings(rt),
             "fails" => {
@@ -76,5 +79,9 @@ impl Bench {
     fn request(&mut self, rt: &impl Print, alloc: Global, input: &[u8]) -> io::Result<()> {
         let limits = (NO_LIMITS, NO_LIMITS);
         Served::of(alloc, &self.routes, &mut self.desk, input, limits).print(rt, alloc)
+    }
+
+    fn connection(&mut self, rt: &HostRuntime, alloc: Global, input: &[u8]) -> io::Result<()> {
+        Connection::of(rt, &self.routes, &mut self.desk, input)?.print(rt, alloc)
     }
 }

@@ -1,13 +1,14 @@
 //! Requests over HTTP, answered by a desk over a database in memory. Each line of the input is a step, a remark (`#`)
 //! or empty; it is printed as it stands, and below it, set in, what the step came to.
 //!
-//! `do COMMAND` and `request TEXT` change the register. The other steps leave it as it is: each of them has desks of
+//! `do COMMAND`, `request TEXT` and `connection TEXT` change the register. The other steps leave it as it is: each of them has desks of
 //! its own, over registers that the commands of `do` so far are done to once more, whatever the requests did.
 #![tactic(auto)]
 
 mod bench;
 mod desks;
 mod served;
+mod sockets;
 mod sweeps;
 mod texts;
 
@@ -16,7 +17,7 @@ use std::alloc::Global;
 use std::io::{self, BufRead, BufReader};
 
 /// Prints a line, and below it what the step that it is comes to.
-fn take(rt: &impl Print, alloc: Global, bench: &mut Bench, line: &str) -> io::Result<()> {
+fn take(rt: &HostRuntime, alloc: Global, bench: &mut Bench, line: &str) -> io::Result<()> {
     println!(rt; "{line}")?;
     if line.is_empty() || line.starts_with('#') {
         return Ok(());

@@ -7,6 +7,15 @@ use run_steps::{Limited, Limits};
 use std::alloc::Global;
 use std::{io, str};
 
+/// Prints the bytes of a text.
+pub(crate) fn print_bytes(rt: &impl Print, alloc: Global, bytes: &[u8]) -> io::Result<()> {
+    let text = text_of(alloc, bytes)?;
+    for line in text.lines() {
+        println!(rt; "  {line}")?;
+    }
+    Ok(())
+}
+
 /// What serving a request came to.
 #[derive(Drop)]
 pub(crate) struct Served {
@@ -52,10 +61,7 @@ impl Served {
 
     /// Prints what was written, and how it ended.
     pub(crate) fn print(&self, rt: &impl Print, alloc: Global) -> io::Result<()> {
-        let text = text_of(alloc, &self.written)?;
-        for line in text.lines() {
-            println!(rt; "  {line}")?;
-        }
+        print_bytes(rt, alloc, &self.written)?;
         match self.ended {
             Ok(count) => println!(rt; "  written {count}"),
             Err(fault) => println!(rt; "  fault: {fault}"),
