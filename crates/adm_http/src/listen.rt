@@ -88,15 +88,28 @@ fn serve_next<C: Clock, A: Answering>(
     let Ok((stream, _)) = listener.accept() else {
         return Err(ServeFault::Read);
     };
-    let request = Patient::new(&stream, clock, Duration::from_secs(SECONDS_OF_REQUEST));
-    let response = Patient::new(&stream, clock, Duration::from_secs(SECONDS_OF_RESPONSE));
-    let mut reader = Watched::new(request);
-    let mut writer = Watched::new(response);
-    let served = serve(alloc, routes, desk, &mut reader, &mut writer);
+    let served = serve_stream(clock, alloc, routes, desk, &stream);
     if served.is_ok() {
         take_rest(clock, &stream);
     }
     served
+}
+
+// Serves the request of a connection.
+fn serve_stream<C: Clock, A: Answering>(
+    clock: &C,
+    alloc: Global,
+    routes: &Routes,
+    desk: &mut A,
+    stream: &TcpStream,
+) -> Result<usize, ServeFault>
+    ensures { AnswersOne A.runs A.shows (A.view desk.old) (A.view desk.new) }
+{
+    let request = Patient::new(stream, clock, Duration::from_secs(SECONDS_OF_REQUEST));
+    let response = Patient::new(stream, clock, Duration::from_secs(SECONDS_OF_RESPONSE));
+    let mut reader = Watched::new(request);
+    let mut writer = Watched::new(response);
+    serve(alloc, routes, desk, &mut reader, &mut writer)
 }
 
 // Ends the sending side, and reads and drops what still comes.

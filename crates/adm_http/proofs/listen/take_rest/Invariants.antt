@@ -1,0 +1,5 @@
+use Rattle.adm_http.proofs.listen.take_rest.Given as goal
+
+-- how many bytes more are read
+abbrev pub decreases-loop-left : goal.decreases-loop-left
+decreases-loop-left g l = l.left
