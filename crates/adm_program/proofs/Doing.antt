@@ -6,8 +6,6 @@ use Rattle.sqlite_disk.specs.declared.Files.{Files}
 use Rattle.sqlite_wal.specs.Recovery.{Image}
 use Rattle.sqlite_store.specs.declared.store.FileStore.{FileStore}
 use Rattle.sqlite.specs.declared.error.Error.{Error}
-use Rattle.sqlite.specs.declared.error.Error.TheVariants.{SqliteFailure}
-use Rattle.sqlite.specs.declared.error.ErrorCode.TheVariants.{OutOfMemory}
 use Rattle.adm_types.specs.Numbers.{is_from}
 use Rattle.adm_types.specs.Seasons.{SeasonFacts, IsRising}
 use Rattle.adm_types.specs.declared.seasons.Phase.{Phase}
@@ -44,7 +42,7 @@ pub no_season : (file : Bor (List ℕ)) (phase : Phase) (year : ℕ) (days : Lis
     → IsCauseIn (action.Init file phase year days) (of_season fault)
 no_season file phase year days season.YearRange range many = inl (refl, range refl)
 no_season file phase year days season.TooManyHolidays range many = inr (inl (refl, many refl))
-no_season file phase year days season.Memory range many = inr (inr (SqliteFailure OutOfMemory, refl, refl))
+no_season file phase year days season.Memory range many = inr (inr (inl refl))
 
 -- the status of a line that ended so, and of what its close came to
 abbrev status : Result Exit Fault → Option Error → ℕ

@@ -1,6 +1,4 @@
-use Rattle.std.proofs.Common.{refl, ap, Err}
-use Rattle.sqlite.specs.declared.error.Error.TheVariants.{SqliteFailure}
-use Rattle.sqlite.specs.declared.error.ErrorCode.TheVariants.{CannotOpen}
+use Rattle.std.proofs.Common.{ap, Err}
 use Rattle.adm_program.proofs.Closing.{closes}
 use Rattle.adm_program.proofs.opening.open_desk.Goals as goal
 
@@ -27,7 +25,3 @@ returns-in-Err-clause-ok g c =
       kept = c.in-Err.ensures.left;
       closes = closes c.in-Err.conn c.close_files.result _ c.close_files.ensures.copied c.close_files.ensures.err;
     }
-
--- there is no such file
-pub returns-in_default-clause-err : goal.returns-in_default-clause-err
-returns-in_default-clause-err g c = (SqliteFailure CannotOpen, refl, refl)
