@@ -29,7 +29,7 @@ impl Connection {
         let mut client = TcpStream::connect(rt, listener.local_addr()?)?;
         client.write_all(request)?;
         let mut errors = Vec::new(alloc);
-        let status = serve_on(alloc, routes, desk, &listener, 1, &mut errors);
+        let status = serve_on(rt, alloc, routes, desk, &listener, 1, &mut errors);
         let mut answer = Vec::new(alloc);
         client.read_to_end(&mut answer)?;
         Ok(Connection {
