@@ -32,7 +32,7 @@ impl Stop {
         matches!(self.came, Came::Created | Came::Done(_))
     }
 
-    fn is_right(&self, turns: Turns) -> bool {
+    fn is_right(&self, turns: &Turns) -> bool {
         may_leave(self.came, self.written.left)
             && may_leave(self.came, self.synced.left)
             && turns.are_kept(self.written)
@@ -151,7 +151,7 @@ fn stops_of(
     disks: &Disks,
     act: &Act,
     ends: &Ends,
-    turns: Turns,
+    turns: &Turns,
     disk: Which,
 ) -> io::Result<()> {
     let mut written = Counts::new();
@@ -197,8 +197,8 @@ pub(crate) fn stops(
         Some(ends) => {
             let turns = Turns::of(alloc, disks, act)?;
             turns.print(rt)?;
-            stops_of(rt, alloc, disks, act, &ends, turns, Which::Log)?;
-            stops_of(rt, alloc, disks, act, &ends, turns, Which::Database)
+            stops_of(rt, alloc, disks, act, &ends, &turns, Which::Log)?;
+            stops_of(rt, alloc, disks, act, &ends, &turns, Which::Database)
         }
     }
 }

@@ -1,4 +1,4 @@
-use Rattle.std.proofs.Common.{Result, Ok, Err, sym, refl, subst}
+use Rattle.std.proofs.Common.{Result, Ok, sym, refl, subst}
 use Rattle.adm_program.specs.Opened.{Stream}
 use Rattle.adm_program.specs.Served.{ServesAs}
 use Rattle.adm_program.specs.declared.exit.Exit.{Exit}
