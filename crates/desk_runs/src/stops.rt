@@ -50,7 +50,11 @@ struct Turns {
 impl Turns {
     fn of(alloc: Global, disks: &Disks, act: &Act) -> io::Result<Turns> {
         let (first, after) = sent(alloc, disks, act)?;
-        let (second, _disks) = sent(alloc, &after, act)?;
+        Turns::over(alloc, first, &after, act)
+    }
+
+    fn over(alloc: Global, first: Came, after: &Disks, act: &Act) -> io::Result<Turns> {
+        let second = again(alloc, after, act)?;
         Ok(Turns { first, second })
     }
 
@@ -109,23 +113,34 @@ fn sent(alloc: Global, disks: &Disks, act: &Act) -> io::Result<(Came, Disks)> {
     Ok((came.unwrap_or(Came::NoDatabase), disks))
 }
 
+/// How far an act comes that nothing stops.
+fn again(alloc: Global, disks: &Disks, act: &Act) -> io::Result<Came> {
+    let (came, _disks) = sent(alloc, disks, act)?;
+    Ok(came)
+}
+
 /// What a stop of the act left on these disks.
 fn found_on(alloc: Global, disks: &Disks, act: &Act, ends: &Ends) -> io::Result<Found> {
     let left = ends.left_on(alloc, disks)?;
-    let (again, _disks) = sent(alloc, disks, act)?;
+    let again = again(alloc, disks, act)?;
     Ok(Found { left, again })
 }
 
-/// How far an act comes where a disk passes so many calls, and the disks after it: as they were written, and after a loss
-/// of power.
-fn came_to(
+/// What a stop left at which an act came so far: on the disks as they were written, and after a loss of power.
+fn stop_of(
     alloc: Global,
-    disks: &Disks,
+    came: Came,
+    (written, synced): (&Disks, &Disks),
     act: &Act,
-    stop: (Which, u64),
-) -> io::Result<(Came, Disks, Disks)> {
-    let (came, written, synced) = disks.after_stop(alloc, stop, &Doing { act })?;
-    Ok((came.unwrap_or(Came::NoDatabase), written, synced))
+    ends: &Ends,
+) -> io::Result<Stop> {
+    let written = found_on(alloc, written, act, ends)?;
+    let synced = found_on(alloc, synced, act, ends)?;
+    Ok(Stop {
+        came,
+        written,
+        synced,
+    })
 }
 
 /// What the act comes to where a disk passes so many calls.
@@ -136,12 +151,9 @@ fn stopped(
     ends: &Ends,
     stop: (Which, u64),
 ) -> io::Result<Stop> {
-    let (came, written, synced) = came_to(alloc, disks, act, stop)?;
-    Ok(Stop {
-        came,
-        written: found_on(alloc, &written, act, ends)?,
-        synced: found_on(alloc, &synced, act, ends)?,
-    })
+    let (came, written, synced) = disks.after_stop(alloc, stop, &Doing { act })?;
+    let came = came.unwrap_or(Came::NoDatabase);
+    stop_of(alloc, came, (&written, &synced), act, ends)
 }
 
 /// Stops the act at each call of a disk, until none stops it or one leaves what it may not.
