@@ -13,3 +13,4 @@ pub mod OneRow
 pub mod DrawCount
 pub mod Listed
 pub mod Answered
+pub mod OneFound

@@ -60,12 +60,12 @@ is_tie Less h = absurd (cc)
 is_tie Equal h = refl
 is_tie Greater h = absurd (cc)
 
-truth_is : (t : Bool) → is_true (from_truth (Some t)) ≡ t
+pub truth_is : (t : Bool) → is_true (from_truth (Some t)) ≡ t
 truth_is true = refl
 truth_is false = refl
 
 -- two integers are equal under = just where they are the same
-equal_ints : (a b : ℤ) → equal Binary (Int a) (Int b) ≡ is_eq (value_cmp (Int a) (Int b))
+pub equal_ints : (a b : ℤ) → equal Binary (Int a) (Int b) ≡ is_eq (value_cmp (Int a) (Int b))
 unfolding binary
 equal_ints a b = truth_is (is_eq (value_cmp (Int a) (Int b)))
 
@@ -140,7 +140,7 @@ module _ (table : Table) (own : (r : Row) → rowid (columns_of table r) ≡ row
 
 -- ---- a query with a WHERE
 
-one_test : (b : Bool) → (b && true) ≡ b
+pub one_test : (b : Bool) → (b && true) ≡ b
 one_test true = refl
 one_test false = refl
 
@@ -150,7 +150,7 @@ tested p env show (x ∷ xs) = elim (p x) as (λ b. map show (cond b (env x ∷ 
     [ true ↦ ap (λ ys. show (env x) ∷ ys) (tested p env show xs) | false ↦ tested p env show xs ]
 
 -- the columns of the rows that pass, in some order
-answers_some : (tree : ℕ) (tests : List Term) (project : List Term) (db : Database) (params : Row) (rows : List Row) → nat_le (2 ^ 31) tree ≡ false
+pub answers_some : (tree : ℕ) (tests : List Term) (project : List Term) (db : Database) (params : Row) (rows : List Row) → nat_le (2 ^ 31) tree ≡ false
     → Answers db (program_of (query_of tree tests project [])) params rows → IsPermutation (map (λ r. eval_all project (params ∷ r ∷ [])) (filter (λ r. list_all (holds (params ∷ r ∷ [])) tests) (db.trees tree))) rows
 answers_some tree tests project db params rows low h =
     let q = query_of tree tests project [] in

@@ -1,6 +1,7 @@
 -- What INSERT and DELETE do, by their commands.
 use Rattle.std.proofs.Common.{◌≡◌, ◌≢◌, ◌⊎◌, inl, inr, ℕ, ℤ, ◌/◌, List, [], ◌∷◌, length, slice_get, Bool, true, false, not, ◌^◌, nat_le, Some, None, Ok, Err, Result, refl, sym, ap, ap₂, subst, subst₂, ◌∙◌, append-nil, Option}
-use Rattle.std.specs.Prelude.{MatchBool, if◌then◌else◌}
+use Rattle.std.specs.Prelude.{MatchBool, if◌then◌else◌, unwrap_or}
+use Rattle.std.proofs.lemmas.List.{length-map}
 use Rattle.sqlite.specs.Order.{Row}
 use Rattle.sqlite.specs.Term.{Term}
 use Rattle.sqlite.specs.Table.{Table}
@@ -8,7 +9,7 @@ use Rattle.sqlite.specs.Schema.{Schema}
 use Rattle.sqlite.specs.Source.TheVariants.{Values}
 use Rattle.sqlite.specs.Command.TheVariants.{Insert, InsertOr, Delete}
 use Rattle.sqlite.specs.Edit.{Edit, edit_of, Applies}
-use Rattle.sqlite_rules.specs.Edit.{taken_by}
+use Rattle.sqlite_rules.specs.Edit.{taken_by, row_at}
 use Rattle.sqlite.specs.Rowids.TheVariants.{Chosen, Given}
 use Rattle.sqlite_rules.specs.declared.error.Rowids.{Rowids}
 use Rattle.sqlite_rules.specs.declared.error.Refusal.{Refusal}
@@ -59,6 +60,10 @@ pub unless : (b : Bool) (P Q : Type 0) → b ≡ false → MatchBool b P Q → Q
 unless true P Q e h = absurd (cc)
 unless false P Q e h = h
 
+-- as many rowids as rows that name them
+ids_length : (rows : List Row) → length (ids_of rows) ≡ length rows
+ids_length rows = length-map rows (λ (r : Row). id_in (rowid r))
+
 module _ (schema : Schema) (table : Table) (at : ℕ) (found : slice_get schema.tables at ≡ Some table) (uncounted : table.is_counted ≡ false) (unstamped : table.stamps.terms ≡ [])
     (alone : (olds news : List Row) → works schema Enforced 0 table.tree olds news ≡ []) where
   pub at_table : {A : Type 0} (P : Table → Part A) (out : Outcome A) → AtPlace P (slice_get schema.tables at) out → P table out
@@ -75,6 +80,9 @@ module _ (schema : Schema) (table : Table) (at : ℕ) (found : slice_get schema.
 
   pub ends : (task : Task) (mode : Mode) (w : Written) (tally : Tally) (after : Database) → Concludes task mode None w (Ok (tally, after)) → after ≡ record { schema = task.schema; trees = w.trees }
   ends task mode w tally after h = ap (λ (p : Tally × Database). p.1) (same_value (went (went h).2).2)
+
+  pub counts : (task : Task) (mode : Mode) (w : Written) (tally : Tally) (after : Database) → Concludes task mode None w (Ok (tally, after)) → tally.rows ≡ Some (length w.rows)
+  counts task mode w tally after h = ap (λ (p : Tally × Database). p.0.rows) (same_value (went (went h).2).2)
 
   pub inserts_one : (old : State) (params source : Row) (terms : List Term) (width : ℕ) (db : Trees) (w : Written) → value_rows params width (length terms / width) terms ≡ source ∷ []
       → Inserts (task_in old params) (Values terms width) db (Ok w) → Applies schema Enforced db (edit_of db table [] Chosen 0 (source ∷ [])) w.trees
@@ -103,21 +111,22 @@ module _ (schema : Schema) (table : Table) (at : ℕ) (found : slice_get schema.
 
   pub deletes_on : (old new : State) (params : Row) (tally : Tally) (q : Program) (text : List ℕ) → old.now.schema ≡ schema
       → Does old.step_limit (mode_of old) params old.now text None (Delete at q) (Ok (tally, new.now))
-      → (w : Written) × Deletes (task_in old params) q old.now.trees (Ok w) × (new.now ≡ record { schema = schema; trees = w.trees })
+      → (w : Written) × Deletes (task_in old params) q old.now.trees (Ok w) × (new.now ≡ record { schema = schema; trees = w.trees }) × (tally.rows ≡ Some (length w.rows))
   deletes_on old new params tally q text has h =
       let done = went (at_table (λ t. OnRows (record (task_in old params) { table = t }) (mode_of old) None (Delete at q) old.now.trees) _
       (subst (λ s. Does old.step_limit (mode_of old) params (record old.now { schema = s }) text None (Delete at q) (Ok (tally, new.now))) has h)) in
-      (done.0, done.1, ends (task_in old params) (mode_of old) done.0 tally new.now done.2)
+      (done.0, done.1, ends (task_in old params) (mode_of old) done.0 tally new.now done.2, counts (task_in old params) (mode_of old) done.0 tally new.now done.2)
 
   pub deletes_some : (old : State) (params : Row) (q : Program) (db : Trees) (w : Written) → Deletes (task_in old params) q db (Ok w)
-      → (rows : List Row) × Answers (record { schema = schema; trees = db }) q params rows × Applies schema Enforced db (edit_of db table (ids_of rows) Given 0 []) w.trees
+      → (rows : List Row) × Answers (record { schema = schema; trees = db }) q params rows × Applies schema Enforced db (edit_of db table (ids_of rows) Given 0 []) w.trees × (length w.rows ≡ length rows)
   deletes_some old params q db w h =
       let asked = went h in
       let edited = went asked.2 in
       let edit : Edit = edit_of db table (ids_of asked.0) Given 0 [] in
       let applied = one_step schema Enforced db edited.0 edit (alone (taken_by db edit) edit.news) edited.1 in
       let trees : w.trees ≡ edited.0 = ap (λ (it : Written). it.trees) (same_value edited.2) in
-      (asked.0, asked.1, subst (Applies schema Enforced db edit) (sym trees) applied)
+      let long : length w.rows ≡ length (taken_by db edit) = ap (λ (it : Written). length it.rows) (same_value edited.2) in
+      (asked.0, asked.1, subst (Applies schema Enforced db edit) (sym trees) applied, long ∙ length-map edit.gone (row_at (db table.tree)) ∙ ids_length asked.0)
 
   -- what a statement on this table leaves of the rest
   pub leaves_others : (old new : State) (edit : Edit) (trees : Trees) → edit.table ≡ table → old.now.schema ≡ schema → new.now ≡ record { schema = schema; trees = trees }
@@ -154,13 +163,13 @@ module _ (schema : Schema) (table : Table) (at : ℕ) (found : slice_get schema.
 
   -- a DELETE of the rows that a query names by their rowids
   pub deleted : (q : Program) (sql : List ℕ) (params : Row) (old new : State) (count : ℕ) → command_of (understood schema sql) ≡ Delete at q → IsPlain (understood schema sql) → old.now.schema ≡ schema → ExecutesInside 0 sql params old new (Ok count)
-      → (rows : List Row) × WritesOnly table old new × Answers (record { schema = schema; trees = old.now.trees }) q params rows × Applies schema Enforced old.now.trees (edit_of old.now.trees table (ids_of rows) Given 0 []) new.now.trees
+      → (rows : List Row) × WritesOnly table old new × Answers (record { schema = schema; trees = old.now.trees }) q params rows × Applies schema Enforced old.now.trees (edit_of old.now.trees table (ids_of rows) Given 0 []) new.now.trees × (count ≡ length rows)
   deleted q sql params old new count is plain has h =
       let w = runs_as sql params old new schema has (Delete at q) is plain count h.0 in
       let on = deletes_on old new params w.tally q (statement_of sql (understood schema sql)) has w.changed in
       let some = deletes_some old params q old.now.trees on.0 on.1 in
       let edit : Edit = edit_of old.now.trees table (ids_of some.0) Given 0 [] in
-      (some.0, leaves_others old new edit on.0.trees refl has on.2 some.2 h.1 w.sound, some.1, subst (Applies schema Enforced old.now.trees edit) (sym (ap (λ (d : Database). d.trees) on.2)) some.2)
+      (some.0, leaves_others old new edit on.0.trees refl has on.2 some.2 h.1 w.sound, some.1, subst (Applies schema Enforced old.now.trees edit) (sym (ap (λ (d : Database). d.trees) on.2)) some.2, w.counted ∙ ap (λ o. unwrap_or o 0) on.3 ∙ some.3)
 
   -- a DELETE with no WHERE
   pub deleted_all : (sql : List ℕ) (params : Row) (old new : State) (count : ℕ) → command_of (understood schema sql) ≡ Delete at (program_of (query_of table.tree [] (col 1 0 ∷ []) [])) → IsPlain (understood schema sql)

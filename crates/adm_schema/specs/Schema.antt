@@ -159,3 +159,23 @@ with_lot = record { tables = meta ∷ school ∷ child ∷ application ∷ place
 -- the whole schema, version 1
 abbrev pub register_schema : Schema
 register_schema = record { tables = meta ∷ school ∷ child ∷ application ∷ place ∷ left_list ∷ draw ∷ offer ∷ lot ∷ imported ∷ []; indexes = school_index ∷ left_list_index ∷ offer_index ∷ lot_index_1 ∷ lot_index_2 ∷ []; views = [] }
+
+-- ---- version 2
+
+-- the present schools of children and of imported rows, as its text defines it, before it has a tree
+abbrev pub new_present : Table
+new_present = record (table_of (codes "present") (column_of (codes "child") Integer true ∷ column_of (codes "imported") Integer true ∷ column_of (codes "school") Text true ∷ [])) { primary = 1 ∷ 2 ∷ []; uniques = (1 ∷ 2 ∷ []) ∷ []; orders = record { digits = 0 } ∷ [] }
+
+abbrev pub present : Table
+present = record new_present { tree = 15 }
+
+abbrev pub present_index : Index
+present_index = index_of (codes "sqlite_autoindex_present_1") 16 15 (1 ∷ 2 ∷ [])
+
+-- the whole schema, version 2
+abbrev pub second_schema : Schema
+second_schema = record { tables = meta ∷ school ∷ child ∷ application ∷ place ∷ left_list ∷ draw ∷ offer ∷ lot ∷ imported ∷ present ∷ []; indexes = school_index ∷ left_list_index ∷ offer_index ∷ lot_index_1 ∷ lot_index_2 ∷ present_index ∷ []; views = [] }
+
+-- the tables of version 1, and after them any others
+abbrev pub schema_with : List Table → List Index → Schema
+schema_with tables indexes = record { tables = meta ∷ school ∷ child ∷ application ∷ place ∷ left_list ∷ draw ∷ offer ∷ lot ∷ imported ∷ tables; indexes = school_index ∷ left_list_index ∷ offer_index ∷ lot_index_1 ∷ lot_index_2 ∷ indexes; views = [] }
