@@ -1,9 +1,10 @@
--- Each of the ten texts makes its table.
+-- Each of the texts makes its table.
 use Rattle.std.proofs.Common.{refl}
 use Rattle.sqlite.specs.Listing.{understood}
 use Rattle.sqlite_tied.specs.Compute.{everything}
+use Rattle.adm_schema.specs.declared.version.Version.TheVariants.{First}
 use Rattle.adm_schema.specs.Schema as s
-use Rattle.adm_schema.specs.Creations.{IsCreation, create_meta, create_school, create_child, create_application, create_place, create_left_list, create_draw, create_offer, create_lot, create_imported}
+use Rattle.adm_schema.specs.Creations.{IsCreation, create_meta, create_school, create_child, create_application, create_place, create_left_list, create_draw, create_offer, create_lot, create_imported, create_present}
 
 pub creates_meta : IsCreation s.no_schema create_meta s.new_meta s.with_meta
 unfolding understood everything
@@ -41,6 +42,11 @@ pub creates_lot : IsCreation s.with_offer create_lot s.new_lot s.with_lot
 unfolding understood everything
 creates_lot = record { command = refl; text = refl; plain = (refl, refl); defines = refl; makes = refl; uncounted = refl }
 
-pub creates_imported : IsCreation s.with_lot create_imported s.new_imported s.register_schema
+pub creates_imported : IsCreation s.with_lot create_imported s.new_imported (s.schema_of First)
 unfolding understood everything
 creates_imported = record { command = refl; text = refl; plain = (refl, refl); defines = refl; makes = refl; uncounted = refl }
+
+-- so it makes the tables of the second version of those of the first, in a new file and in an old one
+pub creates_present : IsCreation (s.schema_of First) create_present s.new_present s.register_schema
+unfolding understood everything
+creates_present = record { command = refl; text = refl; plain = (refl, refl); defines = refl; makes = refl; uncounted = refl }

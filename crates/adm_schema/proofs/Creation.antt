@@ -12,9 +12,9 @@ use Rattle.sqlite.specs.Tree.{Trees}
 use Rattle.sqlite.proofs.Callers.{runs_as}
 use Rattle.adm_schema.specs.Effects.{SeesNoRows}
 use Rattle.adm_schema.specs.Creations.{IsCreation, creations, schema_after}
-use Rattle.adm_schema.specs.Schema.{new_meta, new_school, new_child, new_application, new_place, new_left_list, new_draw, new_offer, new_lot, new_imported}
+use Rattle.adm_schema.specs.Schema.{new_meta, new_school, new_child, new_application, new_place, new_left_list, new_draw, new_offer, new_lot, new_imported, new_present}
 use Rattle.adm_schema.proofs.Statements.{went, same_value, unless}
-use Rattle.adm_schema.proofs.Creates.{creates_meta, creates_school, creates_child, creates_application, creates_place, creates_left_list, creates_draw, creates_offer, creates_lot, creates_imported}
+use Rattle.adm_schema.proofs.Creates.{creates_meta, creates_school, creates_child, creates_application, creates_place, creates_left_list, creates_draw, creates_offer, creates_lot, creates_imported, creates_present}
 
 creates : {before after : Schema} {table : Table} {sql : List ℕ} → IsCreation before sql table after → (old new : State) (count : ℕ) → old.now.schema ≡ before → ExecutesInside 0 sql [] old new (Ok count)
     → (new.now.schema ≡ after) × (new.now.trees (next_tree before) ≡ []) × KeepsRows before.tables old.now.trees new.now.trees × IsDatabase new.now
@@ -70,4 +70,5 @@ creation_at (suc (suc (suc (suc (suc (suc zero)))))) sql is = (new_draw, subst (
 creation_at (suc (suc (suc (suc (suc (suc (suc zero))))))) sql is = (new_offer, subst (λ t. IsCreation (schema_after 7) t new_offer (schema_after 8)) (some_is is) creates_offer)
 creation_at (suc (suc (suc (suc (suc (suc (suc (suc zero)))))))) sql is = (new_lot, subst (λ t. IsCreation (schema_after 8) t new_lot (schema_after 9)) (some_is is) creates_lot)
 creation_at (suc (suc (suc (suc (suc (suc (suc (suc (suc zero))))))))) sql is = (new_imported, subst (λ t. IsCreation (schema_after 9) t new_imported (schema_after 10)) (some_is is) creates_imported)
-creation_at (suc (suc (suc (suc (suc (suc (suc (suc (suc (suc more)))))))))) sql is = absurd (cc)
+creation_at (suc (suc (suc (suc (suc (suc (suc (suc (suc (suc zero)))))))))) sql is = (new_present, subst (λ t. IsCreation (schema_after 10) t new_present (schema_after 11)) (some_is is) creates_present)
+creation_at (suc (suc (suc (suc (suc (suc (suc (suc (suc (suc (suc more))))))))))) sql is = absurd (cc)

@@ -1,7 +1,7 @@
--- Each of the ten tables is one of the register's.
+-- Each of the tables is one of the register's.
 use Rattle.std.proofs.Common.{inl, inr, refl}
 use Rattle.sqlite_rules.specs.Lists.{Has}
-use Rattle.adm_schema.specs.Schema.{meta, school, child, application, place, left_list, draw, offer, lot, imported, register_schema}
+use Rattle.adm_schema.specs.Schema.{meta, school, child, application, place, left_list, draw, offer, lot, imported, present, register_schema}
 
 pub has_meta : Has register_schema.tables meta
 has_meta = inl refl
@@ -32,3 +32,6 @@ has_lot = inr (inr (inr (inr (inr (inr (inr (inr (inl refl))))))))
 
 pub has_imported : Has register_schema.tables imported
 has_imported = inr (inr (inr (inr (inr (inr (inr (inr (inr (inl refl)))))))))
+
+pub has_present : Has register_schema.tables present
+has_present = inr (inr (inr (inr (inr (inr (inr (inr (inr (inr (inl refl))))))))))

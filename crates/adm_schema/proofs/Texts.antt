@@ -1,4 +1,4 @@
--- What each fixed text means under the register's schema.
+-- What each fixed text means: one that asks, under the schema of each version, and one that writes, under that which is written.
 use Rattle.std.proofs.Common.{◌≡◌, refl, arith}
 use Rattle.std.specs.Prelude.{[]}
 use Rattle.sqlite.specs.Command.TheVariants.{Insert, Update}
@@ -7,7 +7,8 @@ use Rattle.sqlite.specs.Listing.{understood}
 use Rattle.sqlite.proofs.Callers.{IsPlain, command_of}
 use Rattle.sqlite_tied.specs.Compute.{everything}
 use Rattle.adm_schema.specs.Queries.{Asks, query_of, program_of}
-use Rattle.adm_schema.specs.Schema.{register_schema}
+use Rattle.adm_schema.specs.declared.version.Version.{Version}
+use Rattle.adm_schema.specs.Schema.{schema_of, register_schema}
 use Rattle.adm_schema.proofs.Answered.{answered}
 use Rattle.adm_schema.specs.Texts as text
 
@@ -23,54 +24,54 @@ pub inserts_school : (command_of (understood register_schema text.insert_school)
 unfolding understood everything
 inserts_school = (refl, (refl, refl))
 
-pub asks_meta : Asks register_schema text.select_meta 0 text.meta_columns []
+pub asks_meta : (v : Version) → Asks (schema_of v) text.select_meta 0 text.meta_columns []
 unfolding understood everything
-asks_meta = record { names = _; command = refl; unlisted = refl; plain = (refl, refl); whole = (omega arith, refl); answered = λ db e. answered _ db e 0 text.meta_columns [] (λ h. absurd (let wrong = h.1 in cc)) }
+asks_meta v = record { names = _; command = refl; unlisted = refl; plain = (refl, refl); whole = (omega arith, refl); answered = λ db e. answered _ db e 0 text.meta_columns [] (λ h. absurd (let wrong = h.1 in cc)) }
 
-pub asks_schools : Asks register_schema text.select_schools 1 text.school_columns text.by_code
+pub asks_schools : (v : Version) → Asks (schema_of v) text.select_schools 1 text.school_columns text.by_code
 unfolding understood everything
-asks_schools = record { names = _; command = refl; unlisted = refl; plain = (refl, refl); whole = (omega arith, refl); answered = λ db e. answered _ db e 1 text.school_columns text.by_code (λ h. absurd (let wrong = h.1 in cc)) }
+asks_schools v = record { names = _; command = refl; unlisted = refl; plain = (refl, refl); whole = (omega arith, refl); answered = λ db e. answered _ db e 1 text.school_columns text.by_code (λ h. absurd (let wrong = h.1 in cc)) }
 
-pub asks_children : Asks register_schema text.select_children 3 text.child_columns text.by_child
+pub asks_children : (v : Version) → Asks (schema_of v) text.select_children 3 text.child_columns text.by_child
 unfolding understood everything
-asks_children = record { names = _; command = refl; unlisted = refl; plain = (refl, refl); whole = (omega arith, refl); answered = λ db e. answered _ db e 3 text.child_columns text.by_child (λ h. absurd (let wrong = h.1 in cc)) }
+asks_children v = record { names = _; command = refl; unlisted = refl; plain = (refl, refl); whole = (omega arith, refl); answered = λ db e. answered _ db e 3 text.child_columns text.by_child (λ h. absurd (let wrong = h.1 in cc)) }
 
-pub asks_applications : Asks register_schema text.select_applications 4 text.application_columns text.by_child
+pub asks_applications : (v : Version) → Asks (schema_of v) text.select_applications 4 text.application_columns text.by_child
 unfolding understood everything
-asks_applications = record { names = _; command = refl; unlisted = refl; plain = (refl, refl); whole = (omega arith, refl); answered = λ db e. answered _ db e 4 text.application_columns text.by_child (λ h. absurd (let wrong = h.1 in cc)) }
+asks_applications v = record { names = _; command = refl; unlisted = refl; plain = (refl, refl); whole = (omega arith, refl); answered = λ db e. answered _ db e 4 text.application_columns text.by_child (λ h. absurd (let wrong = h.1 in cc)) }
 
-pub asks_places : Asks register_schema text.select_places 5 text.place_columns text.by_child
+pub asks_places : (v : Version) → Asks (schema_of v) text.select_places 5 text.place_columns text.by_child
 unfolding understood everything
-asks_places = record { names = _; command = refl; unlisted = refl; plain = (refl, refl); whole = (omega arith, refl); answered = λ db e. answered _ db e 5 text.place_columns text.by_child (λ h. absurd (let wrong = h.1 in cc)) }
+asks_places v = record { names = _; command = refl; unlisted = refl; plain = (refl, refl); whole = (omega arith, refl); answered = λ db e. answered _ db e 5 text.place_columns text.by_child (λ h. absurd (let wrong = h.1 in cc)) }
 
 pub inserts_left_list : (command_of (understood register_schema text.insert_left_list) ≡ Insert 5 (Values text.left_list_terms 3)) × IsPlain (understood register_schema text.insert_left_list)
 unfolding understood everything
 inserts_left_list = (refl, (refl, refl))
 
-pub asks_left_list : Asks register_schema text.select_left_list 6 text.left_list_columns []
+pub asks_left_list : (v : Version) → Asks (schema_of v) text.select_left_list 6 text.left_list_columns []
 unfolding understood everything
-asks_left_list = record { names = _; command = refl; unlisted = refl; plain = (refl, refl); whole = (omega arith, refl); answered = λ db e. answered _ db e 6 text.left_list_columns [] (λ h. absurd (let wrong = h.1 in cc)) }
+asks_left_list v = record { names = _; command = refl; unlisted = refl; plain = (refl, refl); whole = (omega arith, refl); answered = λ db e. answered _ db e 6 text.left_list_columns [] (λ h. absurd (let wrong = h.1 in cc)) }
 
 pub inserts_draw : (command_of (understood register_schema text.insert_draw) ≡ Insert 6 (Values text.draw_terms 5)) × IsPlain (understood register_schema text.insert_draw)
 unfolding understood everything
 inserts_draw = (refl, (refl, refl))
 
-pub asks_draws : Asks register_schema text.select_draws 8 text.draw_columns []
+pub asks_draws : (v : Version) → Asks (schema_of v) text.select_draws 8 text.draw_columns []
 unfolding understood everything
-asks_draws = record { names = _; command = refl; unlisted = refl; plain = (refl, refl); whole = (omega arith, refl); answered = λ db e. answered _ db e 8 text.draw_columns [] (λ h. absurd (let wrong = h.1 in cc)) }
+asks_draws v = record { names = _; command = refl; unlisted = refl; plain = (refl, refl); whole = (omega arith, refl); answered = λ db e. answered _ db e 8 text.draw_columns [] (λ h. absurd (let wrong = h.1 in cc)) }
 
-pub asks_offers : Asks register_schema text.select_offers 9 text.offer_columns []
+pub asks_offers : (v : Version) → Asks (schema_of v) text.select_offers 9 text.offer_columns []
 unfolding understood everything
-asks_offers = record { names = _; command = refl; unlisted = refl; plain = (refl, refl); whole = (omega arith, refl); answered = λ db e. answered _ db e 9 text.offer_columns [] (λ h. absurd (let wrong = h.1 in cc)) }
+asks_offers v = record { names = _; command = refl; unlisted = refl; plain = (refl, refl); whole = (omega arith, refl); answered = λ db e. answered _ db e 9 text.offer_columns [] (λ h. absurd (let wrong = h.1 in cc)) }
 
-pub asks_lots : Asks register_schema text.select_lots 11 text.lot_columns []
+pub asks_lots : (v : Version) → Asks (schema_of v) text.select_lots 11 text.lot_columns []
 unfolding understood everything
-asks_lots = record { names = _; command = refl; unlisted = refl; plain = (refl, refl); whole = (omega arith, refl); answered = λ db e. answered _ db e 11 text.lot_columns [] (λ h. absurd (let wrong = h.1 in cc)) }
+asks_lots v = record { names = _; command = refl; unlisted = refl; plain = (refl, refl); whole = (omega arith, refl); answered = λ db e. answered _ db e 11 text.lot_columns [] (λ h. absurd (let wrong = h.1 in cc)) }
 
 pub inserts_imported : (command_of (understood register_schema text.insert_imported) ≡ Insert 9 (Values text.imported_terms 10)) × IsPlain (understood register_schema text.insert_imported)
 unfolding understood everything
 inserts_imported = (refl, (refl, refl))
 
-pub asks_imported : Asks register_schema text.select_imported 14 text.imported_columns []
+pub asks_imported : (v : Version) → Asks (schema_of v) text.select_imported 14 text.imported_columns []
 unfolding understood everything
-asks_imported = record { names = _; command = refl; unlisted = refl; plain = (refl, refl); whole = (omega arith, refl); answered = λ db e. answered _ db e 14 text.imported_columns [] (λ h. absurd (let wrong = h.1 in cc)) }
+asks_imported v = record { names = _; command = refl; unlisted = refl; plain = (refl, refl); whole = (omega arith, refl); answered = λ db e. answered _ db e 14 text.imported_columns [] (λ h. absurd (let wrong = h.1 in cc)) }

@@ -1,4 +1,4 @@
--- What CREATE TABLE makes of a schema, and the ten texts that make the register's.
+-- What CREATE TABLE makes of a schema, and the texts that make the register's.
 use Rattle.std.specs.Prelude.{◌≡◌, ℕ, zero, suc, false, List, [], ◌∷◌, codes, Ok}
 use Rattle.sqlite.specs.Compile.{table_defined_by}
 use Rattle.sqlite.specs.Change.{created}
@@ -8,7 +8,8 @@ use Rattle.sqlite.specs.Listing.{understood}
 use Rattle.sqlite.specs.Schema.{Schema}
 use Rattle.sqlite.specs.Table.{Table}
 use Rattle.sqlite.proofs.Callers.{IsPlain, command_of, statement_of}
-use Rattle.adm_schema.specs.Schema.{no_schema, with_meta, with_school, with_child, with_application, with_place, with_left_list, with_draw, with_offer, with_lot, register_schema}
+use Rattle.adm_schema.specs.declared.version.Version.TheVariants.{First}
+use Rattle.adm_schema.specs.Schema.{no_schema, with_meta, with_school, with_child, with_application, with_place, with_left_list, with_draw, with_offer, with_lot, schema_of, register_schema}
 
 -- the text makes the second schema of the first, by this table
 pub record IsCreation (before : Schema) (sql : List ℕ) (table : Table) (after : Schema) : Type 0 where
@@ -49,9 +50,12 @@ create_lot = codes "CREATE TABLE lot (draw INTEGER NOT NULL, school TEXT NOT NUL
 abbrev pub create_imported : List ℕ
 create_imported = codes "CREATE TABLE imported (child INTEGER PRIMARY KEY, name TEXT NOT NULL, east INTEGER NOT NULL, north INTEGER NOT NULL, looked_after INTEGER NOT NULL, flags INTEGER NOT NULL, siblings TEXT NOT NULL, day INTEGER NOT NULL, preferences TEXT NOT NULL) STRICT"
 
+abbrev pub create_present : List ℕ
+create_present = codes "CREATE TABLE present (child INTEGER NOT NULL, imported INTEGER NOT NULL, school TEXT NOT NULL, PRIMARY KEY (child, imported)) STRICT"
+
 -- the texts in their order
 abbrev pub creations : List (List ℕ)
-creations = create_meta ∷ create_school ∷ create_child ∷ create_application ∷ create_place ∷ create_left_list ∷ create_draw ∷ create_offer ∷ create_lot ∷ create_imported ∷ []
+creations = create_meta ∷ create_school ∷ create_child ∷ create_application ∷ create_place ∷ create_left_list ∷ create_draw ∷ create_offer ∷ create_lot ∷ create_imported ∷ create_present ∷ []
 
 -- the schema once so many of the tables are made
 abbrev pub schema_after : ℕ → Schema
@@ -65,4 +69,5 @@ schema_after (suc (suc (suc (suc (suc (suc zero)))))) = with_left_list
 schema_after (suc (suc (suc (suc (suc (suc (suc zero))))))) = with_draw
 schema_after (suc (suc (suc (suc (suc (suc (suc (suc zero)))))))) = with_offer
 schema_after (suc (suc (suc (suc (suc (suc (suc (suc (suc zero))))))))) = with_lot
+schema_after (suc (suc (suc (suc (suc (suc (suc (suc (suc (suc zero)))))))))) = schema_of First
 schema_after _ = register_schema

@@ -1,4 +1,4 @@
--- The ten tables of a register's file, version 1, and the schemas as the tables are made one after another.
+-- The tables of a register's file in its two versions, and the schemas as the tables are made one after another.
 use Rattle.std.specs.Prelude.{true, false, Bool, [], ◌∷◌, Some, None, codes, List, ℕ, pos}
 use Rattle.sqlite.specs.Collation.TheVariants.{Binary}
 use Rattle.sqlite.specs.declared.types.Value.TheVariants.{Null, Int}
@@ -11,6 +11,8 @@ use Rattle.sqlite_sql.specs.declared.ops.BinaryOp.TheVariants.{Compare}
 use Rattle.sqlite_sql.specs.declared.ops.CompareOp.TheVariants.{Eq}
 use Rattle.sqlite_schema.specs.declared.schema.Column.{Column}
 use Rattle.sqlite_schema.specs.declared.schema.Index.{Index}
+use Rattle.adm_schema.specs.declared.version.Version.{Version}
+use Rattle.adm_schema.specs.declared.version.Version.TheVariants.{First, Second}
 
 -- a column of a STRICT table, and whether it is NOT NULL
 abbrev pub column_of : List ℕ → Kind → Bool → Column
@@ -77,6 +79,10 @@ new_lot = record (table_of (codes "lot") (column_of (codes "draw") Integer true 
 abbrev pub new_imported : Table
 new_imported = record (table_of (codes "imported") (column_of (codes "child") Integer false ∷ column_of (codes "name") Text true ∷ column_of (codes "east") Integer true ∷ column_of (codes "north") Integer true ∷ column_of (codes "looked_after") Integer true ∷ column_of (codes "flags") Integer true ∷ column_of (codes "siblings") Text true ∷ column_of (codes "day") Integer true ∷ column_of (codes "preferences") Text true ∷ [])) { key = Some 0; primary = 0 ∷ [] }
 
+-- the present schools of children and of imported rows, as its text defines it, before it has a tree
+abbrev pub new_present : Table
+new_present = record (table_of (codes "present") (column_of (codes "child") Integer true ∷ column_of (codes "imported") Integer true ∷ column_of (codes "school") Text true ∷ [])) { primary = 1 ∷ 2 ∷ []; uniques = (1 ∷ 2 ∷ []) ∷ []; orders = record { digits = 0 } ∷ [] }
+
 -- ---- with their trees
 
 abbrev pub meta : Table
@@ -109,6 +115,9 @@ lot = record new_lot { tree = 11 }
 abbrev pub imported : Table
 imported = record new_imported { tree = 14 }
 
+abbrev pub present : Table
+present = record new_present { tree = 15 }
+
 abbrev pub school_index : Index
 school_index = index_of (codes "sqlite_autoindex_school_1") 2 1 (1 ∷ [])
 
@@ -123,6 +132,9 @@ lot_index_1 = index_of (codes "sqlite_autoindex_lot_1") 12 11 (1 ∷ 2 ∷ 3 ∷
 
 abbrev pub lot_index_2 : Index
 lot_index_2 = index_of (codes "sqlite_autoindex_lot_2") 13 11 (1 ∷ 2 ∷ 4 ∷ [])
+
+abbrev pub present_index : Index
+present_index = index_of (codes "sqlite_autoindex_present_1") 16 15 (1 ∷ 2 ∷ [])
 
 -- ---- the schemas
 
@@ -156,26 +168,21 @@ with_offer = record { tables = meta ∷ school ∷ child ∷ application ∷ pla
 abbrev pub with_lot : Schema
 with_lot = record { tables = meta ∷ school ∷ child ∷ application ∷ place ∷ left_list ∷ draw ∷ offer ∷ lot ∷ []; indexes = school_index ∷ left_list_index ∷ offer_index ∷ lot_index_1 ∷ lot_index_2 ∷ []; views = [] }
 
--- the whole schema, version 1
+-- ---- the versions of the file
+
+-- the tables, and the indexes of their keys, that came after the first version
+abbrev pub later_tables : Version → List Table
+later_tables First = []
+later_tables Second = present ∷ []
+
+abbrev pub later_indexes : Version → List Index
+later_indexes First = []
+later_indexes Second = present_index ∷ []
+
+-- the whole schema of a version
+abbrev pub schema_of : Version → Schema
+schema_of v = record { tables = meta ∷ school ∷ child ∷ application ∷ place ∷ left_list ∷ draw ∷ offer ∷ lot ∷ imported ∷ later_tables v; indexes = school_index ∷ left_list_index ∷ offer_index ∷ lot_index_1 ∷ lot_index_2 ∷ later_indexes v; views = [] }
+
+-- that of the version that is written
 abbrev pub register_schema : Schema
-register_schema = record { tables = meta ∷ school ∷ child ∷ application ∷ place ∷ left_list ∷ draw ∷ offer ∷ lot ∷ imported ∷ []; indexes = school_index ∷ left_list_index ∷ offer_index ∷ lot_index_1 ∷ lot_index_2 ∷ []; views = [] }
-
--- ---- version 2
-
--- the present schools of children and of imported rows, as its text defines it, before it has a tree
-abbrev pub new_present : Table
-new_present = record (table_of (codes "present") (column_of (codes "child") Integer true ∷ column_of (codes "imported") Integer true ∷ column_of (codes "school") Text true ∷ [])) { primary = 1 ∷ 2 ∷ []; uniques = (1 ∷ 2 ∷ []) ∷ []; orders = record { digits = 0 } ∷ [] }
-
-abbrev pub present : Table
-present = record new_present { tree = 15 }
-
-abbrev pub present_index : Index
-present_index = index_of (codes "sqlite_autoindex_present_1") 16 15 (1 ∷ 2 ∷ [])
-
--- the whole schema, version 2
-abbrev pub second_schema : Schema
-second_schema = record { tables = meta ∷ school ∷ child ∷ application ∷ place ∷ left_list ∷ draw ∷ offer ∷ lot ∷ imported ∷ present ∷ []; indexes = school_index ∷ left_list_index ∷ offer_index ∷ lot_index_1 ∷ lot_index_2 ∷ present_index ∷ []; views = [] }
-
--- the tables of version 1, and after them any others
-abbrev pub schema_with : List Table → List Index → Schema
-schema_with tables indexes = record { tables = meta ∷ school ∷ child ∷ application ∷ place ∷ left_list ∷ draw ∷ offer ∷ lot ∷ imported ∷ tables; indexes = school_index ∷ left_list_index ∷ offer_index ∷ lot_index_1 ∷ lot_index_2 ∷ indexes; views = [] }
+register_schema = schema_of Second

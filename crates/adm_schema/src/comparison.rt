@@ -1,14 +1,15 @@
 // Whether a schema is the register's: its tables and indexes compared with those that are expected, one by one.
-ghost use Rattle.std.specs.Prelude.{◌≡◌, ◌↔◌, ℕ, suc, Bool, List, [], ◌∷◌, Some, None, map, drop, false, IsTrue, pos};
+ghost use Rattle.std.specs.Prelude.{◌≡◌, ◌↔◌, ℕ, suc, Bool, List, [], ◌∷◌, Some, None, map, drop, false, IsTrue, IfSome, pos};
 ghost use Rattle.sqlite.specs.Term.{op2, col, lit};
 ghost use Rattle.sqlite.specs.declared.types.Value.TheVariants.{Null, Int};
 ghost use Rattle.sqlite_schema.specs.Code.{term_to};
 ghost use Rattle.sqlite_sql.specs.declared.ops.BinaryOp.TheVariants.{Compare};
 ghost use Rattle.sqlite_sql.specs.declared.ops.CompareOp.TheVariants.{Eq};
 ghost use Rattle.sqlite.specs.Collation.TheVariants.{Binary};
-ghost use Rattle.adm_schema.specs.Schema.{column_of, register_schema};
+ghost use Rattle.adm_schema.specs.Schema.{column_of, schema_of};
 ghost use Rattle.adm_schema.specs.Expected.{columns_of, places_of, ascending, no_stamps, rowid_table, one_row_table, keyed_table, table_is, index_is};
 
+use crate::Version;
 use crate::expected::{ColumnIs, INDEXES, IndexIs, KeysAre, TABLES, TableIs};
 use sqlite_items::Items;
 use sqlite_schema::code::{Op, Terms};
@@ -286,12 +287,28 @@ fn are_indexes(indexes: &[Index], expected: &[IndexIs<'_>]) -> bool
     }
 }
 
-/// Whether the schema is the register's: the ten tables as their texts make them, the indexes of their keys, and no
-/// other table, index or view. It takes no memory, and what it costs does not grow.
-pub fn is_register_schema(schema: &Schema) -> bool
-    ensures { IsTrue result ↔ (schema.now ≡ register_schema) }
+/// Whether the schema has just these tables and indexes, in this order, and no view.
+fn is_schema(schema: &Schema, tables: &[TableIs<'_>], indexes: &[IndexIs<'_>]) -> bool
+    ensures { IsTrue result ↔ (schema.now ≡ record { tables = map table_is tables.now; indexes = map index_is indexes.now; views = [] }) }
 {
-    are_tables(schema.tables.as_slice(), TABLES)
-        && are_indexes(schema.indexes.as_slice(), INDEXES)
+    are_tables(schema.tables.as_slice(), tables)
+        && are_indexes(schema.indexes.as_slice(), indexes)
         && schema.views.is_empty()
+}
+
+/// The version of which this is the schema: its tables as their texts make them, the indexes of their keys, and no
+/// other table, index or view. It takes no memory, and what it costs does not grow.
+pub fn version_of(schema: &Schema) -> Option<Version>
+    ensures some { IfSome result (λ v. schema.now ≡ schema_of v) }
+    ensures none { result ≡ None → (v : Version) → schema.now ≡ schema_of v → ⊥ }
+{
+    let (first_tables, _) = TABLES.split_at(10);
+    let (first_indexes, _) = INDEXES.split_at(5);
+    if is_schema(schema, TABLES, INDEXES) {
+        Some(Version::Second)
+    } else if is_schema(schema, first_tables, first_indexes) {
+        Some(Version::First)
+    } else {
+        None
+    }
 }

@@ -1,4 +1,4 @@
-// The register's ten tables and the indexes of their keys, as they are expected in a file, in the order in which they are made.
+// The register's tables and the indexes of their keys, as they are expected in a file, in the order in which they are made.
 use sqlite_schema::schema::Kind;
 
 /// A column's name, its type, and whether it is NOT NULL.
@@ -151,6 +151,16 @@ pub(crate) const TABLES: &[TableIs<'static>] = &[
         ],
         keys: KeysAre::Rowid,
     },
+    TableIs {
+        name: "present",
+        tree: 15,
+        columns: &[
+            ("child", Kind::Integer, true),
+            ("imported", Kind::Integer, true),
+            ("school", Kind::Text, true),
+        ],
+        keys: KeysAre::Unique(&[1, 2], &[&[1, 2]]),
+    },
 ];
 
 pub(crate) const INDEXES: &[IndexIs<'static>] = &[
@@ -183,5 +193,11 @@ pub(crate) const INDEXES: &[IndexIs<'static>] = &[
         tree: 13,
         table: 11,
         columns: &[1, 2, 4],
+    },
+    IndexIs {
+        name: "sqlite_autoindex_present_1",
+        tree: 16,
+        table: 15,
+        columns: &[1, 2],
     },
 ];
