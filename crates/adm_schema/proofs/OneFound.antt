@@ -10,7 +10,7 @@ use Rattle.sqlite_value.proofs.OrderLemmas.{value_cmp_total}
 use Rattle.sqlite.specs.declared.types.Value.{Value}
 use Rattle.sqlite.specs.declared.types.Value.TheVariants.{Null, Int, Real, Text, Blob}
 use Rattle.sqlite.specs.Collation.TheVariants.{Binary}
-use Rattle.sqlite.specs.Order.{Row, value_cmp}
+use Rattle.sqlite.specs.Order.{Row, value_cmp, column}
 use Rattle.sqlite.specs.Term.{Term, col, eval_all, holds}
 use Rattle.sqlite.specs.Table.{Table}
 use Rattle.sqlite.specs.Schema.{Schema}
@@ -29,10 +29,19 @@ use Rattle.sqlite_rules.specs.Lists.{Has}
 use Rattle.sqlite_rules.specs.Calls.{ids_of}
 use Rattle.sqlite_rules.proofs.ListLemmas.{has_filtered, has_kept}
 use Rattle.adm_schema.specs.Queries.{query_of, program_of}
-use Rattle.adm_schema.specs.RowTexts.{has_key}
-use Rattle.adm_schema.specs.Effects.{WritesOnly}
+use Rattle.adm_schema.specs.RowTexts.{has_key, is_present, is_school, find_present, find_school, cut_present, cut_school, insert_present, present_terms}
+use Rattle.adm_schema.specs.Effects.{WritesOnly, AddsRow, DropsRow, begins_with}
+use Rattle.adm_schema.specs.Rows.{columns_of}
+use Rattle.adm_schema.specs.Schema.{present, school, register_schema}
+use Rattle.adm_schema.proofs.Casts.{cast_null, cast_int}
+use Rattle.adm_schema.proofs.RowTexts.{finds_present, finds_school, cuts_present, cuts_school, inserts_present}
+use Rattle.sqlite.specs.Cast.{cast_row}
+use Rattle.sqlite.specs.Edit.{next_rowid, with_rowid}
+use Rattle.sqlite.specs.Rowids.TheVariants.{Chosen}
+use Rattle.sqlite_keyed.proofs.ListLemmas.{filter-map, filter_same, IsPermutation-same}
+use Rattle.std.specs.Prelude.{◌&&◌}
 use Rattle.adm_schema.proofs.OneRow.{answers_some, truth_is, one_test}
-use Rattle.adm_schema.proofs.Statements.{deleted}
+use Rattle.adm_schema.proofs.Statements.{deleted, inserted, adds}
 
 -- ---- two tests that each pick the same row alone pick the same rows
 
@@ -60,22 +69,26 @@ null_apart : (k : ℤ) → is_eq (value_cmp Null (Int k)) ≡ false
 unfolding value_cmp
 null_apart k = refl
 
-text_apart : (t : List ℕ) (k : ℤ) → is_eq (value_cmp (Text t) (Int k)) ≡ false
-unfolding value_cmp
-text_apart t k = refl
-
-blob_apart : (b : List ℕ) (k : ℤ) → is_eq (value_cmp (Blob b) (Int k)) ≡ false
-unfolding value_cmp
-blob_apart b k = refl
-
--- a value that is the rowid of an edit equals it under =
-equal_if_tied : (v : Value) (k : ℤ) → is_eq (value_cmp v (Int k)) ≡ true → equal Binary v (Int k) ≡ true
+-- under = a value equals an integer, or a text, just where it is tied with it
+pub equal_int : (v : Value) (k : ℤ) → equal Binary v (Int k) ≡ is_eq (value_cmp v (Int k))
 unfolding binary
-equal_if_tied Null k tied = absurd (both_ways _ (null_apart k) tied)
-equal_if_tied (Int n) k tied = truth_is (is_eq (value_cmp (Int n) (Int k))) ∙ tied
-equal_if_tied (Real x) k tied = truth_is (is_eq (value_cmp (Real x) (Int k))) ∙ tied
-equal_if_tied (Text t) k tied = absurd (both_ways _ (text_apart t k) tied)
-equal_if_tied (Blob b) k tied = absurd (both_ways _ (blob_apart b k) tied)
+equal_int Null k = sym (null_apart k)
+equal_int (Int n) k = truth_is (is_eq (value_cmp (Int n) (Int k)))
+equal_int (Real x) k = truth_is (is_eq (value_cmp (Real x) (Int k)))
+equal_int (Text t) k = truth_is (is_eq (value_cmp (Text t) (Int k)))
+equal_int (Blob b) k = truth_is (is_eq (value_cmp (Blob b) (Int k)))
+
+null_text : (t : List ℕ) → is_eq (value_cmp Null (Text t)) ≡ false
+unfolding value_cmp
+null_text t = refl
+
+pub equal_text : (v : Value) (t : List ℕ) → equal Binary v (Text t) ≡ is_eq (value_cmp v (Text t))
+unfolding binary
+equal_text Null t = sym (null_text t)
+equal_text (Int n) t = truth_is (is_eq (value_cmp (Int n) (Text t)))
+equal_text (Real x) t = truth_is (is_eq (value_cmp (Real x) (Text t)))
+equal_text (Text u) t = truth_is (is_eq (value_cmp (Text u) (Text t)))
+equal_text (Blob b) t = truth_is (is_eq (value_cmp (Blob b) (Text t)))
 
 own_is_tied : (k : ℤ) → is_eq (value_cmp (Int k) (Int k)) ≡ true
 own_is_tied k = ap is_eq (tied_itself value_cmp_total (Int k))
@@ -97,13 +110,13 @@ passing tests params r = list_all (holds (params ∷ r ∷ [])) tests
 module _ (schema : Schema) (table : Table) (at : ℕ) (found : slice_get schema.tables at ≡ Some table) (uncounted : table.is_counted ≡ false) (unstamped : table.stamps.terms ≡ [])
     (alone : (olds news : List Row) → works schema Enforced 0 table.tree olds news ≡ []) (low : nat_le (2 ^ 31) table.tree ≡ false) where
   -- a SELECT of the rowid shows one integer: one row passes the tests, and has that rowid
-  pub finds_one : (tests : List Term) (sql : List ℕ) (names : List (List ℕ)) (params : Row) (k : ℤ) (old new : State) → command_of (understood schema sql) ≡ Select (program_of (query_of table.tree tests (col 1 0 ∷ []) [])) names
-      → IsPlain (understood schema sql) → reads_listing schema sql ≡ false → old.now.schema ≡ schema → Shown sql params old new ((Int k ∷ []) ∷ [])
+  pub finds_one : (tests : List Term) (sql : List ℕ) (names : List (List ℕ)) (params shown : Row) (k : ℤ) (old new : State) → command_of (understood schema sql) ≡ Select (program_of (query_of table.tree tests (col 1 0 ∷ []) [])) names
+      → IsPlain (understood schema sql) → reads_listing schema sql ≡ false → old.now.schema ≡ schema → column shown 0 ≡ Int k → Shown sql params old new (shown ∷ [])
       → (x : Row) × (filter (passing tests params) (old.now.trees table.tree) ≡ x ∷ []) × (rowid x ≡ Int k)
-  finds_one tests sql names params k old new is plain unlisted has h =
-      let asked = answers_some table.tree tests (col 1 0 ∷ []) old.now params ((Int k ∷ []) ∷ []) low (reads_as sql params old new schema has (Select (program_of (query_of table.tree tests (col 1 0 ∷ []) [])) names) is plain unlisted ((Int k ∷ []) ∷ []) h) in
-      let one = one_source (λ (r : Row). eval_all (col 1 0 ∷ []) (params ∷ r ∷ [])) (filter (passing tests params) (old.now.trees table.tree)) (Int k ∷ []) (one_permutation (Int k ∷ []) _ (IsPermutation-sym _ _ asked)) in
-      (one.0, one.1, (let e = one.2 in cc))
+  finds_one tests sql names params shown k old new is plain unlisted has number h =
+      let asked = answers_some table.tree tests (col 1 0 ∷ []) old.now params (shown ∷ []) low (reads_as sql params old new schema has (Select (program_of (query_of table.tree tests (col 1 0 ∷ []) [])) names) is plain unlisted (shown ∷ []) h) in
+      let one = one_source (λ (r : Row). eval_all (col 1 0 ∷ []) (params ∷ r ∷ [])) (filter (passing tests params) (old.now.trees table.tree)) shown (one_permutation shown _ (IsPermutation-sym _ _ asked)) in
+      (one.0, one.1, ap (λ (r : Row). column r 0) one.2 ∙ number)
 
   -- a DELETE by that rowid takes one row out: no other row had it, and the rows that do not pass the tests are left
   pub cuts_found : (tests : List Term) (params : Row) (sql : List ℕ) (k : ℤ) (x : Row) (old new : State) → filter (passing tests params) (old.now.trees table.tree) ≡ x ∷ [] → rowid x ≡ Int k
@@ -117,10 +130,58 @@ module _ (schema : Schema) (table : Table) (at : ℕ) (found : slice_get schema.
       let shown = one_long it.0 it.4 in
       let gone = one_source (λ (r : Row). eval_all (col 1 0 ∷ []) ((Int k ∷ []) ∷ r ∷ [])) (filter by_key rows) shown.0 (one_permutation shown.0 _ (IsPermutation-sym _ _ (subst (IsPermutation _) shown.1 asked))) in
       let there : Has rows x = (has_filtered (passing tests params) rows x (subst (λ xs. Has xs x) (sym one) (inl refl))).0 in
-      let tied : by_key x ≡ true = one_test (equal Binary (rowid x) (Int k)) ∙ ap (λ v. equal Binary v (Int k)) key ∙ equal_if_tied (Int k) k (own_is_tied k) in
+      let tied : by_key x ≡ true = one_test (equal Binary (rowid x) (Int k)) ∙ ap (λ v. equal Binary v (Int k)) key ∙ equal_int (Int k) k ∙ own_is_tied k in
       let same : x ≡ gone.0 = only_one gone.0 x (subst (λ xs. Has xs x) gone.1 (has_kept by_key rows x there tied)) in
       let ids : ids_of it.0 ≡ k ∷ [] = ap ids_of (shown.1 ∙ ap (λ r. r ∷ []) (sym gone.2)) ∙ ap (λ (r : Row). id_in (rowid r) ∷ []) (sym same) ∙ ap (λ v. id_in v ∷ []) key in
       let left : new.now.trees table.tree ≡ without_rowid k rows = it.3.rows ∙ ap (without_all rows) ids in
       let others = same_tests (passing tests params) (has_rowid k) rows x one (ap (λ v. is_eq (value_cmp v (Int k))) key ∙ own_is_tied k)
-      (λ r h at_k. only_one gone.0 r (subst (λ xs. Has xs r) gone.1 (has_kept by_key rows r h (one_test (equal Binary (rowid r) (Int k)) ∙ equal_if_tied (rowid r) k at_k))) ∙ sym same) in
+      (λ r h at_k. only_one gone.0 r (subst (λ xs. Has xs r) gone.1 (has_kept by_key rows r h (one_test (equal Binary (rowid r) (Int k)) ∙ equal_int (rowid r) k ∙ at_k))) ∙ sym same) in
       (it.1, left ∙ others)
+
+  -- by the columns of its rows
+  pub drops_found : (tests : List Term) (params key : Row) (sql : List ℕ) (k : ℤ) (x : Row) (old new : State) → ((r : Row) → passing tests params r ≡ begins_with key (columns_of table r))
+      → filter (passing tests params) (old.now.trees table.tree) ≡ x ∷ [] → rowid x ≡ Int k → command_of (understood schema sql) ≡ Delete at (program_of (query_of table.tree has_key (col 1 0 ∷ []) [])) → IsPlain (understood schema sql)
+      → old.now.schema ≡ schema → ExecutesInside 0 sql (Int k ∷ []) old new (Ok 1) → DropsRow table key old new
+  drops_found tests params key sql k x old new test one number is plain has h =
+      let it = cuts_found tests params sql k x old new one number is plain has h in
+      let rows = old.now.trees table.tree in
+      record {
+        only = it.0;
+        rows = IsPermutation-same _ _ (filter-map (λ r. not (begins_with key r)) (columns_of table) rows ∙ ap (map (columns_of table)) (filter_same _ _ (λ r. ap not (sym (test r))) rows) ∙ sym (ap (map (columns_of table)) it.1));
+      }
+
+-- ---- the two tables from which a row is dropped
+
+pub present_test : (child imported : ℤ) (r : Row) → passing is_present (Int child ∷ Int imported ∷ []) r ≡ begins_with (Int child ∷ Int imported ∷ []) (columns_of present r)
+present_test child imported r = λ i. equal_int (column r 1) child i && (equal_int (column r 2) imported i && true)
+
+pub school_test : (code : List ℕ) (r : Row) → passing is_school (Text code ∷ []) r ≡ begins_with (Text code ∷ []) (columns_of school r)
+school_test code r = λ i. equal_text (column r 1) code i && true
+
+-- the row of a child, or of an imported row, is found and taken out
+pub drops_present : (child imported k : ℤ) (shown : Row) (old mid new : State) → old.now.schema ≡ register_schema → mid.now ≡ old.now → column shown 0 ≡ Int k → Shown find_present (Int child ∷ Int imported ∷ []) old mid (shown ∷ [])
+    → ExecutesInside 0 cut_present (Int k ∷ []) mid new (Ok 1) → DropsRow present (Int child ∷ Int imported ∷ []) mid new
+drops_present child imported k shown old mid new has same number found h =
+    let it = finds_one register_schema present 10 refl refl refl (λ _ _. refl) refl is_present find_present finds_present.0 (Int child ∷ Int imported ∷ []) shown k old mid finds_present.1 finds_present.2 finds_present.3 has number found in
+    drops_found register_schema present 10 refl refl refl (λ _ _. refl) refl is_present (Int child ∷ Int imported ∷ []) (Int child ∷ Int imported ∷ []) cut_present k it.0 mid new (present_test child imported)
+    (ap (λ (d : Database). filter (passing is_present (Int child ∷ Int imported ∷ [])) (d.trees present.tree)) same ∙ it.1) it.2 cuts_present.0 cuts_present.1 (ap (λ (d : Database). d.schema) same ∙ has) h
+
+-- the row of a school is found and taken out
+pub drops_school : (code : List ℕ) (k : ℤ) (shown : Row) (old mid new : State) → old.now.schema ≡ register_schema → mid.now ≡ old.now → column shown 0 ≡ Int k → Shown find_school (Text code ∷ []) old mid (shown ∷ [])
+    → ExecutesInside 0 cut_school (Int k ∷ []) mid new (Ok 1) → DropsRow school (Text code ∷ []) mid new
+drops_school code k shown old mid new has same number found h =
+    let it = finds_one register_schema school 1 refl refl refl (λ _ _. refl) refl is_school find_school finds_school.0 (Text code ∷ []) shown k old mid finds_school.1 finds_school.2 finds_school.3 has number found in
+    drops_found register_schema school 1 refl refl refl (λ _ _. refl) refl is_school (Text code ∷ []) (Text code ∷ []) cut_school k it.0 mid new (school_test code)
+    (ap (λ (d : Database). filter (passing is_school (Text code ∷ [])) (d.trees school.tree)) same ∙ it.1) it.2 cuts_school.0 cuts_school.1 (ap (λ (d : Database). d.schema) same ∙ has) h
+
+-- ---- a row that is added
+
+given_present : (child imported : ℤ) (school : List ℕ) (rows : List Row) → with_rowid Chosen rows (cast_row present (Null ∷ Int child ∷ Int imported ∷ Text school ∷ [])) ≡ Int (next_rowid rows) ∷ Int child ∷ Int imported ∷ Text school ∷ []
+given_present child imported school rows = rw (cast_null, cast_int child, cast_int imported)
+
+pub adds_present : (child imported : ℤ) (school : List ℕ) (old new : State) (count : ℕ) → old.now.schema ≡ register_schema → ExecutesInside 0 insert_present (Int child ∷ Int imported ∷ Text school ∷ []) old new (Ok count)
+    → AddsRow present (Int child ∷ Int imported ∷ Text school ∷ []) old new
+adds_present child imported school old new count has h =
+    let row : Row = Int child ∷ Int imported ∷ Text school ∷ [] in
+    adds register_schema present 10 refl refl refl (λ _ _. refl) old new (Null ∷ row) row (λ rows. ap (columns_of present) (given_present child imported school rows))
+    (inserted register_schema present 10 refl refl refl (λ _ _. refl) present_terms 4 insert_present row (Null ∷ row) old new count inserts_present.0 inserts_present.1 refl has h)

@@ -1,11 +1,11 @@
 -- What each text that writes, adds or takes out one row means under the register's schema.
-use Rattle.std.proofs.Common.{◌≡◌, refl}
+use Rattle.std.proofs.Common.{◌≡◌, refl, ℕ, List, false}
 use Rattle.std.specs.Prelude.{[], ◌∷◌}
 use Rattle.sqlite.specs.Term.{col}
-use Rattle.sqlite.specs.Command.TheVariants.{Insert, InsertOr, Delete}
+use Rattle.sqlite.specs.Command.TheVariants.{Select, Insert, InsertOr, Delete}
 use Rattle.sqlite_schema.specs.declared.command.Conflict.TheVariants.{Replace}
 use Rattle.sqlite.specs.Source.TheVariants.{Values}
-use Rattle.sqlite.specs.Listing.{understood}
+use Rattle.sqlite.specs.Listing.{understood, reads_listing}
 use Rattle.sqlite.proofs.Callers.{IsPlain, command_of}
 use Rattle.sqlite_tied.specs.Compute.{everything}
 use Rattle.adm_schema.specs.Queries.{query_of, program_of}
@@ -39,3 +39,23 @@ inserts_offer = (refl, (refl, refl))
 pub inserts_lot : (command_of (understood register_schema text.insert_lot) ≡ Insert 8 (Values text.lot_terms 5)) × IsPlain (understood register_schema text.insert_lot)
 unfolding understood everything
 inserts_lot = (refl, (refl, refl))
+
+pub inserts_present : (command_of (understood register_schema text.insert_present) ≡ Insert 10 (Values text.present_terms 4)) × IsPlain (understood register_schema text.insert_present)
+unfolding understood everything
+inserts_present = (refl, (refl, refl))
+
+pub finds_present : (names : List (List ℕ)) × (command_of (understood register_schema text.find_present) ≡ Select (program_of (query_of 15 text.is_present (col 1 0 ∷ []) [])) names) × IsPlain (understood register_schema text.find_present) × (reads_listing register_schema text.find_present ≡ false)
+unfolding understood everything
+finds_present = (_, refl, (refl, refl), refl)
+
+pub cuts_present : (command_of (understood register_schema text.cut_present) ≡ Delete 10 (program_of (query_of 15 text.has_key (col 1 0 ∷ []) []))) × IsPlain (understood register_schema text.cut_present)
+unfolding understood everything
+cuts_present = (refl, (refl, refl))
+
+pub finds_school : (names : List (List ℕ)) × (command_of (understood register_schema text.find_school) ≡ Select (program_of (query_of 1 text.is_school (col 1 0 ∷ []) [])) names) × IsPlain (understood register_schema text.find_school) × (reads_listing register_schema text.find_school ≡ false)
+unfolding understood everything
+finds_school = (_, refl, (refl, refl), refl)
+
+pub cuts_school : (command_of (understood register_schema text.cut_school) ≡ Delete 1 (program_of (query_of 1 text.has_key (col 1 0 ∷ []) []))) × IsPlain (understood register_schema text.cut_school)
+unfolding understood everything
+cuts_school = (refl, (refl, refl))

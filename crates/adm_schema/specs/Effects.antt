@@ -1,7 +1,8 @@
 -- What a statement inside a transaction leaves.
-use Rattle.std.specs.Prelude.{◌≡◌, ◌≢◌, ◌⊎◌, ◌<◌, ℕ, ℤ, List, ◌∷◌, [], ◌++◌, map, take, fold, IsTrue, IsPermutation}
+use Rattle.std.specs.Prelude.{◌≡◌, ◌≢◌, ◌⊎◌, ◌<◌, ℕ, ℤ, List, ◌∷◌, [], ◌++◌, map, take, drop, filter, fold, Bool, true, not, ◌&&◌, IsTrue, IsPermutation}
 use Rattle.std.specs.List.{AllByRecursion}
-use Rattle.sqlite.specs.Order.{Row}
+use Rattle.std.specs.Ordering.{is_eq}
+use Rattle.sqlite.specs.Order.{Row, column, value_cmp}
 use Rattle.sqlite.specs.Table.{Table}
 use Rattle.sqlite.specs.Tree.{rowid, without_rowid}
 use Rattle.sqlite.specs.Edit.{id_in, have_rowids}
@@ -74,6 +75,22 @@ PutsRow table row = Turns table (put_in row)
 -- this table has no row of this key
 abbrev pub CutsRow : Table → ℤ → State → State → Type 0
 CutsRow table key = Turns table (without_rowid key)
+
+-- ---- a table whose key is no integer
+
+-- the row begins with these values
+abbrev pub begins_with : Row → Row → Bool
+begins_with [] row = true
+begins_with (v ∷ key) row = is_eq (value_cmp (column row 0) v) && begins_with key (drop 1 row)
+
+-- the rows that do not begin with these values
+abbrev pub drop_of : Row → List Row → List Row
+drop_of key = filter (λ row. not (begins_with key row))
+
+-- this table has no row that begins with these values
+pub record DropsRow (table : Table) (key : Row) (old new : State) : Type 0 where
+  pub only : WritesOnly table old new
+  pub rows : IsPermutation (drop_of key (rows_of table old.now.trees)) (rows_of table new.now.trees)
 
 -- ---- the table `meta`
 

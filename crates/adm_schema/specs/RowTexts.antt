@@ -49,3 +49,31 @@ insert_lot = codes "INSERT INTO lot (draw, school, child, lot) VALUES (?1, ?2, ?
 
 abbrev pub lot_terms : List Term
 lot_terms = lit Null ∷ col 0 0 ∷ col 0 1 ∷ col 0 2 ∷ col 0 3 ∷ []
+
+abbrev pub insert_present : List ℕ
+insert_present = codes "INSERT INTO present (child, imported, school) VALUES (?1, ?2, ?3)"
+
+abbrev pub present_terms : List Term
+present_terms = lit Null ∷ col 0 0 ∷ col 0 1 ∷ col 0 2 ∷ []
+
+-- ---- a row whose key is no integer is found by its key, and taken out by its rowid
+
+abbrev pub find_present : List ℕ
+find_present = codes "SELECT rowid FROM present WHERE child = ?1 AND imported = ?2"
+
+-- its first two columns are the parameters
+abbrev pub is_present : List Term
+is_present = op2 (Compare Eq Binary) (col 1 1) (col 0 0) ∷ op2 (Compare Eq Binary) (col 1 2) (col 0 1) ∷ []
+
+abbrev pub cut_present : List ℕ
+cut_present = codes "DELETE FROM present WHERE rowid = ?1"
+
+abbrev pub find_school : List ℕ
+find_school = codes "SELECT rowid FROM school WHERE code = ?1"
+
+-- its code is the parameter
+abbrev pub is_school : List Term
+is_school = op2 (Compare Eq Binary) (col 1 1) (col 0 0) ∷ []
+
+abbrev pub cut_school : List ℕ
+cut_school = codes "DELETE FROM school WHERE rowid = ?1"

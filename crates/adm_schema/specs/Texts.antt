@@ -112,3 +112,17 @@ select_imported = codes "SELECT child, name, east, north, looked_after, flags, s
 
 abbrev pub imported_columns : List Term
 imported_columns = col 1 0 ∷ col 1 2 ∷ col 1 3 ∷ col 1 4 ∷ col 1 5 ∷ col 1 6 ∷ col 1 7 ∷ col 1 8 ∷ col 1 9 ∷ []
+
+abbrev pub select_present : List ℕ
+select_present = codes "SELECT child, imported, school FROM present"
+
+abbrev pub present_columns : List Term
+present_columns = col 1 1 ∷ col 1 2 ∷ col 1 3 ∷ []
+
+-- the file is of the second version
+abbrev pub mark_version : List ℕ
+mark_version = codes "UPDATE meta SET version = 2"
+
+-- the rowid before and after, and then each column, of which the second is the number
+abbrev pub meta_marked : List Term
+meta_marked = col 1 0 ∷ col 1 0 ∷ lit Null ∷ lit (Int (pos 2)) ∷ col 1 3 ∷ col 1 4 ∷ col 1 5 ∷ col 1 6 ∷ []
