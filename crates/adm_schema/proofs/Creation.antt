@@ -16,7 +16,7 @@ use Rattle.adm_schema.specs.Schema.{new_meta, new_school, new_child, new_applica
 use Rattle.adm_schema.proofs.Statements.{went, same_value, unless}
 use Rattle.adm_schema.proofs.Creates.{creates_meta, creates_school, creates_child, creates_application, creates_place, creates_left_list, creates_draw, creates_offer, creates_lot, creates_imported, creates_present}
 
-creates : {before after : Schema} {table : Table} {sql : List ℕ} → IsCreation before sql table after → (old new : State) (count : ℕ) → old.now.schema ≡ before → ExecutesInside 0 sql [] old new (Ok count)
+pub creates : {before after : Schema} {table : Table} {sql : List ℕ} → IsCreation before sql table after → (old new : State) (count : ℕ) → old.now.schema ≡ before → ExecutesInside 0 sql [] old new (Ok count)
     → (new.now.schema ≡ after) × (new.now.trees (next_tree before) ≡ []) × KeepsRows before.tables old.now.trees new.now.trees × IsDatabase new.now
 creates {before} {after} {table} {sql} made old new count has h =
     let w = subst (λ t. Writes old new None CreateTable t [] count) made.text (runs_as sql [] old new before has CreateTable made.command made.plain count h.0) in

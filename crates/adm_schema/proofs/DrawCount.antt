@@ -40,14 +40,14 @@ use Rattle.adm_schema.proofs.Updates.{updated_all}
 
 -- ---- a value of a column's own type stays as it is
 
-own_integer : (v : Value) → is_of Integer v ≡ true → cast Integer v ≡ v
+pub own_integer : (v : Value) → is_of Integer v ≡ true → cast Integer v ≡ v
 own_integer Null own = cast_null
 own_integer (Int n) own = cast_int n
 own_integer (Real x) own = absurd (cc)
 own_integer (Text t) own = absurd (cc)
 own_integer (Blob b) own = absurd (cc)
 
-own_text : (v : Value) → is_of kind.Text v ≡ true → cast kind.Text v ≡ v
+pub own_text : (v : Value) → is_of kind.Text v ≡ true → cast kind.Text v ≡ v
 own_text Null own = refl
 own_text (Int n) own = absurd (cc)
 own_text (Real x) own = absurd (cc)
@@ -62,7 +62,7 @@ null_fits k (Text t) null = absurd (cc)
 null_fits k (Blob b) null = absurd (cc)
 
 -- the value in each column of a row that was written is of its type
-typed_at : (key : Option ℕ) (at : ℕ) (columns : List Column) (values : Row) (j : ℕ) (c : Column) → slice_get columns j ≡ Some c → c.is_strict ≡ true → are_typed key at columns values ≡ true → is_of c.kind (column values j) ≡ true
+pub typed_at : (key : Option ℕ) (at : ℕ) (columns : List Column) (values : Row) (j : ℕ) (c : Column) → slice_get columns j ≡ Some c → c.is_strict ≡ true → are_typed key at columns values ≡ true → is_of c.kind (column values j) ≡ true
 typed_at key at [] values j c is strict typed = absurd (cc)
 typed_at key at (b ∷ columns) [] zero c is strict typed = refl
 typed_at key at (b ∷ columns) [] (suc j) c is strict typed = typed_at key (at + 1) columns [] j c is strict (and_parts (is_null b.default) (are_typed key (at + 1) columns []) typed).1
@@ -77,7 +77,7 @@ typed_at key at (b ∷ columns) (v ∷ values) zero c is strict typed = go (is_k
     go true null = null_fits c.kind v null
     go false fits = subst (λ b. (if b then is_of c.kind v else has_affinity c.kind v) ≡ true) strict (subst (λ (d : Column). suits d v ≡ true) same fits)
 
-later : (row : Row) (j : ℕ) → column (drop 1 row) j ≡ column row (suc j)
+pub later : (row : Row) (j : ℕ) → column (drop 1 row) j ≡ column row (suc j)
 later [] j = refl
 later (v ∷ row) j = refl
 
@@ -102,7 +102,7 @@ each_turned count (row ∷ rows) keyed typed =
     λ i. row_turned count row parts.0 (typed row (inl refl)) i ∷ each_turned count rows parts.1 (λ r h. typed r (inr h)) i
 
 -- each row of a database has values of its columns' types
-all_typed : (db : Trees) → IsDatabase (record { schema = register_schema; trees = db }) → (row : Row) → Has (db meta.tree) row → are_typed meta.key 0 meta.columns (drop 1 row) ≡ true
+pub all_typed : (db : Trees) → IsDatabase (record { schema = register_schema; trees = db }) → (row : Row) → Has (db meta.tree) row → are_typed meta.key 0 meta.columns (drop 1 row) ≡ true
 all_typed db sound row there =
     let rows = all_has (λ (t : Table). AllByRecursion (λ row. passes Datatype register_schema db t row ≡ true) (db t.tree)) register_schema.tables meta (sound.obeys.rules Datatype) has_meta in
     (and_parts (are_typed meta.key 0 meta.columns (drop 1 row)) (has_computed meta row) (all_has (λ row. passes Datatype register_schema db meta row ≡ true) (db meta.tree) row rows there)).0

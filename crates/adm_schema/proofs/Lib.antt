@@ -14,3 +14,4 @@ pub mod DrawCount
 pub mod Listed
 pub mod Answered
 pub mod OneFound
+pub mod Migration

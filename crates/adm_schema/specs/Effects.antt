@@ -1,5 +1,5 @@
 -- What a statement inside a transaction leaves.
-use Rattle.std.specs.Prelude.{◌≡◌, ◌≢◌, ◌⊎◌, ◌<◌, ℕ, ℤ, List, ◌∷◌, [], ◌++◌, map, take, drop, filter, fold, Bool, true, not, ◌&&◌, IsTrue, IsPermutation}
+use Rattle.std.specs.Prelude.{◌≡◌, ◌≢◌, ◌⊎◌, ◌<◌, ℕ, ℤ, pos, List, ◌∷◌, [], ◌++◌, map, take, drop, filter, fold, Bool, true, not, ◌&&◌, IsTrue, IsPermutation}
 use Rattle.std.specs.List.{AllByRecursion}
 use Rattle.std.specs.Ordering.{is_eq}
 use Rattle.sqlite.specs.Order.{Row, column, value_cmp}
@@ -8,6 +8,8 @@ use Rattle.sqlite.specs.Tree.{rowid, without_rowid}
 use Rattle.sqlite.specs.Edit.{id_in, have_rowids}
 use Rattle.sqlite.specs.Effect.{IsDatabase}
 use Rattle.sqlite.specs.Schema.{Schema}
+use Rattle.sqlite.specs.Change.{next_tree, KeepsRows}
+use Rattle.sqlite.specs.declared.types.Value.TheVariants.{Int}
 use Rattle.sqlite.specs.State.{State, HasCleanDisk}
 use Rattle.sqlite_rules.specs.Lists.{Has}
 use Rattle.adm_schema.specs.Rows.{rows_of}
@@ -102,3 +104,21 @@ with_draws count row = take 5 row ++ count
 pub record SetsDraws (count : Row) (old new : State) : Type 0 where
   pub only : WritesOnly meta old new
   pub rows : IsTrue (have_rowids (rows_of meta old.now.trees)) → IsPermutation (map (with_draws count) (rows_of meta old.now.trees)) (rows_of meta new.now.trees)
+
+-- a row of it with the second version, whose number is its second column
+abbrev pub with_second : Row → Row
+with_second row = take 1 row ++ Int (pos 2) ∷ drop 2 row
+
+-- each row of it has the second version
+pub record MarksSecond (old new : State) : Type 0 where
+  pub only : WritesOnly meta old new
+  pub rows : IsTrue (have_rowids (rows_of meta old.now.trees)) → IsPermutation (map with_second (rows_of meta old.now.trees)) (rows_of meta new.now.trees)
+
+-- the new state has one table more, without rows, and the rows of the others are as they were
+pub record AddsTable (before after : Schema) (old new : State) : Type 0 where
+  pub was_open : IsTrue old.is_open
+  pub is_open : IsTrue new.is_open
+  pub schema : new.now.schema ≡ after
+  pub sound : IsDatabase new.now
+  pub none : new.now.trees (next_tree before) ≡ []
+  pub others : KeepsRows before.tables old.now.trees new.now.trees
