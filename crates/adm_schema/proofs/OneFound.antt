@@ -1,11 +1,11 @@
 -- One row that is found by a test and taken out by its rowid, in a table whose key is no integer.
-use Rattle.std.proofs.Common.{◌≡◌, inl, inr, ℕ, ℤ, ◌^◌, List, [], ◌∷◌, length, map, filter, slice_get, Bool, true, false, not, nat_le, Some, None, Ok, refl, sym, ap, subst, ◌∙◌}
+use Rattle.std.proofs.Common.{◌≡◌, inl, inr, ℕ, ℤ, ◌^◌, List, [], ◌∷◌, length, map, filter, slice_get, Bool, true, false, not, nat_le, arith, Some, Ok, refl, sym, ap, subst, ◌∙◌}
 use Rattle.std.specs.List.{list_all}
 use Rattle.std.specs.List.Sorted.{IsPermutation}
 use Rattle.std.specs.Ordering.{is_eq}
 use Rattle.std.proofs.lemmas.Bool.{both_ways}
 use Rattle.std.proofs.lemmas.Cmp.{tied_itself}
-use Rattle.std.proofs.lemmas.List.Sorted.{IsPermutation-sym}
+use Rattle.std.proofs.lemmas.List.Sorted.{IsPermutation-sym, length_permutation}
 use Rattle.sqlite_value.proofs.OrderLemmas.{value_cmp_total}
 use Rattle.sqlite.specs.declared.types.Value.{Value}
 use Rattle.sqlite.specs.declared.types.Value.TheVariants.{Null, Int, Real, Text, Blob}
@@ -30,8 +30,8 @@ use Rattle.sqlite_rules.specs.Calls.{ids_of}
 use Rattle.sqlite_rules.proofs.ListLemmas.{has_filtered, has_kept}
 use Rattle.adm_schema.specs.Queries.{query_of, program_of}
 use Rattle.adm_schema.specs.RowTexts.{has_key, is_present, is_school, find_present, find_school, cut_present, cut_school, insert_present, present_terms}
-use Rattle.adm_schema.specs.Effects.{WritesOnly, AddsRow, DropsRow, begins_with}
-use Rattle.adm_schema.specs.Rows.{columns_of}
+use Rattle.adm_schema.specs.Effects.{WritesOnly, AddsRow, DropsRow, begins_with, drop_of}
+use Rattle.adm_schema.specs.Rows.{columns_of, rows_of}
 use Rattle.adm_schema.specs.Schema.{present, school, register_schema}
 use Rattle.adm_schema.proofs.Casts.{cast_null, cast_int}
 use Rattle.adm_schema.proofs.RowTexts.{finds_present, finds_school, cuts_present, cuts_school, inserts_present}
@@ -99,6 +99,19 @@ one_source f [] y is = absurd (cc)
 one_source f (x ∷ []) y is = (x, refl, (cc))
 one_source f (x ∷ z ∷ more) y is = absurd (cc)
 
+no_source : {A B : Type 0} (f : A → B) (xs : List A) → IsPermutation (map f xs) [] → xs ≡ []
+no_source f [] none = refl
+no_source f (x ∷ xs) none = absurd (omega (arith, length_permutation _ _ none))
+
+-- where no row passes, the rows that do not pass are all
+not_passing : (p : Row → Bool) (rows : List Row) → filter p rows ≡ [] → filter (λ r. not (p r)) rows ≡ rows
+not_passing p [] none = refl
+not_passing p (r ∷ rows) none = go (p r) refl (not_passing p rows)
+  where
+    go : (b : Bool) → p r ≡ b → (filter p rows ≡ [] → filter (λ r. not (p r)) rows ≡ rows) → filter (λ r. not (p r)) (r ∷ rows) ≡ r ∷ rows
+    go true is more = absurd (subst (λ xs. Has xs r) none (has_kept p (r ∷ rows) r (inl refl) is))
+    go false is more = rw is (ap (λ xs. r ∷ xs) (more (rw is at none)))
+
 one_long : {A : Type 0} (xs : List A) → 1 ≡ length xs → (x : A) × (xs ≡ x ∷ [])
 one_long [] one = absurd (cc)
 one_long (x ∷ []) one = (x, refl)
@@ -117,6 +130,13 @@ module _ (schema : Schema) (table : Table) (at : ℕ) (found : slice_get schema.
       let asked = answers_some table.tree tests (col 1 0 ∷ []) old.now params (shown ∷ []) low (reads_as sql params old new schema has (Select (program_of (query_of table.tree tests (col 1 0 ∷ []) [])) names) is plain unlisted (shown ∷ []) h) in
       let one = one_source (λ (r : Row). eval_all (col 1 0 ∷ []) (params ∷ r ∷ [])) (filter (passing tests params) (old.now.trees table.tree)) shown (one_permutation shown _ (IsPermutation-sym _ _ asked)) in
       (one.0, one.1, ap (λ (r : Row). column r 0) one.2 ∙ number)
+
+  -- a SELECT that shows no row: no row passes the tests
+  pub finds_none : (tests : List Term) (sql : List ℕ) (names : List (List ℕ)) (params : Row) (old new : State) → command_of (understood schema sql) ≡ Select (program_of (query_of table.tree tests (col 1 0 ∷ []) [])) names
+      → IsPlain (understood schema sql) → reads_listing schema sql ≡ false → old.now.schema ≡ schema → Shown sql params old new [] → filter (passing tests params) (old.now.trees table.tree) ≡ []
+  finds_none tests sql names params old new is plain unlisted has h =
+      let asked = answers_some table.tree tests (col 1 0 ∷ []) old.now params [] low (reads_as sql params old new schema has (Select (program_of (query_of table.tree tests (col 1 0 ∷ []) [])) names) is plain unlisted [] h) in
+      no_source (λ (r : Row). eval_all (col 1 0 ∷ []) (params ∷ r ∷ [])) (filter (passing tests params) (old.now.trees table.tree)) asked
 
   -- a DELETE by that rowid takes one row out: no other row had it, and the rows that do not pass the tests are left
   pub cuts_found : (tests : List Term) (params : Row) (sql : List ℕ) (k : ℤ) (x : Row) (old new : State) → filter (passing tests params) (old.now.trees table.tree) ≡ x ∷ [] → rowid x ≡ Int k
@@ -152,6 +172,11 @@ module _ (schema : Schema) (table : Table) (at : ℕ) (found : slice_get schema.
 
 -- ---- the two tables from which a row is dropped
 
+-- where no row passes the tests, there is none to be dropped
+drops_none : (table : Table) (tests : List Term) (params key : Row) (rows : List Row) → ((r : Row) → passing tests params r ≡ begins_with key (columns_of table r)) → filter (passing tests params) rows ≡ [] → drop_of key (map (columns_of table) rows) ≡ map (columns_of table) rows
+drops_none table tests params key rows test none =
+    filter-map (λ r. not (begins_with key r)) (columns_of table) rows ∙ ap (map (columns_of table)) (filter_same _ _ (λ r. ap not (sym (test r))) rows) ∙ ap (map (columns_of table)) (not_passing (passing tests params) rows none)
+
 pub present_test : (child imported : ℤ) (r : Row) → passing is_present (Int child ∷ Int imported ∷ []) r ≡ begins_with (Int child ∷ Int imported ∷ []) (columns_of present r)
 present_test child imported r = λ i. equal_int (column r 1) child i && (equal_int (column r 2) imported i && true)
 
@@ -165,6 +190,12 @@ drops_present child imported k shown old mid new has same number found h =
     let it = finds_one register_schema present 10 refl refl refl (λ _ _. refl) refl is_present find_present finds_present.0 (Int child ∷ Int imported ∷ []) shown k old mid finds_present.1 finds_present.2 finds_present.3 has number found in
     drops_found register_schema present 10 refl refl refl (λ _ _. refl) refl is_present (Int child ∷ Int imported ∷ []) (Int child ∷ Int imported ∷ []) cut_present k it.0 mid new (present_test child imported)
     (ap (λ (d : Database). filter (passing is_present (Int child ∷ Int imported ∷ [])) (d.trees present.tree)) same ∙ it.1) it.2 cuts_present.0 cuts_present.1 (ap (λ (d : Database). d.schema) same ∙ has) h
+
+-- it is not found, and there is none
+pub no_present : (child imported : ℤ) (old new : State) → old.now.schema ≡ register_schema → Shown find_present (Int child ∷ Int imported ∷ []) old new [] → drop_of (Int child ∷ Int imported ∷ []) (rows_of present old.now.trees) ≡ rows_of present old.now.trees
+no_present child imported old new has found =
+    drops_none present is_present (Int child ∷ Int imported ∷ []) (Int child ∷ Int imported ∷ []) (old.now.trees present.tree) (present_test child imported)
+    (finds_none register_schema present 10 refl refl refl (λ _ _. refl) refl is_present find_present finds_present.0 (Int child ∷ Int imported ∷ []) old new finds_present.1 finds_present.2 finds_present.3 has found)
 
 -- the row of a school is found and taken out
 pub drops_school : (code : List ℕ) (k : ℤ) (shown : Row) (old mid new : State) → old.now.schema ≡ register_schema → mid.now ≡ old.now → column shown 0 ≡ Int k → Shown find_school (Text code ∷ []) old mid (shown ∷ [])
