@@ -1,6 +1,6 @@
 -- Why it is told that the store failed.
-use Rattle.std.proofs.Common.{◌≡◌, ◌∙◌, refl, ℕ, List, [], Option, Some, None, ap, inl, inr, ◌⊎◌, arith, IsTrue, Bool, true, false, subst, sym}
-use Rattle.std.specs.Prelude.{◌↔◌, IsSome, is_some}
+use Rattle.std.proofs.Common.{◌≡◌, ◌∙◌, refl, ℕ, List, [], Option, Some, None, ap, inl, inr, ◌⊎◌, arith, IsTrue, true, false, subst, sym}
+use Rattle.std.specs.Prelude.{IsSome, IfSome, is_some}
 use Rattle.sqlite_disk.specs.Disk.{MoreFaults}
 use Rattle.sqlite_trees.specs.declared.error.StoreError.{StoreError}
 use Rattle.sqlite_trees.specs.declared.error.StoreError.TheVariants as stored
@@ -18,9 +18,10 @@ use Rattle.adm_register.specs.declared.rows_fault.RowsFault.TheVariants as rows
 use Rattle.adm_store.specs.declared.fault.OpenFault.{OpenFault}
 use Rattle.adm_store.specs.declared.fault.OpenFault.TheVariants.{BadRow, Disk, Memory}
 use Rattle.adm_store.specs.Faults.{IsNoRegister}
-use Rattle.adm_store.specs.Causes.{DiskFailed, DiskFailedOr, HasDiskCause, IsUnanswered}
-use Rattle.adm_store.specs.Reads.{SeesTheSame}
-use Rattle.adm_schema.specs.Schema.{register_schema}
+use Rattle.adm_store.specs.Causes.{DiskFailedIn, DiskFailed, DiskFailedOr, HasDiskCause, IsUnanswered}
+use Rattle.adm_store.specs.Reads.{SeesTheSameIn, SeesTheSame}
+use Rattle.adm_schema.specs.declared.version.Version.{Version}
+use Rattle.adm_schema.specs.Schema.{schema_of}
 use Rattle.adm_schema.specs.Texts.{select_meta}
 
 -- where the connection was open, and nothing was too big, a failure for another cause than memory is one of the disk
@@ -50,15 +51,15 @@ disk_or_unanswered sql old new e live memory text (inl (inr h)) = inr (e, text, 
 disk_or_unanswered sql old new e live memory text (inr h) = inr (e, text, inr (h.0, h.1.is, inl h.2))
 
 -- under a register's tables, and under others
-pub cause_of_season : (old new : State) (has_tables : Bool) → IsTrue has_tables ↔ (old.now.schema ≡ register_schema) → DiskFailed old new → DiskFailedOr select_meta old new → HasDiskCause old new
-cause_of_season old new true tables here there clean live unlimited = inl (here clean live unlimited (tables.0 refl))
-cause_of_season old new false tables here there clean live unlimited = elim (there clean live) [
+pub cause_of_season : (old new : State) (version : Option Version) → IfSome version (λ v. old.now.schema ≡ schema_of v) → (version ≡ None → (v : Version) → old.now.schema ≡ schema_of v → ⊥) → DiskFailed old new → DiskFailedOr select_meta old new → HasDiskCause old new
+cause_of_season old new (Some v) has none here there clean live unlimited = inl (here v clean live unlimited has)
+cause_of_season old new None has none here there clean live unlimited = elim (there clean live) [
   | inl more ↦ inl more
-  | inr unanswered ↦ inr (λ has. let wrong : false ≡ true = tables.1 has in cc, unanswered)
+  | inr unanswered ↦ inr (none refl, unanswered)
 ]
 
-pub cause_here : (old new : State) → DiskFailed old new → old.now.schema ≡ register_schema → HasDiskCause old new
-cause_here old new failed has clean live unlimited = inl (failed clean live unlimited has)
+pub cause_here : (v : Version) (old new : State) → DiskFailedIn v old new → old.now.schema ≡ schema_of v → HasDiskCause old new
+cause_here v old new failed has clean live unlimited = inl (failed clean live unlimited has)
 
 module _ (old mid new : State) where
   -- no fault is forgotten
@@ -67,13 +68,16 @@ module _ (old mid new : State) where
       let early : HasCleanDisk mid = omega (arith, later.clean, clean) in
       elim (cause early live unlimited) [ inl more ↦ inl (omega (arith, more, later.counts)) | inr other ↦ inr other ]
 
-  pub failed_after : Survives old mid (λ _. ⊥) → Survives mid new (λ _. ⊥) → SeesTheSame old mid → DiskFailed mid new → DiskFailed old new
-  failed_after first later same failed clean live unlimited has =
+  pub failed_in : (v : Version) → Survives old mid (λ _. ⊥) → Survives mid new (λ _. ⊥) → SeesTheSameIn v old mid → DiskFailedIn v mid new → DiskFailedIn v old new
+  failed_in v first later same failed clean live unlimited has =
       let early : HasCleanDisk mid = omega (arith, later.clean, clean) in
       elim (first.closes early live) [
         | inl still ↦ omega (arith, failed clean still (first.limit ∙ unlimited) (ap (λ (d : Database). d.schema) (same early has) ∙ has), first.counts)
         | inr more ↦ omega (arith, more, later.counts)
       ]
+
+  pub failed_after : Survives old mid (λ _. ⊥) → Survives mid new (λ _. ⊥) → SeesTheSame old mid → DiskFailed mid new → DiskFailed old new
+  failed_after first later same failed v = failed_in v first later (same v) (failed v)
 
 -- ---- the fault of rows
 

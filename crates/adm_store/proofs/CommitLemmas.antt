@@ -11,7 +11,7 @@ use Rattle.adm_draws.specs.Draws.{row_of, offers_of, lots_of}
 use Rattle.adm_register.specs.Draws.{no_draws, are_in_order}
 use Rattle.adm_register.specs.WellFormed.{WellFormed}
 use Rattle.std.specs.List.Sorted.{IsPermutation}
-use Rattle.std.proofs.lemmas.List.Sorted.{IsPermutation-refl}
+use Rattle.std.proofs.lemmas.List.Sorted.{IsPermutation-refl, IsPermutation-trans}
 use Rattle.std.specs.Cmp.Lexicographic.{nat_list_cmp_total}
 use Rattle.adm_types.specs.declared.rows.Child.{Child}
 use Rattle.adm_types.specs.declared.rows.Application.{Application}
@@ -40,11 +40,12 @@ use Rattle.sqlite_catalog.specs.Listing.{IsSound, Lists}
 use Rattle.sqlite_catalog.proofs.ReadLemmas.{lists_once}
 use Rattle.sqlite_rules.specs.Lists.{Has}
 use Rattle.sqlite.proofs.Callers.{one_permutation}
+use Rattle.adm_schema.specs.declared.version.Version.TheVariants.{Second}
 use Rattle.adm_schema.specs.Rows.{rows_of}
 use Rattle.adm_schema.specs.Schema.{draw, register_schema}
 use Rattle.adm_store.specs.Forms.{season_row, school_row, child_row, application_row, place_row, left_row, imported_row}
 use Rattle.adm_store.specs.DrawForms.{draw_row, offer_row, lot_row}
-use Rattle.adm_store.specs.StandsFor.{StandsFor, HasRows, HoldsRegister, LeavesOnly, LeavesEither, written_in, written_tables}
+use Rattle.adm_store.specs.StandsFor.{StandsAs, HasRows, HoldsRegister, LeavesOnly, LeavesEither, written_in, written_tables}
 use Rattle.adm_store.specs.Changes.{IsStep, written_school, written_child, written_application, written_imported, written_count, last_draw, draw_count}
 use Rattle.adm_store.specs.Writes.{Write, Sets, Leaves, Writes, changed, after, are_keyed, count_of, key_row, writes_of}
 use Rattle.adm_store.specs.declared.rows.Changes.{Changes}
@@ -58,28 +59,28 @@ use Rattle.adm_store.proofs.TurnLemmas.{put_over, cut_and_put}
 
 -- outside a transaction, what a connection sees of a file that stands for a register
 pub holds_now : (s : State) (r : Register) → LeavesOnly r s → (IsTrue s.is_open → s.may_leave s.committed.trees) → (IsTrue s.is_open → s.now ≡ s.committed) → IsLive s
-    → HasCleanDisk s → IsTrue s.is_open → (s.now.schema ≡ register_schema) × HoldsRegister s.now.trees r
+    → HasCleanDisk s → IsTrue s.is_open → (s.now.schema ≡ register_schema) × HoldsRegister Second s.now.trees r
 holds_now s r before stays settled live clean is_open =
     let file = before clean s.committed.trees (stays is_open) in
     let trees = ap (λ (d : Database). d.trees) (settled is_open) in
     let listed = subst (λ (db : Trees). Lists (db catalog_tree) register_schema) (sym trees) file.sound.lists in
-    (lists_once (s.now.trees catalog_tree) s.now.schema register_schema ((live is_open).0).lists listed, subst (λ (db : Trees). HoldsRegister db r) (sym trees) file.holds)
+    (lists_once (s.now.trees catalog_tree) s.now.schema register_schema ((live is_open).0).lists listed, subst (λ (db : Trees). HoldsRegister Second db r) (sym trees) file.holds)
 
 -- what is set in the row of `meta` is nothing, where the count of draws stays, or the new count
 abbrev IsSet : List Row → ℕ → ℕ → Type 0
 IsSet counts m n = ((counts ≡ []) × (m ≡ n)) ⊎ (counts ≡ (Int (pos n) ∷ []) ∷ [])
 
-set_in : (season : SeasonFacts) (counts : List Row) (m n : ℕ) → IsSet counts m n → changed Sets counts (season_row season m ∷ []) ≡ season_row season n ∷ []
-set_in season counts m n (inl it) = ap (λ news. changed Sets news (season_row season m ∷ [])) it.0 ∙ ap (λ k. season_row season k ∷ []) it.1
-set_in season counts m n (inr it) = ap (λ news. changed Sets news (season_row season m ∷ [])) it
+set_in : (season : SeasonFacts) (counts : List Row) (m n : ℕ) → IsSet counts m n → changed Sets counts (season_row Second season m ∷ []) ≡ season_row Second season n ∷ []
+set_in season counts m n (inl it) = ap (λ news. changed Sets news (season_row Second season m ∷ [])) it.0 ∙ ap (λ k. season_row Second season k ∷ []) it.1
+set_in season counts m n (inr it) = ap (λ news. changed Sets news (season_row Second season m ∷ [])) it
 
 -- the row of the season stays, but for its count of draws
-season_rows : (old new : SeasonFacts) → new ≡ old → (counts : List Row) (m n : ℕ) → IsSet counts m n → (was now : List Row) → IsPermutation (season_row old m ∷ []) was
-    → (IsTrue (have_rowids was) → IsPermutation (changed Sets counts was) now) → IsPermutation (season_row new n ∷ []) now
+season_rows : (old new : SeasonFacts) → new ≡ old → (counts : List Row) (m n : ℕ) → IsSet counts m n → (was now : List Row) → IsPermutation (season_row Second old m ∷ []) was
+    → (IsTrue (have_rowids was) → IsPermutation (changed Sets counts was) now) → IsPermutation (season_row Second new n ∷ []) now
 season_rows old new same counts m n set was now held moved =
-    let one = one_permutation (season_row old m) was held in
-    let row : changed Sets counts was ≡ season_row old n ∷ [] = ap (changed Sets counts) one ∙ set_in old counts m n set in
-    subst (λ season. IsPermutation (season_row season n ∷ []) now) (sym same) (subst (λ rows. IsPermutation rows now) row (moved (subst (λ rows. IsTrue (have_rowids rows)) (sym one) refl)))
+    let one = one_permutation (season_row Second old m) was held in
+    let row : changed Sets counts was ≡ season_row Second old n ∷ [] = ap (changed Sets counts) one ∙ set_in old counts m n set in
+    subst (λ season. IsPermutation (season_row Second season n ∷ []) now) (sym same) (subst (λ rows. IsPermutation rows now) row (moved (subst (λ rows. IsTrue (have_rowids rows)) (sym one) refl)))
 
 -- what new draws set there is the number of the last one, which is how many there are
 draws_set : (old new : Register) (changes : Changes) → IsStep old new changes → WellFormed old → IsSet (map written_count (last_draw changes.draws)) (length (map row_of (values old.draws))) (length (map row_of (values new.draws)))
@@ -99,16 +100,16 @@ Moves writes was now = (t : Table) → Has register_schema.tables t → IsTrue (
 -- from what the old register has of a table, and what the writes leave of it, comes what the new one has
 abbrev Becomes : Trees → Trees → Register → Register → Changes → Table → Type 0
 Becomes was now old new changes t =
-    HasRows t (written_in (written_tables (rows_in_order old)) t) was → (IsTrue (are_keyed t (rows_of t was)) → IsPermutation (after t (writes_of changes) (rows_of t was)) (rows_of t now))
-    → HasRows t (written_in (written_tables (rows_in_order new)) t) now
+    HasRows t (written_in (written_tables Second (rows_in_order old)) t) was → (IsTrue (are_keyed t (rows_of t was)) → IsPermutation (after t (writes_of changes) (rows_of t was)) (rows_of t now))
+    → HasRows t (written_in (written_tables Second (rows_in_order new)) t) now
 
 -- trees that come of those of the old register by these changes
-new_trees : (was now : Trees) (old new : Register) (changes : Changes) → IsStep old new changes → HoldsRegister was old → IsSound register_schema now → Moves (writes_of changes) was now → StandsFor now new
+new_trees : (was now : Trees) (old new : Register) (changes : Changes) → IsStep old new changes → HoldsRegister Second was old → IsSound register_schema now → Moves (writes_of changes) was now → StandsAs Second now new
 new_trees was now old new changes step held sound moves = let are = step.changes_are in let differs = are.differs in record {
   sound = sound;
   holds = record {
     rows = record {
-      each = λ t listed. each_table (Becomes was now old new changes) (
+      each = λ t listed. each_table Second (Becomes was now old new changes) (
         λ had turn. season_rows old.season new.season step.extends.season _ _ _ (draws_set old new changes step held.formed) _ _ had turn,
         (
           λ had turn. added_rows nat_list_cmp_total same_code (λ (s : School). s.code) old.schools new.schools (λ k v is. (step.formed.base.schools_fit k v is).own_code) step.schools _ differs.schools school_row _ _ _ are.schools had (turn refl),
@@ -131,7 +132,7 @@ new_trees was now old new changes step held sound moves = let are = step.changes
                         (
                           λ had turn. added_rows nat_cmp_total nat_cmp-IsAntisymmetric (λ (r : ImportRow). r.child.no) old.imported new.imported (λ k v is. (step.formed.imported k v is).child.own_number) step.extends.imported _ differs.imported imported_row _ _ _ are.imported had
                               (turn (keyed_moved _ _ had (rows_keyed (λ (r : ImportRow). r.child.no) imported_row (λ _. refl) (values old.imported)))),
-                          tt,
+                          (λ had turn. IsPermutation-trans _ _ _ had (turn refl), tt),
                         ),
                       ),
                     ),
@@ -147,8 +148,8 @@ new_trees was now old new changes step held sound moves = let are = step.changes
   };
 }
 
-pub stands : (start end : State) (old new : Register) (changes : Changes) → IsStep old new changes → (start.now.schema ≡ register_schema) × HoldsRegister start.now.trees old
-    → Leaves (writes_of changes) start end → StandsFor end.now.trees new
+pub stands : (start end : State) (old new : Register) (changes : Changes) → IsStep old new changes → (start.now.schema ≡ register_schema) × HoldsRegister Second start.now.trees old
+    → Leaves (writes_of changes) start end → StandsAs Second end.now.trees new
 stands start end old new changes step held wrote = new_trees start.now.trees end.now.trees old new changes step held.1 (subst (λ s. IsSound s end.now.trees) (wrote.schema ∙ held.0) wrote.sound) wrote.rows
 
 -- a commit leaves what it wrote, or what was there
@@ -165,10 +166,10 @@ on_ok (Err e) P Q f h = tt
 pub wrote : {S : Type 0} (g : store.Ghosts S) (start begun : Held S) (last : State) (old new : Register) (changes : Changes) → begun ≡ record start { in_transaction = true }
     → (IsTrue (state g start).is_open → (state g start).may_leave (state g start).committed.trees) → (IsTrue (state g start).is_open → (state g start).now ≡ (state g start).committed) → IsLive (state g start)
     → IsStep old new changes → LeavesOnly old (state g start) → doubt (state g begun).is_clean ≤ doubt last.is_clean
-    → 0 < count_of (writes_of changes) → Writes (writes_of changes) (state g begun) last → HasCleanDisk last → StandsFor last.now.trees new
+    → 0 < count_of (writes_of changes) → Writes (writes_of changes) (state g begun) last → HasCleanDisk last → StandsAs Second last.now.trees new
 wrote g start begun last old new changes is stays settled live step before clean some writes late =
-    let holds : HasCleanDisk (state g begun) → IsTrue (state g begun).is_open → ((state g begun).now.schema ≡ register_schema) × HoldsRegister (state g begun).now.trees old =
-    subst (λ h. HasCleanDisk (state g h) → IsTrue (state g h).is_open → ((state g h).now.schema ≡ register_schema) × HoldsRegister (state g h).now.trees old) (sym is) (holds_now (state g start) old before stays settled live) in
+    let holds : HasCleanDisk (state g begun) → IsTrue (state g begun).is_open → ((state g begun).now.schema ≡ register_schema) × HoldsRegister Second (state g begun).now.trees old =
+    subst (λ h. HasCleanDisk (state g h) → IsTrue (state g h).is_open → ((state g h).now.schema ≡ register_schema) × HoldsRegister Second (state g h).now.trees old) (sym is) (holds_now (state g start) old before stays settled live) in
     let early : HasCleanDisk (state g begun) = omega (arith, clean, late) in
     let lively : IsLive (state g begun) = subst (λ h. IsLive (state g h)) (sym is) live in
     let writing = writes late (λ c o. (holds c o).0) (λ c o. (lively o).0) in
@@ -180,11 +181,11 @@ pub count_is : (c : Changes) → count_of (writes_of c) ≡ (length c.schools + 
 count_is c = omega (arith, length-map c.schools written_school, length-map c.children written_child, length-map c.applications written_application, length-map c.places place_row, length-map c.left left_row, length-map c.draws draw_row, length-map c.offers offer_row, length-map c.lots lot_row, length-map c.imported written_imported, length-map (last_draw c.draws) written_count, length-map c.ended key_row, length-map c.vacated key_row)
 
 -- a file that stands for the old register stands for the new one, where nothing changed
-pub no_change : (old new : Register) (changes : Changes) → IsStep old new changes → count_of (writes_of changes) ≡ 0 → (db : Trees) → StandsFor db old → StandsFor db new
+pub no_change : (old new : Register) (changes : Changes) → IsStep old new changes → count_of (writes_of changes) ≡ 0 → (db : Trees) → StandsAs Second db old → StandsAs Second db new
 no_change old new changes step none db file = new_trees db db old new changes step file.holds file.sound (λ t _ _. subst (λ rows. IsPermutation rows (rows_of t db)) (sym (after_none t (writes_of changes) (rows_of t db) none)) (IsPermutation-refl _))
 
 -- what is known of a commit that may not have happened
-pub either : (start end : State) (old new : Register) → Survives start end (λ db. StandsFor db new) → LeavesOnly old start → LeavesEither old new end
+pub either : (start end : State) (old new : Register) → Survives start end (λ db. StandsAs Second db new) → LeavesOnly old start → LeavesEither old new end
 either start end old new survives before clean db may = elim (survives.crash clean db may) [ inl was ↦ inl (before (omega (arith, survives.clean, clean)) db was) | inr now ↦ inr now ]
 
 pub commits_file : (last end : State) (P : Trees → Type 0) → P last.now.trees → Shows last end last.now last.now false → IsTrue end.is_open × P end.committed.trees

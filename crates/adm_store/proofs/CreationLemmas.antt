@@ -16,6 +16,7 @@ use Rattle.adm_types.specs.declared.rows.School.{School}
 use Rattle.adm_types.specs.declared.rows.Child.{Child}
 use Rattle.adm_register.specs.State.{only_season, code_cmp, left_cmp}
 use Rattle.adm_register.specs.WellFormed.{WellFormed, AllRows}
+use Rattle.adm_schema.specs.declared.version.Version.TheVariants.{Second}
 use Rattle.adm_schema.specs.Rows.{columns_of, rows_of}
 use Rattle.adm_schema.specs.Effects.{SeesNoRows}
 use Rattle.adm_schema.specs.Schema.{meta, no_schema, register_schema}
@@ -25,7 +26,7 @@ use Rattle.adm_register.specs.declared.register_rows.Rows.{Rows}
 use Rattle.adm_draws.specs.Draws.{row_of, offers_of, lots_of}
 use Rattle.adm_store.specs.declared.rows.SeasonRow.{SeasonRow}
 use Rattle.adm_store.specs.Changes.{IsRowOf, written_season}
-use Rattle.adm_store.specs.StandsFor.{StandsFor, HasRows, written_in, written_tables}
+use Rattle.adm_store.specs.StandsFor.{StandsAs, HasRows, written_in, written_tables}
 use Rattle.adm_store.specs.Writes.{Adds, Leaves, Writes, write_of, after, are_keyed}
 use Rattle.adm_store.proofs.LogLemmas.{no_rows, keyed_none}
 use Rattle.adm_store.proofs.RegisterRows.{each_table}
@@ -65,30 +66,30 @@ season_alone season = record { season = season; schools = []; children = []; app
 only_rows : (season : SeasonFacts) → rows_in_order (only_season season) ≡ season_alone season
 only_rows season = λ k. record { season = season; schools = no_values code_cmp k; children = no_values nat_cmp k; applications = no_values nat_cmp k; places = no_values nat_cmp k; left = no_values left_cmp k; draws = map row_of (no_values nat_cmp k); offers = flat_map offers_of (no_values nat_cmp k); lots = flat_map lots_of (no_values nat_cmp k); imported = no_values nat_cmp k }
 
-pub stands_for_new : (made last : State) (season : SeasonFacts) (row : SeasonRow) → IsRowOf season row → SeesNoRows register_schema made → Leaves (write_of Adds meta written_season (row ∷ []) ∷ []) made last → StandsFor last.now.trees (only_season season)
+pub stands_for_new : (made last : State) (season : SeasonFacts) (row : SeasonRow) → IsRowOf season row → SeesNoRows register_schema made → Leaves (write_of Adds meta written_season (row ∷ []) ∷ []) made last → StandsAs Second last.now.trees (only_season season)
 stands_for_new made last season row it none wrote = record {
   sound = subst (λ s. IsSound s last.now.trees) (wrote.schema ∙ none.schema_is) wrote.sound;
   holds = record {
-    rows = record { each = λ t listed. subst (λ rows. HasRows t (written_in (written_tables rows) t) last.now.trees) (sym (only_rows season)) (table t listed) };
+    rows = record { each = λ t listed. subst (λ rows. HasRows t (written_in (written_tables Second rows) t) last.now.trees) (sym (only_rows season)) (table t listed) };
     formed = formed_new season it.season_is;
   };
 }
   where
     -- each table was empty, and the writes are the one row
-    table : (t : Table) → Has register_schema.tables t → HasRows t (written_in (written_tables (season_alone season)) t) last.now.trees
+    table : (t : Table) → Has register_schema.tables t → HasRows t (written_in (written_tables Second (season_alone season)) t) last.now.trees
     table t listed =
         let was : rows_of t made.now.trees ≡ [] = ap (map (columns_of t)) (recursion_had (λ (t : Table). made.now.trees t.tree ≡ []) register_schema.tables t none.empty listed) in
         let moved = subst (λ rows. IsTrue (are_keyed t rows) → IsPermutation (after t (write_of Adds meta written_season (row ∷ []) ∷ []) rows) (rows_of t last.now.trees)) was (wrote.rows t listed) (keyed_none t) in
         subst (λ rows. IsPermutation rows (rows_of t last.now.trees)) (written t listed) moved
       where
-        written : (t : Table) → Has register_schema.tables t → after t (write_of Adds meta written_season (row ∷ []) ∷ []) [] ≡ written_in (written_tables (season_alone season)) t
-        written = each_table (λ t. after t (write_of Adds meta written_season (row ∷ []) ∷ []) [] ≡ written_in (written_tables (season_alone season)) t) (ap (λ cells. cells ∷ []) it.written, (refl, (refl, (refl, (refl, (refl, (refl, (refl, (refl, (refl, tt))))))))))
+        written : (t : Table) → Has register_schema.tables t → after t (write_of Adds meta written_season (row ∷ []) ∷ []) [] ≡ written_in (written_tables Second (season_alone season)) t
+        written = each_table Second (λ t. after t (write_of Adds meta written_season (row ∷ []) ∷ []) [] ≡ written_in (written_tables Second (season_alone season)) t) (ap (λ cells. cells ∷ []) it.written, (refl, (refl, (refl, (refl, (refl, (refl, (refl, (refl, (refl, (refl, tt)))))))))))
 
 -- what the transaction of a creation leaves stands for the new register
 pub created : {S : Type 0} (g : store.Ghosts S) (start begun : Held S) (made last : State) (season : SeasonFacts) (row : SeasonRow) → IsRowOf season row → begun ≡ record start { in_transaction = true } → start.schema ≡ no_schema → IsLive (state g start)
     → doubt (state g begun).is_clean ≤ doubt made.is_clean → doubt made.is_clean ≤ doubt last.is_clean
     → (HasCleanDisk made → (IsTrue (state g begun).is_open → SeesNoRows no_schema (state g begun)) → IsTrue made.is_open → SeesNoRows register_schema made)
-    → Writes (write_of Adds meta written_season (row ∷ []) ∷ []) made last → HasCleanDisk last → StandsFor last.now.trees (only_season season)
+    → Writes (write_of Adds meta written_season (row ∷ []) ∷ []) made last → HasCleanDisk last → StandsAs Second last.now.trees (only_season season)
 created g start begun made last season row it is empty live clean1 clean2 makes writes clean =
     let early : HasCleanDisk made = omega (arith, clean2, clean) in
     let lively : IsLive (state g begun) = subst (λ h. IsLive (state g h)) (sym is) live in

@@ -16,7 +16,8 @@ use Rattle.sqlite_resolve.specs.declared.error.CompileError.{CompileError}
 use Rattle.sqlite_trees.specs.declared.error.StoreError.{StoreError}
 use Rattle.sqlite_trees.specs.declared.error.StoreError.TheVariants as stored
 use Rattle.adm_schema.specs.Rows.{rows_of}
-use Rattle.adm_schema.specs.Schema.{meta, register_schema}
+use Rattle.adm_schema.specs.declared.version.Version.{Version}
+use Rattle.adm_schema.specs.Schema.{meta, schema_of}
 use Rattle.adm_schema.specs.Texts.{select_meta}
 use Rattle.adm_store.specs.declared.fault.OpenFault.{OpenFault}
 use Rattle.adm_store.specs.declared.fault.OpenFault.TheVariants.{NotOurs}
@@ -84,17 +85,17 @@ first_permuted (x ∷ next ∷ xs) [] moved = absurd (omega (arith, length_permu
 first_permuted (x ∷ next ∷ xs) (y ∷ []) moved = absurd (omega (arith, length_permutation _ _ moved))
 first_permuted (x ∷ next ∷ xs) (y ∷ other ∷ ys) moved = refl
 
-pub first_by_rows : (db : Database) (rows : List Row) (fault : OpenFault) → IsAnswered db select_meta rows → (db.schema ≡ register_schema → IsPermutation (rows_of meta db.trees) rows) → fault ≡ first_fault rows → IsFirstFault db fault
+pub first_by_rows : (db : Database) (rows : List Row) (fault : OpenFault) → IsAnswered db select_meta rows → ((v : Version) → db.schema ≡ schema_of v → IsPermutation (rows_of meta db.trees) rows) → fault ≡ first_fault rows → IsFirstFault db fault
 first_by_rows db rows fault asked own is = record {
   no_table = λ why refused. absurd (let wrong = sym asked.1 ∙ refused in cc);
   by_rows = λ c understood plain. let same : asked.0 ≡ c = ok_is asked.0 c _ asked.1 understood in
       (rows, subst (λ k. Answers db select_meta k rows) same (asked.2 (ap (λ (k : Compiled). k.returning) same ∙ plain)), is);
-  own_rows = λ has. is ∙ first_permuted rows (rows_of meta db.trees) (IsPermutation-sym _ _ (own has));
+  own_rows = λ v has. is ∙ first_permuted rows (rows_of meta db.trees) (IsPermutation-sym _ _ (own v has));
 }
 
-pub first_refused : (db : Database) (fault : OpenFault) → IsNotAsked db select_meta → (db.schema ≡ register_schema → ⊥) → fault ≡ NotOurs → IsFirstFault db fault
+pub first_refused : (db : Database) (fault : OpenFault) → IsNotAsked db select_meta → ((v : Version) → db.schema ≡ schema_of v → ⊥) → fault ≡ NotOurs → IsFirstFault db fault
 first_refused db fault none foreign is = record {
   no_table = λ why refused. is;
   by_rows = λ c understood plain. absurd (none c understood plain);
-  own_rows = λ has. absurd (foreign has);
+  own_rows = λ v has. absurd (foreign v has);
 }

@@ -13,6 +13,7 @@ pub mod WriteLemmas
 pub mod DrawWrites
 pub mod CommitLemmas
 pub mod CreationLemmas
+pub mod MigrationLemmas
 pub mod ListLemmas
 pub mod RowLemmas
 pub mod MapRows

@@ -1,5 +1,5 @@
 -- A file stands for at most one register.
-use Rattle.std.proofs.Common.{◌≡◌, ◌∙◌, true, not, Option, Some, None, refl, sym, ap}
+use Rattle.std.proofs.Common.{◌≡◌, ◌∙◌, true, not, Option, Some, None, refl, sym, ap, subst}
 use Rattle.std.specs.List.Sorted.{IsPermutation}
 use Rattle.std.proofs.lemmas.List.Sorted.{IsPermutation-sym, Contains-permutation}
 use Rattle.std.specs.declared.cmp.Ordering.{Ordering}
@@ -7,10 +7,16 @@ use Rattle.std.specs.Cmp.{IsTotalOrder, nat_cmp_total}
 use Rattle.std.specs.Cmp.Lexicographic.{nat_list_cmp_total}
 use Rattle.std.specs.FinMap.{FinMap, get, values, same_map, IsAntisymmetric, slice_cmp-IsAntisymmetric, nat_cmp-IsAntisymmetric}
 use Rattle.sqlite_rules.proofs.ListLemmas.{has_contained, contains_had}
+use Rattle.sqlite.specs.Tree.{Trees}
+use Rattle.sqlite_trees.specs.Objects.{catalog_tree}
+use Rattle.sqlite_catalog.proofs.ReadLemmas.{lists_once}
+use Rattle.adm_register.specs.State.{State as Register}
+use Rattle.adm_schema.specs.declared.version.Version.{Version}
 use Rattle.adm_register.specs.Rows.{rows_in_order}
-use Rattle.adm_schema.specs.Schema.{meta}
-use Rattle.adm_schema.proofs.Listed.{has_meta}
-use Rattle.adm_store.specs.StandsFor.{OneRegister}
+use Rattle.adm_schema.specs.Schema.{meta, schema_of}
+use Rattle.adm_schema.proofs.Listed.{meta_in}
+use Rattle.adm_store.specs.StandsFor.{OneRegister, HoldsRegister}
+use Rattle.adm_store.proofs.FaultLemmas.{one_version}
 use Rattle.adm_store.proofs.Entries.{has_value, value_at}
 use Rattle.adm_store.proofs.SameDraws.{same_draws}
 use Rattle.adm_draws.specs.Draws.{is_draw, are_ordered, repeats_lot, is_fresh_at_school, is_round_or_fill}
@@ -41,17 +47,25 @@ draw_ordered d form =
     let lots = and_parts _ (list_all is_fresh_at_school d.outcomes) fresh.0 in
     (and_parts (are_ordered d) (not (repeats_lot d.lots)) lots.0).0
 
+one_in : (v w : Version) (db : Trees) (r s : Register) → HoldsRegister v db r → HoldsRegister w db s → v ≡ w → r ≡ s
+one_in v w db r s held other same = in_one v db r s held (subst (λ u. HoldsRegister u db s) (sym same) other)
+  where
+    in_one : (v : Version) (db : Trees) (r s : Register) → HoldsRegister v db r → HoldsRegister v db s → r ≡ s
+    in_one v db r s one two =
+        let a = one.formed in
+        let b = two.formed in
+        let season = season_back v v db r s.season _ (two.rows.each meta (meta_in v)) b.base.season_is one in
+        let rows = rows_held v db s (rows_in_order r) two one.rows (read_back r a) season in
+        let schools = same_by_rows nat_list_cmp_total (slice_cmp-IsAntisymmetric nat_cmp-IsAntisymmetric) (λ x. x.code) r.schools s.schools (λ k x there. (a.base.schools_fit k x there).own_code) (λ k x there. (b.base.schools_fit k x there).own_code) rows.schools in
+        let children = same_by_rows nat_cmp_total nat_cmp-IsAntisymmetric (λ x. x.no) r.children s.children (λ k x there. (a.base.children_fit k x there).own_number) (λ k x there. (b.base.children_fit k x there).own_number) rows.children in
+        let applications = same_by_rows nat_cmp_total nat_cmp-IsAntisymmetric (λ x. x.child) r.applications s.applications (λ k x there. (a.base.applications_fit k x there).own_number) (λ k x there. (b.base.applications_fit k x there).own_number) rows.applications in
+        let places = same_by_rows nat_cmp_total nat_cmp-IsAntisymmetric (λ x. x.child) r.places s.places (λ k x there. (a.places.each k x there).own_number) (λ k x there. (b.places.each k x there).own_number) rows.places in
+        let left = same_by_rows left_total left_same (λ x. x) r.left s.left (λ k x there. (a.left k x there).own_key) (λ k x there. (b.left k x there).own_key) rows.left in
+        let draws = same_draws r.draws s.draws (λ k d there. (a.draws.each k d there).own_number) (λ k d there. (b.draws.each k d there).own_number) (λ k d there. draw_ordered d (a.draws.each k d there).form) (λ k d there. draw_ordered d (b.draws.each k d there).form) rows.draws in
+        let imported = same_by_rows nat_cmp_total nat_cmp-IsAntisymmetric (λ x. x.child.no) r.imported s.imported (λ k x there. (a.imported k x there).child.own_number) (λ k x there. (b.imported k x there).child.own_number) rows.imported in
+        λ i. record { season = season i; schools = schools i; children = children i; applications = applications i; places = places i; left = left i; draws = draws i; imported = imported i }
+
 pub one_register_lem : OneRegister
 one_register_lem db r s one two =
-    let a = one.holds.formed in
-    let b = two.holds.formed in
-    let season = season_back db r s.season _ (two.holds.rows.each meta has_meta) b.base.season_is one.holds in
-    let rows = rows_held db s (rows_in_order r) two.holds one.holds.rows (read_back r a) season in
-    let schools = same_by_rows nat_list_cmp_total (slice_cmp-IsAntisymmetric nat_cmp-IsAntisymmetric) (λ x. x.code) r.schools s.schools (λ k x there. (a.base.schools_fit k x there).own_code) (λ k x there. (b.base.schools_fit k x there).own_code) rows.schools in
-    let children = same_by_rows nat_cmp_total nat_cmp-IsAntisymmetric (λ x. x.no) r.children s.children (λ k x there. (a.base.children_fit k x there).own_number) (λ k x there. (b.base.children_fit k x there).own_number) rows.children in
-    let applications = same_by_rows nat_cmp_total nat_cmp-IsAntisymmetric (λ x. x.child) r.applications s.applications (λ k x there. (a.base.applications_fit k x there).own_number) (λ k x there. (b.base.applications_fit k x there).own_number) rows.applications in
-    let places = same_by_rows nat_cmp_total nat_cmp-IsAntisymmetric (λ x. x.child) r.places s.places (λ k x there. (a.places.each k x there).own_number) (λ k x there. (b.places.each k x there).own_number) rows.places in
-    let left = same_by_rows left_total left_same (λ x. x) r.left s.left (λ k x there. (a.left k x there).own_key) (λ k x there. (b.left k x there).own_key) rows.left in
-    let draws = same_draws r.draws s.draws (λ k d there. (a.draws.each k d there).own_number) (λ k d there. (b.draws.each k d there).own_number) (λ k d there. draw_ordered d (a.draws.each k d there).form) (λ k d there. draw_ordered d (b.draws.each k d there).form) rows.draws in
-    let imported = same_by_rows nat_cmp_total nat_cmp-IsAntisymmetric (λ x. x.child.no) r.imported s.imported (λ k x there. (a.imported k x there).child.own_number) (λ k x there. (b.imported k x there).child.own_number) rows.imported in
-    λ i. record { season = season i; schools = schools i; children = children i; applications = applications i; places = places i; left = left i; draws = draws i; imported = imported i }
+    let listed = lists_once (db catalog_tree) (schema_of one.version) (schema_of two.version) one.stands.sound.lists two.stands.sound.lists in
+    one_in one.version two.version db r s one.stands.holds two.stands.holds (one_version one.version two.version listed)

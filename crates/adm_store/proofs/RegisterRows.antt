@@ -16,8 +16,10 @@ use Rattle.adm_types.specs.declared.rows.LeftPair.{LeftPair}
 use Rattle.adm_register.specs.State.{code_cmp, left_cmp, application_of}
 use Rattle.adm_register.specs.State.{State as Register}
 use Rattle.adm_register.specs.WellFormed.{WellFormed, ChildFits, ApplicationFits}
-use Rattle.adm_schema.specs.Schema.{meta, school, child, application, place, left_list, draw, offer, lot, imported, register_schema}
-use Rattle.adm_schema.proofs.Listed.{has_meta, has_school, has_child, has_application, has_place, has_left_list, has_draw, has_offer, has_lot, has_imported}
+use Rattle.adm_schema.specs.declared.version.Version.{Version}
+use Rattle.adm_schema.specs.declared.version.Version.TheVariants.{First, Second}
+use Rattle.adm_schema.specs.Schema.{meta, school, child, application, place, left_list, draw, offer, lot, imported, present, later_tables, schema_of}
+use Rattle.adm_schema.proofs.Listed.{meta_in, school_in, child_in, application_in, place_in, left_list_in, draw_in, offer_in, lot_in, imported_in, has_present}
 use Rattle.sqlite.specs.Table.{Table}
 use Rattle.sqlite_rules.specs.Lists.{Has}
 use Rattle.sqlite.specs.Order.{Row}
@@ -39,7 +41,7 @@ use Rattle.adm_store.specs.Reads.{HoldsSeason, AreReadBack}
 use Rattle.adm_register.specs.declared.register_rows.Rows.{Rows}
 use Rattle.adm_register.specs.Rows.{AreRowsOf, rows_in_order}
 use Rattle.adm_store.specs.Faults.{IsSchool, IsReadAgain, IsChild, IsApplication, IsImportRow, IsImportReadAgain, IsPlaceRow, IsLeftRow, AreReadAgain}
-use Rattle.adm_store.proofs.SeasonRows.{same_season, same_count}
+use Rattle.adm_store.proofs.SeasonRows.{same_season, same_version, same_count}
 use Rattle.adm_store.proofs.RowLemmas.{values_back, recursion_had, recursion_map}
 use Rattle.adm_store.proofs.SchoolRows.{school_from, from_row, reads_again}
 use Rattle.adm_store.proofs.ChildRows.{child_from, child_back, application_from, application_back, imported_from, imported_back, import_again, place_from, place_back, state_days, left_from, left_back}
@@ -105,9 +107,9 @@ pub left_fit : (r : Register) → WellFormed r → AllByRecursion IsLeftRow (val
 left_fit r formed = each_value left_total left_same IsLeftRow r.left (λ key pair is. let fits = formed.left key pair is in record { number_form = number_there r formed pair.child fits.child; code_form = code_there r.schools formed.base.schools_fit pair.school fits.school })
 
 -- rows of draws that are those of the register are as many
-pub as_many : (db : Trees) (r : Register) (draws : List DrawRow) → HasRows draw (map draw_row draws) db → HoldsRegister db r → length draws ≡ length (values r.draws)
-as_many db r draws read held =
-    let all = length_permutation _ _ (IsPermutation-trans _ _ _ (held.rows.each draw has_draw) (IsPermutation-sym _ _ read)) in
+pub as_many : (v : Version) (db : Trees) (r : Register) (draws : List DrawRow) → HasRows draw (map draw_row draws) db → HoldsRegister v db r → length draws ≡ length (values r.draws)
+as_many v db r draws read held =
+    let all = length_permutation _ _ (IsPermutation-trans _ _ _ (held.rows.each draw (draw_in v)) (IsPermutation-sym _ _ read)) in
     omega (arith, all, length-map draws draw_row, length-map (map row_of (values r.draws)) draw_row, length-map (values r.draws) row_of)
 
 -- a count of 32 bits
@@ -117,22 +119,35 @@ few_enough r formed = let few = few_draws r.season no_draws (values r.draws) (om
 -- ---- the rows of a file, and the register that it holds
 
 -- table by table
-pub each_table : (P : Table → Type 0) → AllByRecursion P register_schema.tables → (t : Table) → Has register_schema.tables t → P t
-each_table P all t listed = recursion_had P register_schema.tables t all listed
+pub each_table : (v : Version) (P : Table → Type 0) → AllByRecursion P (schema_of v).tables → (t : Table) → Has (schema_of v).tables t → P t
+each_table v P all t listed = recursion_had P (schema_of v).tables t all listed
+
+-- nothing is written in the table that came later
+same_later : (v : Version) (db : Trees) (rows other : Rows) → AllByRecursion (λ t. HasRows t (written_in (written_tables v rows) t) db → HasRows t (written_in (written_tables v other) t) db) (later_tables v)
+same_later First db rows other = tt
+same_later Second db rows other = (λ h. h, tt)
 
 moved : {X : Type 0} (row_of : X → Row) (read values : List X) (rows : List Row) → IsPermutation read values → IsPermutation (map row_of read) rows → IsPermutation (map row_of values) rows
 moved row_of read values rows same held = IsPermutation-trans _ _ _ (IsPermutation-map row_of _ _ (IsPermutation-sym _ _ same)) held
 
-pub holds_register : (db : Trees) (r : Register) (rows : Rows) → HoldsRows db rows → AreRowsOf rows r → WellFormed r → HoldsRegister db r
-holds_register db r rows held are formed = record {
+pub none_written : (v : Version) (db : Trees) (rows : Rows) → AllByRecursion (λ t. HasRows t [] db) (later_tables v) → AllByRecursion (λ t. HasRows t (written_in (written_tables v rows) t) db) (later_tables v)
+none_written First db rows none = tt
+none_written Second db rows none = none
+
+pub later_none : (v : Version) (db : Trees) (r : Register) → HoldsRegister v db r → AllByRecursion (λ t. HasRows t [] db) (later_tables v)
+later_none First db r held = tt
+later_none Second db r held = (held.rows.each present has_present, tt)
+
+pub holds_register : (v : Version) (db : Trees) (r : Register) (rows : Rows) → HoldsRows v db rows → AreRowsOf rows r → WellFormed r → HoldsRegister v db r
+holds_register v db r rows held are formed = record {
   rows = record {
-    each = λ t listed. each_table (λ t. HasRows t (written_in (written_tables rows) t) db → HasRows t (written_in (written_tables (rows_in_order r)) t) db) (
-      λ h. subst₂ (λ season count. HasRows meta (season_row season count ∷ []) db) are.season (sym (length_permutation _ _ are.draws.heads)) h,
+    each = λ t listed. each_table v (λ t. HasRows t (written_in (written_tables v rows) t) db → HasRows t (written_in (written_tables v (rows_in_order r)) t) db) (
+      λ h. subst₂ (λ season count. HasRows meta (season_row v season count ∷ []) db) are.season (sym (length_permutation _ _ are.draws.heads)) h,
       (
         λ h. moved school_row _ _ _ are.schools h,
         (
           λ h. moved child_row _ _ _ are.children h,
-          (λ h. moved application_row _ _ _ are.applications h, (λ h. moved place_row _ _ _ are.places h, (λ h. moved left_row _ _ _ are.left h, (λ h. moved draw_row _ _ _ are.draws.heads h, (λ h. moved offer_row _ _ _ are.draws.offers h, (λ h. moved lot_row _ _ _ are.draws.lots h, (λ h. moved imported_row _ _ _ are.imported h, tt))))))),
+          (λ h. moved application_row _ _ _ are.applications h, (λ h. moved place_row _ _ _ are.places h, (λ h. moved left_row _ _ _ are.left h, (λ h. moved draw_row _ _ _ are.draws.heads h, (λ h. moved offer_row _ _ _ are.draws.offers h, (λ h. moved lot_row _ _ _ are.draws.lots h, (λ h. moved imported_row _ _ _ are.imported h, same_later v db rows (rows_in_order r)))))))),
         ),
       ),
     ) t listed (held.each t listed);
@@ -144,20 +159,20 @@ no_condition : {X : Type 0} (xs : List X) → AllByRecursion (λ _. Unit {0}) xs
 no_condition [] = tt
 no_condition (x ∷ xs) = (tt, no_condition xs)
 
-pub rows_held : (db : Trees) (r : Register) (rows : Rows) → HoldsRegister db r → HoldsRows db rows → AreReadBack rows → rows.season ≡ r.season → AreRowsOf rows r
-rows_held db r rows file held again season = record {
+pub rows_held : (v : Version) (db : Trees) (r : Register) (rows : Rows) → HoldsRegister v db r → HoldsRows v db rows → AreReadBack rows → rows.season ≡ r.season → AreRowsOf rows r
+rows_held v db r rows file held again season = record {
   season = season;
-  schools = values_back school_row school_from IsReadAgain IsSchool from_row reads_again _ _ _ again.schools (schools_fit r file.formed) (held.each school has_school) (file.rows.each school has_school);
-  children = values_back child_row child_from (λ x. AreReadAgain x.siblings) IsChild child_back (λ x fits. codes_again x.siblings fits.codes) _ _ _ again.children (children_fit r file.formed) (held.each child has_child) (file.rows.each child has_child);
-  applications = values_back application_row application_from (λ x. AreReadAgain x.list) (IsApplication (lists_end r.season)) application_back (λ x fits. codes_again x.list fits.codes) _ _ _ again.applications (applications_fit r (lists_end r.season) file.formed refl) (held.each application has_application) (file.rows.each application has_application);
-  places = values_back place_row place_from (λ _. Unit {0}) IsPlaceRow (λ x _. place_back x) (λ _ _. tt) _ _ _ (no_condition rows.places) (places_fit r file.formed) (held.each place has_place) (file.rows.each place has_place);
-  left = values_back left_row left_from (λ _. Unit {0}) IsLeftRow (λ x _. left_back x) (λ _ _. tt) _ _ _ (no_condition rows.left) (left_fit r file.formed) (held.each left_list has_left_list) (file.rows.each left_list has_left_list);
+  schools = values_back school_row school_from IsReadAgain IsSchool from_row reads_again _ _ _ again.schools (schools_fit r file.formed) (held.each school (school_in v)) (file.rows.each school (school_in v));
+  children = values_back child_row child_from (λ x. AreReadAgain x.siblings) IsChild child_back (λ x fits. codes_again x.siblings fits.codes) _ _ _ again.children (children_fit r file.formed) (held.each child (child_in v)) (file.rows.each child (child_in v));
+  applications = values_back application_row application_from (λ x. AreReadAgain x.list) (IsApplication (lists_end r.season)) application_back (λ x fits. codes_again x.list fits.codes) _ _ _ again.applications (applications_fit r (lists_end r.season) file.formed refl) (held.each application (application_in v)) (file.rows.each application (application_in v));
+  places = values_back place_row place_from (λ _. Unit {0}) IsPlaceRow (λ x _. place_back x) (λ _ _. tt) _ _ _ (no_condition rows.places) (places_fit r file.formed) (held.each place (place_in v)) (file.rows.each place (place_in v));
+  left = values_back left_row left_from (λ _. Unit {0}) IsLeftRow (λ x _. left_back x) (λ _ _. tt) _ _ _ (no_condition rows.left) (left_fit r file.formed) (held.each left_list (left_list_in v)) (file.rows.each left_list (left_list_in v));
   draws = record {
-    heads = values_back draw_row draw_from (λ _. Unit {0}) (IsDrawRow (lists_end r.season)) (λ x _. draw_back x) (λ _ _. tt) _ _ _ (no_condition rows.draws) (draws_fit r (lists_end r.season) file.formed refl) (held.each draw has_draw) (file.rows.each draw has_draw);
-    offers = values_back offer_row offer_from (λ _. Unit {0}) IsOfferRow (λ x _. offer_back x) (λ _ _. tt) _ _ _ (no_condition rows.offers) (offers_fit r file.formed) (held.each offer has_offer) (file.rows.each offer has_offer);
-    lots = values_back lot_row lot_from (λ _. Unit {0}) IsLotRow (λ x _. lot_back x) (λ _ _. tt) _ _ _ (no_condition rows.lots) (lots_fit r file.formed) (held.each lot has_lot) (file.rows.each lot has_lot);
+    heads = values_back draw_row draw_from (λ _. Unit {0}) (IsDrawRow (lists_end r.season)) (λ x _. draw_back x) (λ _ _. tt) _ _ _ (no_condition rows.draws) (draws_fit r (lists_end r.season) file.formed refl) (held.each draw (draw_in v)) (file.rows.each draw (draw_in v));
+    offers = values_back offer_row offer_from (λ _. Unit {0}) IsOfferRow (λ x _. offer_back x) (λ _ _. tt) _ _ _ (no_condition rows.offers) (offers_fit r file.formed) (held.each offer (offer_in v)) (file.rows.each offer (offer_in v));
+    lots = values_back lot_row lot_from (λ _. Unit {0}) IsLotRow (λ x _. lot_back x) (λ _ _. tt) _ _ _ (no_condition rows.lots) (lots_fit r file.formed) (held.each lot (lot_in v)) (file.rows.each lot (lot_in v));
   };
-  imported = values_back imported_row imported_from IsImportReadAgain (IsImportRow (lists_end r.season)) imported_back (import_again (lists_end r.season)) _ _ _ again.imported (imported_fit r (lists_end r.season) file.formed refl) (held.each imported has_imported) (file.rows.each imported has_imported);
+  imported = values_back imported_row imported_from IsImportReadAgain (IsImportRow (lists_end r.season)) imported_back (import_again (lists_end r.season)) _ _ _ again.imported (imported_fit r (lists_end r.season) file.formed refl) (held.each imported (imported_in v)) (file.rows.each imported (imported_in v));
 }
 
 first_row : (a b : Row) → a ∷ [] ≡ b ∷ [] → a ≡ b
@@ -176,10 +191,14 @@ read_back r formed = record {
 }
 
 -- the season that was read is that of the register, and so is the count of draws
-pub season_back : (db : Trees) (r : Register) (season : SeasonFacts) (count : ℕ) → HoldsSeason season count db → IsSeason season → HoldsRegister db r → r.season ≡ season
-season_back db r season count one formed held =
-    same_season r.season season _ count held.formed.base.season_is formed (one_row _ _ (IsPermutation-trans _ _ _ (held.rows.each meta has_meta) (IsPermutation-sym _ _ one)))
+pub season_back : (v w : Version) (db : Trees) (r : Register) (season : SeasonFacts) (count : ℕ) → HoldsSeason w season count db → IsSeason season → HoldsRegister v db r → r.season ≡ season
+season_back v w db r season count one formed held =
+    same_season v w r.season season _ count held.formed.base.season_is formed (one_row _ _ (IsPermutation-trans _ _ _ (held.rows.each meta (meta_in v)) (IsPermutation-sym _ _ one)))
 
-pub count_back : (db : Trees) (r : Register) (season : SeasonFacts) (count : ℕ) → HoldsSeason season count db → HoldsRegister db r → length (values r.draws) ≡ count
-count_back db r season count one held =
-    sym (length-map (values r.draws) row_of) ∙ same_count r.season season _ count (one_row _ _ (IsPermutation-trans _ _ _ (held.rows.each meta has_meta) (IsPermutation-sym _ _ one)))
+pub count_back : (v w : Version) (db : Trees) (r : Register) (season : SeasonFacts) (count : ℕ) → HoldsSeason w season count db → HoldsRegister v db r → length (values r.draws) ≡ count
+count_back v w db r season count one held =
+    sym (length-map (values r.draws) row_of) ∙ same_count v w r.season season _ count (one_row _ _ (IsPermutation-trans _ _ _ (held.rows.each meta (meta_in v)) (IsPermutation-sym _ _ one)))
+
+-- and so is the version that its row names
+pub version_back : (v w : Version) (db : Trees) (r : Register) (season : SeasonFacts) (count : ℕ) → HoldsSeason w season count db → HoldsRegister v db r → v ≡ w
+version_back v w db r season count one held = same_version v w r.season season _ count (one_row _ _ (IsPermutation-trans _ _ _ (held.rows.each meta (meta_in v)) (IsPermutation-sym _ _ one)))

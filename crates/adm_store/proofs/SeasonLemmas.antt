@@ -27,10 +27,10 @@ abbrev pub season_values : SeasonRow → Row
 season_values it = Int (pos (phase_code it.phase)) ∷ Int (pos it.year) ∷ Text it.holidays ∷ []
 
 abbrev source : SeasonRow → Row
-source it = Int (pos 1) ∷ Null ∷ Int (pos 1) ∷ Int (pos (phase_code it.phase)) ∷ Int (pos it.year) ∷ Text it.holidays ∷ Int (pos 0) ∷ []
+source it = Int (pos 1) ∷ Null ∷ Int (pos 2) ∷ Int (pos (phase_code it.phase)) ∷ Int (pos it.year) ∷ Text it.holidays ∷ Int (pos 0) ∷ []
 
 stored_season : (it : SeasonRow) (rows : List Row) → with_rowid Chosen rows (cast_row meta (source it)) ≡ source it
-stored_season it rows = rw (cast_null, cast_int (pos 1), cast_int (pos (phase_code it.phase)), cast_int (pos it.year), cast_int (pos 0))
+stored_season it rows = rw (cast_null, cast_int (pos 1), cast_int (pos 2), cast_int (pos (phase_code it.phase)), cast_int (pos it.year), cast_int (pos 0))
 
 pub adds_season : (old new : State) (count : ℕ) (it : SeasonRow) → doubt old.is_clean ≤ doubt new.is_clean → (HasCleanDisk new → ExecutesInside 0 insert_meta (season_values it) old new (Ok count)) → Writes (write_of Adds meta written_season (it ∷ []) ∷ []) old new
 adds_season old new count it later ran = add_keyed meta has_meta old new later refl (written_season it) refl (λ clean sees.

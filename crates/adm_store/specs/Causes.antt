@@ -9,7 +9,8 @@ use Rattle.sqlite.specs.declared.error.Error.TheVariants.{SqlInputError}
 use Rattle.sqlite_disk.specs.Disk.{MoreFaults}
 use Rattle.sqlite_resolve.specs.declared.compiled.Compiled.{Compiled}
 use Rattle.sqlite_resolve.specs.declared.error.CompileError.{CompileError}
-use Rattle.adm_schema.specs.Schema.{register_schema}
+use Rattle.adm_schema.specs.declared.version.Version.{Version}
+use Rattle.adm_schema.specs.Schema.{schema_of}
 use Rattle.adm_schema.specs.Texts.{select_meta}
 
 -- `sqlite` understands the text and does not answer it, as where it reads a view whose sum overflows
@@ -19,9 +20,13 @@ IsUnanswered sql s =
     × (IsNoStatement s sql [] e ⊎ ((c : Compiled) × (understood s.now.schema sql ≡ Ok c) × (IsSome c.returning
     ⊎ ((db : Database) × (now : ℕ) × IsSourceOf (reads_listing s.now.schema sql) s.now db × RefusesToRead s.step_limit c.command db (timed [] c.formats now) e))))
 
--- on a clean disk, where the connection was open on the tables of a register, and no limit was set on the steps of a query, the disk failed or refused since
+-- on a clean disk, where the connection was open on the tables of this version, and no limit was set on the steps of a query, the disk failed or refused since
+abbrev pub DiskFailedIn : Version → State → State → Type 0
+DiskFailedIn v old new = HasCleanDisk new → IsTrue old.is_open → old.step_limit ≡ None → old.now.schema ≡ schema_of v → MoreFaults old.faults new.faults
+
+-- the same of each version
 abbrev pub DiskFailed : State → State → Type 0
-DiskFailed old new = HasCleanDisk new → IsTrue old.is_open → old.step_limit ≡ None → old.now.schema ≡ register_schema → MoreFaults old.faults new.faults
+DiskFailed old new = (v : Version) → DiskFailedIn v old new
 
 -- on a clean disk, where the connection was open, the disk failed or refused since, or the text is not answered
 abbrev pub DiskFailedOr : List ℕ → State → State → Type 0
@@ -30,4 +35,4 @@ DiskFailedOr sql old new = HasCleanDisk new → IsTrue old.is_open → MoreFault
 -- On a clean disk, where the connection was open without a limit on the steps of a query, the disk failed or refused since. Under other tables than a register's it may be that the row of its table `meta` is not answered.
 abbrev pub HasDiskCause : State → State → Type 0
 HasDiskCause old new =
-    HasCleanDisk new → IsTrue old.is_open → old.step_limit ≡ None → MoreFaults old.faults new.faults ⊎ ((old.now.schema ≢ register_schema) × IsUnanswered select_meta old)
+    HasCleanDisk new → IsTrue old.is_open → old.step_limit ≡ None → MoreFaults old.faults new.faults ⊎ (((v : Version) → old.now.schema ≢ schema_of v) × IsUnanswered select_meta old)

@@ -20,12 +20,13 @@ use Rattle.adm_store.specs.declared.rows.ApplicationRow.{ApplicationRow}
 use Rattle.adm_store.specs.declared.rows.ImportedRow.{ImportedRow}
 use Rattle.adm_store.specs.declared.rows.Changes.{Changes}
 use Rattle.adm_store.specs.Forms.{phase_code, season_row, school_row, child_row, application_row, imported_row, truth_code}
+use Rattle.adm_schema.specs.declared.version.Version.TheVariants.{Second}
 use Rattle.sqlite.specs.Tree.{Trees}
-use Rattle.adm_store.specs.StandsFor.{StandsFor, LeavesOnly, LeavesEither}
+use Rattle.adm_store.specs.StandsFor.{StandsAs, LeavesOnly, LeavesEither}
 
 -- the rows as they are written
 abbrev pub written_season : SeasonRow → Row
-written_season r = Int (pos 1) ∷ Int (pos 1) ∷ Int (pos (phase_code r.phase)) ∷ Int (pos r.year) ∷ Text r.holidays ∷ Int (pos 0) ∷ []
+written_season r = Int (pos 1) ∷ Int (pos 2) ∷ Int (pos (phase_code r.phase)) ∷ Int (pos r.year) ∷ Text r.holidays ∷ Int (pos 0) ∷ []
 
 abbrev pub written_school : SchoolRow → Row
 written_school r = Text r.code ∷ Text r.name ∷ Int (pos r.pan) ∷ Int (pos r.east) ∷ Int (pos r.north) ∷ Text r.criteria ∷ []
@@ -54,11 +55,11 @@ draw_count c = length c.draws + length c.offers + length c.lots + length (last_d
 -- the row is that of this season, without a draw
 pub record IsRowOf (season : SeasonFacts) (row : SeasonRow) : Type 0 where
   pub season_is : IsSeason season
-  pub written : written_season row ≡ season_row season 0
+  pub written : written_season row ≡ season_row Second season 0
 
 -- the trees stand for the season of this row, and no other row
 abbrev pub StandsForNew : SeasonRow → Trees → Type 0
-StandsForNew row db = (season : SeasonFacts) → IsRowOf season row → StandsFor db (only_season season)
+StandsForNew row db = (season : SeasonFacts) → IsRowOf season row → StandsAs Second db (only_season season)
 
 -- the changes are just the rows of the new register that the old one has not, and the keys of the old one that the new one has not
 pub record IsChanges (old new : Register) (changes : Changes) : Type 0 where

@@ -16,12 +16,13 @@ use Rattle.adm_types.specs.declared.rows.PlaceState.{PlaceState}
 use Rattle.adm_types.specs.declared.rows.PlaceState.TheVariants.{Offered, Accepted, Plan}
 use Rattle.adm_types.specs.Numbers.{last_day}
 use Rattle.adm_register.specs.State.{application_of}
+use Rattle.adm_schema.specs.declared.version.Version.{Version as FileVersion}
 use Rattle.sqlite.specs.declared.types.Value.{Value}
 use Rattle.sqlite.specs.declared.types.Value.TheVariants.{Int, Text}
 use Rattle.sqlite.specs.Order.{Row, column}
 use Rattle.adm_store.specs.declared.fault.OpenFault.{OpenFault}
 use Rattle.adm_store.specs.declared.fault.OpenFault.TheVariants.{NotOurs, Version, BadRow, Disk, Memory}
-use Rattle.adm_store.specs.Forms.{phase_code, criteria_text, criteria_of, codes_text, day_value}
+use Rattle.adm_store.specs.Forms.{phase_code, version_code, criteria_text, criteria_of, codes_text, day_value}
 
 -- the faults that say that the tables hold no register
 abbrev pub IsNoRegister : OpenFault → Type 0
@@ -56,9 +57,9 @@ pub record HasSchoolColumns (row : Row) (code name criteria : List ℕ) (pan eas
   pub east_fits : east < 2 ^ 32
   pub north_fits : north < 2 ^ 32
 
--- the row is that of a season of version 1, with a year and a count of draws of 32 bits, and a text for the holidays
-pub record HasSeasonColumns (row : Row) (phase : Phase) (year draws : ℕ) (holidays : List ℕ) : Type 0 where
-  pub row_is : row ≡ Int (pos 1) ∷ Int (pos 1) ∷ Int (pos (phase_code phase)) ∷ Int (pos year) ∷ Text holidays ∷ Int (pos draws) ∷ []
+-- the row is that of a season in this version, with a year and a count of draws of 32 bits, and a text for the holidays
+pub record HasSeasonColumns (row : Row) (v : FileVersion) (phase : Phase) (year draws : ℕ) (holidays : List ℕ) : Type 0 where
+  pub row_is : row ≡ Int (pos 1) ∷ Int (pos (version_code v)) ∷ Int (pos (phase_code phase)) ∷ Int (pos year) ∷ Text holidays ∷ Int (pos draws) ∷ []
   pub holidays_text : IsUtf8 holidays
   pub year_fits : year < 2 ^ 32
   pub draws_fit : draws < 2 ^ 32

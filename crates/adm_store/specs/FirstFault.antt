@@ -8,19 +8,22 @@ use Rattle.sqlite.specs.Listing.{understood, reads_listing, IsSourceOf}
 use Rattle.sqlite_resolve.specs.declared.compiled.Compiled.{Compiled}
 use Rattle.sqlite_resolve.specs.declared.error.CompileError.{CompileError}
 use Rattle.adm_schema.specs.Rows.{rows_of}
-use Rattle.adm_schema.specs.Schema.{meta, register_schema}
+use Rattle.adm_schema.specs.declared.version.Version.{Version as FileVersion}
+use Rattle.adm_schema.specs.Schema.{meta, schema_of}
 use Rattle.adm_schema.specs.Texts.{select_meta}
 use Rattle.adm_store.specs.declared.fault.OpenFault.{OpenFault}
 use Rattle.adm_store.specs.declared.fault.OpenFault.TheVariants.{NotOurs, Version, BadRow}
 
-abbrev pub is_one : Value → Bool
-is_one (Int (pos (suc zero))) = true
-is_one other = false
+-- a version that is known
+abbrev pub is_known : Value → Bool
+is_known (Int (pos (suc zero))) = true
+is_known (Int (pos (suc (suc zero)))) = true
+is_known other = false
 
--- what is wrong first with a file that stands for no register, by the rows of its table `meta`: there is none; its row names another version than 1; anything else
+-- what is wrong first with a file that stands for no register, by the rows of its table `meta`: there is none; its row names another version than the two; anything else
 abbrev pub first_fault : List Row → OpenFault
 first_fault [] = NotOurs
-first_fault (cells ∷ []) = if is_one (column cells 1) then BadRow else Version
+first_fault (cells ∷ []) = if is_known (column cells 1) then BadRow else Version
 first_fault (row ∷ next ∷ rows) = BadRow
 
 -- the text, which `sqlite` understands so, answers these rows
@@ -42,4 +45,4 @@ pub record IsFirstFault (db : Database) (fault : OpenFault) : Type 0 where
   -- else its rows tell
   pub by_rows : (c : Compiled) → understood db.schema select_meta ≡ Ok c → c.returning ≡ None → (rows : List Row) × Answers db select_meta c rows × (fault ≡ first_fault rows)
   -- in a file with the tables of a register these are the rows of its table `meta`
-  pub own_rows : db.schema ≡ register_schema → fault ≡ first_fault (rows_of meta db.trees)
+  pub own_rows : (v : FileVersion) → db.schema ≡ schema_of v → fault ≡ first_fault (rows_of meta db.trees)

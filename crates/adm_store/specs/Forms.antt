@@ -16,6 +16,8 @@ use Rattle.adm_types.specs.declared.rows.PlaceRow.{PlaceRow}
 use Rattle.adm_types.specs.declared.rows.LeftPair.{LeftPair}
 use Rattle.adm_types.specs.declared.rows.PlaceState.{PlaceState}
 use Rattle.adm_types.specs.declared.rows.PlaceState.TheVariants.{Offered, Accepted, Plan}
+use Rattle.adm_schema.specs.declared.version.Version.{Version}
+use Rattle.adm_schema.specs.declared.version.Version.TheVariants.{First, Second}
 use Rattle.sqlite.specs.declared.types.Value.{Value}
 use Rattle.sqlite.specs.declared.types.Value.TheVariants.{Null, Int, Text}
 use Rattle.sqlite.specs.Order.{Row}
@@ -31,9 +33,14 @@ days_text days = joined (map decimal days)
 abbrev pub criteria_text : List Criterion → List ℕ
 criteria_text criteria = joined (map criterion_text criteria)
 
--- the key 1, the version 1, the season, and how many draws there are
-abbrev pub season_row : SeasonFacts → ℕ → Row
-season_row s draws = Int (pos 1) ∷ Int (pos 1) ∷ Int (pos (phase_code s.phase)) ∷ Int (pos s.year) ∷ Text (days_text s.holidays) ∷ Int (pos draws) ∷ []
+-- as the row of `meta` names the version
+abbrev pub version_code : Version → ℕ
+version_code First = 1
+version_code Second = 2
+
+-- the key 1, the version, the season, and how many draws there are
+abbrev pub season_row : Version → SeasonFacts → ℕ → Row
+season_row v s draws = Int (pos 1) ∷ Int (pos (version_code v)) ∷ Int (pos (phase_code s.phase)) ∷ Int (pos s.year) ∷ Text (days_text s.holidays) ∷ Int (pos draws) ∷ []
 
 abbrev pub school_row : School → Row
 school_row s = Text s.code ∷ Text s.name ∷ Int (pos s.pan) ∷ Int (pos s.at.east) ∷ Int (pos s.at.north) ∷ Text (criteria_text s.criteria) ∷ []

@@ -8,3 +8,4 @@ pub mod Causes
 pub mod Changes
 pub mod Writes
 pub mod Creating
+pub mod Migration

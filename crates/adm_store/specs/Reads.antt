@@ -4,13 +4,14 @@ use Rattle.std.specs.List.{AllByRecursion}
 use Rattle.adm_register.specs.declared.register_rows.Rows.{Rows}
 use Rattle.sqlite.specs.Order.{Row}
 use Rattle.sqlite.specs.State.{State, HasCleanDisk}
+use Rattle.adm_schema.specs.declared.version.Version.{Version}
 use Rattle.sqlite.specs.Table.{Table}
 use Rattle.sqlite.specs.Term.{Term, eval_all}
 use Rattle.sqlite.specs.Tree.{Trees}
 use Rattle.sqlite_value.specs.declared.keys.Key.{Key}
 use Rattle.adm_schema.specs.Queries.{Asks}
 use Rattle.adm_schema.specs.Rows.{columns_of}
-use Rattle.adm_schema.specs.Schema.{meta, register_schema}
+use Rattle.adm_schema.specs.Schema.{meta, schema_of}
 use Rattle.adm_store.specs.Forms.{season_row}
 use Rattle.std.specs.FinMap.{values}
 use Rattle.adm_types.specs.Seasons.{SeasonFacts}
@@ -18,29 +19,36 @@ use Rattle.adm_register.specs.State.{State as Register}
 use Rattle.adm_store.specs.Faults.{IsReadAgain, AreReadAgain, IsImportReadAgain}
 use Rattle.adm_store.specs.StandsFor.{HasRows}
 
--- the text asks for each row of the table, column by column
-pub record AsksAll (table : Table) (text : List ℕ) : Type 0 where
+-- in a file of this version the text asks for each row of the table, column by column
+pub record AsksAll (v : Version) (table : Table) (text : List ℕ) : Type 0 where
   pub project : List Term
   pub order : List (Term × Key)
-  pub asks : Asks register_schema text table.tree project order
+  pub asks : Asks (schema_of v) text table.tree project order
   pub columns : (row : Row) → eval_all project ([] ∷ row ∷ []) ≡ columns_of table row
-  pub few : table.tree < 15
+  pub few : table.tree < 16
 
--- on a clean disk, where the connection had the register's tables, this is so of the trees that it saw
+-- on a clean disk, where the connection had the tables of this version, this is so of the trees that it saw
+abbrev pub FindsIn : Version → (Trees → Type 0) → State → State → Type 0
+FindsIn v P old new = HasCleanDisk new → old.now.schema ≡ schema_of v → P old.now.trees
+
+-- the same of each version
 abbrev pub Finds : (Trees → Type 0) → State → State → Type 0
-Finds P old new = HasCleanDisk new → old.now.schema ≡ register_schema → P old.now.trees
+Finds P old new = (v : Version) → FindsIn v P old new
 
 -- and it sees what it saw
+abbrev pub SeesTheSameIn : Version → State → State → Type 0
+SeesTheSameIn v old new = HasCleanDisk new → old.now.schema ≡ schema_of v → new.now ≡ old.now
+
 abbrev pub SeesTheSame : State → State → Type 0
-SeesTheSame old new = HasCleanDisk new → old.now.schema ≡ register_schema → new.now ≡ old.now
+SeesTheSame old new = (v : Version) → SeesTheSameIn v old new
 
 -- the table has the rows of these values, in some order, and no other row
 abbrev pub Holds : {X : Type 0} → Table → (X → Row) → List X → Trees → Type 0
 Holds table row_of items = HasRows table (map row_of items)
 
--- `meta` has the one row of this season, with so many draws, and no other row
-abbrev pub HoldsSeason : SeasonFacts → ℕ → Trees → Type 0
-HoldsSeason season draws = HasRows meta (season_row season draws ∷ [])
+-- `meta` has the one row of this version and this season, with so many draws, and no other row
+abbrev pub HoldsSeason : Version → SeasonFacts → ℕ → Trees → Type 0
+HoldsSeason v season draws = HasRows meta (season_row v season draws ∷ [])
 
 -- the register is of this season, and has so many draws
 abbrev pub IsOfSeason : SeasonFacts → ℕ → Register → Type 0

@@ -23,9 +23,9 @@ pub(crate) fn is_empty(schema: &Schema) -> bool
         && schema.views.as_slice().is_empty()
 }
 
-/// The text that makes the table of this number, from 0 to 9 in the order in which they are made.
+/// The text that makes the table of this number, from 0 to 10 in the order in which they are made.
 fn creation(at: usize) -> &'static str
-    requires { at < 10 }
+    requires { at < 11 }
     ensures { slice_get creations at ≡ Some result.now }
 {
     match at {
@@ -47,8 +47,10 @@ fn creation(at: usize) -> &'static str
             "CREATE TABLE offer (draw INTEGER NOT NULL, child INTEGER NOT NULL, school TEXT, fresh INTEGER NOT NULL, PRIMARY KEY (draw, child)) STRICT",
         8 =>
             "CREATE TABLE lot (draw INTEGER NOT NULL, school TEXT NOT NULL, child INTEGER NOT NULL, lot INTEGER NOT NULL, PRIMARY KEY (draw, school, child), UNIQUE (draw, school, lot)) STRICT",
-        _ =>
+        9 =>
             "CREATE TABLE imported (child INTEGER PRIMARY KEY, name TEXT NOT NULL, east INTEGER NOT NULL, north INTEGER NOT NULL, looked_after INTEGER NOT NULL, flags INTEGER NOT NULL, siblings TEXT NOT NULL, day INTEGER NOT NULL, preferences TEXT NOT NULL) STRICT",
+        _ =>
+            "CREATE TABLE present (child INTEGER NOT NULL, imported INTEGER NOT NULL, school TEXT NOT NULL, PRIMARY KEY (child, imported)) STRICT",
     }
 }
 
@@ -61,13 +63,13 @@ fn create_table<S: Alter>(tx: &mut Transaction<'_, S>, text: &str) -> Result<(),
     Ok(())
 }
 
-/// Makes the ten tables.
+/// Makes the tables.
 fn create_tables<S: Alter>(tx: &mut Transaction<'_, S>) -> Result<(), Error>
     ensures same_reference { tx.new.conn.ghost_name ≡ tx.old.conn.ghost_name }
     ensures made { HasCleanDisk (state S.Store tx.new.conn.now) → SeesNone no_schema (state S.Store tx.old.conn.now) → OnOk result (SeesNone register_schema (state S.Store tx.new.conn.now)) }
     ensures survives { Survives (state S.Store tx.old.conn.now) (state S.Store tx.new.conn.now) (λ _. ⊥) }
 {
-    'tables: for at in 0..10 {
+    'tables: for at in 0..11 {
         create_table(tx, creation(at))?;
     }
     Ok(())

@@ -2,6 +2,7 @@
 ghost use Rattle.std.specs.Prelude.{◌≡◌, map, IfOk};
 ghost use Rattle.adm_register.specs.State.{State as Facts};
 ghost use Rattle.adm_register.specs.Difference.{IsDifference};
+ghost use Rattle.adm_schema.specs.declared.version.Version.TheVariants.{Second};
 ghost use Rattle.adm_store.specs.Changes.{written_season, written_school, written_child, written_application, written_imported, IsChanges};
 ghost use Rattle.adm_store.specs.Forms.{season_row, school_row, child_row, application_row, imported_row};
 
@@ -34,7 +35,7 @@ impl ToRow for Season {
     ghost columns = { written_season };
 
     // before the first draw
-    ghost row_of = { λ season. season_row season 0 };
+    ghost row_of = { λ season. season_row Second season 0 };
 
     fn to_row(&self, alloc: Global) -> Result<SeasonRow, AllocError> {
         let holidays = lists::days_text(alloc, self.holidays())?;

@@ -12,6 +12,7 @@ mod laws;
 mod left_list;
 mod lists;
 mod lots;
+mod migration;
 mod offers;
 mod places;
 mod reading;

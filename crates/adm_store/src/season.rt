@@ -34,7 +34,7 @@ impl Statement for AddSeason {
         let phase = number_of(row.phase);
         let holidays = row.holidays.as_str();
         tx.execute(
-            "INSERT INTO meta (one, version, phase, year, holidays, draws) VALUES (1, 1, ?1, ?2, ?3, 0)",
+            "INSERT INTO meta (one, version, phase, year, holidays, draws) VALUES (1, 2, ?1, ?2, ?3, 0)",
             params![phase, row.year, holidays],
         )?;
         Ok(())

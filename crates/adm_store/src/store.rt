@@ -1,12 +1,14 @@
 // The store of a register: to create it, to open it and to write what a command changed.
-ghost use Rattle.std.specs.Prelude.{◌≡◌, ◌≢◌, ◌↔◌, ◌<◌, false, Err, OnOk, OnErr, IfOk, IfErr, IsTrue};
+ghost use Rattle.std.specs.Prelude.{◌≡◌, ◌≢◌, ◌↔◌, ◌⊎◌, ◌<◌, false, Err, OnOk, OnErr, IfOk, IfErr, IsTrue};
 ghost use Rattle.sqlite.specs.Held.{state};
 ghost use Rattle.sqlite.specs.State.{HasCleanDisk, Survives};
-ghost use Rattle.adm_schema.specs.Schema.{no_schema};
+ghost use Rattle.adm_schema.specs.Schema.{no_schema, schema_of};
+ghost use Rattle.adm_schema.specs.declared.version.Version.TheVariants.{First, Second};
 ghost use Rattle.sqlite.specs.Tree.{Trees};
-ghost use Rattle.adm_register.specs.State.{only_season};
+ghost use Rattle.adm_register.specs.State.{State as Facts, only_season};
 ghost use Rattle.adm_store.specs.Changes.{AtNext, Commits, CommitsOrNot};
-ghost use Rattle.adm_store.specs.StandsFor.{IsStarted, StandsFor, StandsForNone, LeavesOnly, LeavesOldOrNew, LeavesNone};
+ghost use Rattle.adm_store.specs.StandsFor.{IsStarted, StandsAs, StandsForNone, LeavesAll, LeavesOnly, LeavesOldOrNew, LeavesNone};
+ghost use Rattle.adm_store.specs.Migration.{IsMigrated};
 ghost use Rattle.adm_store.specs.Faults.{IsNoRegister};
 ghost use Rattle.adm_store.specs.FirstFault.{IsFirstFault};
 ghost use Rattle.adm_store.specs.Causes.{HasDiskCause};
@@ -19,6 +21,7 @@ use crate::draws::AddDraw;
 use crate::imported::AddImported;
 use crate::left_list::AddLeft;
 use crate::lots::AddLot;
+use crate::migration::migrate;
 use crate::offers::AddOffer;
 use crate::places::{CutPlace, PutPlace};
 use crate::rows::{Changes, last_draw};
@@ -27,7 +30,7 @@ use crate::season::SetDraws;
 use crate::statement::run_each;
 use crate::{CreateFault, Failed, OpenFault, creation, reading};
 use adm_register::Register;
-use adm_schema::is_register_schema;
+use adm_schema::{Version, version_of};
 use adm_types::Season;
 use sqlite::{Alter, Connection, Error, ErrorCode, Transaction};
 use std::alloc::Global;
@@ -74,11 +77,12 @@ pub fn create<S: Alter>(
     }
 }
 
-/// Reads the register, and leaves the file as it was.
-fn read<S: Alter>(alloc: Global, conn: &mut Connection<S>) -> Result<Register, OpenFault>
+/// Reads the register and the version of its tables, and leaves the file as it was.
+fn read<S: Alter>(alloc: Global, conn: &mut Connection<S>) -> Result<(Version, Register), OpenFault>
     requires { conn.old.in_transaction ≡ false }
     ensures ended { conn.new.in_transaction ≡ false }
-    ensures ok { HasCleanDisk (state S.Store conn.new) → IsTrue (state S.Store conn.old).is_open → IfOk result (λ r. (db : Trees) → (state S.Store conn.old).may_leave db → StandsFor db r) }
+    ensures ok { HasCleanDisk (state S.Store conn.new) → IsTrue (state S.Store conn.old).is_open → IfOk result (λ it. (db : Trees) → (state S.Store conn.old).may_leave db → StandsAs it.0 db it.1) }
+    ensures tables { IfOk result (λ it. conn.old.schema ≡ schema_of it.0) }
     ensures bad { HasCleanDisk (state S.Store conn.new) → IsTrue (state S.Store conn.old).is_open → IfErr result (λ e. IsNoRegister e → (db : Trees) → (state S.Store conn.old).may_leave db → StandsForNone db) }
     ensures first { HasCleanDisk (state S.Store conn.new) → IfErr result (λ e. IsNoRegister e → IsFirstFault (state S.Store conn.old).now e) }
     ensures disk { IfErr result (λ e. e ≡ OpenFault.Disk → HasDiskCause (state S.Store conn.old) (state S.Store conn.new)) }
@@ -86,17 +90,43 @@ fn read<S: Alter>(alloc: Global, conn: &mut Connection<S>) -> Result<Register, O
 {
     let at_rest = conn.is_autocommit();
     prove!(at_rest);
-    let has_tables = is_register_schema(conn.schema());
+    let version = version_of(conn.schema());
     let mut tx = conn.transaction();
-    let register = reading::register_in(alloc, &mut tx, has_tables);
+    let found = reading::register_in(alloc, &mut tx, version);
     tx.rollback();
-    match register {
-        Ok(register) => Ok(register),
+    match found {
+        Ok(found) => Ok(found),
         Err(fault) => Err(fault),
     }
 }
 
-/// Opens the register that the file stands for. What it costs grows with the register's rows.
+/// Why a file of the first version did not become one of the second.
+fn fault_in(error: Error) -> OpenFault
+    ensures memory { (result ≡ OpenFault.Memory) ↔ (error ≡ Error.SqliteFailure ErrorCode.OutOfMemory) }
+    ensures other { IsNoRegister result → ⊥ }
+{
+    match error {
+        Error::SqliteFailure(ErrorCode::OutOfMemory) => OpenFault::Memory,
+        _ => OpenFault::Disk,
+    }
+}
+
+/// Makes a file of the first version, which was read so, one of the second; one of the second stays as it is.
+fn bring_up<S: Alter>(conn: &mut Connection<S>, version: Version) -> Result<(), Error>
+    requires { conn.old.in_transaction ≡ false }
+    ensures ended { conn.new.in_transaction ≡ false }
+    ensures first { OnErr result (version ≡ First) }
+    ensures ok { OnOk result ((r : Facts) → LeavesAll version r (state S.Store conn.old) → LeavesOnly r (state S.Store conn.new)) }
+    ensures survives { (r : Facts) → LeavesAll version r (state S.Store conn.old) → Survives (state S.Store conn.old) (state S.Store conn.new) (λ db. (version ≡ First) × StandsAs Second db r) }
+{
+    match version {
+        Version::First => migrate(conn),
+        Version::Second => Ok(()),
+    }
+}
+
+/// Opens the register that the file stands for, and brings the file to the second version. What it costs grows with
+/// the register's rows.
 pub fn open<S: Alter>(
     alloc: Global,
     mut conn: Connection<S>,
@@ -106,14 +136,18 @@ pub fn open<S: Alter>(
     ensures ok { IfOk result (λ o. LeavesOnly o.1 (state S.Store o.0)) }
     ensures bad { IfErr result (λ e. IsNoRegister e.0 → LeavesNone (state S.Store e.1)) }
     ensures first { IfErr result (λ e. HasCleanDisk (state S.Store e.1) → IsNoRegister e.0 → IsFirstFault (state S.Store conn).now e.0) }
-    ensures disk { IfErr result (λ e. e.0 ≡ OpenFault.Disk → HasDiskCause (state S.Store conn) (state S.Store e.1)) }
-    ensures kept { IfOk result (λ o. Survives (state S.Store conn) (state S.Store o.0) (λ _. ⊥)) }
+    ensures disk { IfErr result (λ e. e.0 ≡ OpenFault.Disk → HasDiskCause (state S.Store conn) (state S.Store e.1) ⊎ (conn.schema ≡ schema_of First)) }
+    ensures kept { IfOk result (λ o. Survives (state S.Store conn) (state S.Store o.0) (IsMigrated (state S.Store conn))) }
     ensures ended { IfErr result (λ e. e.1.in_transaction ≡ false) }
-    ensures left { IfErr result (λ e. Survives (state S.Store conn) (state S.Store e.1) (λ _. ⊥)) }
+    ensures left { IfErr result (λ e. Survives (state S.Store conn) (state S.Store e.1) (IsMigrated (state S.Store conn))) }
 {
-    match read(alloc, &mut conn) {
-        Ok(register) => Ok((Store { conn }, register)),
-        Err(fault) => Err((fault, conn)),
+    let (version, register) = match read(alloc, &mut conn) {
+        Ok(found) => found,
+        Err(fault) => return Err((fault, conn)),
+    };
+    match bring_up(&mut conn, version) {
+        Ok(()) => Ok((Store { conn }, register)),
+        Err(error) => Err((fault_in(error), conn)),
     }
 }
 
@@ -192,8 +226,8 @@ fn write<S: Alter>(conn: &mut Connection<S>, changes: &Changes) -> Result<(), Er
     requires ended { conn.old.in_transaction ≡ false }
     requires some { 0 < count_of (writes_of changes.now) }
     ensures ended { conn.new.in_transaction ≡ false }
-    ensures committed { HasCleanDisk (state S.Store conn.new) → OnOk result (IsTrue (state S.Store conn.new).is_open × AtNext changes.now (state S.Store conn.old) (StandsFor (state S.Store conn.new).committed.trees)) }
-    ensures survives { AtNext changes.now (state S.Store conn.old) (λ new. Survives (state S.Store conn.old) (state S.Store conn.new) (λ db. StandsFor db new)) }
+    ensures committed { HasCleanDisk (state S.Store conn.new) → OnOk result (IsTrue (state S.Store conn.new).is_open × AtNext changes.now (state S.Store conn.old) (StandsAs Second (state S.Store conn.new).committed.trees)) }
+    ensures survives { AtNext changes.now (state S.Store conn.old) (λ new. Survives (state S.Store conn.old) (state S.Store conn.new) (λ db. StandsAs Second db new)) }
 {
     let at_rest = conn.is_autocommit();
     prove!(at_rest);

@@ -4,11 +4,12 @@ ghost use Rattle.sqlite.specs.Held.{state};
 ghost use Rattle.sqlite.specs.State.{HasCleanDisk, Survives};
 ghost use Rattle.sqlite.specs.Table.{Table};
 ghost use Rattle.sqlite_resolve.specs.declared.error.CompileError.{CompileError};
-ghost use Rattle.adm_store.specs.Reads.{AsksAll, Finds, SeesTheSame};
+ghost use Rattle.adm_schema.specs.declared.version.Version.{Version as FileVersion};
+ghost use Rattle.adm_store.specs.Reads.{AsksAll, FindsIn, SeesTheSameIn};
 ghost use Rattle.adm_store.specs.StandsFor.{HasRows};
 ghost use Rattle.adm_store.specs.FirstFault.{IsAnswered, IsNotAsked};
 ghost use Rattle.adm_store.specs.Faults.{IsNoRegister};
-ghost use Rattle.adm_store.specs.Causes.{DiskFailed, DiskFailedOr};
+ghost use Rattle.adm_store.specs.Causes.{DiskFailedIn, DiskFailedOr};
 
 use crate::OpenFault;
 use sqlite::{Alter, Error, ErrorCode, Row, Transaction};
@@ -33,12 +34,12 @@ pub(super) fn query<S: Alter>(
     missing: OpenFault,
 ) -> Result<Vec<Row>, OpenFault>
     ensures same_reference { tx.new.conn.ghost_name ≡ tx.old.conn.ghost_name }
-    ensures ok { IfOk result (λ rows. (t : Table) → AsksAll t text.now → Finds (HasRows t rows.items) (state S.Store tx.old.conn.now) (state S.Store tx.new.conn.now)) }
-    ensures same { OnOk result ((t : Table) → AsksAll t text.now → SeesTheSame (state S.Store tx.old.conn.now) (state S.Store tx.new.conn.now)) }
-    ensures bad { IfErr result (λ e. IsNoRegister e → (t : Table) → AsksAll t text.now → Finds (λ _. ⊥) (state S.Store tx.old.conn.now) (state S.Store tx.new.conn.now)) }
+    ensures ok { IfOk result (λ rows. (v : FileVersion) (t : Table) → AsksAll v t text.now → FindsIn v (HasRows t rows.items) (state S.Store tx.old.conn.now) (state S.Store tx.new.conn.now)) }
+    ensures same { OnOk result ((v : FileVersion) (t : Table) → AsksAll v t text.now → SeesTheSameIn v (state S.Store tx.old.conn.now) (state S.Store tx.new.conn.now)) }
+    ensures bad { IfErr result (λ e. IsNoRegister e → (v : FileVersion) (t : Table) → AsksAll v t text.now → FindsIn v (λ _. ⊥) (state S.Store tx.old.conn.now) (state S.Store tx.new.conn.now)) }
     ensures answered { HasCleanDisk (state S.Store tx.new.conn.now) → IfOk result (λ rows. IsAnswered (state S.Store tx.old.conn.now).now text.now rows.items) }
     ensures refused { HasCleanDisk (state S.Store tx.new.conn.now) → IfErr result (λ e. IsNoRegister e → (e ≡ missing) × IsNotAsked (state S.Store tx.old.conn.now).now text.now) }
-    ensures disk { IsNoRegister missing → IfErr result (λ e. e ≡ OpenFault.Disk → (t : Table) → AsksAll t text.now → DiskFailed (state S.Store tx.old.conn.now) (state S.Store tx.new.conn.now)) }
+    ensures disk { IsNoRegister missing → IfErr result (λ e. e ≡ OpenFault.Disk → (v : FileVersion) (t : Table) → AsksAll v t text.now → DiskFailedIn v (state S.Store tx.old.conn.now) (state S.Store tx.new.conn.now)) }
     ensures unanswered { IsNoRegister missing → IfErr result (λ e. e ≡ OpenFault.Disk → DiskFailedOr text.now (state S.Store tx.old.conn.now) (state S.Store tx.new.conn.now)) }
     ensures survives { Survives (state S.Store tx.old.conn.now) (state S.Store tx.new.conn.now) (λ _. ⊥) }
 {

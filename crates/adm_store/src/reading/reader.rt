@@ -17,6 +17,7 @@ use std::alloc::Global;
 pub(super) trait Reader {
     ghost use Rattle.sqlite.specs.Order.{Row as Columns};
     ghost use Rattle.sqlite.specs.Table.{Table};
+    ghost use Rattle.adm_schema.specs.declared.version.Version.{Version};
     ghost use Rattle.adm_store.specs.Reads.{AsksAll};
 
     /// What a row is read as.
@@ -35,7 +36,7 @@ pub(super) trait Reader {
 
     /// The query of its rows.
     fn select(&self) -> &'static str
-        ensures { AsksAll (table self.now) result.now };
+        ensures { (v : Version) → AsksAll v (table self.now) result.now };
 
     fn read(&self, alloc: Global, row: &Row) -> Result<Self::Item, OpenFault>
         ensures ok { IfOk result (λ x. row.now ≡ row_of x) }

@@ -4,19 +4,21 @@ ghost use Rattle.sqlite.specs.declared.types.Value.TheVariants.{Int, Text as Tex
 ghost use Rattle.std.specs.Prelude.{ℕ, List, Err, ◌&&◌, nat_lt};
 ghost use Rattle.adm_types.specs.Limits.{is_from};
 ghost use Rattle.adm_types.specs.Seasons.{SeasonFacts, IsSeason, IsRising};
-ghost use Rattle.adm_store.specs.Forms.{phase_code, days_text, days_of, season_row};
+ghost use Rattle.adm_store.specs.Forms.{phase_code, version_code, days_text, days_of, season_row};
 ghost use Rattle.sqlite.specs.Held.{state};
 ghost use Rattle.sqlite.specs.Order.{column};
 ghost use Rattle.sqlite.specs.State.{HasCleanDisk, Survives};
 ghost use Rattle.adm_schema.specs.Texts.{select_meta};
+ghost use Rattle.adm_schema.specs.declared.version.Version.{Version as FileVersion};
 ghost use Rattle.adm_store.specs.Reads.{Finds, HoldsSeason, SeesTheSame};
-ghost use Rattle.adm_store.specs.FirstFault.{is_one, first_fault, IsFirstFault};
+ghost use Rattle.adm_store.specs.FirstFault.{is_known, first_fault, IsFirstFault};
 ghost use Rattle.adm_store.specs.Faults.{IsNoRegister, HasSeasonColumns};
 ghost use Rattle.adm_store.specs.Causes.{DiskFailed, DiskFailedOr};
 
 use crate::reading::columns::value_at;
 use crate::reading::queries::query;
 use crate::{OpenFault, lists};
+use adm_schema::Version;
 use adm_types::{Day, Phase, Season, SeasonFault};
 use sqlite::{Alter, Row, Transaction};
 use std::alloc::Global;
@@ -28,6 +30,18 @@ fn phase_of(number: u32) -> Option<Phase>
     match number {
         1 => Some(Phase::Primary),
         2 => Some(Phase::Secondary),
+        _ => None,
+    }
+}
+
+/// The version of a number.
+fn version_of(number: u32) -> Option<Version>
+    ensures found { IfSome result (λ v. number ≡ version_code v) }
+    ensures none { result ≡ None → (v : FileVersion) → number ≡ version_code v → ⊥ }
+{
+    match number {
+        1 => Some(Version::First),
+        2 => Some(Version::Second),
         _ => None,
     }
 }
@@ -44,34 +58,36 @@ struct SeasonColumns {
 /// What the row of `meta` says.
 #[derive(Drop)]
 pub(super) struct MetaRow {
+    pub(super) version: Version,
     pub(super) season: Season,
     /// How many draws there are.
     pub(super) draws: u32,
 }
 
-/// That the row names version 1.
-fn expect_version(row: &Row) -> Result<(), OpenFault>
-    ensures ok { OnOk result (IsTrue (is_one (column row.now 1))) }
-    ensures bad { IfErr result (λ e. (e ≡ OpenFault.Memory) ⊎ ((e ≡ OpenFault.Version) × (is_one (column row.now 1) ≡ false))) }
+/// The version that the row names.
+fn version_in(row: &Row) -> Result<Version, OpenFault>
+    ensures ok { IfOk result (λ v. column row.now 1 ≡ Int (pos (version_code v))) }
+    ensures bad { IfErr result (λ e. (e ≡ OpenFault.Memory) ⊎ ((e ≡ OpenFault.Version) × (is_known (column row.now 1) ≡ false))) }
 {
     if row.column_count() < 2 {
         return Err(OpenFault::Version);
     }
-    let version: u32 = match value_at(row, 1) {
-        Ok(version) => version,
+    let number: u32 = match value_at(row, 1) {
+        Ok(number) => number,
         Err(OpenFault::Memory) => return Err(OpenFault::Memory),
         Err(_) => return Err(OpenFault::Version),
     };
-    if version != 1 {
-        return Err(OpenFault::Version);
+    match version_of(number) {
+        Some(version) => Ok(version),
+        None => Err(OpenFault::Version),
     }
-    Ok(())
 }
 
-fn season_columns(row: &Row) -> Result<SeasonColumns, OpenFault>
-    requires { IsTrue (is_one (column row.now 1)) }
-    ensures ok { IfOk result (λ c. row.now ≡ Int (pos 1) ∷ Int (pos 1) ∷ Int (pos (phase_code c.phase)) ∷ Int (pos c.year) ∷ TextValue (string_bytes c.holidays) ∷ Int (pos c.draws) ∷ []) }
-    ensures bad { IfErr result (λ e. IsNoRegister e → (phase : Phase) (year draws : ℕ) (holidays : List ℕ) → HasSeasonColumns row.now phase year draws holidays → ⊥) }
+/// The other columns of a row that names this version.
+fn season_columns(row: &Row, version: Version) -> Result<SeasonColumns, OpenFault>
+    requires { column row.now 1 ≡ Int (pos (version_code version)) }
+    ensures ok { IfOk result (λ c. row.now ≡ Int (pos 1) ∷ Int (pos (version_code version)) ∷ Int (pos (phase_code c.phase)) ∷ Int (pos c.year) ∷ TextValue (string_bytes c.holidays) ∷ Int (pos c.draws) ∷ []) }
+    ensures bad { IfErr result (λ e. IsNoRegister e → (phase : Phase) (year draws : ℕ) (holidays : List ℕ) → HasSeasonColumns row.now version phase year draws holidays → ⊥) }
     ensures first { IfErr result (λ e. IsNoRegister e → e ≡ OpenFault.BadRow) }
     ensures disk { IfErr result (λ e. e ≡ OpenFault.Disk → ⊥) }
 {
@@ -169,22 +185,23 @@ fn season_with(alloc: Global, columns: &SeasonColumns) -> Result<Season, OpenFau
 
 /// The season and the count of draws from their row.
 fn season_in(alloc: Global, row: &Row) -> Result<MetaRow, OpenFault>
-    ensures ok { IfOk result (λ it. row.now ≡ season_row it.season it.draws) }
+    ensures ok { IfOk result (λ it. row.now ≡ season_row it.version it.season it.draws) }
     ensures season { IfOk result (λ it. IsSeason it.season) }
-    ensures bad { IfErr result (λ e. IsNoRegister e → (season : SeasonFacts) (draws : ℕ) → IsSeason season → draws < 2 ^ 32 → row.now ≡ season_row season draws → ⊥) }
+    ensures bad { IfErr result (λ e. IsNoRegister e → (v : FileVersion) (season : SeasonFacts) (draws : ℕ) → IsSeason season → draws < 2 ^ 32 → row.now ≡ season_row v season draws → ⊥) }
     ensures first { IfErr result (λ e. IsNoRegister e → e ≡ first_fault (row.now ∷ [])) }
     ensures disk { IfErr result (λ e. e ≡ OpenFault.Disk → ⊥) }
 {
-    match expect_version(row) {
-        Ok(()) => {}
+    let version = match version_in(row) {
+        Ok(version) => version,
         Err(fault) => return Err(fault),
-    }
-    let columns = match season_columns(row) {
+    };
+    let columns = match season_columns(row, version) {
         Ok(columns) => columns,
         Err(fault) => return Err(fault),
     };
     match season_with(alloc, &columns) {
         Ok(season) => Ok(MetaRow {
+            version,
             season,
             draws: columns.draws,
         }),
@@ -194,9 +211,9 @@ fn season_in(alloc: Global, row: &Row) -> Result<MetaRow, OpenFault>
 
 /// The season and the count of draws of the one row that there may be.
 fn season_of(alloc: Global, rows: &[Row]) -> Result<MetaRow, OpenFault>
-    ensures ok { IfOk result (λ it. rows.now ≡ season_row it.season it.draws ∷ []) }
+    ensures ok { IfOk result (λ it. rows.now ≡ season_row it.version it.season it.draws ∷ []) }
     ensures season { IfOk result (λ it. IsSeason it.season) }
-    ensures bad { IfErr result (λ e. IsNoRegister e → (season : SeasonFacts) (draws : ℕ) → IsSeason season → draws < 2 ^ 32 → rows.now ≡ season_row season draws ∷ [] → ⊥) }
+    ensures bad { IfErr result (λ e. IsNoRegister e → (v : FileVersion) (season : SeasonFacts) (draws : ℕ) → IsSeason season → draws < 2 ^ 32 → rows.now ≡ season_row v season draws ∷ [] → ⊥) }
     ensures first { IfErr result (λ e. IsNoRegister e → e ≡ first_fault rows.now) }
     ensures disk { IfErr result (λ e. e ≡ OpenFault.Disk → ⊥) }
 {
@@ -213,10 +230,10 @@ pub(super) fn read_season<S: Alter>(
     tx: &mut Transaction<'_, S>,
 ) -> Result<MetaRow, OpenFault>
     ensures same_reference { tx.new.conn.ghost_name ≡ tx.old.conn.ghost_name }
-    ensures ok { IfOk result (λ it. Finds (HoldsSeason it.season it.draws) (state S.Store tx.old.conn.now) (state S.Store tx.new.conn.now)) }
+    ensures ok { IfOk result (λ it. Finds (HoldsSeason it.version it.season it.draws) (state S.Store tx.old.conn.now) (state S.Store tx.new.conn.now)) }
     ensures season { IfOk result (λ it. IsSeason it.season) }
     ensures same { OnOk result (SeesTheSame (state S.Store tx.old.conn.now) (state S.Store tx.new.conn.now)) }
-    ensures bad { IfErr result (λ e. IsNoRegister e → (s : SeasonFacts) (n : ℕ) → IsSeason s → n < 2 ^ 32 → Finds (λ db. ¬ HoldsSeason s n db) (state S.Store tx.old.conn.now) (state S.Store tx.new.conn.now)) }
+    ensures bad { IfErr result (λ e. IsNoRegister e → (v : FileVersion) (s : SeasonFacts) (n : ℕ) → IsSeason s → n < 2 ^ 32 → Finds (λ db. ¬ HoldsSeason v s n db) (state S.Store tx.old.conn.now) (state S.Store tx.new.conn.now)) }
     ensures version { HasCleanDisk (state S.Store tx.new.conn.now) → OnOk result (IsFirstFault (state S.Store tx.old.conn.now).now OpenFault.BadRow) }
     ensures first { HasCleanDisk (state S.Store tx.new.conn.now) → IfErr result (λ e. IsNoRegister e → IsFirstFault (state S.Store tx.old.conn.now).now e) }
     ensures disk { IfErr result (λ e. e ≡ OpenFault.Disk → DiskFailed (state S.Store tx.old.conn.now) (state S.Store tx.new.conn.now)) }

@@ -23,5 +23,5 @@ tables-preserved g c =
 
 pub returns-clause-made : goal.returns-clause-made
 returns-clause-made g c clean begun live =
-    let whole : c.tables.at ≡ 10 = omega (arith, c.tables.auto.at-end, c.tables-test.false) in
+    let whole : c.tables.at ≡ 11 = omega (arith, c.tables.auto.at-end, c.tables-test.false) in
     subst (λ n. SeesNoRows (schema_after n) (state g.S.Store c.tables.tx.conn.now)) whole (c.tables.invariant.made clean begun live)

@@ -6,15 +6,15 @@ use Rattle.adm_store.proofs.ReadingLemmas.{few_trees, table_shown}
 use Rattle.adm_store.proofs.reading.queries.query.Goals as goal
 
 pub returns-in-Ok-clause-ok : goal.returns-in-Ok-clause-ok
-returns-in-Ok-clause-ok g c t asks clean has =
+returns-in-Ok-clause-ok g c v t asks clean has =
     let old = state g.S.Store c.args.tx.now.conn.now in
-    table_shown t c.args.text.now asks old.now.trees c.in-Ok.rows.items (shows_all asks.asks old (state g.S.Store c.query_all.new.self.conn.now) c.in-Ok.rows.items (few_trees t.tree asks.few) has (c.in-Ok.ensures.ok clean))
+    table_shown v t c.args.text.now asks old.now.trees c.in-Ok.rows.items (shows_all asks.asks old (state g.S.Store c.query_all.new.self.conn.now) c.in-Ok.rows.items (few_trees t.tree asks.few) has (c.in-Ok.ensures.ok clean))
 
 pub returns-in-Ok-clause-same : goal.returns-in-Ok-clause-same
-returns-in-Ok-clause-same g c t asks clean has = (shows_unchanged asks.asks (state g.S.Store c.args.tx.now.conn.now) (state g.S.Store c.query_all.new.self.conn.now) c.in-Ok.rows.items has (c.in-Ok.ensures.ok clean)).0.now_is
+returns-in-Ok-clause-same g c v t asks clean has = (shows_unchanged asks.asks (state g.S.Store c.args.tx.now.conn.now) (state g.S.Store c.query_all.new.self.conn.now) c.in-Ok.rows.items has (c.in-Ok.ensures.ok clean)).0.now_is
 
 pub returns-in-Err-clause-bad : goal.returns-in-Err-clause-bad
-returns-in-Err-clause-bad g c structural t asks clean has =
+returns-in-Err-clause-bad g c structural v t asks clean has =
     let text = (c.fault_of.ensures.missing structural).1 in
     never_refused asks.asks (state g.S.Store c.args.tx.now.conn.now) (state g.S.Store c.query_all.new.self.conn.now) c.in-Err.error text.0 has text.1 (c.in-Err.ensures.err clean)
 
@@ -27,7 +27,7 @@ returns-in-Err-clause-refused g c clean structural =
     (text.2, not_asked c.args.text.now (state g.S.Store c.args.tx.now.conn.now) (state g.S.Store c.query_all.new.self.conn.now) c.in-Err.error text.1.0 text.1.1 (c.in-Err.ensures.err clean))
 
 pub returns-in-Err-clause-disk : goal.returns-in-Err-clause-disk
-returns-in-Err-clause-disk g c missing is t asks clean live unlimited has =
+returns-in-Err-clause-disk g c missing is v t asks clean live unlimited has =
     let other = c.fault_of.ensures.disk missing is in
     let old = state g.S.Store c.args.tx.now.conn.now in
     let new = state g.S.Store c.query_all.new.self.conn.now in

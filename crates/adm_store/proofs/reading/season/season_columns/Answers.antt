@@ -2,7 +2,6 @@ use Rattle.std.proofs.Common.{rules, pos, ap, ◌≡◌, ◌∙◌}
 use Rattle.sqlite.specs.declared.types.Value.TheVariants.{Int}
 use Rattle.adm_store.specs.Forms.{phase_code}
 use Rattle.adm_store.proofs.RowLemmas.{columns_are}
-use Rattle.adm_store.proofs.SeasonRows.{one_is}
 use Rattle.adm_store.proofs.reading.season.season_columns.Goals as goal
 
 pub returns-clause-ok : goal.returns-clause-ok
@@ -11,5 +10,5 @@ returns-clause-ok c =
     let phase : c.in_ok-value_at.field-0 ≡ phase_code c.in-Some.phase = search rules in
     columns_are c.args.row.now _ (search rules) (
       c.in_ok-one.ensures.ok ∙ ap (λ n. Int (pos n)) one,
-      (one_is _ c.requires, (c.in_ok-value_at.ensures.ok ∙ ap (λ n. Int (pos n)) phase, (c.in_ok-year.ensures.ok, (c.in_ok-holidays.ensures.ok, (c.in_ok-draws.ensures.ok, tt))))),
+      (c.requires, (c.in_ok-value_at.ensures.ok ∙ ap (λ n. Int (pos n)) phase, (c.in_ok-year.ensures.ok, (c.in_ok-holidays.ensures.ok, (c.in_ok-draws.ensures.ok, tt))))),
     )

@@ -3,4 +3,4 @@ use Rattle.adm_schema.proofs.Texts.{asks_imported}
 use Rattle.adm_store.proofs.reading.imported.ImportedReaderReader.select.Goals as goal
 
 pub returns : goal.returns
-returns c = record { project = _; order = _; asks = asks_imported; columns = λ _. refl; few = omega arith }
+returns c v = record { project = _; order = _; asks = asks_imported v; columns = λ _. refl; few = omega arith }

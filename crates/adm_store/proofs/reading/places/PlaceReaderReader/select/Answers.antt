@@ -3,4 +3,4 @@ use Rattle.adm_schema.proofs.Texts.{asks_places}
 use Rattle.adm_store.proofs.reading.places.PlaceReaderReader.select.Goals as goal
 
 pub returns : goal.returns
-returns c = record { project = _; order = _; asks = asks_places; columns = λ _. refl; few = omega arith }
+returns c v = record { project = _; order = _; asks = asks_places v; columns = λ _. refl; few = omega arith }
