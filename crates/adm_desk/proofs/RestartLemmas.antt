@@ -7,7 +7,9 @@ use Rattle.sqlite.specs.Tree.{Trees}
 use Rattle.adm_types.specs.declared.commands.Command.{Command}
 use Rattle.adm_register.specs.State.{State as Register, coded_state}
 use Rattle.adm_register.specs.Outcome.{Accepts}
-use Rattle.adm_store.specs.StandsFor.{StandsFor, LeavesOnly, LeavesNone}
+use Rattle.adm_store.specs.StandsFor.{StandsNow, StandsFor, LeavesOnly, LeavesNone}
+use Rattle.adm_store.specs.Migration.{IsMigrated}
+use Rattle.adm_store.proofs.MigrationLemmas.{not_migrated, stands_for}
 use Rattle.adm_desk.specs.declared.answer.Answer.{Answer}
 use Rattle.adm_desk.specs.Acknowledged.{After, LeavesAcknowledged, FindsAgain, Reopens, acknowledged, in_work}
 
@@ -32,9 +34,9 @@ module _ (before started opened : Disk) (reopens : Reopens before started) (surv
   was_left db may = subst (λ (t : Trees). before.may_leave t) (sym (is_the_file db may)) could_be_left
 
   module _ (some : LeavesSome opened) where
-    found_one : ((db : Trees) (r s : Register) → StandsFor db r → StandsFor db s → r ≡ s) → (found r : Register) → LeavesOnly found opened → StandsFor started.committed.trees r → found ≡ r
+    found_one : ((db : Trees) (r s : Register) → StandsFor db r → StandsFor db s → r ≡ s) → (found r : Register) → LeavesOnly found opened → StandsNow started.committed.trees r → found ≡ r
     found_one one found r leaves stands =
-        ∥∥₁_elim some (Coded-set coded_state found r) (λ left. one started.committed.trees found r (subst (λ (t : Trees). StandsFor t found) (is_the_file left.0 left.1) (leaves clean left.0 left.1)) stands)
+        ∥∥₁_elim some (Coded-set coded_state found r) (λ left. one started.committed.trees found r (stands_for _ _ (subst (λ (t : Trees). StandsNow t found) (is_the_file left.0 left.1) (leaves clean left.0 left.1))) (stands_for _ _ stands))
 
     pub finds : ((db : Trees) (r s : Register) → StandsFor db r → StandsFor db s → r ≡ s) → (r : Register) (work : Option Command) (found : Register) → LeavesAcknowledged r work before → LeavesOnly found opened → FindsAgain r work found
     finds one r None found left leaves = found_one one found r leaves (left clean_before started.committed.trees could_be_left)
@@ -47,8 +49,8 @@ module _ (before started opened : Disk) (reopens : Reopens before started) (surv
     holds_one r work left none = ∥∥₁_elim some (λ x y. absurd x) (λ it. go work left it.0 it.1)
       where
         go : (work : Option Command) → LeavesAcknowledged r work before → (db : Trees) → opened.may_leave db → ⊥
-        go None left db may = none clean db may r (left clean_before db (was_left db may))
-        go (Some command) left db may = elim (left.leaves clean_before db (was_left db may)) [ inl stands ↦ none clean db may r stands | inr stands ↦ none clean db may left.next stands ]
+        go None left db may = none clean db may r (stands_for _ _ (left clean_before db (was_left db may)))
+        go (Some command) left db may = elim (left.leaves clean_before db (was_left db may)) [ inl stands ↦ none clean db may r (stands_for _ _ stands) | inr stands ↦ none clean db may left.next (stands_for _ _ stands) ]
 
 -- what is left stands for the same registers
 pub still_leaves : (before started opened : Disk) → Reopens before started → Survives started opened (λ _. ⊥) → (r : Register) (work : Option Command) → LeavesAcknowledged r work before → LeavesAcknowledged r work opened
@@ -58,6 +60,24 @@ still_leaves before started opened reopens survives r (Some command) left = reco
   accepted = left.accepted;
   leaves = λ clean db may. left.leaves (clean_before before started opened reopens survives clean) db (was_left before started opened reopens survives clean db may);
 }
+
+-- what a crash left of a desk's file is of the second version, so no start migrates it
+pub never_migrated : (before started opened : Disk) → Reopens before started → (r : Register) (work : Option Command) → LeavesAcknowledged r work before → (HasCleanDisk started → started.may_leave started.committed.trees)
+    → Survives started opened (IsMigrated started) → Survives started opened (λ _. ⊥)
+never_migrated before started opened reopens r work left stays kept = record { clean = kept.clean; shield = kept.shield; counts = kept.counts; limit = kept.limit; closes = kept.closes; crash = λ clean db may. elim (kept.crash clean db may) [ inl here ↦ inl here | inr it ↦ absurd (go work left clean db it) ] }
+  where
+    go : (work : Option Command) → LeavesAcknowledged r work before → HasCleanDisk opened → (db : Trees) → IsMigrated started db → ⊥
+    go None left clean db it =
+        let here : HasCleanDisk started = omega (arith, kept.clean, clean) in
+        let early : HasCleanDisk before = omega (arith, reopens.clean, here) in
+        not_migrated started db started.committed.trees r it (stays here) (left early started.committed.trees (reopens.found here))
+    go (Some command) left clean db it =
+        let here : HasCleanDisk started = omega (arith, kept.clean, clean) in
+        let early : HasCleanDisk before = omega (arith, reopens.clean, here) in
+        elim (left.leaves early started.committed.trees (reopens.found here)) [
+          | inl stands ↦ not_migrated started db started.committed.trees r it (stays here) stands
+          | inr stands ↦ not_migrated started db started.committed.trees left.next it (stays here) stands
+        ]
 
 -- ---- no answer
 

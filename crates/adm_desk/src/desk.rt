@@ -10,6 +10,7 @@ ghost use Rattle.adm_store.specs.Changes.{IsChanges};
 ghost use Rattle.adm_store.specs.Faults.{IsNoRegister};
 ghost use Rattle.adm_store.specs.FirstFault.{IsFirstFault};
 ghost use Rattle.adm_store.specs.StandsFor.{IsStarted, LeavesOnly, LeavesNone};
+ghost use Rattle.adm_store.specs.Migration.{IsMigrated};
 ghost use Rattle.adm_desk.specs.Steps.{IsRun};
 ghost use Rattle.adm_desk.specs.Standing.{Handles, Keeps, Standing};
 ghost use Rattle.adm_desk.specs.Lines.{lines_of, AnswersLines};
@@ -65,7 +66,8 @@ impl<S: Alter> Model for Desk<S> {
 
 impl<S: Alter> Desk<S> {
     /// Opens the register that the file stands for. Faults 1 to 3 come only where it stands for
-    /// none, and the first of them that fits is told; whatever comes, a crash leaves the file as it was found.
+    /// none, and the first of them that fits is told; whatever comes, a crash leaves the file as it was found, or, where
+    /// it was one of the first version, one of the second for the same register.
     /// What it costs grows with the rows of the register.
     pub fn open(alloc: Global, conn: Connection<S>) -> Result<Desk<S>, (OpenFault, Connection<S>)>
         requires ended { conn.in_transaction ≡ false }
@@ -73,9 +75,9 @@ impl<S: Alter> Desk<S> {
         ensures opened { IfOk result (λ desk. (desk.failed ≡ false) × LeavesOnly desk.register (state S.Store desk.conn)) }
         ensures bad { IfErr result (λ e. IsNoRegister e.0 → LeavesNone (state S.Store e.1)) }
         ensures first { IfErr result (λ e. HasCleanDisk (state S.Store e.1) → IsNoRegister e.0 → IsFirstFault (state S.Store conn).now e.0) }
-        ensures kept { IfOk result (λ desk. Survives (state S.Store conn) (state S.Store desk.conn) (λ _. ⊥)) }
+        ensures kept { IfOk result (λ desk. Survives (state S.Store conn) (state S.Store desk.conn) (IsMigrated (state S.Store conn))) }
         ensures ended { IfErr result (λ e. e.1.in_transaction ≡ false) }
-        ensures left { IfErr result (λ e. Survives (state S.Store conn) (state S.Store e.1) (λ _. ⊥)) }
+        ensures left { IfErr result (λ e. Survives (state S.Store conn) (state S.Store e.1) (IsMigrated (state S.Store conn))) }
     {
         match adm_store::open(alloc, conn) {
             Ok((store, register)) => Ok(Desk {
