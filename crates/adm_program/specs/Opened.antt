@@ -12,6 +12,7 @@ use Rattle.sqlite.specs.Files.{file_state, IsClosed}
 use Rattle.sqlite.specs.Closing.{IsCopied}
 use Rattle.sqlite.specs.Start.{FindsIn}
 use Rattle.adm_store.specs.StandsFor.{LeavesOnly, LeavesNone}
+use Rattle.adm_store.specs.Migration.{IsMigrated}
 use Rattle.adm_store.specs.Faults.{IsNoRegister}
 use Rattle.adm_store.specs.FirstFault.{IsFirstFault}
 use Rattle.adm_store.specs.declared.fault.OpenFault.{OpenFault}
@@ -36,7 +37,7 @@ module _ {D : Type 0} {g : disk.Ghosts D} where
   abbrev pub IsFound : Image → Held (FileStore D g) → Type 0
   IsFound image c = HasCleanDisk (file_state c) → FindsIn image (file_state c)
 
-  -- the files stand for no register, or could not be read, and stay as they were; the first fault that fits is told
+  -- the files stand for no register, or could not be read, and stay as they were, or stand for the same register in the second version; the first fault that fits is told
   pub record IsNotOpened (image : Image) (e : Result Exit Fault) (closed : Result (Files D) (Error × FileStore D g)) : Type 0 where
     pub found : Held (FileStore D g)
     pub is_found : IsFound image found
@@ -45,16 +46,16 @@ module _ {D : Type 0} {g : disk.Ghosts D} where
     pub left : Held (FileStore D g)
     pub none : IsNoRegister cause → LeavesNone (file_state left)
     pub first : HasCleanDisk (file_state left) → IsNoRegister cause → IsFirstFault (file_state found).now cause
-    pub kept : Survives (file_state found) (file_state left) (λ _. ⊥)
+    pub kept : Survives (file_state found) (file_state left) (IsMigrated (file_state found))
     pub closes : Closes left closed
 
-  -- the desk has the register that the files stood for, and a crash leaves the files as they were
+  -- the desk has the register that the files stood for, and a crash leaves the files as they were, or in the second version for the same register
   pub record IsOpened (image : Image) (desk : Standing (Held (FileStore D g))) : Type 0 where
     pub found : Held (FileStore D g)
     pub is_found : IsFound image found
     pub alive : desk.failed ≡ false
     pub leaves : LeavesOnly desk.register (file_state desk.conn)
-    pub kept : Survives (file_state found) (file_state desk.conn) (λ _. ⊥)
+    pub kept : Survives (file_state found) (file_state desk.conn) (IsMigrated (file_state found))
 
   -- a desk, or how the line ended without one
   abbrev pub OpensAs : Image → Result (Standing (Held (FileStore D g))) (Ended D g) → Type 0
