@@ -2,7 +2,9 @@
 use crate::acts::{Came, Doing};
 use crate::crashes::crash;
 use crate::desks::Ran;
+use crate::files::disks_of;
 use crate::lines::Lines;
+use crate::migrations::migrations;
 use crate::stops::stops;
 use crate::sweeps::sweeps;
 use run_disks::{Counts, Disks};
@@ -30,7 +32,11 @@ impl Bench {
     }
 
     /// Takes a step.
-    pub(crate) fn take(&mut self, rt: &impl Print, step: &Step<'_>) -> io::Result<()> {
+    pub(crate) fn take<R: Print + Files + Alloc>(
+        &mut self,
+        rt: &R,
+        step: &Step<'_>,
+    ) -> io::Result<()> {
         match step {
             Step::New => {
                 *self = Bench::new(self.alloc);
@@ -46,6 +52,10 @@ impl Bench {
             }
             Step::Create(act) | Step::Import(act) => self.act(rt, act, None),
             Step::Sql(text) => self.sql(rt, text),
+            Step::File(name) => {
+                self.disks = disks_of(rt, self.alloc, name)?;
+                Ok(())
+            }
             Step::Open => self.open(rt),
             Step::Show => self.show(rt),
             Step::Line(text) => self.line(rt, text),
@@ -64,6 +74,11 @@ impl Bench {
             Step::Crash(disk, calls) => self.crash(rt, (*disk, *calls)),
             Step::Stop(disk, calls, act) => self.act(rt, act, Some((*disk, *calls))),
             Step::Changes(act) => self.changes(rt, act),
+            Step::Migration(None) => self.migration(rt),
+            Step::Migration(Some(other)) => {
+                let other = disks_of(rt, self.alloc, other)?;
+                migrations(rt, self.alloc, &self.disks, &other)
+            }
             Step::Stops(act) => stops(rt, self.alloc, &self.disks, act, act),
             Step::Mistake(act, other) => stops(rt, self.alloc, &self.disks, act, other),
         }
@@ -106,6 +121,14 @@ impl Bench {
         } else {
             println!(rt; "  PROBLEM: the disks were changed")
         }
+    }
+
+    /// Stops an open at each call of each disk. The disks are then as the open leaves them that nothing stops.
+    fn migration(&mut self, rt: &impl Print) -> io::Result<()> {
+        migrations(rt, self.alloc, &self.disks, &self.disks)?;
+        let (_found, left) = self.disks.opened(self.alloc)?;
+        self.disks = left;
+        Ok(())
     }
 
     fn show(&self, rt: &impl Print) -> io::Result<()> {

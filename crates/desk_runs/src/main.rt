@@ -6,7 +6,9 @@ mod acts;
 mod bench;
 mod crashes;
 mod desks;
+mod files;
 mod lines;
+mod migrations;
 mod stops;
 mod sweeps;
 
@@ -16,7 +18,12 @@ use std::alloc::Global;
 use std::io::{self, BufRead, BufReader};
 
 /// Prints a line, and below it what the step that it is comes to.
-fn take(rt: &impl Print, alloc: Global, bench: &mut Bench, line: &str) -> io::Result<()> {
+fn take<R: Print + Files + Alloc>(
+    rt: &R,
+    alloc: Global,
+    bench: &mut Bench,
+    line: &str,
+) -> io::Result<()> {
     println!(rt; "{line}")?;
     if line.is_empty() || line.starts_with('#') {
         return Ok(());

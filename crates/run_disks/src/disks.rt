@@ -1,8 +1,9 @@
 // Two disks in memory, a database's and its log's. Between steps they are kept as bytes.
 use crate::database::{done, restarted};
 use crate::found::{NotFound, found};
-use crate::work::{Opening, Restart, Text, Work};
+use crate::work::{Opening, Restart, Tables, Text, Work};
 use adm_register::Register;
+use adm_schema::Version;
 use run_steps::Which;
 use sqlite::{Error, Files};
 use sqlite_disk::{Crash, Disk, Fuse, Memory};
@@ -38,6 +39,14 @@ impl Disks {
             log: Vec::new(alloc),
             db: Vec::new(alloc),
         }
+    }
+
+    /// Disks that hold these bytes.
+    pub fn holding(alloc: Global, db: &[u8], log: &[u8]) -> Result<Disks, AllocError> {
+        Ok(Disks {
+            log: Vec::from_slice(alloc, log)?,
+            db: Vec::from_slice(alloc, db)?,
+        })
     }
 
     fn held_by(alloc: Global, files: &Files<Fused>) -> Result<Disks, AllocError> {
@@ -145,6 +154,23 @@ impl Disks {
     pub fn register(&self, alloc: Global) -> io::Result<Result<Register, NotFound>> {
         let (found, _disks) = self.opened(alloc)?;
         Ok(found)
+    }
+
+    /// What an open finds on files that hold the same, of which one stops after so many calls; and the disks after it as they were written, and
+    /// after a loss of power.
+    pub fn after_open(
+        &self,
+        alloc: Global,
+        stop: (Which, u64),
+    ) -> io::Result<(Result<Register, NotFound>, Disks, Disks)> {
+        let (came, written, synced) = self.after_stop(alloc, stop, &Opening)?;
+        Ok((found(came), written, synced))
+    }
+
+    /// The version of their tables, as they are before a register is opened. `None`: no database, or other tables.
+    pub fn version(&self, alloc: Global) -> io::Result<Option<Version>> {
+        let (came, _disks) = self.after(alloc, None, &Tables)?;
+        Ok(came.flatten())
     }
 
     /// Whether both disks hold the same.

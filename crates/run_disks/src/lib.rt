@@ -7,10 +7,12 @@ mod database;
 mod disks;
 mod ends;
 mod found;
+mod migration;
 mod work;
 
 pub use counts::Counts;
 pub use disks::Disks;
 pub use ends::{Ends, Left};
 pub use found::NotFound;
+pub use migration::{Kept, Migration};
 pub use work::{Restart, Work, created};

@@ -4,6 +4,7 @@ ghost use Rattle.sqlite.specs.Held.{state};
 ghost use Rattle.adm_store.specs.StandsFor.{IsStarted};
 
 use adm_register::Register;
+use adm_schema::{Version, version_of};
 use adm_store::{CreateFault, OpenFault, Store, create, open};
 use adm_types::Season;
 use sqlite::{Alter, Connection, Error};
@@ -48,6 +49,22 @@ impl<'a> Work for Text<'a> {
     ) -> (Result<(), Error>, Connection<S>) {
         let ran = conn.execute_batch(self.sql);
         (ran, conn)
+    }
+}
+
+/// The version of the tables.
+#[derive(Drop)]
+pub(crate) struct Tables;
+
+impl Work for Tables {
+    type Came = Option<Version>;
+
+    fn over<S: Alter>(
+        &self,
+        _alloc: Global,
+        conn: Connection<S>,
+    ) -> (Option<Version>, Connection<S>) {
+        (version_of(conn.schema()), conn)
     }
 }
 

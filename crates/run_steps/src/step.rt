@@ -26,6 +26,8 @@ pub enum Step<'a> {
     Import(Act),
     /// `sql TEXT`: a text that is run on the database by hand.
     Sql(&'a str),
+    /// `file NAME`: the disks hold what the file NAME.db holds, and the log beside it where there is one.
+    File(&'a str),
     /// `open`: what an open answers.
     Open,
     /// `show`: what the register holds.
@@ -57,6 +59,10 @@ pub enum Step<'a> {
     Stops(Act),
     /// `changes ACT`: how many rows the act puts, and of how many keys it takes the rows out. The disks stay.
     Changes(Act),
+    /// `migration`: an open of a file of the first version, stopped at each call of each disk in turn. The disks are then as the open leaves
+    /// them that nothing stops. `mistake migration for NAME`: the same, judged by the register of the file NAME.db. What it prints is to be
+    /// a PROBLEM.
+    Migration(Option<&'a str>),
     /// `mistake ACT for OTHER`: the act stopped so, with the register after the other act for the one after it.
     /// What it prints is to be a PROBLEM.
     Mistake(Act, Act),
@@ -98,6 +104,7 @@ fn mistake<'a>(alloc: Global, words: &str) -> Option<Step<'a>> {
     match word {
         "reads" => judged_sweep(Side::Reader, rest, other),
         "writes" => judged_sweep(Side::Writer, rest, other),
+        "migration" => Some(Step::Migration(Some(other))),
         _ => mistaken_act(alloc, done, other),
     }
 }
@@ -170,6 +177,7 @@ impl<'a> Step<'a> {
             "create" => create(alloc, rest),
             "import" => import(alloc, rest),
             "sql" => Some(Step::Sql(rest)),
+            "file" => Some(Step::File(rest)),
             "open" => Some(Step::Open),
             "show" => Some(Step::Show),
             "line" => Some(Step::Line(rest)),
@@ -184,6 +192,7 @@ impl<'a> Step<'a> {
             "stop" => stop(alloc, rest),
             "stops" => stops(alloc, rest),
             "changes" => changes(alloc, rest),
+            "migration" => Some(Step::Migration(None)),
             "mistake" => mistake(alloc, rest),
             _ => None,
         }
