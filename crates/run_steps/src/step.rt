@@ -98,7 +98,7 @@ fn mistaken_act<'a>(alloc: Global, done: &str, other: &str) -> Option<Step<'a>> 
     }
 }
 
-fn mistake<'a>(alloc: Global, words: &str) -> Option<Step<'a>> {
+fn mistake<'a>(alloc: Global, words: &'a str) -> Option<Step<'a>> {
     let (done, other) = words.split_once(" for ").unwrap_or((words, ""));
     let (word, rest) = done.split_once(' ').unwrap_or((done, ""));
     match word {
