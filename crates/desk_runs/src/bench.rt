@@ -10,6 +10,7 @@ use crate::sweeps::sweeps;
 use run_disks::{Counts, Disks};
 use run_steps::{Act, Step, Sweep, Which, print_register};
 use std::alloc::Global;
+use std::fs::Files;
 use std::io;
 
 /// The disks and the input as the steps before left them.

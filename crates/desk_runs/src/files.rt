@@ -1,12 +1,12 @@
 // Files beside the run, read into disks.
 use run_disks::Disks;
 use std::alloc::Global;
-use std::fs;
+use std::fs::{self, Files};
 use std::io;
 
 /// The bytes of the log of this name. There are none where there is no file.
-fn log_of<R: Files + Alloc>(rt: &R, name: &str) -> io::Result<Vec<u8, R::A>> {
-    let log = format!(rt; "{name}.db-wal")?;
+fn log_of<R: Files + Alloc>(rt: &R, alloc: Global, name: &str) -> io::Result<Vec<u8, R::A>> {
+    let log = format!(in alloc; "{name}.db-wal")?;
     if fs::exists(rt, log.as_str())? {
         fs::read(rt, log.as_str())
     } else {
@@ -16,8 +16,8 @@ fn log_of<R: Files + Alloc>(rt: &R, name: &str) -> io::Result<Vec<u8, R::A>> {
 
 /// Disks that hold what the file NAME.db holds, and the log beside it where there is one.
 pub(crate) fn disks_of<R: Files + Alloc>(rt: &R, alloc: Global, name: &str) -> io::Result<Disks> {
-    let file = format!(rt; "{name}.db")?;
+    let file = format!(in alloc; "{name}.db")?;
     let db = fs::read(rt, file.as_str())?;
-    let log = log_of(rt, name)?;
+    let log = log_of(rt, alloc, name)?;
     Ok(Disks::holding(alloc, &db, &log)?)
 }

@@ -15,6 +15,7 @@ mod sweeps;
 use bench::Bench;
 use run_steps::Step;
 use std::alloc::Global;
+use std::fs::Files;
 use std::io::{self, BufRead, BufReader};
 
 /// Prints a line, and below it what the step that it is comes to.

@@ -1,8 +1,8 @@
 // An open of a file of the first version, over disks that stop at each of their calls in turn. Opened again, also after a loss of power, they have
 // the same register, and their tables are those of one version, whole.
-use run_disks::{Disks, Kept, Migration, NotFound};
 use adm_register::Register;
 use adm_store::OpenFault;
+use run_disks::{Disks, Kept, Migration, NotFound};
 use run_steps::Which;
 use std::alloc::Global;
 use std::io;
