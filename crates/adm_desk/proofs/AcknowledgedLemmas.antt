@@ -5,7 +5,7 @@ use Rattle.adm_types.specs.declared.commands.Command.{Command}
 use Rattle.adm_wire.specs.declared.fault.WireFault.{WireFault}
 use Rattle.adm_wire.specs.declared.fault.WireFault.TheVariants as fault
 use Rattle.adm_register.specs.State.{State as Register}
-use Rattle.adm_register.specs.Outcome.{OneStep}
+use Rattle.adm_commands.specs.Outcome.{OneStep}
 use Rattle.adm_store.specs.StandsFor.{LeavesOnly}
 use Rattle.adm_desk.specs.declared.answer.Answer.{Answer}
 use Rattle.adm_desk.specs.declared.answer.Answer.TheVariants.{Done, Refused, Memory, Failed}

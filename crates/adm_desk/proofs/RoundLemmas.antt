@@ -5,7 +5,7 @@ use mathlib.Core.Logic.{inl, inr}
 use Rattle.adm_types.specs.declared.commands.Command.{Command}
 use Rattle.adm_types.specs.declared.commands.Command.TheVariants.{Round}
 use Rattle.adm_register.specs.State.{State as Register}
-use Rattle.adm_register.specs.History.{DrawsInOrder, DrawsStay, DrawsKept, RoundHeld, HoldsRound}
+use Rattle.adm_commands.specs.History.{DrawsInOrder, DrawsStay, DrawsKept, RoundHeld, HoldsRound}
 use Rattle.adm_desk.specs.Acknowledged.{After, FindsAgain}
 use Rattle.adm_desk.specs.Rounds.{EachRoundHeld, RoundsHeld, RoundsStay}
 

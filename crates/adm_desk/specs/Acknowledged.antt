@@ -7,7 +7,7 @@ use Rattle.adm_types.specs.declared.commands.Command.{Command}
 use Rattle.adm_wire.specs.declared.fault.WireFault.{WireFault}
 use Rattle.adm_wire.specs.Commands.{command_of}
 use Rattle.adm_register.specs.State.{State as Register}
-use Rattle.adm_register.specs.Outcome.{Accepts}
+use Rattle.adm_commands.specs.Outcome.{Accepts}
 use Rattle.adm_store.specs.StandsFor.{LeavesOnly}
 use Rattle.adm_desk.specs.declared.answer.Answer.{Answer}
 use Rattle.adm_desk.specs.declared.answer.Answer.TheVariants.{Done, Refused, Memory, Failed}

@@ -3,8 +3,8 @@ use Rattle.std.specs.Prelude.{◌≡◌, ℕ, List, ◌∷◌, ◌++◌}
 use Rattle.adm_types.specs.declared.commands.Command.{Command}
 use Rattle.adm_types.specs.declared.commands.Command.TheVariants.{Round}
 use Rattle.adm_register.specs.State.{State as Register}
-use Rattle.adm_register.specs.History.{DrawsInOrder, HoldsRound}
-use Rattle.adm_register.specs.Outcome.{Accepts}
+use Rattle.adm_commands.specs.History.{DrawsInOrder, HoldsRound}
+use Rattle.adm_commands.specs.Outcome.{Accepts}
 use Rattle.adm_desk.specs.Acknowledged.{After}
 
 -- For each round among the commands: on the register after the commands before it, in which it began, its outcomes are those of the

@@ -20,7 +20,8 @@ ghost use Rattle.adm_desk.specs.Written.{Finished, AnsweredUpTo, StoppedWithin};
 
 use crate::handler::{self, Handler};
 use crate::{Answer, Run, RunFault, lines};
-use adm_register::{Difference, NotDone, Proposal, Register};
+use adm_commands::{NotDone, Proposal, propose};
+use adm_register::{Difference, Register};
 use adm_store::{Changes, OpenFault, Store, changes};
 use adm_types::{Command, Reply};
 use adm_wire::{Input, Output};
@@ -126,7 +127,7 @@ impl<S: Alter> Desk<S> {
         if self.failed {
             return Answer::Failed;
         }
-        match self.register.propose(self.alloc, command) {
+        match propose(&self.register, self.alloc, command) {
             Ok(proposal) => {
                 let Proposal {
                     register,

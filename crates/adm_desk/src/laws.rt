@@ -2,7 +2,7 @@
 ghost use Rattle.adm_desk.specs.Acknowledged.{OneAfter};
 ghost use Rattle.adm_desk.specs.Rounds.{RoundsHeld, RoundsStay};
 
-use adm_register::{draws_kept, one_step, round_held};
+use adm_commands::{draws_kept, one_step, round_held};
 
 /// Accepted commands, one after another, leave one register.
 pub fn one_after()

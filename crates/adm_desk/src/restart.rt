@@ -6,7 +6,7 @@ ghost use Rattle.adm_store.specs.Faults.{IsNoRegister};
 ghost use Rattle.adm_store.specs.StandsFor.{IsStarted, LeavesOnly};
 ghost use Rattle.adm_desk.specs.Steps.{IsRun};
 ghost use Rattle.adm_desk.specs.Standing.{Handles, Standing};
-ghost use Rattle.adm_register.specs.History.{DrawsInOrder};
+ghost use Rattle.adm_commands.specs.History.{DrawsInOrder};
 ghost use Rattle.adm_register.specs.State.{State as Register};
 ghost use Rattle.adm_types.specs.declared.commands.Command.{Command as Asked};
 ghost use Rattle.adm_desk.specs.Rounds.{EachRoundHeld};

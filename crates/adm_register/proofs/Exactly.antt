@@ -35,7 +35,7 @@ use Rattle.adm_register.proofs.EachRow.{none_at}
 use Rattle.adm_register.proofs.SameRows.{entries_in_order, map_of_entries, entries_at_own_keys}
 use Rattle.adm_register.proofs.Puts.{get-put_all, get-cut_all, there_before}
 use Rattle.adm_register.proofs.SameLemmas.{same_school, same_child, same_application, same_place, same_left, same_draw, same_import, other_row}
-use Rattle.adm_register.proofs.Tidy.{IsTidyIn, IsTidy}
+use Rattle.adm_register.specs.Fits.{IsTidyIn, IsTidy}
 
 not_Some : {A : Type 0} (x : A) → None ≡ Some x → ⊥
 not_Some x e = cc

@@ -19,57 +19,13 @@ use Rattle.adm_types.specs.declared.draws.Draw.{Draw}
 use Rattle.adm_register.specs.declared.difference.Difference.{Difference}
 use Rattle.adm_register.specs.State.{State, code_cmp, is_plan, application_of}
 use Rattle.adm_register.specs.Change.{put_all, cut_all, after}
+use Rattle.adm_register.specs.Fits.{FewAfter, BasePut, PlacesPut, LeftPut, DrawsPut, ImportedPut, Fit}
 use Rattle.adm_register.specs.Extends.{Extends, KeepsSchools}
 use Rattle.adm_register.specs.WellFormed.{WellFormed, AllRows, BaseFits, PlacesFit, LeftFits, DrawsFit, ImportedFit, has_round, held_at, is_entitled, lists_school, SchoolFits, ChildFits, ApplicationFits, PlaceFits, LeftPairFits, ImportFits, is_held}
 use Rattle.adm_register.proofs.Maps.{both_true, code_cmp-IsAntisymmetric, left_cmp-total, left_cmp-IsAntisymmetric}
 use Rattle.adm_register.specs.Draws.{DrawFits, are_in_order, no_draws, with_draws}
 use Rattle.adm_register.proofs.DrawLemmas.{DrawFits-grows, values_put, new_draws, are_in_order-append}
-use Rattle.adm_register.proofs.Tidy.{IsTidy}
 use Rattle.adm_register.proofs.Puts.{Grows, put_all-grows, there_before, all_stay, AllRows-put_all, are_schools-grows}
-
--- there are at most so many rows where one was put
-abbrev pub FewAfter : {K V : Type 0} {R : K → K → Ordering} → ℕ → FinMap R V → List V → Type 0
-FewAfter limit rows [] = ⊤
-FewAfter limit rows (row ∷ put) = len rows ≤ limit
-
--- what is put into the schools, the children and the applications fits the rows after the change; the schools are new
-pub record BasePut (old : State) (change : Difference) : Type 0 where
-  pub schools : AllByRecursion (λ (s : School). SchoolFits s.code s) change.schools
-  pub new_schools : AllByRecursion (λ (s : School). not (contains_key old.schools s.code) ≡ true) change.schools
-  pub few_schools : FewAfter most_schools (after old change).schools change.schools
-  pub children : AllByRecursion (λ (c : Child). ChildFits (after old change).schools c.no c) change.children
-  pub few_children : FewAfter most_children (after old change).children change.children
-  pub applications : AllByRecursion (λ (a : Application). ApplicationFits (lists_end old.season) (after old change).schools (after old change).children a.child a) change.applications
-
--- What is put into the places fits the rows after the change. A child that keeps its place keeps its application, if it has one. There is room at each school.
-pub record PlacesPut (old : State) (change : Difference) : Type 0 where
-  pub places : AllByRecursion (λ (p : PlaceRow). PlaceFits (after old change).schools (after old change).children (after old change).applications (has_round (after old change).draws) p.child p) change.places
-  pub kept : (number : ℕ) (row : PlaceRow) → get old.places number ≡ Some row → get (after old change).places number ≡ Some row → get (after old change).applications number ≡ get old.applications number
-  pub room : AllRows (λ code (school : School). held_at (after old change).places code ≤ school.pan) (after old change).schools
-
--- what is put into the left pairs fits the rows after the change, and each place that is put is that of a plan, or at a school that its child has not left
-pub record LeftPut (old : State) (change : Difference) : Type 0 where
-  pub left : AllByRecursion (λ (p : LeftPair). LeftPairFits (after old change).schools (after old change).children (after old change).places p p) change.left
-  pub places : AllByRecursion (λ (p : PlaceRow). (is_plan p.place.state || not (contains_key old.left (record { child = p.child; school = p.place.school }))) ≡ true) change.places
-
--- the draws that are put fit the rows after the change, and each is the next after those before it
-pub record DrawsPut (old : State) (change : Difference) : Type 0 where
-  pub each : AllByRecursion (λ (d : Draw). DrawFits (after old change).schools (after old change).children d.number d) change.draws
-  pub in_order : are_in_order old.season (with_draws no_draws (values old.draws)) change.draws ≡ true
-
--- the imported rows that are put fit the rows after the change, and are new
-pub record ImportedPut (old : State) (change : Difference) : Type 0 where
-  pub each : AllByRecursion (λ (r : ImportRow). ImportFits (lists_end old.season) (after old change).schools (after old change).children r.child.no r) change.imported
-  pub new_rows : AllByRecursion (λ (r : ImportRow). not (contains_key old.imported r.child.no) ≡ true) change.imported
-
--- a change whose rows fit
-pub record Fit (old : State) (change : Difference) : Type 0 where
-  pub base : BasePut old change
-  pub places : PlacesPut old change
-  pub left : LeftPut old change
-  pub draws : DrawsPut old change
-  pub imported : ImportedPut old change
-  pub tidy : IsTidy change
 
 -- rows fit still where the rows that they name are there still
 ChildFits-grows : (schools new_schools : FinMap code_cmp School) → Grows schools new_schools → (number : ℕ) (child : Child) → ChildFits schools number child → ChildFits new_schools number child

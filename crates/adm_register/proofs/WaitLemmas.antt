@@ -1,10 +1,11 @@
 -- Who waits at a school, step by step, and what is known of each.
-use Rattle.std.proofs.Common.{◌≡◌, ◌∙◌, ap, sym, subst, refl, cond, Bool, true, false, List, [], ◌∷◌, map, Option, Some, None, inl, inr}
+use Rattle.std.proofs.Common.{◌≡◌, ◌∙◌, ap, sym, subst, refl, cond, ℕ, Bool, true, false, List, [], ◌∷◌, map, Option, Some, None, inl, inr}
 use Rattle.std.specs.Prelude.{IfSome, All, not, ◌&&◌, ◌||◌, nat_eq, filter}
 use Rattle.std.specs.List.Sorted.{IsStrictlySortedBy}
 use Rattle.std.specs.Ordering.{nat_cmp}
 use Rattle.std.specs.Cmp.{nat_cmp_total}
 use Rattle.std.specs.Cmp.Lexicographic.{pointwise, bytes_decides}
+use Rattle.std.specs.List.{prefix_len}
 use Rattle.std.specs.FinMap.{get, values, nat_cmp-IsAntisymmetric}
 use Rattle.std.proofs.lemmas.Bool.{false≢true, cases_Bool}
 use Rattle.std.proofs.lemmas.Option.{none-some}
@@ -13,17 +14,15 @@ use Rattle.adm_types.specs.Limits.{is_listed, is_child_in_range}
 use Rattle.adm_types.specs.declared.rows.Child.{Child}
 use Rattle.adm_types.specs.declared.rows.Application.{Application}
 use Rattle.adm_types.specs.declared.rows.PlaceRow.{PlaceRow}
-use Rattle.adm_match.specs.Market.{Code}
 use Rattle.adm_register.specs.State.{State, is_plan}
 use Rattle.adm_register.specs.WellFormed.{WellFormed, has_round, is_held}
 use Rattle.adm_register.specs.Wanted.{above, has_left, wanted_of}
 use Rattle.adm_register.specs.Waits.{waits, waiting_child, waiting_at}
-use Rattle.adm_register.proofs.Maps.{both_true}
+use Rattle.adm_register.proofs.Maps.{both_true, not_true}
 use Rattle.adm_register.proofs.SameRows.{entries_in_order, entries_at_own_keys}
 use Rattle.adm_register.proofs.ListsKept.{own_apart}
-use Rattle.adm_register.proofs.RoundLemmas.{In, in_all, listed_in, in_listed, from_filter_map, sorted_filter_map}
+use Rattle.adm_register.proofs.RoundLemmas.{In, in_all, listed_in, in_listed, from_filter, from_filter_map, from_take, sorted_filter_map}
 use Rattle.adm_register.proofs.RoundKeys.{from_values}
-use Rattle.adm_register.proofs.RoundEntrants.{on_list, wants_is}
 
 -- ---- the test, one part after another
 
@@ -32,7 +31,7 @@ and_false true = refl
 and_false false = refl
 
 -- a code is among those that pass where it is among all, and passes
-listed-filter : (p : Code → Bool) (codes : List Code) (code : Code) → is_listed (filter p codes) code ≡ (is_listed codes code && p code)
+listed-filter : (p : List ℕ → Bool) (codes : List (List ℕ)) (code : List ℕ) → is_listed (filter p codes) code ≡ (is_listed codes code && p code)
 listed-filter p [] code = refl
 listed-filter p (other ∷ codes) code = elim (cases_Bool (pointwise nat_eq other code)) [
   | inl here ↦
@@ -50,18 +49,30 @@ listed-filter p (other ∷ codes) code = elim (cases_Bool (pointwise nat_eq othe
       ]
 ]
 
+-- the schools above a place are on the list
+pub on_list : (o : Option PlaceRow) (list : List (List ℕ)) (code : List ℕ) → In code (above o list) → In code list
+on_list None list code at = at
+on_list (Some row) list code at = from_take (prefix_len (λ other. not (pointwise nat_eq other row.place.school)) list) list code at
+
+module _ (old : State) (well : WellFormed old) where
+  -- a school that is wanted is on the list, and its child has not left it
+  pub wants_is : (application : Application) (code : List ℕ) → is_listed (wanted_of old application) code ≡ true → (is_listed application.list code ≡ true) × (has_left old.left application.child code ≡ false)
+  wants_is application code wanted =
+      let both = from_filter (λ other. not (has_left old.left application.child other)) (above (get old.places application.child) application.list) code (listed_in (wanted_of old application) code wanted) in
+      (in_listed application.list code (on_list (get old.places application.child) application.list code both.0), not_true (has_left old.left application.child code) both.1)
+
 -- what is above a place is on the list
-on_list_above : (place : Option PlaceRow) (list : List Code) (code : Code) → is_listed (above place list) code ≡ true → is_listed list code ≡ true
+on_list_above : (place : Option PlaceRow) (list : List (List ℕ)) (code : List ℕ) → is_listed (above place list) code ≡ true → is_listed list code ≡ true
 on_list_above place list code wanted = in_listed list code (on_list place list code (listed_in (above place list) code wanted))
 
 -- what is wanted is above the place and not left
-pub wanted_parts : (s : State) (application : Application) (code : Code)
+pub wanted_parts : (s : State) (application : Application) (code : List ℕ)
     → (is_listed (above (get s.places application.child) application.list) code && not (has_left s.left application.child code)) ≡ is_listed (wanted_of s application) code
 wanted_parts s application code =
     sym (listed-filter (λ other. not (has_left s.left application.child other)) (above (get s.places application.child) application.list) code)
 
 -- nobody waits at a school that is not on the list
-pub unlisted : (s : State) (application : Application) (code : Code) → is_listed application.list code ≡ false → false ≡ waits s application code
+pub unlisted : (s : State) (application : Application) (code : List ℕ) → is_listed application.list code ≡ false → false ≡ waits s application code
 unlisted s application code none =
     let place = get s.places application.child in
     let apart : is_listed (above place application.list) code ≡ false = elim (cases_Bool (is_listed (above place application.list) code)) [
@@ -73,14 +84,14 @@ unlisted s application code none =
 -- ---- what is known of who waits
 
 -- there was a round, the school is on the list, the child has not left it, and has no place there
-pub record IsWaiting (s : State) (application : Application) (code : Code) : Type 0 where
+pub record IsWaiting (s : State) (application : Application) (code : List ℕ) : Type 0 where
   pub held : has_round s.draws ≡ true
   pub lists : is_listed application.list code ≡ true
   pub not_left : has_left s.left application.child code ≡ false
   pub no_place : is_held (get s.places application.child) code ≡ false
 
 -- who has a place at a school does not want it
-apart_from : (p : Code → Bool) (place : Option PlaceRow) (list : List Code) (code : Code) → is_listed (filter p (above place list)) code ≡ true → is_held place code ≡ false
+apart_from : (p : List ℕ → Bool) (place : Option PlaceRow) (list : List (List ℕ)) (code : List ℕ) → is_listed (filter p (above place list)) code ≡ true → is_held place code ≡ false
 apart_from p None list code wanted = refl
 apart_from p (Some row) list code wanted =
     by (pointwise nat_eq row.place.school code) (is_plan row.place.state) (own_apart p (Some row) list) refl
@@ -90,7 +101,7 @@ apart_from p (Some row) list code wanted =
     by true true apart at = refl
     by true false apart at = absurd (false≢true (sym apart ∙ ap (is_listed (filter p (above (Some row) list))) ((bytes_decides row.place.school code).0 at) ∙ wanted))
 
-pub waits_is : (s : State) → WellFormed s → (application : Application) (code : Code) → waits s application code ≡ true → IsWaiting s application code
+pub waits_is : (s : State) → WellFormed s → (application : Application) (code : List ℕ) → waits s application code ≡ true → IsWaiting s application code
 waits_is s well application code waiting =
     let both = both_true (has_round s.draws) (is_listed (wanted_of s application) code) waiting in
     let wants = wants_is s well application code both.1 in
@@ -108,14 +119,14 @@ chosen true o child is = (refl, is)
 chosen false o child is = absurd (none-some child is)
 
 -- a child that waits is that of an application of its number
-pub record IsWaiter (s : State) (code : Code) (child : Child) : Type 0 where
+pub record IsWaiter (s : State) (code : List ℕ) (child : Child) : Type 0 where
   pub application : Application
   pub applied : get s.applications child.no ≡ Some application
   pub numbered : application.child ≡ child.no
   pub there : get s.children child.no ≡ Some child
   pub waiting : waits s application code ≡ true
 
-module _ (s : State) (well : WellFormed s) (code : Code) where
+module _ (s : State) (well : WellFormed s) (code : List ℕ) where
   pub waiter_is : (child : Child) → In child (waiting_at s code) → IsWaiter s code child
   waiter_is child at =
       let found = from_filter_map (waiting_child s code) (values s.applications) child at in

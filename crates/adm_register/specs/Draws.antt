@@ -2,7 +2,7 @@
 use Rattle.std.specs.Prelude.{◌≡◌, ℕ, ◌+◌, ◌≤◌, Bool, true, ◌&&◌, nat_eq, nat_le, nat_lt, List, [], ◌∷◌, length, IsTrue, Option, Some, None, if◌then◌else◌}
 use Rattle.std.specs.List.{list_all}
 use Rattle.std.specs.Ordering.{nat_cmp}
-use Rattle.std.specs.FinMap.{FinMap, contains_key}
+use Rattle.std.specs.FinMap.{FinMap, values, contains_key}
 use Rattle.adm_types.specs.Limits.{first_day, most_draws, most_lots}
 use Rattle.adm_types.specs.Seasons.{SeasonFacts, reaches_offer_day, lists_end}
 use Rattle.adm_types.specs.declared.rows.School.{School}
@@ -11,7 +11,7 @@ use Rattle.adm_types.specs.declared.draws.Draw.{Draw}
 use Rattle.adm_types.specs.declared.draws.Outcome.{Outcome}
 use Rattle.adm_types.specs.declared.draws.Lot.{Lot}
 use Rattle.adm_draws.specs.Draws.{is_draw}
-use Rattle.adm_register.specs.State.{code_cmp}
+use Rattle.adm_register.specs.State.{State, code_cmp}
 use Rattle.adm_register.specs.declared.draws_so_far.DrawsSoFar.{DrawsSoFar}
 
 -- ---- how far draws have come
@@ -34,6 +34,10 @@ with_draw before draw = record {
 abbrev pub with_draws : DrawsSoFar → List Draw → DrawsSoFar
 with_draws before [] = before
 with_draws before (draw ∷ draws) = with_draws (with_draw before draw) draws
+
+-- how far those of a register have come
+abbrev pub draws_so_far : State → DrawsSoFar
+draws_so_far s = with_draws no_draws (values s.draws)
 
 -- no more than there may be
 pub record IsWithin (before : DrawsSoFar) : Type 0 where

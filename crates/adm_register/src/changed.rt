@@ -9,7 +9,7 @@ use std::alloc::{AllocError, Global};
 
 impl Tables {
     /// The rows after the change. The tables that it does not touch are shared.
-    pub(crate) fn after(&self, alloc: Global, change: &Difference) -> Result<Tables, AllocError>
+    pub fn after(&self, alloc: Global, change: &Difference) -> Result<Tables, AllocError>
         ensures { IfOk result (λ new. new ≡ after self.now change.now) }
     {
         Ok(Tables {

@@ -1,13 +1,10 @@
 // The rows by which one register differs from another.
-ghost use Rattle.std.specs.Prelude.{◌≡◌, [], ◌∷◌, IfOk};
+ghost use Rattle.std.specs.Prelude.{◌≡◌};
 ghost use Rattle.adm_register.specs.Change.{no_change};
 
 use adm_table::Shared;
-use adm_types::{
-    Application, Child, ChildNo, Day, Draw, ImportRow, LeftPair, Place, PlaceRow, PlaceState,
-    School, SchoolCode, Seq,
-};
-use std::alloc::{AllocError, Global};
+use adm_types::{Application, Child, ChildNo, Draw, ImportRow, LeftPair, PlaceRow, School, Seq};
+use std::alloc::Global;
 
 /// The rows of a new register that the old one has not, each table's in the order of its key, and
 /// the keys of those that ended.
@@ -28,7 +25,7 @@ pub struct Difference {
 
 impl Difference {
     /// No row is put and none is cut. It takes no memory.
-    pub(crate) fn none(alloc: Global) -> Difference
+    pub fn none(alloc: Global) -> Difference
         ensures { result ≡ no_change }
     {
         Difference {
@@ -42,32 +39,5 @@ impl Difference {
             ended: Seq::new(alloc),
             vacated: Seq::new(alloc),
         }
-    }
-}
-
-/// A list of this row alone.
-pub(crate) fn one<V: Drop>(alloc: Global, row: V) -> Result<Seq<V>, AllocError>
-    ensures { IfOk result (λ rows. rows ≡ row ∷ []) }
-{
-    let mut rows = Vec::new(alloc);
-    rows.push(row)?;
-    Ok(Seq::from_vec(rows))
-}
-
-/// A list of this place alone.
-pub(crate) fn one_place(
-    alloc: Global,
-    child: ChildNo,
-    school: SchoolCode,
-    state: PlaceState,
-) -> Result<Seq<PlaceRow>, AllocError>
-    ensures { IfOk result (λ rows. rows ≡ record { child = child; place = record { school = school; state = state } } ∷ []) }
-{
-    let unread: Option<Day> = None;
-    let place = Place { school, state };
-    let rows = one(alloc, PlaceRow { child, place })?;
-    match unread {
-        None => Ok(rows),
-        Some(_) => Ok(rows),
     }
 }

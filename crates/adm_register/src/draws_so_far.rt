@@ -3,8 +3,7 @@ ghost use Rattle.std.specs.Prelude.{◌≡◌, ◌<◌, ◌≤◌, ◌+◌, leng
 ghost use Rattle.std.specs.FinMap as rows;
 ghost use Rattle.adm_types.specs.Limits.{most_draws, most_lots};
 ghost use Rattle.adm_types.specs.Seasons.{SeasonFacts};
-ghost use Rattle.adm_register.specs.Draws.{no_draws, is_round, with_draw, with_draws, is_due, is_numbered, is_next, are_in_order, IsWithin};
-ghost use Rattle.adm_register.specs.Round.{draws_so_far};
+ghost use Rattle.adm_register.specs.Draws.{no_draws, is_round, with_draw, with_draws, is_due, is_numbered, is_next, are_in_order, IsWithin, draws_so_far};
 ghost use Rattle.adm_register.specs.WellFormed.{WellFormed};
 
 use crate::tables::Tables;
@@ -83,7 +82,7 @@ impl DrawsSoFar {
 }
 
 /// Whether a day is not before that of the last draw, nor, where there was none, before the offer day.
-pub(crate) fn is_due(season: &Season, last: Option<Day>, day: Day) -> bool
+pub fn is_due(season: &Season, last: Option<Day>, day: Day) -> bool
     ensures { result ≡ is_due season.now last day }
 {
     match last {
@@ -138,7 +137,7 @@ fn all_draws(old: &Tables, alloc: Global) -> Result<Vec<Shared<Draw>>, AllocErro
 
 /// How far the draws of a register have come. It takes memory for a pointer to each draw, and time
 /// for each.
-pub(crate) fn draws_so_far(old: &Tables, alloc: Global) -> Result<DrawsSoFar, AllocError>
+pub fn draws_so_far(old: &Tables, alloc: Global) -> Result<DrawsSoFar, AllocError>
     requires { WellFormed old.now }
     ensures value { IfOk result (λ made. made ≡ draws_so_far old.now) }
     ensures within { IfOk result IsWithin }

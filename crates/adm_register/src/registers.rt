@@ -1,23 +1,20 @@
-// The register, and the commands that change it.
+// The register, and the change that makes the next one.
 ghost use Rattle.std.specs.Prelude.{◌≡◌, ◌↔◌, None, Some, Err, IfOk, option_copied, option_map};
 ghost use Rattle.std.specs.FinMap as map;
 ghost use Rattle.adm_register.specs.State.{State, only_season};
 ghost use Rattle.adm_register.specs.WellFormed.{WellFormed};
 ghost use Rattle.adm_register.specs.Extends.{Extends, KeepsSchools};
-ghost use Rattle.adm_register.specs.Outcome.{Decides, decision};
+ghost use Rattle.adm_register.specs.Change.{after};
+ghost use Rattle.adm_register.specs.Fits.{Fit};
 ghost use Rattle.adm_register.specs.Difference.{IsDifference};
 ghost use Rattle.adm_register.specs.Rows.{rows_in_order, AreRowsOf, place_of, round_of, vacancies};
 ghost use Rattle.adm_register.specs.Wanted.{wanted};
 ghost use Rattle.adm_register.specs.Waits.{is_waiting, list_of, standing_of};
 
 use crate::checks::is_well_formed;
-use crate::commands::{change_of, kept_by_types, refused};
 use crate::tables::Tables;
-use crate::{Difference, ListFault, NotDone, Rows, RowsFault, Standing};
-use adm_round::allotment_fits;
-use adm_types::{
-    Application, Child, ChildNo, Command, Draw, Place, Reply, School, SchoolCode, Season,
-};
+use crate::{Difference, ListFault, Rows, RowsFault, Standing};
+use adm_types::{Application, Child, ChildNo, Draw, Place, School, SchoolCode, Season};
 use adm_waiting::Waiting;
 use std::alloc::{AllocError, Global};
 use std::marker::Model;
@@ -172,53 +169,30 @@ impl Register {
         self.tables.rows(alloc)
     }
 
-    /// The register after the command, what it changed and its reply, or why it was not done. This
-    /// register stays. What it costs grows with the tables that the command changes, of which the
+    /// The rows, of which more can be asked. It takes no memory.
+    pub fn tables(&self) -> &Tables
+        ensures value { result.now ≡ self.now }
+        ensures well_formed { WellFormed self.now }
+    {
+        &self.tables
+    }
+
+    /// The register after a change whose rows fit, and the rows by which it differs from this one,
+    /// which stays. What it costs grows with the tables that the change touches, of which the
     /// pointers to their rows are copied; the others are shared.
-    pub fn propose(&self, alloc: Global, command: &Command) -> Result<Proposal, NotDone>
-        ensures step { Decides self.now command.now (decision result) }
-        ensures extends { IfOk result (λ proposal. Extends self.now proposal.register × WellFormed proposal.register) }
-        ensures schools { IfOk result (λ proposal. KeepsSchools self.now proposal.register) }
-        ensures change { IfOk result (λ proposal. IsDifference self.now proposal.register proposal.change) }
+    pub fn changed(
+        &self,
+        alloc: Global,
+        change: Difference,
+    ) -> Result<(Register, Difference), AllocError>
+        requires { Fit self.now change }
+        ensures after { IfOk result (λ made. (made.0 ≡ after self.now change) × WellFormed made.0) }
+        ensures extends { IfOk result (λ made. Extends self.now made.0) }
+        ensures schools { IfOk result (λ made. KeepsSchools self.now made.0) }
+        ensures difference { IfOk result (λ made. IsDifference self.now made.0 made.1) }
     {
-        kept_by_types(command);
-        allotment_fits();
-        match refused(&self.tables, alloc, command)? {
-            Some((refusal, row)) => Err(NotDone::Refused { refusal, row }),
-            None => {
-                let (whole, reply) = change_of(&self.tables, alloc, command)?;
-                let tables = self.tables.after(alloc, &whole)?;
-                let change = self.tables.differing(alloc, whole)?;
-                Ok(Proposal {
-                    register: Register { tables },
-                    change,
-                    reply,
-                })
-            }
-        }
+        let tables = self.tables.after(alloc, &change)?;
+        let difference = self.tables.differing(alloc, change)?;
+        Ok((Register { tables }, difference))
     }
-
-    /// The register after the command and its reply, or why it was not done. This register stays.
-    /// What it costs grows with the tables that the command changes; the others are shared.
-    pub fn decide(&self, alloc: Global, command: &Command) -> Result<(Register, Reply), NotDone>
-        ensures step { Decides self.now command.now result }
-        ensures extends { IfOk result (λ done. Extends self.now done.0 × WellFormed done.0) }
-        ensures schools { IfOk result (λ done. KeepsSchools self.now done.0) }
-    {
-        let Proposal {
-            register,
-            change: _,
-            reply,
-        } = self.propose(alloc, command)?;
-        Ok((register, reply))
-    }
-}
-
-/// What an accepted command comes to.
-#[derive(Drop)]
-pub struct Proposal {
-    pub register: Register,
-    /// The rows by which it differs from the register before.
-    pub change: Difference,
-    pub reply: Reply,
 }

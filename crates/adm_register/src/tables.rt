@@ -16,9 +16,10 @@ use adm_types::{
 use std::alloc::AllocError;
 use std::marker::Model;
 
-/// A season and tables of rows.
+/// A season and tables of rows, which need not be a register's. What is asked of them takes no
+/// memory, where nothing else is said.
 #[derive(Drop)]
-pub(crate) struct Tables {
+pub struct Tables {
     pub(crate) season: Season,
     pub(crate) schools: Table<SchoolCode, Shared<School>>,
     pub(crate) children: Table<ChildNo, Shared<Child>>,
@@ -65,8 +66,8 @@ impl Tables {
         }
     }
 
-    /// The same rows again, which the two share.
-    pub(crate) fn share(&self) -> Result<Tables, AllocError>
+    /// The same rows again, which the two share. It takes memory for a pointer to each piece of them.
+    pub fn share(&self) -> Result<Tables, AllocError>
         ensures { IfOk result (λ shared. shared ≡ self.now) }
     {
         Ok(Tables {
@@ -81,19 +82,22 @@ impl Tables {
         })
     }
 
-    pub(crate) fn season(&self) -> &Season
+    /// The season.
+    pub fn season(&self) -> &Season
         ensures { result.now ≡ self.now.season }
     {
         &self.season
     }
 
-    pub(crate) fn school(&self, code: SchoolCode) -> Option<&School>
+    /// The school of a code.
+    pub fn school(&self, code: SchoolCode) -> Option<&School>
         ensures { option_copied result ≡ map.get self.now.schools code }
     {
         self.schools.row(&code)
     }
 
-    pub(crate) fn child(&self, number: ChildNo) -> Option<&Child>
+    /// The child of a number.
+    pub fn child(&self, number: ChildNo) -> Option<&Child>
         ensures { option_copied result ≡ map.get self.now.children number }
     {
         self.children.row(&number)
@@ -106,13 +110,14 @@ impl Tables {
     }
 
     /// The imported row of a child.
-    pub(crate) fn imported_row(&self, child: ChildNo) -> Option<&ImportRow>
+    pub fn imported_row(&self, child: ChildNo) -> Option<&ImportRow>
         ensures { option_copied result ≡ map.get self.now.imported child }
     {
         self.imported.row(&child)
     }
 
-    pub(crate) fn place_row(&self, child: ChildNo) -> Option<&PlaceRow>
+    /// The row of the child's place.
+    pub fn place_row(&self, child: ChildNo) -> Option<&PlaceRow>
         ensures { option_copied result ≡ map.get self.now.places child }
     {
         self.places.get(&child)
@@ -128,26 +133,29 @@ impl Tables {
         }
     }
 
-    pub(crate) fn has_school(&self, code: SchoolCode) -> bool
+    /// Whether there is a school of this code.
+    pub fn has_school(&self, code: SchoolCode) -> bool
         ensures { result ≡ map.contains_key self.now.schools code }
     {
         self.school(code).is_some()
     }
 
-    pub(crate) fn has_child(&self, number: ChildNo) -> bool
+    /// Whether there is a child of this number.
+    pub fn has_child(&self, number: ChildNo) -> bool
         ensures { result ≡ map.contains_key self.now.children number }
     {
         self.child(number).is_some()
     }
 
-    pub(crate) fn has_application(&self, number: ChildNo) -> bool
+    /// Whether the child has an application.
+    pub fn has_application(&self, number: ChildNo) -> bool
         ensures { result ≡ map.contains_key self.now.applications number }
     {
         self.application(number).is_some()
     }
 
     /// Whether the child's place is that of a plan.
-    pub(crate) fn has_plan(&self, child: ChildNo) -> bool
+    pub fn has_plan(&self, child: ChildNo) -> bool
         ensures { result ≡ has_plan self.now.places child }
     {
         match self.place_row(child) {
@@ -159,20 +167,32 @@ impl Tables {
         }
     }
 
+    /// Whether the child has a place at the school that is not that of a plan.
+    pub fn is_held(&self, child: ChildNo, school: SchoolCode) -> bool
+        ensures { result ≡ is_held (map.get self.now.places child) school }
+    {
+        match self.place_row(child) {
+            None => false,
+            Some(row) => is_held_at(row, school),
+        }
+    }
+
     /// Whether each code is that of a school that is there.
-    pub(crate) fn are_schools(&self, codes: &[SchoolCode]) -> bool
+    pub fn are_schools(&self, codes: &[SchoolCode]) -> bool
         ensures { result ≡ are_schools self.now.schools codes.now }
     {
         codes.iter().all(|code| self.has_school(*code))
     }
 
-    pub(crate) fn school_count(&self) -> usize
+    /// How many schools there are.
+    pub fn school_count(&self) -> usize
         ensures { result ≡ map.len self.now.schools }
     {
         self.schools.len()
     }
 
-    pub(crate) fn child_count(&self) -> usize
+    /// How many children there are.
+    pub fn child_count(&self) -> usize
         ensures { result ≡ map.len self.now.children }
     {
         self.children.len()
@@ -209,14 +229,14 @@ impl Tables {
     }
 
     /// Whether a round was held.
-    pub(crate) fn has_round(&self) -> bool
+    pub fn has_round(&self) -> bool
         ensures { result ≡ has_round self.now.draws }
     {
         self.draw(1).is_some()
     }
 
     /// The school's admission number less all places there, not below 0.
-    pub(crate) fn vacancies(&self, code: SchoolCode) -> Option<u32>
+    pub fn vacancies(&self, code: SchoolCode) -> Option<u32>
         ensures { result ≡ vacancies self.now code }
     {
         match self.school(code) {
@@ -252,13 +272,14 @@ fn held_in(places: &Piece<ChildNo, PlaceRow>, code: SchoolCode) -> usize
 }
 
 /// Whether this is a place at the school, and not that of a plan.
-pub(crate) fn is_held_at(row: &PlaceRow, code: SchoolCode) -> bool
+fn is_held_at(row: &PlaceRow, code: SchoolCode) -> bool
     ensures { result ≡ is_held (Some row.now) code }
 {
     row.place.school == code && !is_plan(&row.place.state)
 }
 
-pub(crate) fn is_plan(state: &PlaceState) -> bool
+/// Whether a place in this state is that of a plan.
+pub fn is_plan(state: &PlaceState) -> bool
     ensures { result ≡ is_plan state.now }
 {
     match state {

@@ -45,7 +45,7 @@ impl Tables {
     }
 
     /// Whether the child waits at the school. It takes no memory.
-    pub(crate) fn is_waiting(&self, child: ChildNo, school: SchoolCode) -> bool
+    pub fn is_waiting(&self, child: ChildNo, school: SchoolCode) -> bool
         ensures { result ≡ is_waiting self.now child school }
     {
         match self.application(child) {
@@ -92,7 +92,7 @@ impl Tables {
 
     /// Who waits at the school, by their numbers. It takes memory for a pointer to each
     /// application, and time for each.
-    pub(crate) fn waiting_at(
+    pub fn waiting_at(
         &self,
         alloc: Global,
         school: SchoolCode,

@@ -1,5 +1,6 @@
 // How much a command writes.
 use crate::disks::Disks;
+use adm_commands::propose;
 use adm_register::{Difference, Register};
 use adm_store::changes;
 use adm_types::Command;
@@ -25,7 +26,7 @@ fn written(alloc: Global, difference: Difference) -> Option<Counts> {
 }
 
 fn of_command(alloc: Global, register: &Register, command: &Command) -> Option<Counts> {
-    match register.propose(alloc, command) {
+    match propose(register, alloc, command) {
         Ok(proposal) => written(alloc, proposal.change),
         Err(_) => None,
     }

@@ -1,6 +1,7 @@
 // Registers compared, and the register after an act.
 use crate::act::Act;
 use crate::same::are_same;
+use adm_commands::decide;
 use adm_register::{Register, Rows};
 use adm_types::{Command, Season};
 use std::alloc::{AllocError, Global};
@@ -46,7 +47,7 @@ fn created(season: &Season) -> Option<Register> {
 }
 
 fn handled(alloc: Global, register: &Register, command: &Command) -> Option<Register> {
-    match register.decide(alloc, command) {
+    match decide(register, alloc, command) {
         Ok((after, _)) => Some(after),
         Err(_) => None,
     }

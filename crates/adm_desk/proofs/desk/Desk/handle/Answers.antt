@@ -1,6 +1,6 @@
 use Rattle.std.proofs.Common.{◌≡◌, false, subst, Ok}
 use Rattle.sqlite.specs.Held.{state}
-use Rattle.adm_register.specs.Outcome.{Step}
+use Rattle.adm_commands.specs.Outcome.{Step}
 use Rattle.adm_desk.specs.Standing.{Standing}
 use Rattle.adm_desk.proofs.StandingLemmas.{handles}
 use Rattle.adm_desk.proofs.desk.Desk.handle.Goals as goal

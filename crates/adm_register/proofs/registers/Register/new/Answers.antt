@@ -1,4 +1,4 @@
-use Rattle.adm_register.proofs.Keeps.{only_season-WellFormed}
+use Rattle.adm_register.proofs.OnlySeason.{only_season-WellFormed}
 use Rattle.adm_register.proofs.registers.Register.new.Goals as goal
 
 pub invariant_of-result : goal.invariant_of-result

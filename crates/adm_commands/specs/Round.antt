@@ -1,0 +1,110 @@
+-- To hold a round (School Admissions Code 2021, sections 1 and 2; Gale and Shapley 1962; entrants, tenants and lots are this profile's).
+use Rattle.std.specs.Prelude.{ℕ, ◌+◌, ◌-◌, Bool, not, ◌&&◌, ◌||◌, nat_eq, nat_le, nat_lt, List, [], ◌∷◌, map, length, count_by, is_none, Option, None, option_map, if◌then◌else◌}
+use Rattle.std.specs.List.{filter_map}
+use Rattle.std.specs.Cmp.Lexicographic.{pointwise}
+use Rattle.std.specs.Ordering.{nat_cmp}
+use Rattle.std.specs.FinMap.{FinMap, get, values}
+use Rattle.adm_types.specs.Limits.{most_draws, most_lots}
+use Rattle.adm_types.specs.Seasons.{closing, lists_end}
+use Rattle.adm_types.specs.declared.rows.School.{School}
+use Rattle.adm_types.specs.declared.rows.Application.{Application}
+use Rattle.adm_types.specs.declared.rows.PlaceRow.{PlaceRow}
+use Rattle.adm_types.specs.declared.rows.PlaceState.TheVariants.{Offered}
+use Rattle.adm_types.specs.declared.draws.Outcome.{Outcome}
+use Rattle.adm_types.specs.declared.draws.Lot.{Lot}
+use Rattle.adm_types.specs.declared.commands.Refusal.{Refusal}
+use Rattle.adm_types.specs.declared.commands.Refusal.TheVariants.{WrongDraw, ListClosed, TooSoon, LotCount, LotsRepeated, RegisterFull}
+use Rattle.adm_types.specs.declared.commands.Reply.{Reply}
+use Rattle.adm_types.specs.declared.commands.Reply.TheVariants.{Round}
+use Rattle.adm_draws.specs.Draws.{repeats_lot}
+use Rattle.adm_round.specs.declared.applicants.Applicant.{Applicant}
+use Rattle.adm_round.specs.declared.applicants.Site.{Site}
+use Rattle.adm_round.specs.declared.applicants.Pair.{Pair}
+use Rattle.adm_round.specs.Round.{pairs, lots_of}
+use Rattle.adm_round.specs.Ranks.{market_of}
+use Rattle.adm_round.specs.Outcomes.{AreBest, is_kept}
+use Rattle.adm_match.specs.Market.{Market}
+use Rattle.adm_register.specs.declared.difference.Difference.{Difference}
+use Rattle.adm_register.specs.State.{State, is_plan}
+use Rattle.adm_register.specs.Change.{no_change}
+use Rattle.adm_register.specs.Draws.{is_due, draws_so_far}
+use Rattle.adm_register.specs.WellFormed.{has_round}
+use Rattle.adm_register.specs.Wanted.{wanted_of, own_school}
+
+-- ---- the problem of a round
+
+-- in the first round an application by the closing day takes part, and later each
+abbrev pub is_entrant : State → Application → Bool
+is_entrant s application = has_round s.draws || nat_le application.day (closing s.season)
+
+-- the child of an application, with the schools that it wants, and that of which it is a tenant
+abbrev pub applicant_of : State → Application → Option Applicant
+applicant_of s application =
+    if is_entrant s application
+    then option_map (λ child. record { child = child; wanted = wanted_of s application; own = own_school (get s.places application.child) }) (get s.children application.child)
+    else None
+
+-- who takes part, by their numbers
+abbrev pub entrants : State → List Applicant
+entrants s = filter_map (applicant_of s) (values s.applications)
+
+-- how many places at the school are those of a plan
+abbrev pub plans_at : FinMap nat_cmp PlaceRow → List ℕ → ℕ
+plans_at places code = count_by (λ row. pointwise nat_eq row.place.school code && is_plan row.place.state) (values places)
+
+-- the admission number less the places of plans, not below 0
+abbrev pub quota : State → School → ℕ
+quota s school = school.pan - plans_at s.places school.code
+
+-- the schools with their quotas, by their codes
+abbrev pub sites : State → List Site
+sites s = map (λ school. record { school = school; quota = quota s school }) (values s.schools)
+
+-- for whom lots are drawn, in their order
+abbrev pub round_pairs : State → List Pair
+round_pairs s = pairs (sites s) (entrants s)
+
+abbrev pub round_lots : State → List ℕ → List Lot
+round_lots s numbers = lots_of (round_pairs s) numbers
+
+abbrev pub round_market : State → List ℕ → Market
+round_market s numbers = market_of (sites s) (entrants s) (round_lots s numbers)
+
+-- ---- the command
+
+-- the draw is the next, the lists are open, the day is due, there is one lot for each pair and at no school two that are equal, and there is room
+unfoldable pub tests : State → ℕ → ℕ → List ℕ → List (Bool × Refusal)
+tests old draw day numbers =
+    (nat_eq draw ((draws_so_far old).draws + 1), WrongDraw)
+    ∷ (nat_le day (lists_end old.season), ListClosed)
+    ∷ (is_due old.season (draws_so_far old).day day, TooSoon)
+    ∷ (nat_eq (length numbers) (length (round_pairs old)), LotCount)
+    ∷ (not (repeats_lot (round_lots old numbers)), LotsRepeated)
+    ∷ (nat_lt (draws_so_far old).draws most_draws && nat_le ((draws_so_far old).lots + length numbers) most_lots, RegisterFull)
+    ∷ []
+
+-- the outcomes are those of the child-optimal stable allocation
+abbrev pub AreOutcomes : State → List ℕ → List Outcome → Type 0
+AreOutcomes old numbers outcomes = AreBest (round_market old numbers) (entrants old) outcomes
+
+-- what is offered: the school of a fresh outcome
+abbrev pub offer_of : ℕ → Outcome → Option PlaceRow
+offer_of day outcome =
+    if outcome.fresh
+    then option_map (λ school. record { child = outcome.child; place = record { school = school; state = Offered day None } }) outcome.school
+    else None
+
+abbrev pub offers_on : ℕ → List Outcome → List PlaceRow
+offers_on day outcomes = filter_map (offer_of day) outcomes
+
+-- each fresh outcome is offered, and the draw is added
+unfoldable pub change_of : State → ℕ → ℕ → List ℕ → List Outcome → Difference
+change_of old draw day numbers outcomes = record no_change {
+  places = offers_on day outcomes;
+  draws = record { number = draw; round = (draws_so_far old).rounds + 1; school = None; day = day; outcomes = outcomes; lots = round_lots old numbers } ∷ [];
+}
+
+-- how many are offered a school, keep theirs, and have none
+abbrev pub reply_of : State → List Outcome → Reply
+reply_of old outcomes =
+    Round ((draws_so_far old).rounds + 1) (count_by (λ outcome. outcome.fresh) outcomes) (count_by is_kept outcomes) (count_by (λ outcome. is_none outcome.school) outcomes)

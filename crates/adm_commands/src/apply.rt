@@ -1,0 +1,67 @@
+// To apply.
+ghost use Rattle.std.specs.Prelude.{◌≡◌, ◌&&◌, length, IfOk};
+ghost use Rattle.adm_types.specs.Limits.{is_from, is_without_repeat};
+ghost use Rattle.adm_commands.specs.Tests.{first_failing};
+ghost use Rattle.adm_commands.specs.Apply.{tests, further_tests, change_of};
+
+use crate::failing::first_failing;
+use crate::one_row::one;
+use adm_register::{Difference, Tables};
+use adm_table::Shared;
+use adm_types::limits::is_without_repeat;
+use adm_types::{Application, ChildNo, Day, Refusal, SchoolCode};
+use std::alloc::{AllocError, Global};
+
+/// Why the application is refused.
+#[tactic(auto, unfolding(crate::specs::Apply::tests))]
+pub(crate) fn refusal_of(old: &Tables, application: &Application) -> Option<Refusal>
+    ensures { result ≡ first_failing (tests old.now application.now) }
+{
+    if !old.has_child(application.child) {
+        return Some(Refusal::UnknownChild);
+    }
+    further_refusal_of(
+        old,
+        application.child,
+        application.day,
+        application.list.as_slice(),
+    )
+}
+
+/// Why an application of these values is refused, for a child that is there.
+pub(crate) fn further_refusal_of(
+    old: &Tables,
+    child: ChildNo,
+    day: Day,
+    list: &[SchoolCode],
+) -> Option<Refusal>
+    ensures { result ≡ first_failing (further_tests old.now (record { child = child; day = day; list = list.now })) }
+{
+    let in_time = day <= old.season().lists_end();
+    first_failing(&[
+        (!old.has_plan(child), Refusal::HasPlan),
+        (!old.has_application(child), Refusal::AlreadyApplied),
+        (in_time, Refusal::ListClosed),
+        (is_preference_list(list), Refusal::BadPreferences),
+        (old.are_schools(list), Refusal::UnknownSchool),
+    ])
+}
+
+/// Whether there are 1 to 6 schools without repeat.
+fn is_preference_list(list: &[SchoolCode]) -> bool
+    ensures { result ≡ (is_from 1 6 (length list.now) && is_without_repeat list.now) }
+{
+    let count = 1 <= list.len() && list.len() <= 6;
+    count && is_without_repeat(list)
+}
+
+/// The application is put.
+#[tactic(auto, unfolding(crate::specs::Apply::change_of))]
+pub(crate) fn change_of(alloc: Global, application: &Application) -> Result<Difference, AllocError>
+    ensures { IfOk result (λ change. change ≡ change_of application.now) }
+{
+    let row = Shared::new(alloc, application.clone()?)?;
+    let mut change = Difference::none(alloc);
+    change.applications = one(alloc, row)?;
+    Ok(change)
+}

@@ -1,0 +1,35 @@
+// Laws of the steps of a register.
+ghost use Rattle.adm_commands.specs.History.{DrawsKept, RoundHeld};
+ghost use Rattle.adm_commands.specs.Imports.{ImportOnce};
+ghost use Rattle.adm_commands.specs.Outcome.{OneStep, RepeatSafe};
+
+use adm_round::one_allotment;
+
+/// A command that follows itself at once leaves a register as it was.
+pub fn repeat_safe()
+    ensures { RepeatSafe }
+{}
+
+/// An accepted command leaves one register.
+pub fn one_step()
+    ensures { OneStep }
+{
+    one_allotment();
+}
+
+/// No accepted command changes a draw that was made.
+pub fn draws_kept()
+    ensures { DrawsKept }
+{}
+
+/// A register holds the draw of the round that it comes from, whose outcomes are those of the
+/// child-optimal stable allocation of the round's problem on the register in which it began.
+pub fn round_held()
+    ensures { RoundHeld }
+{}
+
+/// An import that was accepted is accepted again, whatever accepted commands came since. It leaves
+/// the register as it was, and counts each of its rows as known.
+pub fn import_once()
+    ensures { ImportOnce }
+{}

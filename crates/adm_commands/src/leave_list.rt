@@ -1,0 +1,36 @@
+// To take a child off the waiting list of a school.
+ghost use Rattle.std.specs.Prelude.{◌≡◌, IfOk};
+ghost use Rattle.adm_commands.specs.Tests.{first_failing};
+ghost use Rattle.adm_commands.specs.LeaveList.{tests, change_of};
+
+use crate::failing::first_failing;
+use crate::one_row::one;
+use adm_register::{Difference, Tables};
+use adm_types::{ChildNo, LeftPair, Refusal, SchoolCode};
+use std::alloc::{AllocError, Global};
+
+/// Why it is refused.
+#[tactic(auto, unfolding(crate::specs::LeaveList::tests))]
+pub(crate) fn refusal_of(old: &Tables, child: ChildNo, school: SchoolCode) -> Option<Refusal>
+    ensures { result ≡ first_failing (tests old.now child school) }
+{
+    first_failing(&[
+        (old.has_child(child), Refusal::UnknownChild),
+        (old.has_school(school), Refusal::UnknownSchool),
+        (old.is_waiting(child, school), Refusal::NotWaiting),
+    ])
+}
+
+/// The school is one that the child left.
+#[tactic(auto, unfolding(crate::specs::LeaveList::change_of))]
+pub(crate) fn change_of(
+    alloc: Global,
+    child: ChildNo,
+    school: SchoolCode,
+) -> Result<Difference, AllocError>
+    ensures { IfOk result (λ change. change ≡ change_of child school) }
+{
+    let mut change = Difference::none(alloc);
+    change.left = one(alloc, LeftPair { child, school })?;
+    Ok(change)
+}

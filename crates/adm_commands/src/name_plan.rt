@@ -1,0 +1,37 @@
+// To name a school in a child's plan.
+ghost use Rattle.std.specs.Prelude.{◌≡◌, IfOk};
+ghost use Rattle.adm_commands.specs.Tests.{first_failing};
+ghost use Rattle.adm_commands.specs.NamePlan.{tests, change_of};
+
+use crate::failing::first_failing;
+use crate::one_row::{one, one_place};
+use adm_register::{Difference, Tables};
+use adm_types::{ChildNo, PlaceState, Refusal, SchoolCode};
+use std::alloc::{AllocError, Global};
+
+/// Why the plan is refused.
+#[tactic(auto, unfolding(crate::specs::NamePlan::tests))]
+pub(crate) fn refusal_of(old: &Tables, child: ChildNo, school: SchoolCode) -> Option<Refusal>
+    ensures { result ≡ first_failing (tests old.now child school) }
+{
+    first_failing(&[
+        (old.has_child(child), Refusal::UnknownChild),
+        (old.has_school(school), Refusal::UnknownSchool),
+        (!old.has_plan(child), Refusal::HasPlan),
+    ])
+}
+
+/// The place of the plan is put, and the child's application is cut.
+#[tactic(auto, unfolding(crate::specs::NamePlan::change_of))]
+pub(crate) fn change_of(
+    alloc: Global,
+    child: ChildNo,
+    school: SchoolCode,
+) -> Result<Difference, AllocError>
+    ensures { IfOk result (λ change. change ≡ change_of child school) }
+{
+    let mut change = Difference::none(alloc);
+    change.places = one_place(alloc, child, school, PlaceState::Plan)?;
+    change.ended = one(alloc, child)?;
+    Ok(change)
+}

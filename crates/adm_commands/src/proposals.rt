@@ -1,0 +1,67 @@
+// A command's proposal: the register after it, what it changed, and its reply.
+ghost use Rattle.std.specs.Prelude.{IfOk};
+ghost use Rattle.adm_register.specs.WellFormed.{WellFormed};
+ghost use Rattle.adm_register.specs.Extends.{Extends, KeepsSchools};
+ghost use Rattle.adm_register.specs.Difference.{IsDifference};
+ghost use Rattle.adm_commands.specs.Outcome.{Decides, decision};
+
+use crate::NotDone;
+use crate::commands::{change_of, kept_by_types, refused};
+use adm_register::{Difference, Register};
+use adm_round::allotment_fits;
+use adm_types::{Command, Reply};
+use std::alloc::Global;
+
+/// The register after the command, what it changed and its reply, or why it was not done. The
+/// register before stays. What it costs grows with the tables that the command changes, of which the
+/// pointers to their rows are copied; the others are shared.
+pub fn propose(old: &Register, alloc: Global, command: &Command) -> Result<Proposal, NotDone>
+    ensures step { Decides old.now command.now (decision result) }
+    ensures extends { IfOk result (λ proposal. Extends old.now proposal.register × WellFormed proposal.register) }
+    ensures schools { IfOk result (λ proposal. KeepsSchools old.now proposal.register) }
+    ensures change { IfOk result (λ proposal. IsDifference old.now proposal.register proposal.change) }
+{
+    kept_by_types(command);
+    allotment_fits();
+    let tables = old.tables();
+    match refused(tables, alloc, command)? {
+        Some((refusal, row)) => Err(NotDone::Refused { refusal, row }),
+        None => {
+            let (whole, reply) = change_of(tables, alloc, command)?;
+            let (register, change) = old.changed(alloc, whole)?;
+            Ok(Proposal {
+                register,
+                change,
+                reply,
+            })
+        }
+    }
+}
+
+/// The register after the command and its reply, or why it was not done. The register before stays.
+/// What it costs grows with the tables that the command changes; the others are shared.
+pub fn decide(
+    old: &Register,
+    alloc: Global,
+    command: &Command,
+) -> Result<(Register, Reply), NotDone>
+    ensures step { Decides old.now command.now result }
+    ensures extends { IfOk result (λ done. Extends old.now done.0 × WellFormed done.0) }
+    ensures schools { IfOk result (λ done. KeepsSchools old.now done.0) }
+{
+    let Proposal {
+        register,
+        change: _,
+        reply,
+    } = propose(old, alloc, command)?;
+    Ok((register, reply))
+}
+
+/// What an accepted command comes to.
+#[derive(Drop)]
+pub struct Proposal {
+    pub register: Register,
+    /// The rows by which it differs from the register before.
+    pub change: Difference,
+    pub reply: Reply,
+}

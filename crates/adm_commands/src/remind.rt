@@ -1,0 +1,53 @@
+// To remind of an offer.
+ghost use Rattle.std.specs.Prelude.{◌≡◌, IfOk};
+ghost use Rattle.adm_commands.specs.Tests.{first_failing};
+ghost use Rattle.adm_commands.specs.Remind.{tests, change_of};
+
+use crate::failing::first_failing;
+use crate::offered::{is_after_offer, is_reminded, offer_at};
+use crate::one_row::one_place;
+use adm_register::{Difference, Tables};
+use adm_types::{ChildNo, Day, PlaceState, Refusal, SchoolCode};
+use std::alloc::{AllocError, Global};
+
+/// Why it is refused.
+#[tactic(auto, unfolding(crate::specs::Remind::tests))]
+pub(crate) fn refusal_of(
+    old: &Tables,
+    child: ChildNo,
+    school: SchoolCode,
+    day: Day,
+) -> Option<Refusal>
+    ensures { result ≡ first_failing (tests old.now child school day) }
+{
+    let offer = offer_at(old, child, school);
+    first_failing(&[
+        (old.has_child(child), Refusal::UnknownChild),
+        (old.has_school(school), Refusal::UnknownSchool),
+        (offer.is_some(), Refusal::NotOffered),
+        (!is_reminded(offer), Refusal::AlreadyReminded),
+        (is_after_offer(offer, day), Refusal::TooSoon),
+    ])
+}
+
+/// The offer is put again, with the day of its reminder.
+#[tactic(auto, unfolding(crate::specs::Remind::change_of))]
+pub(crate) fn change_of(
+    old: &Tables,
+    alloc: Global,
+    child: ChildNo,
+    school: SchoolCode,
+    day: Day,
+) -> Result<Difference, AllocError>
+    ensures { IfOk result (λ change. change ≡ change_of old.now child school day) }
+{
+    let mut change = Difference::none(alloc);
+    if let Some((offered, _)) = offer_at(old, child, school) {
+        let state = PlaceState::Offered {
+            day: offered,
+            reminded: Some(day),
+        };
+        change.places = one_place(alloc, child, school, state)?;
+    }
+    Ok(change)
+}

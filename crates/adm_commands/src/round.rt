@@ -1,0 +1,164 @@
+// To hold a round.
+ghost use Rattle.std.specs.Prelude.{◌≡◌, ◌≤◌, ◌∷◌, [], None, IfOk, IsTrue, length, count_by, is_none, nat_lt};
+ghost use Rattle.adm_types.specs.declared.commands.Reply.TheVariants.{Round as RoundReply};
+ghost use Rattle.std.specs.List.{list_all};
+ghost use Rattle.adm_commands.specs.Tests.{first_failing};
+ghost use Rattle.adm_register.specs.WellFormed.{WellFormed};
+ghost use Rattle.adm_commands.specs.KeptByTypes.{KeptByRound};
+ghost use Rattle.adm_commands.specs.Outcome.{IsHeld};
+ghost use Rattle.adm_commands.specs.Round.{tests, offer_of, offers_on};
+ghost use Rattle.adm_round.specs.Outcomes.{is_kept};
+
+use crate::entrants::{entrants, sites};
+use crate::failing::first_failing;
+use crate::one_row::one;
+use adm_draws::has_repeated_lot;
+use adm_register::draws_so_far::{draws_so_far, is_due};
+use adm_register::{Difference, Tables};
+use adm_round::{allot, counts, drawn, wanted_pairs};
+use adm_table::Shared;
+use adm_types::limits::{MOST_DRAWS, MOST_LOTS};
+use adm_types::{Day, Draw, Lot, Outcome, Place, PlaceRow, PlaceState, Refusal, Reply, Seq};
+use std::alloc::{AllocError, Global};
+
+/// Why it is refused. It takes memory for each site, list entry and lot. What it costs grows with
+/// the list entries of those who take part, times their logarithm, with the places and the draws
+/// before, and with the schools times the places of plans.
+#[tactic(auto, unfolding(crate::specs::Round::tests))]
+pub(crate) fn refusal_of(
+    old: &Tables,
+    alloc: Global,
+    draw: u32,
+    day: Day,
+    lots: &Seq<u32>,
+) -> Result<Option<Refusal>, AllocError>
+    requires { WellFormed old.now }
+    ensures { IfOk result (λ refusal. refusal ≡ first_failing (tests old.now draw day lots.now)) }
+{
+    let so_far = draws_so_far(old, alloc)?;
+    let sites = sites(old, alloc)?;
+    let applicants = entrants(old, alloc)?;
+    let pairs = wanted_pairs(alloc, &sites, &applicants)?;
+    let counted = lots.len() == pairs.len();
+    let drawn = drawn(alloc, pairs, lots.as_slice())?;
+    let repeated = has_repeated_lot(alloc, &drawn)?;
+    let room = so_far.draws < MOST_DRAWS && lots.len() <= MOST_LOTS - so_far.lots;
+    Ok(first_failing(&[
+        (draw == so_far.draws + 1, Refusal::WrongDraw),
+        (day <= old.season().lists_end(), Refusal::ListClosed),
+        (is_due(old.season(), so_far.day, day), Refusal::TooSoon),
+        (counted, Refusal::LotCount),
+        (!repeated, Refusal::LotsRepeated),
+        (room, Refusal::RegisterFull),
+    ]))
+}
+
+/// The round's offers and its draw, and how many children it comes to. It takes memory and time as
+/// the tests do.
+pub(crate) fn change_of(
+    old: &Tables,
+    alloc: Global,
+    draw: u32,
+    day: Day,
+    lots: &Seq<u32>,
+) -> Result<(Difference, Reply), AllocError>
+    requires register { WellFormed old.now }
+    requires accepted { first_failing (tests old.now draw day lots.now) ≡ None }
+    ensures { IfOk result (λ made. IsHeld old.now draw day lots.now made.0 made.1) }
+{
+    let round = draws_so_far(old, alloc)?.rounds + 1;
+    let sites = sites(old, alloc)?;
+    let applicants = entrants(old, alloc)?;
+    let pairs = wanted_pairs(alloc, &sites, &applicants)?;
+    let drawn = drawn(alloc, pairs, lots.as_slice())?;
+    let outcomes = allot(alloc, &sites, &applicants, &drawn)?;
+    let reply = reply_of(round, &outcomes);
+    let mut change = Difference::none(alloc);
+    change.places = Seq::from_vec(offers_on(alloc, day, &outcomes)?);
+    change.draws = draw_of(alloc, draw, round, day, outcomes, drawn)?;
+    Ok((change, reply))
+}
+
+/// The offer of the school of a fresh outcome.
+fn offer_of(day: Day, outcome: &Outcome) -> Option<PlaceRow>
+    ensures { result ≡ offer_of day outcome.now }
+{
+    if !outcome.fresh {
+        return None;
+    }
+    let child = outcome.child;
+    match outcome.school {
+        None => None,
+        Some(school) => {
+            let reminded: Option<Day> = None;
+            let state = PlaceState::Offered { day, reminded };
+            let place = Place { school, state };
+            Some(PlaceRow { child, place })
+        }
+    }
+}
+
+/// The offers of the schools of fresh outcomes.
+fn offers_on(alloc: Global, day: Day, outcomes: &[Outcome]) -> Result<Vec<PlaceRow>, AllocError>
+    ensures { IfOk result (λ found. found.items ≡ offers_on day outcomes.now) }
+{
+    outcomes
+        .iter()
+        .filter_map(|outcome| offer_of(day, outcome))
+        .collect(alloc)
+}
+
+/// The draw of a round, as the one row that is put.
+fn draw_of(
+    alloc: Global,
+    number: u32,
+    round: u32,
+    day: Day,
+    outcomes: Vec<Outcome>,
+    lots: Vec<Lot>,
+) -> Result<Seq<Shared<Draw>>, AllocError>
+    ensures { IfOk result (λ rows. rows ≡ record { number = number; round = round; school = None; day = day; outcomes = outcomes.items; lots = lots.items } ∷ []) }
+{
+    let row = Draw {
+        number,
+        round,
+        school: None,
+        day,
+        outcomes: Seq::from_vec(outcomes),
+        lots: Seq::from_vec(lots),
+    };
+    one(alloc, Shared::new(alloc, row)?)
+}
+
+/// How many are offered a school in the round of the number, keep theirs, and have none.
+fn reply_of(round: u32, outcomes: &[Outcome]) -> Reply
+    requires { length outcomes.now ≤ 10000000 }
+    ensures { result ≡ RoundReply round (count_by (λ outcome. outcome.fresh) outcomes.now) (count_by is_kept outcomes.now) (count_by (λ outcome. is_none outcome.school) outcomes.now) }
+{
+    let totals = counts(outcomes);
+    Reply::Round {
+        round,
+        offers: totals.offers as u32,
+        kept: totals.kept as u32,
+        unplaced: totals.unplaced as u32,
+    }
+}
+
+/// Tells what the types of a round's values keep. It does nothing.
+pub(crate) fn kept_by_round(day: Day, lots: &Seq<u32>)
+    ensures { KeptByRound day lots.now }
+{
+    let _number = day.number();
+    are_lots(lots.as_slice());
+}
+
+/// Tells that each number is below 2^32. It reads them for the check alone.
+fn are_lots(lots: &[u32])
+    ensures { IsTrue (list_all (λ number. nat_lt number 4294967296) lots.now) }
+{
+    let mut rest = lots;
+    while let Some((lot, others)) = rest.split_first() {
+        let _lot = *lot;
+        rest = others;
+    }
+}

@@ -1,5 +1,0 @@
-use Rattle.adm_register.proofs.History.{draws_kept_lem}
-use Rattle.adm_register.proofs.laws.draws_kept.Goals as goal
-
-pub returns : goal.returns
-returns c = draws_kept_lem

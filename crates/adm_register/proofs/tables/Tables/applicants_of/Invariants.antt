@@ -1,8 +1,0 @@
-use Rattle.std.proofs.Common.{◌≡◌, take}
-use Rattle.std.specs.List.{filter_map}
-use Rattle.adm_register.specs.Round.{applicant_of}
-use Rattle.adm_register.proofs.tables.Tables.applicants_of.Given as goal
-
--- those so far are those of as many applications
-abbrev pub invariant-loop-index : goal.invariant-loop-index
-invariant-loop-index l = l.found.items ≡ filter_map (applicant_of l.self) (take l.index l.applications)
