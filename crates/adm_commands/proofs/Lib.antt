@@ -14,8 +14,12 @@ pub mod ImportSeen
 pub mod ImportWalk
 pub mod ImportAgain
 pub mod ImportFit
-pub mod CommandsFit
 pub mod Keeps
+pub mod PutAgain
+pub mod DrawsStay
+pub mod ImportsStay
+pub mod Shows
+pub mod EachCommand
 pub mod Repeats
 pub mod OneStep
 pub mod History

@@ -90,6 +90,11 @@ Changes old (LeaveList child school) = IsDone (leave_list.change_of child school
 Changes old (Fill draw school day lots) = IsFilled old draw school day lots
 Changes old (Import rows) = import.IsImported old rows
 
+-- what comes of a command that is refused so, or changes this where it is not
+abbrev pub Comes : Option (Refusal × ℕ) → (Difference → Reply → Type 0) → Result (Difference × Reply) (Refusal × ℕ) → Type 0
+Comes why changes (Ok made) = (why ≡ None) × changes made.0 made.1
+Comes why changes (Err reason) = why ≡ Some reason
+
 -- what an accepted command answers, and leaves
 abbrev pub Effect : State → Command → Reply → State → Type 0
 Effect old command reply new = (change : Difference) × Changes old command change reply × (new ≡ after old change)

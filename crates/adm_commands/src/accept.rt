@@ -1,18 +1,20 @@
 // To accept an offer.
 ghost use Rattle.std.specs.Prelude.{◌≡◌, IfOk};
 ghost use Rattle.adm_commands.specs.Tests.{first_failing};
+ghost use Rattle.adm_commands.specs.Outcome.{Comes, IsDone, without_row};
 ghost use Rattle.adm_commands.specs.Accept.{tests, change_of};
 
 use crate::failing::first_failing;
 use crate::offered::offer_at;
 use crate::one_row::one_place;
+use crate::tried::{Tried, done, refused};
 use adm_register::{Difference, Tables};
 use adm_types::{ChildNo, PlaceState, Refusal, SchoolCode};
 use std::alloc::{AllocError, Global};
 
 /// Why it is refused.
 #[tactic(auto, unfolding(crate::specs::Accept::tests))]
-pub(crate) fn refusal_of(old: &Tables, child: ChildNo, school: SchoolCode) -> Option<Refusal>
+fn refusal_of(old: &Tables, child: ChildNo, school: SchoolCode) -> Option<Refusal>
     ensures { result ≡ first_failing (tests old.now child school) }
 {
     first_failing(&[
@@ -24,14 +26,18 @@ pub(crate) fn refusal_of(old: &Tables, child: ChildNo, school: SchoolCode) -> Op
 
 /// The place is put again, as an accepted one.
 #[tactic(auto, unfolding(crate::specs::Accept::change_of))]
-pub(crate) fn change_of(
+pub(crate) fn tried(
+    old: &Tables,
     alloc: Global,
     child: ChildNo,
     school: SchoolCode,
-) -> Result<Difference, AllocError>
-    ensures { IfOk result (λ change. change ≡ change_of child school) }
+) -> Result<Tried, AllocError>
+    ensures { IfOk result (λ tried. Comes (without_row (first_failing (tests old.now child school))) (IsDone (change_of child school)) tried) }
 {
+    if let Some(refusal) = refusal_of(old, child, school) {
+        return Ok(refused(refusal));
+    }
     let mut change = Difference::none(alloc);
     change.places = one_place(alloc, child, school, PlaceState::Accepted)?;
-    Ok(change)
+    Ok(done(change))
 }

@@ -1,10 +1,12 @@
 // To add a school.
 ghost use Rattle.std.specs.Prelude.{◌≡◌, IfOk};
 ghost use Rattle.adm_commands.specs.Tests.{first_failing};
+ghost use Rattle.adm_commands.specs.Outcome.{Comes, IsDone, without_row};
 ghost use Rattle.adm_commands.specs.AddSchool.{tests, change_of};
 
 use crate::failing::first_failing;
 use crate::one_row::one;
+use crate::tried::{Tried, done, refused};
 use adm_register::{Difference, Tables};
 use adm_table::Shared;
 use adm_types::limits::{MOST_SCHOOLS, is_name, is_school_in_range};
@@ -13,7 +15,7 @@ use std::alloc::{AllocError, Global};
 
 /// Why the school is refused.
 #[tactic(auto, unfolding(crate::specs::AddSchool::tests))]
-pub(crate) fn refusal_of(old: &Tables, school: &School) -> Option<Refusal>
+fn refusal_of(old: &Tables, school: &School) -> Option<Refusal>
     ensures { result ≡ first_failing (tests old.now school.now) }
 {
     first_failing(&[
@@ -26,11 +28,14 @@ pub(crate) fn refusal_of(old: &Tables, school: &School) -> Option<Refusal>
 
 /// The school is put.
 #[tactic(auto, unfolding(crate::specs::AddSchool::change_of))]
-pub(crate) fn change_of(alloc: Global, school: &School) -> Result<Difference, AllocError>
-    ensures { IfOk result (λ change. change ≡ change_of school.now) }
+pub(crate) fn tried(old: &Tables, alloc: Global, school: &School) -> Result<Tried, AllocError>
+    ensures { IfOk result (λ tried. Comes (without_row (first_failing (tests old.now school.now))) (IsDone (change_of school.now)) tried) }
 {
+    if let Some(refusal) = refusal_of(old, school) {
+        return Ok(refused(refusal));
+    }
     let row = Shared::new(alloc, school.clone()?)?;
     let mut change = Difference::none(alloc);
     change.schools = one(alloc, row)?;
-    Ok(change)
+    Ok(done(change))
 }

@@ -1,16 +1,21 @@
 // To replace a child's data.
-ghost use Rattle.std.specs.Prelude.{◌≡◌};
+ghost use Rattle.std.specs.Prelude.{◌≡◌, IfOk};
+ghost use Rattle.adm_register.specs.Change.{put_child};
 ghost use Rattle.adm_commands.specs.Tests.{first_failing};
+ghost use Rattle.adm_commands.specs.Outcome.{Comes, IsDone, without_row};
 ghost use Rattle.adm_commands.specs.Amend.{tests};
 
+use crate::child_values::put_child;
 use crate::failing::first_failing;
+use crate::tried::{Tried, done, refused};
 use adm_register::Tables;
 use adm_types::limits::{is_child_in_range, is_name};
 use adm_types::{Child, Refusal};
+use std::alloc::{AllocError, Global};
 
 /// Why the data are refused.
 #[tactic(auto, unfolding(crate::specs::Amend::tests))]
-pub(crate) fn refusal_of(old: &Tables, child: &Child) -> Option<Refusal>
+fn refusal_of(old: &Tables, child: &Child) -> Option<Refusal>
     ensures { result ≡ first_failing (tests old.now child.now) }
 {
     first_failing(&[
@@ -22,4 +27,14 @@ pub(crate) fn refusal_of(old: &Tables, child: &Child) -> Option<Refusal>
             Refusal::UnknownSchool,
         ),
     ])
+}
+
+/// The child's data are put, in place of those that were there.
+pub(crate) fn tried(old: &Tables, alloc: Global, child: &Child) -> Result<Tried, AllocError>
+    ensures { IfOk result (λ tried. Comes (without_row (first_failing (tests old.now child.now))) (IsDone (put_child child.now)) tried) }
+{
+    match refusal_of(old, child) {
+        Some(refusal) => Ok(refused(refusal)),
+        None => Ok(done(put_child(alloc, child)?)),
+    }
 }

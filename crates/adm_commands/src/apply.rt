@@ -2,10 +2,12 @@
 ghost use Rattle.std.specs.Prelude.{◌≡◌, ◌&&◌, length, IfOk};
 ghost use Rattle.adm_types.specs.Limits.{is_from, is_without_repeat};
 ghost use Rattle.adm_commands.specs.Tests.{first_failing};
+ghost use Rattle.adm_commands.specs.Outcome.{Comes, IsDone, without_row};
 ghost use Rattle.adm_commands.specs.Apply.{tests, further_tests, change_of};
 
 use crate::failing::first_failing;
 use crate::one_row::one;
+use crate::tried::{Tried, done, refused};
 use adm_register::{Difference, Tables};
 use adm_table::Shared;
 use adm_types::limits::is_without_repeat;
@@ -14,7 +16,7 @@ use std::alloc::{AllocError, Global};
 
 /// Why the application is refused.
 #[tactic(auto, unfolding(crate::specs::Apply::tests))]
-pub(crate) fn refusal_of(old: &Tables, application: &Application) -> Option<Refusal>
+fn refusal_of(old: &Tables, application: &Application) -> Option<Refusal>
     ensures { result ≡ first_failing (tests old.now application.now) }
 {
     if !old.has_child(application.child) {
@@ -57,11 +59,18 @@ fn is_preference_list(list: &[SchoolCode]) -> bool
 
 /// The application is put.
 #[tactic(auto, unfolding(crate::specs::Apply::change_of))]
-pub(crate) fn change_of(alloc: Global, application: &Application) -> Result<Difference, AllocError>
-    ensures { IfOk result (λ change. change ≡ change_of application.now) }
+pub(crate) fn tried(
+    old: &Tables,
+    alloc: Global,
+    application: &Application,
+) -> Result<Tried, AllocError>
+    ensures { IfOk result (λ tried. Comes (without_row (first_failing (tests old.now application.now))) (IsDone (change_of application.now)) tried) }
 {
+    if let Some(refusal) = refusal_of(old, application) {
+        return Ok(refused(refusal));
+    }
     let row = Shared::new(alloc, application.clone()?)?;
     let mut change = Difference::none(alloc);
     change.applications = one(alloc, row)?;
-    Ok(change)
+    Ok(done(change))
 }

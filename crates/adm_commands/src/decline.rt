@@ -1,17 +1,19 @@
 // To decline a place.
 ghost use Rattle.std.specs.Prelude.{◌≡◌, IfOk};
 ghost use Rattle.adm_commands.specs.Tests.{first_failing};
+ghost use Rattle.adm_commands.specs.Outcome.{Comes, IsDone, without_row};
 ghost use Rattle.adm_commands.specs.Decline.{tests, change_of};
 
 use crate::failing::first_failing;
 use crate::one_row::one;
+use crate::tried::{Tried, done, refused};
 use adm_register::{Difference, Tables};
 use adm_types::{ChildNo, LeftPair, Refusal, SchoolCode};
 use std::alloc::{AllocError, Global};
 
 /// Why it is refused.
 #[tactic(auto, unfolding(crate::specs::Decline::tests))]
-pub(crate) fn refusal_of(old: &Tables, child: ChildNo, school: SchoolCode) -> Option<Refusal>
+fn refusal_of(old: &Tables, child: ChildNo, school: SchoolCode) -> Option<Refusal>
     ensures { result ≡ first_failing (tests old.now child school) }
 {
     first_failing(&[
@@ -34,4 +36,19 @@ pub(crate) fn change_of(
     change.left = one(alloc, LeftPair { child, school })?;
     change.vacated = one(alloc, child)?;
     Ok(change)
+}
+
+/// What comes of it.
+pub(crate) fn tried(
+    old: &Tables,
+    alloc: Global,
+    child: ChildNo,
+    school: SchoolCode,
+) -> Result<Tried, AllocError>
+    ensures { IfOk result (λ tried. Comes (without_row (first_failing (tests old.now child school))) (IsDone (change_of child school)) tried) }
+{
+    match refusal_of(old, child, school) {
+        Some(refusal) => Ok(refused(refusal)),
+        None => Ok(done(change_of(alloc, child, school)?)),
+    }
 }

@@ -1,17 +1,20 @@
 // To fill a vacancy.
-ghost use Rattle.std.specs.Prelude.{◌≡◌, ◌∷◌, [], ◌+◌, ◌&&◌, nat_lt, nat_le, None, IfOk, map};
+ghost use Rattle.std.specs.Prelude.{◌≡◌, ◌∷◌, [], ◌+◌, ◌&&◌, nat_lt, nat_le, IfOk, length, map};
 ghost use Rattle.adm_types.specs.Limits.{most_draws, most_lots};
 ghost use Rattle.adm_types.specs.Seasons.{lists_end};
 ghost use Rattle.adm_round.specs.Round.{lots_of};
-ghost use Rattle.adm_register.specs.Draws.{IsWithin};
+ghost use Rattle.adm_register.specs.Draws.{IsWithin, draws_so_far};
+ghost use Rattle.adm_register.specs.Waits.{waiting_at};
 ghost use Rattle.adm_commands.specs.Tests.{first_failing};
 ghost use Rattle.adm_register.specs.WellFormed.{WellFormed};
-ghost use Rattle.adm_commands.specs.Outcome.{IsFilled};
+ghost use Rattle.adm_commands.specs.Outcome.{Comes, IsFilled, without_row};
 ghost use Rattle.adm_register.specs.Rows.{vacancies};
-ghost use Rattle.adm_commands.specs.Fill.{tests, is_vacant, draw_of_fill};
+ghost use Rattle.adm_draws.specs.Draws.{repeats_lot};
+ghost use Rattle.adm_commands.specs.Fill.{tests, is_vacant, fill_lots, draw_of_fill};
 
 use crate::failing::first_failing;
 use crate::one_row::{one, one_place};
+use crate::tried::{Tried, refused};
 use adm_draws::has_repeated_lot;
 use adm_register::draws_so_far::{DrawsSoFar, draws_so_far, is_due};
 use adm_register::{Difference, Tables};
@@ -24,37 +27,73 @@ use adm_types::{
 use adm_waiting::first_by_lot;
 use std::alloc::{AllocError, Global};
 
-/// Why it is refused. It takes memory for a pointer to each application and each draw, and for each
-/// lot. What it costs grows with the applications, the places and the draws before, and with the
-/// lots, times their logarithm.
+/// Why it is refused, where so many draws were made, so many wait, and two of their lots are equal
+/// or none.
 #[tactic(auto, unfolding(crate::specs::Fill::tests))]
-pub(crate) fn refusal_of(
+fn refusal_of(
+    old: &Tables,
+    so_far: &DrawsSoFar,
+    draw: u32,
+    school: SchoolCode,
+    day: Day,
+    lots: &Seq<u32>,
+    waiting: usize,
+    repeated: bool,
+) -> Option<Refusal>
+    requires draws { so_far.now ≡ draws_so_far old.now }
+    requires within { IsWithin so_far.now }
+    requires waiting { waiting ≡ length (waiting_at old.now school) }
+    requires repeated { repeated ≡ repeats_lot (fill_lots old.now school lots.now) }
+    ensures { result ≡ first_failing (tests old.now draw school day lots.now) }
+{
+    first_failing(&[
+        (old.has_school(school), Refusal::UnknownSchool),
+        (draw == so_far.draws + 1, Refusal::WrongDraw),
+        (are_lists_open(old.season(), day), Refusal::ListClosed),
+        (0 < waiting, Refusal::EmptyList),
+        (has_vacancy(old, school), Refusal::NoVacancy),
+        (is_due(old.season(), so_far.day, day), Refusal::TooSoon),
+        (lots.len() == waiting, Refusal::LotCount),
+        (!repeated, Refusal::LotsRepeated),
+        (has_room(so_far, lots.len()), Refusal::RegisterFull),
+    ])
+}
+
+/// The offer to the child that ranks first, and the draw. Who waits, and their lots, are worked out
+/// once, for the tests and for the change. They take memory for a pointer to each application and
+/// each draw, and for each lot. What it costs grows with the applications, the places and the draws
+/// before, and with the lots, times their logarithm.
+pub(crate) fn tried(
     old: &Tables,
     alloc: Global,
     draw: u32,
     school: SchoolCode,
     day: Day,
     lots: &Seq<u32>,
-) -> Result<Option<Refusal>, AllocError>
+) -> Result<Tried, AllocError>
     requires { WellFormed old.now }
-    ensures { IfOk result (λ refusal. refusal ≡ first_failing (tests old.now draw school day lots.now)) }
+    ensures { IfOk result (λ tried. Comes (without_row (first_failing (tests old.now draw school day lots.now))) (IsFilled old.now draw school day lots.now) tried) }
 {
     let so_far = draws_so_far(old, alloc)?;
     let waiting = old.waiting_at(alloc, school)?;
-    let counted = lots.len() == waiting.len();
     let drawn = lots_for(alloc, school, &waiting, lots.as_slice())?;
     let repeated = has_repeated_lot(alloc, &drawn)?;
-    Ok(first_failing(&[
-        (old.has_school(school), Refusal::UnknownSchool),
-        (draw == so_far.draws + 1, Refusal::WrongDraw),
-        (are_lists_open(old.season(), day), Refusal::ListClosed),
-        (0 < waiting.len(), Refusal::EmptyList),
-        (has_vacancy(old, school), Refusal::NoVacancy),
-        (is_due(old.season(), so_far.day, day), Refusal::TooSoon),
-        (counted, Refusal::LotCount),
-        (!repeated, Refusal::LotsRepeated),
-        (has_room(&so_far, lots.len()), Refusal::RegisterFull),
-    ]))
+    let count = waiting.len();
+    let why = refusal_of(old, &so_far, draw, school, day, lots, count, repeated);
+    if let Some(refusal) = why {
+        return Ok(refused(refusal));
+    }
+    let Some(row) = old.school(school) else {
+        unreachable!();
+    };
+    let Some(child) = first_by_lot(row, &waiting, lots.as_slice()) else {
+        unreachable!();
+    };
+    let reminded: Option<Day> = None;
+    let mut change = Difference::none(alloc);
+    change.places = one_place(alloc, child, school, PlaceState::Offered { day, reminded })?;
+    change.draws = draw_of(alloc, draw, school, day, child, drawn)?;
+    Ok(Ok((change, Reply::Filled(child))))
 }
 
 /// Whether lists are kept on the day.
@@ -110,34 +149,6 @@ fn pairs_for(
             child: child.as_ref().no,
         })
         .collect(alloc)
-}
-
-/// The offer to the child that ranks first, and the draw. It takes memory and time as the tests do.
-pub(crate) fn change_of(
-    old: &Tables,
-    alloc: Global,
-    draw: u32,
-    school: SchoolCode,
-    day: Day,
-    lots: &Seq<u32>,
-) -> Result<(Difference, Reply), AllocError>
-    requires register { WellFormed old.now }
-    requires accepted { first_failing (tests old.now draw school day lots.now) ≡ None }
-    ensures { IfOk result (λ made. IsFilled old.now draw school day lots.now made.0 made.1) }
-{
-    let Some(row) = old.school(school) else {
-        unreachable!();
-    };
-    let waiting = old.waiting_at(alloc, school)?;
-    let Some(child) = first_by_lot(row, &waiting, lots.as_slice()) else {
-        unreachable!();
-    };
-    let drawn = lots_for(alloc, school, &waiting, lots.as_slice())?;
-    let reminded: Option<Day> = None;
-    let mut change = Difference::none(alloc);
-    change.places = one_place(alloc, child, school, PlaceState::Offered { day, reminded })?;
-    change.draws = draw_of(alloc, draw, school, day, child, drawn)?;
-    Ok((change, Reply::Filled(child)))
 }
 
 /// The draw by which the child was moved to the school, as the one row that is put.

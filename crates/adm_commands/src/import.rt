@@ -5,10 +5,12 @@ ghost use Rattle.std.specs.List.Sorted.{IsPermutation, IsStrictlySortedBy};
 ghost use Rattle.std.specs.Ordering.{eq_by_cmp, nat_cmp};
 ghost use Rattle.adm_commands.specs.Import.{change_of, is_known, refusal_of_row, with_row, refused_from, new_rows, IsImported};
 ghost use Rattle.adm_commands.specs.KeptByTypes.{KeptByImportRow};
+ghost use Rattle.adm_commands.specs.Outcome.{Comes};
 ghost use Rattle.adm_register.specs.State.{application_of};
 
 use crate::child_values::kept_by_child;
 use crate::one_row::one;
+use crate::tried::Tried;
 use crate::{add_child, apply};
 use adm_register::{Difference, Tables};
 use adm_table::{Same, Shared, Table};
@@ -23,30 +25,20 @@ struct Walked {
     added: Vec<Shared<ImportRow>>,
 }
 
-/// Why the import is refused: the first row that is refused, with its number from 1. What it costs
-/// grows with the rows, and for each that is new with the pieces of three tables.
-pub(crate) fn refused(
-    old: &Tables,
-    alloc: Global,
-    rows: &[ImportRow],
-) -> Result<Option<(Refusal, u64)>, AllocError>
-    ensures { IfOk result (λ why. why ≡ refused_from old.now 1 rows.now) }
-{
-    let Walked { why, added: _ } = walk(old, alloc, rows)?;
-    Ok(why)
-}
-
 /// The rows that are new, in the order of their children's numbers, and how many there are beside
-/// those that were known. It costs as much as the tests.
-pub(crate) fn change_of(
+/// those that were known; or the first row that is refused, with its number from 1. What it costs
+/// grows with the rows, and for each that is new with the pieces of three tables.
+pub(crate) fn tried(
     old: &Tables,
     alloc: Global,
     rows: &[ImportRow],
-) -> Result<(Difference, Reply), AllocError>
-    requires { refused_from old.now 1 rows.now ≡ None }
-    ensures { IfOk result (λ made. IsImported old.now rows.now made.0 made.1) }
+) -> Result<Tried, AllocError>
+    ensures { IfOk result (λ tried. Comes (refused_from old.now 1 rows.now) (IsImported old.now rows.now) tried) }
 {
-    let Walked { why: _, added } = walk(old, alloc, rows)?;
+    let Walked { why, added } = walk(old, alloc, rows)?;
+    if let Some(refused) = why {
+        return Ok(Err(refused));
+    }
     let added = in_order(alloc, added)?;
     let count = added.len();
     let known = rows.len().saturating_sub(count);
@@ -54,7 +46,7 @@ pub(crate) fn change_of(
         added: count as u64,
         known: known as u64,
     };
-    Ok((rows_put(alloc, added)?, reply))
+    Ok(Ok((rows_put(alloc, added)?, reply)))
 }
 
 /// Goes through the rows up to the first that is refused, each beside those before it.

@@ -1,16 +1,21 @@
 // To let an offer lapse.
-ghost use Rattle.std.specs.Prelude.{◌≡◌};
+ghost use Rattle.std.specs.Prelude.{◌≡◌, IfOk};
 ghost use Rattle.adm_commands.specs.Tests.{first_failing};
+ghost use Rattle.adm_commands.specs.Outcome.{Comes, IsDone, without_row};
+ghost use Rattle.adm_commands.specs.Decline.{change_of};
 ghost use Rattle.adm_commands.specs.Lapse.{tests};
 
+use crate::decline::change_of;
 use crate::failing::first_failing;
 use crate::offered::{is_after_reminder, is_reminded, offer_at};
+use crate::tried::{Tried, done, refused};
 use adm_register::Tables;
 use adm_types::{ChildNo, Day, Refusal, SchoolCode};
+use std::alloc::{AllocError, Global};
 
 /// Why it is refused.
 #[tactic(auto, unfolding(crate::specs::Lapse::tests))]
-pub(crate) fn refusal_of(
+fn refusal_of(
     old: &Tables,
     child: ChildNo,
     school: SchoolCode,
@@ -26,4 +31,20 @@ pub(crate) fn refusal_of(
         (is_reminded(offer), Refusal::NotReminded),
         (is_after_reminder(offer, day), Refusal::TooSoon),
     ])
+}
+
+/// The place is cut as by declining it.
+pub(crate) fn tried(
+    old: &Tables,
+    alloc: Global,
+    child: ChildNo,
+    school: SchoolCode,
+    day: Day,
+) -> Result<Tried, AllocError>
+    ensures { IfOk result (λ tried. Comes (without_row (first_failing (tests old.now child school day))) (IsDone (change_of child school)) tried) }
+{
+    match refusal_of(old, child, school, day) {
+        Some(refusal) => Ok(refused(refusal)),
+        None => Ok(done(change_of(alloc, child, school)?)),
+    }
 }

@@ -1,17 +1,19 @@
 // To take a child off the waiting list of a school.
 ghost use Rattle.std.specs.Prelude.{◌≡◌, IfOk};
 ghost use Rattle.adm_commands.specs.Tests.{first_failing};
+ghost use Rattle.adm_commands.specs.Outcome.{Comes, IsDone, without_row};
 ghost use Rattle.adm_commands.specs.LeaveList.{tests, change_of};
 
 use crate::failing::first_failing;
 use crate::one_row::one;
+use crate::tried::{Tried, done, refused};
 use adm_register::{Difference, Tables};
 use adm_types::{ChildNo, LeftPair, Refusal, SchoolCode};
 use std::alloc::{AllocError, Global};
 
 /// Why it is refused.
 #[tactic(auto, unfolding(crate::specs::LeaveList::tests))]
-pub(crate) fn refusal_of(old: &Tables, child: ChildNo, school: SchoolCode) -> Option<Refusal>
+fn refusal_of(old: &Tables, child: ChildNo, school: SchoolCode) -> Option<Refusal>
     ensures { result ≡ first_failing (tests old.now child school) }
 {
     first_failing(&[
@@ -23,14 +25,18 @@ pub(crate) fn refusal_of(old: &Tables, child: ChildNo, school: SchoolCode) -> Op
 
 /// The school is one that the child left.
 #[tactic(auto, unfolding(crate::specs::LeaveList::change_of))]
-pub(crate) fn change_of(
+pub(crate) fn tried(
+    old: &Tables,
     alloc: Global,
     child: ChildNo,
     school: SchoolCode,
-) -> Result<Difference, AllocError>
-    ensures { IfOk result (λ change. change ≡ change_of child school) }
+) -> Result<Tried, AllocError>
+    ensures { IfOk result (λ tried. Comes (without_row (first_failing (tests old.now child school))) (IsDone (change_of child school)) tried) }
 {
+    if let Some(refusal) = refusal_of(old, child, school) {
+        return Ok(refused(refusal));
+    }
     let mut change = Difference::none(alloc);
     change.left = one(alloc, LeftPair { child, school })?;
-    Ok(change)
+    Ok(done(change))
 }

@@ -23,6 +23,7 @@ mod one_row;
 mod proposals;
 mod remind;
 mod round;
+mod tried;
 
 pub use laws::{draws_kept, import_once, one_step, repeat_safe, round_held};
 pub use not_done::NotDone;

@@ -6,7 +6,7 @@ ghost use Rattle.adm_register.specs.Difference.{IsDifference};
 ghost use Rattle.adm_commands.specs.Outcome.{Decides, decision};
 
 use crate::NotDone;
-use crate::commands::{change_of, kept_by_types, refused};
+use crate::commands::{kept_by_types, tried};
 use adm_register::{Difference, Register};
 use adm_round::allotment_fits;
 use adm_types::{Command, Reply};
@@ -23,11 +23,9 @@ pub fn propose(old: &Register, alloc: Global, command: &Command) -> Result<Propo
 {
     kept_by_types(command);
     allotment_fits();
-    let tables = old.tables();
-    match refused(tables, alloc, command)? {
-        Some((refusal, row)) => Err(NotDone::Refused { refusal, row }),
-        None => {
-            let (whole, reply) = change_of(tables, alloc, command)?;
+    match tried(old.tables(), alloc, command)? {
+        Err((refusal, row)) => Err(NotDone::Refused { refusal, row }),
+        Ok((whole, reply)) => {
             let (register, change) = old.changed(alloc, whole)?;
             Ok(Proposal {
                 register,

@@ -1,18 +1,20 @@
 // To remind of an offer.
 ghost use Rattle.std.specs.Prelude.{◌≡◌, IfOk};
 ghost use Rattle.adm_commands.specs.Tests.{first_failing};
+ghost use Rattle.adm_commands.specs.Outcome.{Comes, IsDone, without_row};
 ghost use Rattle.adm_commands.specs.Remind.{tests, change_of};
 
 use crate::failing::first_failing;
 use crate::offered::{is_after_offer, is_reminded, offer_at};
 use crate::one_row::one_place;
+use crate::tried::{Tried, done, refused};
 use adm_register::{Difference, Tables};
 use adm_types::{ChildNo, Day, PlaceState, Refusal, SchoolCode};
 use std::alloc::{AllocError, Global};
 
 /// Why it is refused.
 #[tactic(auto, unfolding(crate::specs::Remind::tests))]
-pub(crate) fn refusal_of(
+fn refusal_of(
     old: &Tables,
     child: ChildNo,
     school: SchoolCode,
@@ -32,15 +34,18 @@ pub(crate) fn refusal_of(
 
 /// The offer is put again, with the day of its reminder.
 #[tactic(auto, unfolding(crate::specs::Remind::change_of))]
-pub(crate) fn change_of(
+pub(crate) fn tried(
     old: &Tables,
     alloc: Global,
     child: ChildNo,
     school: SchoolCode,
     day: Day,
-) -> Result<Difference, AllocError>
-    ensures { IfOk result (λ change. change ≡ change_of old.now child school day) }
+) -> Result<Tried, AllocError>
+    ensures { IfOk result (λ tried. Comes (without_row (first_failing (tests old.now child school day))) (IsDone (change_of old.now child school day)) tried) }
 {
+    if let Some(refusal) = refusal_of(old, child, school, day) {
+        return Ok(refused(refusal));
+    }
     let mut change = Difference::none(alloc);
     if let Some((offered, _)) = offer_at(old, child, school) {
         let state = PlaceState::Offered {
@@ -49,5 +54,5 @@ pub(crate) fn change_of(
         };
         change.places = one_place(alloc, child, school, state)?;
     }
-    Ok(change)
+    Ok(done(change))
 }

@@ -5,15 +5,18 @@ ghost use Rattle.std.specs.List.{list_all};
 ghost use Rattle.adm_commands.specs.Tests.{first_failing};
 ghost use Rattle.adm_register.specs.WellFormed.{WellFormed};
 ghost use Rattle.adm_commands.specs.KeptByTypes.{KeptByRound};
-ghost use Rattle.adm_commands.specs.Outcome.{IsHeld};
-ghost use Rattle.adm_commands.specs.Round.{tests, offer_of, offers_on};
+ghost use Rattle.adm_commands.specs.Outcome.{Comes, IsHeld, without_row};
+ghost use Rattle.adm_draws.specs.Draws.{repeats_lot};
+ghost use Rattle.adm_register.specs.Draws.{IsWithin, draws_so_far};
+ghost use Rattle.adm_commands.specs.Round.{tests, round_pairs, round_lots, offer_of, offers_on};
 ghost use Rattle.adm_round.specs.Outcomes.{is_kept};
 
 use crate::entrants::{entrants, sites};
 use crate::failing::first_failing;
 use crate::one_row::one;
+use crate::tried::{Tried, refused};
 use adm_draws::has_repeated_lot;
-use adm_register::draws_so_far::{draws_so_far, is_due};
+use adm_register::draws_so_far::{DrawsSoFar, draws_so_far, is_due};
 use adm_register::{Difference, Tables};
 use adm_round::{allot, counts, drawn, wanted_pairs};
 use adm_table::Shared;
@@ -21,62 +24,68 @@ use adm_types::limits::{MOST_DRAWS, MOST_LOTS};
 use adm_types::{Day, Draw, Lot, Outcome, Place, PlaceRow, PlaceState, Refusal, Reply, Seq};
 use std::alloc::{AllocError, Global};
 
-/// Why it is refused. It takes memory for each site, list entry and lot. What it costs grows with
-/// the list entries of those who take part, times their logarithm, with the places and the draws
-/// before, and with the schools times the places of plans.
+/// Why it is refused, where so many draws were made, lots are drawn for so many pairs, and two of
+/// these lots at one school are equal or none.
 #[tactic(auto, unfolding(crate::specs::Round::tests))]
-pub(crate) fn refusal_of(
+fn refusal_of(
+    old: &Tables,
+    so_far: &DrawsSoFar,
+    draw: u32,
+    day: Day,
+    lots: &Seq<u32>,
+    pairs: usize,
+    repeated: bool,
+) -> Option<Refusal>
+    requires draws { so_far.now ≡ draws_so_far old.now }
+    requires within { IsWithin so_far.now }
+    requires pairs { pairs ≡ length (round_pairs old.now) }
+    requires repeated { repeated ≡ repeats_lot (round_lots old.now lots.now) }
+    ensures { result ≡ first_failing (tests old.now draw day lots.now) }
+{
+    let room = so_far.draws < MOST_DRAWS && lots.len() <= MOST_LOTS - so_far.lots;
+    first_failing(&[
+        (draw == so_far.draws + 1, Refusal::WrongDraw),
+        (day <= old.season().lists_end(), Refusal::ListClosed),
+        (is_due(old.season(), so_far.day, day), Refusal::TooSoon),
+        (lots.len() == pairs, Refusal::LotCount),
+        (!repeated, Refusal::LotsRepeated),
+        (room, Refusal::RegisterFull),
+    ])
+}
+
+/// The round's offers and its draw, and how many children it comes to. Who takes part, the schools,
+/// and the lots are worked out once, for the tests and for the change. They take memory for each
+/// site, list entry and lot. What it costs grows with the list entries of those who take part, times
+/// their logarithm, with the places and the draws before, and with the schools times the places of
+/// plans.
+pub(crate) fn tried(
     old: &Tables,
     alloc: Global,
     draw: u32,
     day: Day,
     lots: &Seq<u32>,
-) -> Result<Option<Refusal>, AllocError>
+) -> Result<Tried, AllocError>
     requires { WellFormed old.now }
-    ensures { IfOk result (λ refusal. refusal ≡ first_failing (tests old.now draw day lots.now)) }
+    ensures { IfOk result (λ tried. Comes (without_row (first_failing (tests old.now draw day lots.now))) (IsHeld old.now draw day lots.now) tried) }
 {
     let so_far = draws_so_far(old, alloc)?;
     let sites = sites(old, alloc)?;
     let applicants = entrants(old, alloc)?;
     let pairs = wanted_pairs(alloc, &sites, &applicants)?;
-    let counted = lots.len() == pairs.len();
+    let count = pairs.len();
     let drawn = drawn(alloc, pairs, lots.as_slice())?;
     let repeated = has_repeated_lot(alloc, &drawn)?;
-    let room = so_far.draws < MOST_DRAWS && lots.len() <= MOST_LOTS - so_far.lots;
-    Ok(first_failing(&[
-        (draw == so_far.draws + 1, Refusal::WrongDraw),
-        (day <= old.season().lists_end(), Refusal::ListClosed),
-        (is_due(old.season(), so_far.day, day), Refusal::TooSoon),
-        (counted, Refusal::LotCount),
-        (!repeated, Refusal::LotsRepeated),
-        (room, Refusal::RegisterFull),
-    ]))
-}
-
-/// The round's offers and its draw, and how many children it comes to. It takes memory and time as
-/// the tests do.
-pub(crate) fn change_of(
-    old: &Tables,
-    alloc: Global,
-    draw: u32,
-    day: Day,
-    lots: &Seq<u32>,
-) -> Result<(Difference, Reply), AllocError>
-    requires register { WellFormed old.now }
-    requires accepted { first_failing (tests old.now draw day lots.now) ≡ None }
-    ensures { IfOk result (λ made. IsHeld old.now draw day lots.now made.0 made.1) }
-{
-    let round = draws_so_far(old, alloc)?.rounds + 1;
-    let sites = sites(old, alloc)?;
-    let applicants = entrants(old, alloc)?;
-    let pairs = wanted_pairs(alloc, &sites, &applicants)?;
-    let drawn = drawn(alloc, pairs, lots.as_slice())?;
+    let why = refusal_of(old, &so_far, draw, day, lots, count, repeated);
+    if let Some(refusal) = why {
+        return Ok(refused(refusal));
+    }
+    let round = so_far.rounds + 1;
     let outcomes = allot(alloc, &sites, &applicants, &drawn)?;
     let reply = reply_of(round, &outcomes);
     let mut change = Difference::none(alloc);
     change.places = Seq::from_vec(offers_on(alloc, day, &outcomes)?);
     change.draws = draw_of(alloc, draw, round, day, outcomes, drawn)?;
-    Ok((change, reply))
+    Ok(Ok((change, reply)))
 }
 
 /// The offer of the school of a fresh outcome.

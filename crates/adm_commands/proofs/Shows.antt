@@ -1,0 +1,61 @@
+-- What each command must show of what it changes. What holds of all commands follows from it, with no case for each.
+use Rattle.std.proofs.Common.{◌≡◌, ◌∙◌, ap, sym, subst, refl, [], Some, None}
+use Rattle.std.specs.Prelude.{Option}
+use Rattle.adm_types.specs.declared.commands.Command.{Command}
+use Rattle.adm_types.specs.declared.commands.Refusal.{Refusal}
+use Rattle.adm_types.specs.declared.commands.Reply.{Reply}
+use Rattle.adm_round.specs.Outcomes.{AllotmentFits, OneAllotment}
+use Rattle.adm_register.specs.declared.difference.Difference.{Difference}
+use Rattle.adm_register.specs.State.{State}
+use Rattle.adm_register.specs.Change.{after}
+use Rattle.adm_register.specs.Fits.{Fit}
+use Rattle.adm_register.specs.WellFormed.{WellFormed}
+use Rattle.adm_commands.specs.History.{DrawsInOrder, DrawsStay}
+use Rattle.adm_commands.specs.KeptByTypes.{KeptByTypes}
+use Rattle.adm_commands.specs.Outcome.{Changes, refused, without_row}
+use Rattle.adm_commands.proofs.DrawsStay.{unchanged}
+use Rattle.adm_commands.proofs.ImportAgain.{ImportsKnown}
+use Rattle.adm_commands.proofs.ImportsStay.{ImportsStay, stay_alone}
+
+-- where no row is refused no test fails
+pub no_row : (o : Option Refusal) → without_row o ≡ None → o ≡ None
+no_row None none = refl
+no_row (Some refusal) none = cc
+
+pub record Shows (command : Command) : Type 0 where
+  -- what it changes fits
+  pub fits : (old : State) → KeptByTypes command → WellFormed old → AllotmentFits → refused old command ≡ None → (change : Difference) (reply : Reply) → Changes old command change reply → Fit old change
+
+  -- where it is not refused when it follows itself, it changes nothing more
+  pub again : (old new : State) (change : Difference) (reply : Reply) → WellFormed old → refused old command ≡ None → Changes old command change reply → new ≡ after old change
+      → refused new command ≡ None → (more : Difference) (second : Reply) → Changes new command more second → after new more ≡ new
+
+  -- what it changes is one
+  pub one_change : OneAllotment → (old : State) (one other : Difference) (first second : Reply) → Changes old command one first → Changes old command other second → one ≡ other
+
+  -- draws that were made stay
+  pub draws : (old new : State) (change : Difference) (reply : Reply) → DrawsInOrder old → refused old command ≡ None → Changes old command change reply → new ≡ after old change
+      → DrawsInOrder new × DrawsStay old new
+
+  -- and so do imported rows
+  pub imports : (old new : State) (change : Difference) (reply : Reply) → ImportsKnown old → refused old command ≡ None → Changes old command change reply → new ≡ after old change
+      → ImportsKnown new × ImportsStay old new
+
+-- what a command must show that changes just this, and neither draws nor imported rows
+pub record ShowsOnly (command : Command) (only : State → Difference) : Type 0 where
+  pub is : (old : State) (change : Difference) (reply : Reply) → Changes old command change reply → change ≡ only old
+  pub fits : (old : State) → KeptByTypes command → WellFormed old → refused old command ≡ None → Fit old (only old)
+  pub again : (old : State) → WellFormed old → refused old command ≡ None → refused (after old (only old)) command ≡ None → after (after old (only old)) (only (after old (only old))) ≡ after old (only old)
+  pub no_draw : (old : State) → (only old).draws ≡ []
+  pub no_import : (old : State) → (only old).imported ≡ []
+
+pub shows_only : (command : Command) (only : State → Difference) → ShowsOnly command only → Shows command
+shows_only command only it = record {
+  fits = λ old kept well law accepted change reply done. subst (Fit old) (sym (it.is old change reply done)) (it.fits old kept well accepted);
+  again = λ old new change reply well first done is passes more second next.
+      let now : new ≡ after old (only old) = is ∙ ap (after old) (it.is old change reply done) in
+      ap (after new) (it.is new more second next) ∙ ap (λ s. after s (only s)) now ∙ it.again old well first (subst (λ s. refused s command ≡ None) now passes) ∙ sym now;
+  one_change = λ law old one other first second x y. it.is old one first x ∙ sym (it.is old other second y);
+  draws = λ old new change reply ordered accepted done is. unchanged old new change (ap (λ (c : Difference). c.draws) (it.is old change reply done) ∙ it.no_draw old) is ordered;
+  imports = λ old new change reply known accepted done is. stay_alone old new change (ap (λ (c : Difference). c.imported) (it.is old change reply done) ∙ it.no_import old) is known;
+}
