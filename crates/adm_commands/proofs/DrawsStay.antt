@@ -1,5 +1,5 @@
 -- A change that puts no draw, or the next.
-use Rattle.std.proofs.Common.{◌≡◌, ◌∙◌, ap, sym, true, List, [], ◌∷◌}
+use Rattle.std.proofs.Common.{◌≡◌, ◌∙◌, ap, sym, true, [], ◌∷◌}
 use Rattle.std.specs.Cmp.{nat_cmp_total}
 use Rattle.std.specs.FinMap.{get, insert, values, nat_cmp-IsAntisymmetric}
 use Rattle.adm_types.specs.declared.draws.Draw.{Draw}

@@ -1,5 +1,5 @@
 -- Rows that were imported stay, whatever commands come after.
-use Rattle.std.proofs.Common.{◌≡◌, ◌∙◌, ap, sym, subst, refl, ◌-◌, List, [], ◌∷◌, length, arith}
+use Rattle.std.proofs.Common.{◌∙◌, ap, sym, subst, refl, ◌-◌, List, [], ◌∷◌, length, arith}
 use Rattle.std.specs.List.{AllByRecursion}
 use Rattle.std.specs.List.Sorted.{IsPermutation, IsStrictlySortedBy}
 use Rattle.std.proofs.lemmas.List.Sorted.{IsPermutation-refl}

@@ -1,9 +1,8 @@
 -- Who takes part in a round: each has an application, and is at the places and wants the schools that its rows say.
 use Rattle.std.proofs.Common.{◌≡◌, ◌∙◌, ap, sym, refl, cond, Bool, true, false, ℕ, List, Option, Some, None}
-use Rattle.std.specs.Prelude.{is_some, not, nat_eq, option_map}
+use Rattle.std.specs.Prelude.{is_some, nat_eq, option_map}
 use Rattle.std.specs.Cmp.{nat_cmp_total}
 use Rattle.std.specs.Cmp.Lexicographic.{nat_list_cmp_total, pointwise, bytes_decides}
-use Rattle.std.specs.List.{prefix_len}
 use Rattle.std.specs.FinMap.{get, values, contains_key, nat_cmp-IsAntisymmetric}
 use Rattle.std.proofs.lemmas.Bool.{false≢true}
 use Rattle.std.proofs.lemmas.Option.{same_Some, none-some}
@@ -11,7 +10,6 @@ use Rattle.adm_types.specs.Limits.{is_listed}
 use Rattle.adm_types.specs.declared.rows.School.{School}
 use Rattle.adm_types.specs.declared.rows.Child.{Child}
 use Rattle.adm_types.specs.declared.rows.Application.{Application}
-use Rattle.adm_types.specs.declared.rows.PlaceRow.{PlaceRow}
 use Rattle.adm_types.specs.declared.draws.Lot.{Lot}
 use Rattle.adm_match.specs.Market.{Code}
 use Rattle.adm_round.specs.declared.applicants.Applicant.{Applicant}
@@ -19,10 +17,10 @@ use Rattle.adm_round.specs.declared.applicants.Site.{Site}
 use Rattle.adm_round.specs.Round.{code_of, number_of, listed, is_site, IsListFit, IsPosed}
 use Rattle.adm_register.specs.State.{State}
 use Rattle.adm_commands.specs.Round.{is_entrant, applicant_of, entrants, quota, sites}
-use Rattle.adm_register.specs.Wanted.{above, has_left, wanted_of, own_school}
+use Rattle.adm_register.specs.Wanted.{wanted_of, own_school}
 use Rattle.adm_register.specs.WellFormed.{WellFormed}
-use Rattle.adm_register.proofs.Maps.{code_cmp-IsAntisymmetric, not_true}
-use Rattle.adm_register.proofs.RoundLemmas.{In, All_in, any_in, from_map, in_map, from_filter_map, in_filter_map, from_filter, from_take, listed_in, in_listed}
+use Rattle.adm_register.proofs.Maps.{code_cmp-IsAntisymmetric}
+use Rattle.adm_register.proofs.RoundLemmas.{In, All_in, any_in, from_map, in_map, from_filter_map, in_filter_map, listed_in}
 use Rattle.adm_register.proofs.RoundKeys.{in_values, from_values}
 
 -- an applicant is the child of an application, and has and wants what the register says

@@ -25,18 +25,14 @@ no_row (Some refusal) none = cc
 pub record Shows (command : Command) : Type 0 where
   -- what it changes fits
   pub fits : (old : State) → KeptByTypes command → WellFormed old → AllotmentFits → refused old command ≡ None → (change : Difference) (reply : Reply) → Changes old command change reply → Fit old change
-
   -- where it is not refused when it follows itself, it changes nothing more
   pub again : (old new : State) (change : Difference) (reply : Reply) → WellFormed old → refused old command ≡ None → Changes old command change reply → new ≡ after old change
       → refused new command ≡ None → (more : Difference) (second : Reply) → Changes new command more second → after new more ≡ new
-
   -- what it changes is one
   pub one_change : OneAllotment → (old : State) (one other : Difference) (first second : Reply) → Changes old command one first → Changes old command other second → one ≡ other
-
   -- draws that were made stay
   pub draws : (old new : State) (change : Difference) (reply : Reply) → DrawsInOrder old → refused old command ≡ None → Changes old command change reply → new ≡ after old change
       → DrawsInOrder new × DrawsStay old new
-
   -- and so do imported rows
   pub imports : (old new : State) (change : Difference) (reply : Reply) → ImportsKnown old → refused old command ≡ None → Changes old command change reply → new ≡ after old change
       → ImportsKnown new × ImportsStay old new

@@ -28,11 +28,7 @@ struct Walked {
 /// The rows that are new, in the order of their children's numbers, and how many there are beside
 /// those that were known; or the first row that is refused, with its number from 1. What it costs
 /// grows with the rows, and for each that is new with the pieces of three tables.
-pub(crate) fn tried(
-    old: &Tables,
-    alloc: Global,
-    rows: &[ImportRow],
-) -> Result<Tried, AllocError>
+pub(crate) fn tried(old: &Tables, alloc: Global, rows: &[ImportRow]) -> Result<Tried, AllocError>
     ensures { IfOk result (λ tried. Comes (refused_from old.now 1 rows.now) (IsImported old.now rows.now) tried) }
 {
     let Walked { why, added } = walk(old, alloc, rows)?;

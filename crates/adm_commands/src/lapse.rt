@@ -15,12 +15,7 @@ use std::alloc::{AllocError, Global};
 
 /// Why it is refused.
 #[tactic(auto, unfolding(crate::specs::Lapse::tests))]
-fn refusal_of(
-    old: &Tables,
-    child: ChildNo,
-    school: SchoolCode,
-    day: Day,
-) -> Option<Refusal>
+fn refusal_of(old: &Tables, child: ChildNo, school: SchoolCode, day: Day) -> Option<Refusal>
     ensures { result ≡ first_failing (tests old.now child school day) }
 {
     let offer = offer_at(old, child, school);

@@ -12,7 +12,7 @@ use std::alloc::Global;
 
 impl Tables {
     /// The waiting list of the school.
-    pub(crate) fn waiting(
+    pub fn waiting(
         &self,
         alloc: Global,
         school: SchoolCode,

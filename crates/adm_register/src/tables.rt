@@ -211,7 +211,7 @@ impl Tables {
     }
 
     /// How many places at the school are not those of a plan.
-    pub(crate) fn held_at(&self, code: SchoolCode) -> usize
+    pub fn held_at(&self, code: SchoolCode) -> usize
         ensures { result ≡ held_at self.now.places code }
     {
         let _all = self.places.len();
@@ -222,7 +222,8 @@ impl Tables {
         count
     }
 
-    pub(crate) fn draw(&self, number: u32) -> Option<&Draw>
+    /// The draw of a number.
+    pub fn draw(&self, number: u32) -> Option<&Draw>
         ensures { option_copied result ≡ map.get self.now.draws number }
     {
         self.draws.row(&number)
