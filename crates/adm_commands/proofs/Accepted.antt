@@ -1,5 +1,5 @@
 -- What the commands of schools, children, plans and applications put fits.
-use Rattle.std.proofs.Common.{◌≡◌, ◌∙◌, ◌+◌, ◌≤◌, ap, sym, subst, refl, cond, Bool, true, false, arith, ℕ, List, [], ◌∷◌, Some, None}
+use Rattle.std.proofs.Common.{◌≡◌, ◌∙◌, ◌+◌, ◌≤◌, ap, sym, subst, refl, cond, true, false, arith, ℕ, List, [], ◌∷◌, Some, None}
 use Rattle.std.specs.Prelude.{IsTrue, nat_le, nat_eq, is_some, not, ◌&&◌, if◌then◌else◌}
 use Rattle.std.specs.Cmp.{nat_cmp_total}
 use Rattle.std.specs.Cmp.Lexicographic.{nat_list_cmp_total, pointwise, bytes_decides}
@@ -7,6 +7,11 @@ use Rattle.std.specs.List.{AllByRecursion}
 use Rattle.std.specs.Ordering.{nat_cmp, eq_by_cmp}
 use Rattle.std.specs.FinMap.{get, insert, remove, values, len, len-insert, get-insert, get-remove, contains_key, nat_cmp-IsAntisymmetric}
 use borrow.Author.Tests.{ltb-true}
+use Rattle.std.proofs.lemmas.Bool.{and_parts, not-true}
+use Rattle.std.proofs.Math.Bool.{and-false}
+use Rattle.adm_lists.proofs.Options.{none_of}
+use Rattle.adm_lists.proofs.Orders.{same_key}
+use Rattle.adm_lists.proofs.Maps.{not_contains_key-removed}
 use Rattle.adm_types.specs.Limits.{first_day, most_schools, most_children}
 use Rattle.adm_types.specs.declared.rows.School.{School}
 use Rattle.adm_types.specs.declared.rows.Child.{Child}
@@ -28,7 +33,7 @@ use Rattle.adm_commands.specs.Amend as amend
 use Rattle.adm_commands.specs.NamePlan as name_plan
 use Rattle.adm_commands.specs.Apply as apply
 use Rattle.adm_commands.proofs.Keeps.{all_pass, len-insert_room}
-use Rattle.adm_register.proofs.Maps.{both_true, not_true, none_of, same_key, not_contains_key-removed, code_cmp-IsAntisymmetric}
+use Rattle.adm_register.proofs.Maps.{code_cmp-IsAntisymmetric}
 use Rattle.adm_commands.proofs.HeldLemmas.{held_le, none_held}
 use Rattle.adm_register.proofs.Puts.{AllRows-put_all}
 use Rattle.adm_register.proofs.Tidy.{tidy_none, tidy_put, tidy_cut}
@@ -53,7 +58,7 @@ draws_stay old change none = record {
 pub none_there : (old : State) (code : List ℕ) → WellFormed old → not (contains_key old.schools code) ≡ true → AllRows (λ number row. is_held (Some row) code ≡ false) old.places
 none_there old code well gone number row there =
     elim (pointwise nat_eq row.place.school code) as (λ b. pointwise nat_eq row.place.school code ≡ b → (b && not (is_plan row.place.state)) ≡ false) [
-      | true ↦ λ is. let here = subst (λ c. contains_key old.schools c ≡ true) ((bytes_decides row.place.school code).0 is) (well.places.each number row there).school in let none = not_true _ gone in cc (here, none)
+      | true ↦ λ is. let here = subst (λ c. contains_key old.schools c ≡ true) ((bytes_decides row.place.school code).0 is) (well.places.each number row there).school in let none = not-true _ gone in cc (here, none)
       | false ↦ λ is. refl
     ] refl
 
@@ -63,10 +68,6 @@ room_with old school well new =
     let none = none_held school.code old.places (none_there old school.code well new) in
     AllRows-put_all nat_list_cmp_total code_cmp-IsAntisymmetric (λ (s : School). s.code) (λ code (s : School). held_at old.places code ≤ s.pan) old.schools (school ∷ [])
     (λ code s there still. well.places.room code s there) (omega (arith, none), tt)
-
-and_false : (b : Bool) → (b && false) ≡ false
-and_false true = refl
-and_false false = refl
 
 pub add_school-fit : (old : State) (school : School) → KeptBySchool school → WellFormed old → first_failing (add_school.tests old school) ≡ None → Fit old (add_school.change_of school)
 unfolding add_school.tests add_school.change_of
@@ -126,7 +127,7 @@ name_plan-fit old child school well passes =
             elim (eq_by_cmp nat_cmp number child) as (λ b. eq_by_cmp nat_cmp number child ≡ b → get (remove old.applications child) number ≡ get old.applications number) [
               | true ↦ λ tie.
                   let planned : is_plan_row (Some other) ≡ true = ap is_plan_row (sym still ∙ get-insert nat_cmp_total old.places child row number ∙ ap (λ b. cond b (Some row) (get old.places number)) tie) in
-                  let was : is_plan_row (Some other) ≡ false = ap is_plan_row (sym there) ∙ ap (has_plan old.places) (same_key nat_cmp-IsAntisymmetric number child tie) ∙ not_true _ pass.1.1.0 in
+                  let was : is_plan_row (Some other) ≡ false = ap is_plan_row (sym there) ∙ ap (has_plan old.places) (same_key nat_cmp-IsAntisymmetric number child tie) ∙ not-true _ pass.1.1.0 in
                   cc (planned, was)
               | false ↦ λ tie. get-remove nat_cmp_total old.applications child number ∙ ap (λ b. cond b None (get old.applications number)) tie
             ] refl;
@@ -135,7 +136,7 @@ name_plan-fit old child school well passes =
             elim (eq_by_cmp nat_cmp number child) as (λ b. eq_by_cmp nat_cmp number child ≡ b → is_held (get old.places number) code ≡ true) [
               | true ↦ λ tie.
                   let it : Some row ≡ Some other = sym (get-insert nat_cmp_total old.places child row number ∙ ap (λ b. cond b (Some row) (get old.places number)) tie) ∙ now in
-                  let free : is_held (Some other) code ≡ false = ap (λ o. is_held o code) (sym it) ∙ and_false (pointwise nat_eq school code) in
+                  let free : is_held (Some other) code ≡ false = ap (λ o. is_held o code) (sym it) ∙ and-false (pointwise nat_eq school code) in
                   cc (held, free)
               | false ↦ λ tie.
                   let it : get old.places number ≡ Some other = sym (get-insert nat_cmp_total old.places child row number ∙ ap (λ b. cond b (Some row) (get old.places number)) tie) ∙ now in
@@ -159,7 +160,7 @@ no_place old child well unplanned unlisted =
           let other : is_plan row.place.state ≡ false = sym (ap is_plan_row there) ∙ unplanned in
           let none : get old.applications row.child ≡ None = none_of _ (ap not (ap (contains_key old.applications) fits.own_number ∙ unlisted)) in
           let wrong : (has_round old.draws && false) ≡ true = sym (λ i. if other i then not (is_some (none i)) else has_round old.draws && lists_school (none i) row.place.school) ∙ fits.entitled in
-          let no = and_false (has_round old.draws) in
+          let no = and-false (has_round old.draws) in
           cc (wrong, no)
       | None ↦ λ there. refl
     ] refl
@@ -169,7 +170,7 @@ unfolding apply.tests apply.change_of
 apply-fit old application since well passes =
     let pass = all_pass (apply.tests old application) passes in
     let by = pass.1.1.1.0 in
-    let preferences = both_true _ _ pass.1.1.1.1.0 in
+    let preferences = and_parts _ _ pass.1.1.1.1.0 in
     record {
       base = record {
         schools = tt;
@@ -184,7 +185,7 @@ apply-fit old application since well passes =
         kept = λ number row there still.
             elim (eq_by_cmp nat_cmp number application.child) as (λ b. eq_by_cmp nat_cmp number application.child ≡ b → get (insert old.applications application.child application) number ≡ get old.applications number) [
               | true ↦ λ tie.
-                  let none = ap (contains_key old.places) (same_key nat_cmp-IsAntisymmetric number application.child tie) ∙ no_place old application.child well (not_true _ pass.1.0) (not_true _ pass.1.1.0) in
+                  let none = ap (contains_key old.places) (same_key nat_cmp-IsAntisymmetric number application.child tie) ∙ no_place old application.child well (not-true _ pass.1.0) (not-true _ pass.1.1.0) in
                   let here = ap is_some there in
                   cc (none, here)
               | false ↦ λ tie. get-insert nat_cmp_total old.applications application.child application number ∙ ap (λ b. cond b (Some application) (get old.applications number)) tie

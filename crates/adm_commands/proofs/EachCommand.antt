@@ -7,6 +7,7 @@ use Rattle.std.specs.Cmp.Lexicographic.{nat_list_cmp_total, pointwise, bytes_dec
 use Rattle.std.specs.FinMap.{get, insert, values, nat_cmp-IsAntisymmetric}
 use Rattle.std.proofs.lemmas.List.Sorted.{IsPermutation-sym, IsPermutation-trans}
 use Rattle.std.proofs.lemmas.Option.{same_Some}
+use Rattle.adm_lists.proofs.Rising.{one_order}
 use Rattle.adm_types.specs.declared.commands.Command.{Command}
 use Rattle.adm_types.specs.declared.commands.Command.TheVariants.{AddSchool, AddChild, Amend, NamePlan, Apply, Round, Accept, Decline, Remind, Lapse, LeaveList, Fill, Import}
 use Rattle.adm_types.specs.declared.draws.Draw.{Draw}
@@ -45,7 +46,6 @@ use Rattle.adm_commands.specs.History.{drawn_on}
 use Rattle.adm_commands.specs.Offered.{offer_at, days_of, is_reminded}
 use Rattle.adm_register.proofs.DrawLemmas.{values_put, with_draws-append}
 use Rattle.adm_register.proofs.Puts.{there_each}
-use Rattle.adm_register.proofs.RowsAgain.{one_order}
 use Rattle.adm_commands.proofs.Accepted.{add_school-fit, add_child-fit, amend-fit, name_plan-fit, apply-fit}
 use Rattle.adm_commands.proofs.DrawsStay.{unchanged, one_more}
 use Rattle.adm_commands.proofs.FillDraw.{fill-next}

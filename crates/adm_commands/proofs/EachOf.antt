@@ -19,14 +19,6 @@ module _ {X : Type 0} (P : X → Type 0) where
   pub each_permuted : (xs ys : List X) → IsPermutation xs ys → AllByRecursion P xs → AllByRecursion P ys
   each_permuted xs ys permuted each = each_of ys (All-permutation P xs ys permuted (all_of xs each))
 
-  pub each_weaker : (Q : X → Type 0) → ((x : X) → P x → Q x) → (xs : List X) → AllByRecursion P xs → AllByRecursion Q xs
-  each_weaker Q weaker [] each = tt
-  each_weaker Q weaker (x ∷ xs) each = (weaker x each.0, each_weaker Q weaker xs each.1)
-
-  pub each_both : (Q : X → Type 0) (xs : List X) → AllByRecursion P xs → AllByRecursion Q xs → AllByRecursion (λ x. P x × Q x) xs
-  each_both Q [] each other = tt
-  each_both Q (x ∷ xs) each other = ((each.0, other.0), each_both Q xs each.1 other.1)
-
 module _ {X Y : Type 0} (f : X → Y) where
   pub each_map : (P : Y → Type 0) (xs : List X) → AllByRecursion (λ x. P (f x)) xs → AllByRecursion P (map f xs)
   each_map P [] each = tt

@@ -1,15 +1,17 @@
 -- The draw of a fill is one of a register, and the next.
 use Rattle.std.proofs.Common.{◌≡◌, ◌∙◌, ap, sym, subst, refl, Bool, true, false, ℕ, ◌+◌, ◌≤◌, ◌<◌, List, [], ◌∷◌, map, length, suc, Some, None, arith, inl}
 use Rattle.std.specs.Prelude.{is_some, ◌&&◌, nat_eq, nat_le, nat_lt, if◌then◌else◌}
-use Rattle.std.specs.declared.cmp.Ordering.{Ordering}
-use Rattle.std.specs.declared.cmp.Ordering.TheVariants.{Less, Equal, Greater}
-use Rattle.std.specs.Ordering.{nat_cmp, is_eq, ordering_then}
+use Rattle.std.specs.declared.cmp.Ordering.TheVariants.{Less}
+use Rattle.std.specs.Ordering.{nat_cmp, ordering_then}
 use Rattle.std.specs.Cmp.{nat_cmp_total, unsigned_Decides}
 use Rattle.std.specs.Cmp.Lexicographic.{nat_list_cmp_total, pointwise, bytes_decides}
 use Rattle.std.specs.List.{list_all, zip}
 use Rattle.std.specs.List.Sorted.{IsStrictlySortedBy}
 use Rattle.std.specs.FinMap.{get, values, contains_key, nat_cmp-IsAntisymmetric}
-use Rattle.std.proofs.lemmas.Bool.{false≢true, le-leb, leb-true, lt-ltb}
+use Rattle.std.proofs.lemmas.Bool.{false≢true, le-leb, leb-true, lt-ltb, and_parts}
+use Rattle.std.proofs.lemmas.Cmp.{tied_itself}
+use Rattle.adm_lists.proofs.Members.{In, all_in, in_all, in_map, list_all_in, passes_in, from_map, from_zip, from_filter_map}
+use Rattle.adm_lists.proofs.Maps.{in_values}
 use Rattle.adm_types.specs.Limits.{first_day, last_day, most_draws, most_lots}
 use Rattle.adm_types.specs.Seasons.{SeasonFacts}
 use Rattle.adm_types.specs.declared.rows.Child.{Child}
@@ -19,7 +21,7 @@ use Rattle.adm_draws.specs.Draws.{rises, lot_cmp, is_draw}
 use Rattle.adm_match.specs.Market.{Code}
 use Rattle.adm_round.specs.declared.applicants.Pair.{Pair}
 use Rattle.adm_round.specs.Round.{pair_of, lot_of_draw}
-use Rattle.adm_round.specs.Lookups.{code_cmp, pair_cmp}
+use Rattle.adm_round.specs.Lookups.{pair_cmp}
 use Rattle.adm_register.specs.declared.draws_so_far.DrawsSoFar.{DrawsSoFar}
 use Rattle.adm_register.specs.State.{State}
 use Rattle.adm_register.specs.Draws.{DrawFits, no_draws, with_draw, with_draws, is_round, is_next, are_in_order, is_known_lot, draws_so_far}
@@ -30,11 +32,9 @@ use Rattle.adm_register.specs.Waits.{waits, waiting_child, waiting_at}
 use Rattle.adm_commands.specs.Fill as fill
 use Rattle.adm_commands.specs.Fill.{fill_pairs, fill_lots, filled_draw}
 use Rattle.adm_commands.proofs.Keeps.{all_pass}
-use Rattle.adm_register.proofs.Maps.{both_true, tied}
 use Rattle.adm_commands.proofs.Posed.{pairs_again}
 use Rattle.adm_commands.proofs.RoundNext.{lots-few}
-use Rattle.adm_register.proofs.RoundLemmas.{In, all_in, in_all, in_map, list_all_in, passes_in, from_map, from_zip, from_filter_map, rises_by}
-use Rattle.adm_register.proofs.RoundKeys.{in_values}
+use Rattle.adm_register.proofs.RoundLemmas.{rises_by}
 use Rattle.adm_register.proofs.WaitLemmas.{chosen, waiter_is, waiters_rise}
 
 -- ---- there was a round
@@ -53,11 +53,11 @@ more_rounds before (draw ∷ draws) =
 -- the first draw is a round's
 first_round : (season : SeasonFacts) (draw : Draw) → is_next season no_draws draw ≡ true → (with_draw no_draws draw).rounds ≡ 1
 first_round season draw next =
-    let a = both_true _ _ next in
-    let b = both_true _ _ a.0 in
-    let c = both_true _ _ b.0 in
-    let d = both_true _ _ c.0 in
-    let e = both_true _ _ d.0 in
+    let a = and_parts _ _ next in
+    let b = and_parts _ _ a.0 in
+    let c = and_parts _ _ b.0 in
+    let d = and_parts _ _ c.0 in
+    let e = and_parts _ _ d.0 in
     by (is_round draw) (nat_eq draw.round (no_draws.rounds + 1)) e.1
   where
     by : (round first : Bool) → (if round then first else nat_lt 0 0) ≡ true → (if round then 0 + 1 else 0) ≡ 1
@@ -74,23 +74,18 @@ some_round s ordered held =
     by : (draw : Draw) (draws : List Draw) → In draw draws → are_in_order s.season no_draws draws ≡ true → 0 < (with_draws no_draws draws).rounds
     by draw [] at ordered = absurd at
     by draw (first ∷ draws) at ordered =
-        let one = first_round s.season first (both_true (is_next s.season no_draws first) _ ordered).0 in
+        let one = first_round s.season first (and_parts (is_next s.season no_draws first) _ ordered).0 in
         let more = more_rounds (with_draw no_draws first) draws in
         omega (arith, one, more)
 
 -- ---- the lots of a fill rise
-
-is_equal : (r : Ordering) → is_eq r ≡ true → r ≡ Equal
-is_equal Less e = absurd (false≢true e)
-is_equal Equal e = refl
-is_equal Greater e = absurd (false≢true e)
 
 pair_for : Code → Child → Pair
 pair_for code child = record { school = code; child = child.no }
 
 by_child : (code : Code) (one other : Child) → nat_cmp one.no other.no ≡ Less → pair_cmp (pair_for code one) (pair_for code other) ≡ Less
 unfolding pair_for
-by_child code one other less = ap (λ r. ordering_then r (nat_cmp one.no other.no)) (is_equal (code_cmp code code) (tied nat_list_cmp_total code)) ∙ less
+by_child code one other less = ap (λ r. ordering_then r (nat_cmp one.no other.no)) (tied_itself nat_list_cmp_total code) ∙ less
 
 pairs_rise : (code : Code) (children : List Child) → IsStrictlySortedBy nat_cmp (map (λ (c : Child). c.no) children) → IsStrictlySortedBy pair_cmp (map (pair_for code) children)
 unfolding IsStrictlySortedBy
@@ -121,7 +116,7 @@ module _ (old : State) (draw : ℕ) (school : List ℕ) (day : ℕ) (numbers : L
       by [] some are = absurd (false≢true some)
       by (child ∷ children) some are =
           let found = from_filter_map (waiting_child old school) (values old.applications) child (subst (In child) (sym are) (inl refl)) in
-          (both_true (has_round old.draws) _ (chosen (waits old found.0 school) (get old.children found.0.child) child found.2).0).0
+          (and_parts (has_round old.draws) _ (chosen (waits old found.0 school) (get old.children found.0.child) child found.2).0).0
 
   -- it is the next
   pub fill-next : (child : ℕ) → are_in_order old.season no_draws (values old.draws) ≡ true → are_in_order old.season (draws_so_far old) (filled_draw old draw school day numbers child ∷ []) ≡ true
@@ -129,7 +124,7 @@ module _ (old : State) (draw : ℕ) (school : List ℕ) (day : ℕ) (numbers : L
   fill-next child ordered =
       let so_far = draws_so_far old in
       let pass = all_pass (fill.tests old draw school day numbers) passes in
-      let room = both_true (nat_lt so_far.draws most_draws) _ pass.1.1.1.1.1.1.1.1.0 in
+      let room = and_parts (nat_lt so_far.draws most_draws) _ pass.1.1.1.1.1.1.1.1.0 in
       let few = lots-few (fill_pairs old school) numbers in
       let most = leb-true _ _ room.1 in
       let fits : nat_le (so_far.lots + length (fill_lots old school numbers)) most_lots ≡ true = le-leb _ _ (omega (arith, few, most)) in
@@ -173,7 +168,7 @@ module _ (old : State) (draw : ℕ) (school : List ℕ) (day : ℕ) (numbers : L
         record {
           own_number = refl;
           form = form;
-          day = (both_true (nat_le first_day day) (nat_le day last_day) kept.is_day).0;
+          day = (and_parts (nat_le first_day day) (nat_le day last_day) kept.is_day).0;
           school = pass.0;
           outcomes = λ i. there i && pass.0 i && true;
           lots = known_lots pass.0;

@@ -5,8 +5,10 @@ use Rattle.std.specs.Cmp.{nat_cmp_total, unsigned_Decides}
 use Rattle.std.specs.Cmp.Lexicographic.{pointwise, bytes_decides}
 use Rattle.std.specs.List.{zip, list_any}
 use Rattle.std.specs.FinMap.{get, insert, values, contains_key}
-use Rattle.std.proofs.lemmas.Bool.{ltb-true}
+use Rattle.std.proofs.lemmas.Bool.{ltb-true, not-true}
 use Rattle.std.proofs.lemmas.Option.{same_Some, none-some}
+use Rattle.adm_lists.proofs.Members.{In, from_zip}
+use Rattle.adm_lists.proofs.Maps.{contains_key-insert}
 use Rattle.adm_types.specs.declared.rows.School.{School}
 use Rattle.adm_types.specs.declared.rows.Child.{Child}
 use Rattle.adm_types.specs.declared.rows.PlaceRow.{PlaceRow}
@@ -28,10 +30,8 @@ use Rattle.adm_commands.specs.Fill as fill
 use Rattle.adm_commands.specs.Fill.{filled_draw}
 use Rattle.adm_register.specs.Fits.{Fit}
 use Rattle.adm_commands.proofs.Keeps.{all_pass}
-use Rattle.adm_register.proofs.Maps.{not_true, contains_key-insert}
 use Rattle.adm_register.proofs.Tidy.{tidy_none, tidy_put}
 use Rattle.adm_register.proofs.DrawLemmas.{values_put, with_draws-append}
-use Rattle.adm_register.proofs.RoundLemmas.{In, from_zip}
 use Rattle.adm_register.proofs.WaitLemmas.{waits_is, waiter_is}
 use Rattle.adm_commands.proofs.FillRoom.{room_filled}
 use Rattle.adm_commands.proofs.FillDraw.{was_round, fill-next, filled_fits}
@@ -86,7 +86,7 @@ each_has_lot old draw school day numbers passes children lots are drawn =
     let pass = all_pass (fill.tests old draw school day numbers) passes in
     let some = ltb-true 0 (length (waiting_at old school)) pass.1.1.1.0 in
     let many = (unsigned_Decides (length numbers) (length (waiting_at old school))).0 pass.1.1.1.1.1.1.0 in
-    let apart = sym (same_repeats school (waiting_at old school) numbers many) ∙ not_true _ pass.1.1.1.1.1.1.1.0 in
+    let apart = sym (same_repeats school (waiting_at old school) numbers many) ∙ not-true _ pass.1.1.1.1.1.1.1.0 in
     (subst (λ xs. 0 < length xs) (sym are) some, ap length drawn ∙ many ∙ ap length (sym are), ap repeats drawn ∙ apart)
 
 -- ---- the change fits

@@ -8,19 +8,16 @@ use Rattle.std.specs.Cmp.Lexicographic.{pointwise, bytes_decides}
 use Rattle.std.specs.Map.{values_of}
 use Rattle.std.specs.FinMap.{FinMap, get, insert, put, entries, entries-insert, get-insert}
 use Rattle.std.specs.FinMap.Entries.{by_order}
-use Rattle.std.proofs.lemmas.Bool.{false≢true, cases_Bool, ltb-true}
+use Rattle.std.proofs.lemmas.Bool.{false≢true, cases_Bool, ltb-true, and_parts}
 use Rattle.std.proofs.lemmas.List.Sums.{sum_by-cons}
+use Rattle.adm_lists.proofs.Counts.{one_if}
 use Rattle.adm_types.specs.declared.rows.School.{School}
 use Rattle.adm_types.specs.declared.rows.PlaceRow.{PlaceRow}
 use Rattle.adm_register.specs.State.{State, is_plan}
 use Rattle.adm_register.specs.Rows.{places_at, vacancies}
 use Rattle.adm_register.specs.WellFormed.{WellFormed, AllRows, is_held, held_at}
 use Rattle.adm_commands.specs.Fill.{is_vacant}
-use Rattle.adm_register.proofs.Maps.{both_true}
 use Rattle.adm_commands.proofs.HeldLemmas.{held_le}
-
-abbrev one_if : Bool → ℕ
-one_if b = cond b 1 0
 
 one_at_most : (b : Bool) → one_if b ≤ 1
 one_at_most true = omega arith
@@ -68,7 +65,7 @@ held_fewer : (s : State) (code : List ℕ) (school : School) → get s.schools c
 held_fewer s code school there vacant =
     let free : nat_lt 0 (school.pan - places_at s code) ≡ true = ap (λ o. is_vacant (option_map (λ (it : School). it.pan - places_at s code) o)) (sym there) ∙ vacant in
     let more = ltb-true 0 (school.pan - places_at s code) free in
-    let fewer = count-weaker (λ row. is_held (Some row) code) (λ row. pointwise nat_eq row.place.school code) (λ row held. (both_true (pointwise nat_eq row.place.school code) (not (is_plan row.place.state)) held).0) (values_of (entries s.places)) in
+    let fewer = count-weaker (λ row. is_held (Some row) code) (λ row. pointwise nat_eq row.place.school code) (λ row held. (and_parts (pointwise nat_eq row.place.school code) (not (is_plan row.place.state)) held).0) (values_of (entries s.places)) in
     omega (arith, more, fewer)
 
 -- so one more is held at the school, and no more than before elsewhere
@@ -85,7 +82,7 @@ room_filled s well child row vacant code school there = elim (cases_Bool (pointw
         | true ↦ λ tie.
             let same : Some row ≡ Some it = sym (get-insert nat_cmp_total s.places child row number ∙ ap (λ b. cond b (Some row) (get s.places number)) tie) ∙ now in
             let at : is_held (Some row) code ≡ true = ap (λ o. is_held o code) same ∙ is in
-            absurd (false≢true (sym apart ∙ (both_true (pointwise nat_eq row.place.school code) _ at).0))
+            absurd (false≢true (sym apart ∙ (and_parts (pointwise nat_eq row.place.school code) _ at).0))
         | false ↦ λ tie.
             let same : get s.places number ≡ Some it = sym (get-insert nat_cmp_total s.places child row number ∙ ap (λ b. cond b (Some row) (get s.places number)) tie) ∙ now in
             ap (λ o. is_held o code) same ∙ is

@@ -9,12 +9,10 @@ use Rattle.std.specs.Map.{keys_of, values_of, lookup, remove_entry}
 use Rattle.std.specs.FinMap.{FinMap, get, empty, entries, nat_cmp-IsAntisymmetric}
 use Rattle.std.proofs.lemmas.List.Sums.{sum_by-cons}
 use Rattle.std.proofs.lemmas.Map.Entries.{sum_by-remove_entry}
+use Rattle.adm_lists.proofs.Orders.{tied, same_key}
+use Rattle.adm_lists.proofs.Maps.{values-empty, apart, entries_in_order, map_of_entries, get_rows}
 use Rattle.adm_types.specs.declared.rows.PlaceRow.{PlaceRow}
 use Rattle.adm_register.specs.WellFormed.{AllRows, is_held, held_at}
-use Rattle.adm_register.proofs.Maps.{tied, same_key, values-empty}
-use Rattle.adm_register.proofs.EachRow.{apart}
-use Rattle.adm_register.proofs.SameRows.{entries_in_order, map_of_entries}
-use Rattle.adm_register.proofs.TableMaps.{get_rows}
 
 abbrev Entries : Type 0
 Entries = List (ℕ × PlaceRow)

@@ -9,15 +9,17 @@ use Rattle.std.specs.List.Sorted.{IsPermutation, IsStrictlySortedBy}
 use Rattle.std.specs.Cmp.{IsTotalOrder, nat_cmp_total}
 use Rattle.std.specs.FinMap.{FinMap, get, insert, get-insert, contains_key, nat_cmp-IsAntisymmetric}
 use Rattle.std.proofs.lemmas.List.Sorted.{IsPermutation-sym, length_permutation}
+use Rattle.std.proofs.lemmas.List.{nil_from_length}
+use Rattle.adm_lists.proofs.Orders.{tied, same_key}
+use Rattle.adm_lists.proofs.Each.{each_weaker}
 use Rattle.adm_types.specs.declared.rows.ImportRow.{ImportRow}
 use Rattle.adm_register.specs.State.{State}
 use Rattle.adm_register.specs.Change.{after, put_all}
 use Rattle.adm_commands.specs.Tests.{first_failing}
 use Rattle.adm_register.specs.WellFormed.{WellFormed, AllRows}
 use Rattle.adm_commands.specs.Import.{change_of, is_same_as, is_known, row_tests, refusal_of_row, with_row, after_row, refused_from, or_later, new_rows}
-use Rattle.adm_commands.proofs.EachOf.{each_permuted, each_weaker}
+use Rattle.adm_commands.proofs.EachOf.{each_permuted}
 use Rattle.adm_commands.proofs.ImportWalk.{IsAddable, new_rows-addable}
-use Rattle.adm_register.proofs.Maps.{tied, same_key, no_length}
 use Rattle.adm_register.proofs.Puts.{stays, all_stay}
 use Rattle.adm_register.proofs.SameLemmas.{same_import}
 
@@ -125,4 +127,4 @@ module _ (old : State) (rows added : List ImportRow) (known : ImportsKnown old) 
 
 -- where all rows are kept, nothing is added
 pub none_added : (s : State) (rows added : List ImportRow) → AllByRecursion (IsKept s) rows → IsPermutation (new_rows s rows) added → added ≡ []
-none_added s rows added kept permuted = no_length added (length_permutation (new_rows s rows) added permuted ∙ ap length (none_new s 1 rows kept).1)
+none_added s rows added kept permuted = nil_from_length added (length_permutation (new_rows s rows) added permuted ∙ ap length (none_new s 1 rows kept).1)

@@ -8,6 +8,9 @@ use Rattle.std.specs.List.Sorted.{IsPermutation, IsStrictlySortedBy}
 use Rattle.std.specs.Cmp.{IsTotalOrder, nat_cmp_total}
 use Rattle.std.specs.FinMap.{FinMap, insert, len, len-insert, contains_key, nat_cmp-IsAntisymmetric}
 use Rattle.std.proofs.lemmas.List.Sorted.{length_permutation}
+use Rattle.std.proofs.lemmas.Bool.{and_parts}
+use Rattle.adm_lists.proofs.Orders.{same_key}
+use Rattle.adm_lists.proofs.Each.{each_weaker, each_both}
 use Rattle.adm_types.specs.Limits.{most_children}
 use Rattle.adm_types.specs.Seasons.{lists_end}
 use Rattle.adm_types.specs.declared.rows.Application.{Application}
@@ -19,11 +22,10 @@ use Rattle.adm_commands.specs.KeptByTypes.{KeptByImportRow}
 use Rattle.adm_commands.specs.Import.{change_of, refused_from, new_rows}
 use Rattle.adm_register.specs.WellFormed.{WellFormed, ChildFits, ApplicationFits, ImportFits}
 use Rattle.adm_commands.proofs.Accepted.{draws_stay}
-use Rattle.adm_commands.proofs.EachOf.{each_permuted, each_weaker, each_both, each_map, map_twice}
+use Rattle.adm_commands.proofs.EachOf.{each_permuted, each_map, map_twice}
 use Rattle.adm_register.specs.Fits.{Fit, FewAfter}
 use Rattle.adm_commands.proofs.ImportAgain.{imports_known, each_new}
 use Rattle.adm_commands.proofs.ImportWalk.{IsAddable, new_rows-addable, new_rows-each}
-use Rattle.adm_register.proofs.Maps.{both_true, same_key}
 use Rattle.adm_register.proofs.Puts.{there_each, stays}
 use Rattle.adm_register.proofs.Tidy.{tidy_none, tidy_puts}
 
@@ -63,7 +65,7 @@ child_fits old row kept fits = record {
 application_fits : (old : State) (children : _) (row : ImportRow) → KeptByImportRow row → IsAddable old row → contains_key children row.child.no ≡ true
     → ApplicationFits (lists_end old.season) old.schools children row.child.no (application_of row)
 application_fits old children row kept fits there =
-    let preferences = both_true _ _ fits.preferences in
+    let preferences = and_parts _ _ fits.preferences in
     let since = kept.day in
     let by = fits.in_time in
     record { own_number = refl; child = there; day = λ i. since i && by i; list_length = preferences.0; without_repeat = preferences.1; known = fits.listed }

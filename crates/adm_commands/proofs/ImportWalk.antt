@@ -7,6 +7,9 @@ use Rattle.std.specs.Cmp.{nat_cmp_total, eq_by_cmp_equiv}
 use Rattle.std.specs.FinMap.{get, len, len-insert, get-insert, contains_key}
 use Rattle.std.proofs.lemmas.Map.Keys.{IsDistinct-cons}
 use borrow.Author.Tests.{ltb-true}
+use Rattle.std.proofs.lemmas.Bool.{not-true}
+use Rattle.adm_lists.proofs.Maps.{contains_key-insert}
+use Rattle.adm_lists.proofs.Each.{each_weaker}
 use Rattle.adm_types.specs.Limits.{is_from, is_without_repeat, is_name, is_child_in_range, most_children}
 use Rattle.adm_types.specs.Seasons.{lists_end}
 use Rattle.adm_types.specs.declared.rows.ImportRow.{ImportRow}
@@ -17,9 +20,8 @@ use Rattle.adm_register.specs.WellFormed.{are_schools}
 use Rattle.adm_commands.specs.AddChild as add_child
 use Rattle.adm_commands.specs.Apply as apply
 use Rattle.adm_commands.specs.Import.{change_of, is_known, row_tests, refusal_of_row, with_row, after_row, refused_from, or_later, new_rows}
-use Rattle.adm_commands.proofs.EachOf.{each_weaker, each_map}
+use Rattle.adm_commands.proofs.EachOf.{each_map}
 use Rattle.adm_commands.proofs.Keeps.{all_pass}
-use Rattle.adm_register.proofs.Maps.{contains_key-insert, not_true}
 
 -- what its tests say of a row that is added
 pub record IsAddable (s : State) (row : ImportRow) : Type 0 where
@@ -91,7 +93,7 @@ module _ (s : State) (row : ImportRow) where
   one_more : (added : List ImportRow) → IsAddable s row → len s.children < most_children → AreAddable next added → AreAddable s (row ∷ added)
   unfolding with_row change_of
   one_more added fits few more =
-      let count : len next.children ≡ len s.children + 1 = len-insert nat_cmp_total s.children row.child.no row.child ∙ ap (λ b. cond b (len s.children) (len s.children + 1)) (not_true _ fits.new_child) in
+      let count : len next.children ≡ len s.children + 1 = len-insert nat_cmp_total s.children row.child.no row.child ∙ ap (λ b. cond b (len s.children) (len s.children + 1)) (not-true _ fits.new_child) in
       let room = more.room (omega (arith, count, few)) in
       let numbers = map (λ (r : ImportRow). r.child.no) added in
       record {

@@ -3,6 +3,7 @@ use Rattle.std.proofs.Common.{◌∙◌, ap, sym, subst, refl, ◌-◌, List, []
 use Rattle.std.specs.List.{AllByRecursion}
 use Rattle.std.specs.List.Sorted.{IsPermutation, IsStrictlySortedBy}
 use Rattle.std.proofs.lemmas.List.Sorted.{IsPermutation-refl}
+use Rattle.adm_lists.proofs.Each.{each_weaker}
 use Rattle.adm_types.specs.declared.rows.ImportRow.{ImportRow}
 use Rattle.adm_types.specs.declared.commands.Command.{Command}
 use Rattle.adm_types.specs.declared.commands.Command.TheVariants.{Import}
@@ -12,7 +13,6 @@ use Rattle.adm_register.specs.Change.{after}
 use Rattle.adm_commands.specs.Import as import
 use Rattle.adm_commands.specs.Imports.{Reaches, AddsNothing, ImportOnce}
 use Rattle.adm_commands.proofs.EachCommand.{shows}
-use Rattle.adm_commands.proofs.EachOf.{each_weaker}
 use Rattle.adm_commands.proofs.ImportAgain.{IsKept, ImportsKnown, imports_known, rows_kept, none_new, none_added}
 
 -- rows that are kept stay so

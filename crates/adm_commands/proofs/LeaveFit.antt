@@ -3,6 +3,7 @@ use Rattle.std.proofs.Common.{◌≡◌, ◌∙◌, ap, sym, subst, refl, cond, 
 use Rattle.std.specs.Prelude.{is_some, not}
 use Rattle.std.specs.FinMap.{get, get-insert}
 use Rattle.std.proofs.lemmas.Bool.{false≢true}
+use Rattle.adm_lists.proofs.Orders.{tied}
 use Rattle.adm_types.specs.declared.rows.Application.{Application}
 use Rattle.adm_types.specs.declared.rows.LeftPair.{LeftPair}
 use Rattle.adm_register.specs.State.{State}
@@ -13,7 +14,7 @@ use Rattle.adm_commands.specs.Tests.{first_failing}
 use Rattle.adm_register.specs.Waits.{waits, is_waiting}
 use Rattle.adm_commands.specs.LeaveList as leave_list
 use Rattle.adm_commands.proofs.Keeps.{all_pass}
-use Rattle.adm_register.proofs.Maps.{tied, left_cmp-total}
+use Rattle.adm_register.proofs.Maps.{left_cmp-total}
 use Rattle.adm_register.proofs.Tidy.{tidy_none, tidy_put}
 use Rattle.adm_register.specs.Fits.{Fit}
 use Rattle.adm_register.proofs.Fits.{after-keeps}

@@ -5,6 +5,10 @@ use Rattle.std.specs.Cmp.{nat_cmp_total}
 use Rattle.std.specs.Cmp.Lexicographic.{pointwise, bytes_decides}
 use Rattle.std.specs.Ordering.{nat_cmp, eq_by_cmp}
 use Rattle.std.specs.FinMap.{get, insert, remove, get-insert, contains_key, nat_cmp-IsAntisymmetric}
+use Rattle.std.proofs.lemmas.Bool.{and_parts, not-true}
+use Rattle.adm_lists.proofs.Options.{none_of}
+use Rattle.adm_lists.proofs.Orders.{same_key}
+use Rattle.adm_lists.proofs.Maps.{not_contains_key-removed}
 use Rattle.adm_types.specs.Limits.{is_from, first_day, last_day}
 use Rattle.adm_types.specs.declared.rows.PlaceRow.{PlaceRow}
 use Rattle.adm_types.specs.declared.rows.PlaceState.{PlaceState}
@@ -21,7 +25,6 @@ use Rattle.adm_commands.specs.Decline as decline
 use Rattle.adm_commands.specs.Remind as remind
 use Rattle.adm_commands.specs.Lapse as lapse
 use Rattle.adm_commands.proofs.Keeps.{all_pass}
-use Rattle.adm_register.proofs.Maps.{both_true, not_true, none_of, same_key, not_contains_key-removed}
 use Rattle.adm_commands.proofs.HeldLemmas.{held_le}
 use Rattle.adm_register.proofs.Puts.{there_before}
 use Rattle.adm_register.proofs.Tidy.{tidy_none, tidy_put, tidy_cut}
@@ -46,10 +49,10 @@ held-entitled old child school state well held other =
     elim (get old.places child) as (λ o. get old.places child ≡ o → is_held o school ≡ true → is_entitled (has_round old.draws) (get old.applications child) (record { school = school; state = state }) ≡ true) [
       | None ↦ λ there none. cc
       | Some row ↦ λ there here.
-          let both = both_true (pointwise nat_eq row.place.school school) _ here in
+          let both = and_parts (pointwise nat_eq row.place.school school) _ here in
           let fits = well.places.each child row there in
           let was : (has_round old.draws && lists_school (get old.applications row.child) row.place.school) ≡ true =
-          sym (ap (λ b. if b then not (is_some (get old.applications row.child)) else has_round old.draws && lists_school (get old.applications row.child) row.place.school) (not_true _ both.1)) ∙ fits.entitled in
+          sym (ap (λ b. if b then not (is_some (get old.applications row.child)) else has_round old.draws && lists_school (get old.applications row.child) row.place.school) (not-true _ both.1)) ∙ fits.entitled in
           ap (λ b. if b then not (is_some (get old.applications child)) else has_round old.draws && lists_school (get old.applications child) school) other
           ∙ sym (λ i. has_round old.draws && lists_school (get old.applications (fits.own_number i)) ((bytes_decides row.place.school school).0 both.0 i)) ∙ was
     ] refl held
@@ -83,7 +86,7 @@ put_again old child school state well there here held other fits =
               | true ↦ λ tie.
                   let same : Some row ≡ Some it = sym (get-insert nat_cmp_total old.places child row number ∙ ap (λ b. cond b (Some row) (get old.places number)) tie) ∙ now in
                   let at : is_held (Some row) code ≡ true = ap (λ o. is_held o code) same ∙ is in
-                  let code_is : school ≡ code = (bytes_decides school code).0 (both_true (pointwise nat_eq school code) _ at).0 in
+                  let code_is : school ≡ code = (bytes_decides school code).0 (and_parts (pointwise nat_eq school code) _ at).0 in
                   (λ i. is_held (get old.places (same_key nat_cmp-IsAntisymmetric number child tie i)) (sym code_is i)) ∙ held
               | false ↦ λ tie.
                   let same : get old.places number ≡ Some it = sym (get-insert nat_cmp_total old.places child row number ∙ ap (λ b. cond b (Some row) (get old.places number)) tie) ∙ now in
@@ -160,7 +163,7 @@ remind-fit old child school day before well passes =
       where
         from : (b : Bool) (state : PlaceState) → is_state state ≡ true → (if b then days_of state else None) ≡ Some (offered, r) → is_from first_day last_day offered ≡ true
         from true (Offered on None) fits is = subst (λ d. is_from first_day last_day d ≡ true) (same_day on offered None r is) fits
-        from true (Offered on (Some reminded)) fits is = subst (λ d. is_from first_day last_day d ≡ true) (same_day on offered (Some reminded) r is) (both_true (is_from first_day last_day on) _ fits).0
+        from true (Offered on (Some reminded)) fits is = subst (λ d. is_from first_day last_day d ≡ true) (same_day on offered (Some reminded) r is) (and_parts (is_from first_day last_day on) _ fits).0
         from true Accepted fits is = cc
         from true Plan fits is = cc
         from false state fits is = cc

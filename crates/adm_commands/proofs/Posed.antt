@@ -8,13 +8,17 @@ use Rattle.std.specs.Ordering.{nat_cmp}
 use Rattle.std.specs.Cmp.{nat_cmp_total, unsigned_Decides}
 use Rattle.std.specs.Cmp.Lexicographic.{slice_cmp, nat_list_cmp_total}
 use Rattle.std.specs.FinMap.{get, values, contains_key, nat_cmp-IsAntisymmetric}
-use Rattle.std.proofs.lemmas.Bool.{cases_Bool, false≢true, or_parts}
+use Rattle.std.proofs.lemmas.Bool.{cases_Bool, false≢true, or_parts, and_parts, not-true}
 use Rattle.std.proofs.lemmas.List.{length-map}
 use Rattle.std.proofs.lemmas.Simd.{map-map}
 use Rattle.std.proofs.lemmas.List.Elements.{All-nil, All-cons, All-map, All-append, recursion_from_All}
 use Rattle.std.proofs.lemmas.List.Sums.{AllPass-from_list_all}
 use Rattle.std.proofs.lemmas.Map.Views.{length-le_from_below}
 use Rattle.std.proofs.lemmas.Slice.Eq.{bytes_eq-Decides}
+use Rattle.std.proofs.lemmas.Option.{none-some, same_Some}
+use Rattle.adm_lists.proofs.Each.{list_all-weaker, all-filter, any-map}
+use Rattle.adm_lists.proofs.Rising.{sorted_filter_map}
+use Rattle.adm_lists.proofs.Maps.{entries_in_order}
 use Rattle.adm_types.specs.Limits.{is_school_in_range, is_child_in_range}
 use Rattle.adm_types.specs.declared.rows.School.{School}
 use Rattle.adm_types.specs.declared.rows.Child.{Child}
@@ -35,17 +39,10 @@ use Rattle.adm_register.specs.WellFormed.{WellFormed}
 use Rattle.adm_register.specs.Wanted.{above, has_left, wanted_of, own_school}
 use Rattle.adm_commands.specs.Round.{is_entrant, applicant_of, entrants, quota, sites, round_pairs, round_lots, AreOutcomes}
 use Rattle.adm_commands.specs.Round as round
-use Rattle.adm_register.proofs.Maps.{both_true, not_true, list_all-weaker, code_cmp-IsAntisymmetric}
-use Rattle.adm_register.proofs.SameRows.{entries_in_order, entries_at_own_keys, values_hold, rows_hold}
+use Rattle.adm_register.proofs.Maps.{code_cmp-IsAntisymmetric}
+use Rattle.adm_register.proofs.SameRows.{entries_at_own_keys, values_hold, rows_hold}
 use Rattle.adm_commands.proofs.Keeps.{all_pass}
-use Rattle.adm_register.proofs.ListsKept.{once-filter, all-filter, above_once, above_all, own_apart, own_known}
-use Rattle.adm_register.proofs.RoundLemmas.{sorted_filter_map}
-
-not_Some : {A : Type 0} (x : A) → None ≡ Some x → ⊥
-not_Some x e = cc
-
-same_Some : {A : Type 0} (x y : A) → Some x ≡ Some y → x ≡ y
-same_Some x y e = cc
+use Rattle.adm_register.proofs.ListsKept.{once-filter, above_once, above_all, own_apart, own_known}
 
 some_of : {A : Type 0} (o : Option A) → is_some o ≡ true → (x : A) × (o ≡ Some x)
 some_of None e = cc
@@ -57,10 +54,6 @@ module _ {X : Type 0} where
   All-none t (x ∷ xs) none =
       let parts = or_parts (t x) (list_any t xs) none in
       All-cons (λ y. t y ≡ false) x xs parts.0 (All-none t xs parts.1)
-
-  any-map : {Y : Type 0} (t : Y → Bool) (f : X → Y) (xs : List X) → list_any t (map f xs) ≡ list_any (λ x. t (f x)) xs
-  any-map t f [] = refl
-  any-map t f (x ∷ xs) = ap (λ b. t (f x) || b) (any-map t f xs)
 
 -- a school that is there is a site's
 site_there : (old : State) (code : List ℕ) → WellFormed old → contains_key old.schools code ≡ true → is_site (sites old) code ≡ true
@@ -87,7 +80,7 @@ pub record OfApplication (old : State) (application : Application) (applicant : 
 pub of_application : (old : State) (application : Application) (applicant : Applicant) → applicant_of old application ≡ Some applicant → OfApplication old application applicant
 of_application old application applicant =
     elim (is_entrant old application) as (λ b. cond b (option_map as_applicant (get old.children application.child)) None ≡ Some applicant → OfApplication old application applicant) [
-      | false ↦ λ made. absurd (not_Some applicant made)
+      | false ↦ λ made. absurd (none-some applicant made)
       | true ↦ of_child (get old.children application.child) refl
     ]
   where
@@ -95,7 +88,7 @@ of_application old application applicant =
     as_applicant child = record { child = child; wanted = wanted_of old application; own = own_school (get old.places application.child) }
 
     of_child : (o : Option Child) → get old.children application.child ≡ o → option_map as_applicant o ≡ Some applicant → OfApplication old application applicant
-    of_child None at made = absurd (not_Some applicant made)
+    of_child None at made = absurd (none-some applicant made)
     of_child (Some child) at made = record { child = child; there = at; is = sym (same_Some (as_applicant child) applicant made) }
 
 -- its number is that of the application
@@ -179,7 +172,7 @@ posed old draw day numbers well passes =
       children_fit = each_entrant old (λ applicant. is_child_in_range applicant.child ≡ true) (λ number application there. child_fits old well application);
       lists_fit = each_entrant old (IsListFit (sites old)) (list_fits old well);
       lots_drawn = pairs_again (round_pairs old) numbers count;
-      lots_differ = some_same (round_lots old numbers) ∙ not_true _ pass.1.1.1.1.0;
+      lots_differ = some_same (round_lots old numbers) ∙ not-true _ pass.1.1.1.1.0;
     }
 
 -- and so it is by whatever names its sites, applicants and lots go
@@ -210,7 +203,7 @@ few_entrants old well =
     each old well number application there applicant made =
         let part = of_application old application applicant made in
         let no' = part.child.no in
-        let form = both_true (nat_le 1 no') (nat_le no' 9999999) (well.base.children_fit application.child part.child part.there).number_form in
+        let form = and_parts (nat_le 1 no') (nat_le no' 9999999) (well.base.children_fit application.child part.child part.there).number_form in
         let high = leb-true no' 9999999 form.1 in
         let same : number_of applicant ≡ no' = ap number_of part.is in
         omega (arith, high, same)

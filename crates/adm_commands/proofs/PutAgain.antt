@@ -5,7 +5,9 @@ use Rattle.std.specs.declared.cmp.Ordering.{Ordering}
 use Rattle.std.specs.Ordering.{eq_by_cmp}
 use Rattle.std.specs.Cmp.{IsTotalOrder}
 use Rattle.std.specs.FinMap.{FinMap, get, insert, remove, contains_key, get-insert, same_map, IsAntisymmetric}
-use Rattle.adm_register.proofs.Maps.{tied, none_of, not_contains_key-removed}
+use Rattle.adm_lists.proofs.Maps.{not_contains_key-removed}
+use Rattle.adm_lists.proofs.Options.{none_of}
+use Rattle.adm_lists.proofs.Orders.{tied}
 
 module _ {K V : Type 0} {R : K → K → Ordering} (total : IsTotalOrder R) where
   -- what was put is there

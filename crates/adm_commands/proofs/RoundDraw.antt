@@ -1,15 +1,19 @@
 -- The draw of a round is one of a register, and the next.
 use Rattle.std.proofs.Common.{◌≡◌, ◌∙◌, ap, sym, subst, refl, cond, Bool, true, false, ℕ, suc, ◌+◌, List, [], ◌∷◌, map, length, Option, Some, None, arith, inl}
 use Rattle.std.specs.Prelude.{IfSome, is_some, not, ◌&&◌, ◌||◌, nat_eq, nat_le, nat_lt, filter, if◌then◌else◌}
-use Rattle.std.specs.declared.cmp.Ordering.{Ordering}
-use Rattle.std.specs.declared.cmp.Ordering.TheVariants.{Less, Equal, Greater}
-use Rattle.std.specs.Ordering.{nat_cmp, is_eq, eq_by_cmp, ordering_then}
+use Rattle.std.specs.declared.cmp.Ordering.TheVariants.{Less}
+use Rattle.std.specs.Ordering.{nat_cmp, eq_by_cmp, ordering_then}
 use Rattle.std.specs.Cmp.{nat_cmp_total, unsigned_Decides}
 use Rattle.std.specs.Cmp.Lexicographic.{nat_list_cmp_total}
 use Rattle.std.specs.List.{list_all, zip}
 use Rattle.std.specs.List.Sorted.{IsStrictlySortedBy}
 use Rattle.std.specs.FinMap.{get, insert, values, contains_key, get-insert, nat_cmp-IsAntisymmetric}
-use Rattle.std.proofs.lemmas.Bool.{false≢true, lt-ltb}
+use Rattle.std.proofs.lemmas.Bool.{lt-ltb, and_parts}
+use Rattle.std.proofs.lemmas.Cmp.{tied_itself}
+use Rattle.adm_lists.proofs.Orders.{tied}
+use Rattle.adm_lists.proofs.Members.{In, all_in, in_all, list_all_in, passes_in, in_map, from_map, from_filter, from_flat_map, from_zip}
+use Rattle.adm_lists.proofs.Rising.{sorted_append}
+use Rattle.adm_lists.proofs.Maps.{contains_key-insert}
 use Rattle.adm_types.specs.Limits.{is_listed, first_day, last_day, most_draws, most_lots}
 use Rattle.adm_types.specs.Seasons.{lists_end}
 use Rattle.adm_types.specs.declared.draws.Draw.{Draw}
@@ -28,25 +32,19 @@ use Rattle.adm_register.specs.Draws.{DrawFits, is_due, is_next, are_in_order, no
 use Rattle.adm_commands.specs.KeptByTypes.{KeptByRound}
 use Rattle.adm_commands.specs.Round.{entrants, sites, round_pairs, round_lots}
 use Rattle.adm_register.specs.WellFormed.{WellFormed, has_round}
-use Rattle.adm_register.proofs.Maps.{both_true, tied, contains_key-insert}
 use Rattle.adm_register.proofs.DrawLemmas.{next_number}
-use Rattle.adm_register.proofs.RoundLemmas.{In, all_in, in_all, list_all_in, passes_in, in_map, from_map, from_filter, from_flat_map, from_zip, rises_by, sorted_append}
+use Rattle.adm_register.proofs.RoundLemmas.{rises_by}
 use Rattle.adm_register.proofs.RoundKeys.{from_values}
 use Rattle.adm_commands.proofs.RoundEntrants.{entrant_is, site_is, school_there}
 use Rattle.adm_commands.proofs.RoundOffers.{IsRound, of_outcome, is_given, lists_given, children_rise}
 
 -- ---- the pairs of a round rise
 
-is_equal : (r : Ordering) → is_eq r ≡ true → r ≡ Equal
-is_equal Less e = absurd (false≢true e)
-is_equal Equal e = refl
-is_equal Greater e = absurd (false≢true e)
-
 by_school : (one other : Pair) → code_cmp one.school other.school ≡ Less → pair_cmp one other ≡ Less
 by_school one other less = ap (λ r. ordering_then r (nat_cmp one.child other.child)) less
 
 by_child : (code : Code) (one other : Applicant) → nat_cmp (number_of one) (number_of other) ≡ Less → pair_cmp (pair_at code one) (pair_at code other) ≡ Less
-by_child code one other less = ap (λ r. ordering_then r (nat_cmp (number_of one) (number_of other))) (is_equal (code_cmp code code) (tied nat_list_cmp_total code)) ∙ less
+by_child code one other less = ap (λ r. ordering_then r (nat_cmp (number_of one) (number_of other))) (tied_itself nat_list_cmp_total code) ∙ less
 
 at_one_rise : (code : Code) (p : Applicant → Bool) (applicants : List Applicant) → IsStrictlySortedBy nat_cmp (map number_of applicants) → IsStrictlySortedBy pair_cmp (map (pair_at code) (filter p applicants))
 unfolding IsStrictlySortedBy
@@ -106,7 +104,7 @@ round_after old draw well number =
           ap is_some (get-insert nat_cmp_total old.draws draw.number draw 1 ∙ ap (λ b. cond b (Some draw) (get old.draws 1)) (ap (eq_by_cmp nat_cmp 1) first ∙ tied nat_cmp_total 1))
       | d ∷ ds ↦ λ some.
           let in_order = ap (are_in_order old.season no_draws) (sym some) ∙ well.draws.in_order in
-          let first : d.number ≡ 1 = next_number old.season no_draws d (both_true (is_next old.season no_draws d) _ in_order).0 in
+          let first : d.number ≡ 1 = next_number old.season no_draws d (and_parts (is_next old.season no_draws d) _ in_order).0 in
           let there = from_values nat_cmp_total nat_cmp-IsAntisymmetric old.draws (λ (x : Draw). x.number) (λ n x here. (well.draws.each n x here).own_number) d (subst (In d) (sym some) (inl refl)) in
           contains_key-insert nat_cmp_total old.draws draw.number draw 1 (ap (contains_key old.draws) (sym first) ∙ ap is_some there)
     ] refl
@@ -170,7 +168,7 @@ module _ {old : State} {numbers : List ℕ} {outcomes : List Outcome} (facts : I
   draw_fits apart = record {
     own_number = refl;
     form = form apart;
-    day = (both_true (nat_le first_day day) (nat_le day last_day) kept.is_day).0;
+    day = (and_parts (nat_le first_day day) (nat_le day last_day) kept.is_day).0;
     school = refl;
     outcomes = known_outcomes;
     lots = known_lots;
@@ -181,7 +179,7 @@ module _ {old : State} {numbers : List ℕ} {outcomes : List Outcome} (facts : I
       → (nat_lt (draws_so_far old).draws most_draws && nat_le ((draws_so_far old).lots + length numbers) most_lots) ≡ true → is_next old.season (draws_so_far old) it ≡ true
   draw_next number in_time due count room =
       let so_far = draws_so_far old in
-      let both = both_true (nat_lt so_far.draws most_draws) (nat_le (so_far.lots + length numbers) most_lots) room in
+      let both = and_parts (nat_lt so_far.draws most_draws) (nat_le (so_far.lots + length numbers) most_lots) room in
       let next : nat_eq draw (so_far.draws + 1) ≡ true = (unsigned_Decides draw (so_far.draws + 1)).1 number in
       let round : nat_lt 0 (so_far.rounds + 1) ≡ true = lt-ltb 0 (so_far.rounds + 1) (omega arith) in
       let round_next : nat_eq (so_far.rounds + 1) (so_far.rounds + 1) ≡ true = (unsigned_Decides (so_far.rounds + 1) (so_far.rounds + 1)).1 refl in

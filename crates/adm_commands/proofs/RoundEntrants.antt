@@ -6,6 +6,8 @@ use Rattle.std.specs.Cmp.Lexicographic.{nat_list_cmp_total, pointwise, bytes_dec
 use Rattle.std.specs.FinMap.{get, values, contains_key, nat_cmp-IsAntisymmetric}
 use Rattle.std.proofs.lemmas.Bool.{false≢true}
 use Rattle.std.proofs.lemmas.Option.{same_Some, none-some}
+use Rattle.adm_lists.proofs.Members.{In, All_in, any_in, from_map, in_map, from_filter_map, in_filter_map}
+use Rattle.adm_lists.proofs.Maps.{in_values}
 use Rattle.adm_types.specs.Limits.{is_listed}
 use Rattle.adm_types.specs.declared.rows.School.{School}
 use Rattle.adm_types.specs.declared.rows.Child.{Child}
@@ -20,8 +22,8 @@ use Rattle.adm_commands.specs.Round.{is_entrant, applicant_of, entrants, quota, 
 use Rattle.adm_register.specs.Wanted.{wanted_of, own_school}
 use Rattle.adm_register.specs.WellFormed.{WellFormed}
 use Rattle.adm_register.proofs.Maps.{code_cmp-IsAntisymmetric}
-use Rattle.adm_register.proofs.RoundLemmas.{In, All_in, any_in, from_map, in_map, from_filter_map, in_filter_map, listed_in}
-use Rattle.adm_register.proofs.RoundKeys.{in_values, from_values}
+use Rattle.adm_register.proofs.RoundLemmas.{listed_in, in_listed}
+use Rattle.adm_register.proofs.RoundKeys.{from_values}
 
 -- an applicant is the child of an application, and has and wants what the register says
 pub record IsEntrant (old : State) (applicant : Applicant) : Type 0 where

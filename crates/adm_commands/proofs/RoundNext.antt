@@ -2,7 +2,7 @@
 use Rattle.std.proofs.Common.{◌≡◌, ◌∙◌, ap, refl, true, ℕ, ◌+◌, ◌≤◌, List, [], ◌∷◌, None, length, arith}
 use Rattle.std.specs.Prelude.{nat_eq, nat_le, nat_lt, ◌&&◌, if◌then◌else◌}
 use Rattle.std.specs.Cmp.{unsigned_Decides}
-use Rattle.std.proofs.lemmas.Bool.{leb-true, le-leb, lt-ltb}
+use Rattle.std.proofs.lemmas.Bool.{leb-true, le-leb, lt-ltb, and_parts}
 use Rattle.adm_types.specs.Limits.{most_draws, most_lots}
 use Rattle.adm_types.specs.declared.draws.Outcome.{Outcome}
 use Rattle.adm_round.specs.declared.applicants.Pair.{Pair}
@@ -13,7 +13,6 @@ use Rattle.adm_register.specs.Draws.{are_in_order, draws_so_far}
 use Rattle.adm_commands.specs.Round as round
 use Rattle.adm_commands.specs.Round.{round_lots, round_pairs}
 use Rattle.adm_commands.proofs.Keeps.{all_pass}
-use Rattle.adm_register.proofs.Maps.{both_true}
 
 -- as many lots as there are pairs and numbers
 pub lots-few : (pairs : List Pair) (numbers : List ℕ) → length (lots_of pairs numbers) ≤ length numbers
@@ -26,7 +25,7 @@ pub round-next : (old : State) (draw day : ℕ) (numbers : List ℕ) (outcomes :
 unfolding round.tests
 round-next old draw day numbers outcomes passes =
     let pass = all_pass (round.tests old draw day numbers) passes in
-    let room = both_true (nat_lt (draws_so_far old).draws most_draws) _ pass.1.1.1.1.1.0 in
+    let room = and_parts (nat_lt (draws_so_far old).draws most_draws) _ pass.1.1.1.1.1.0 in
     let few = lots-few (round_pairs old) numbers in
     let most = leb-true _ _ room.1 in
     let fits : nat_le ((draws_so_far old).lots + length (round_lots old numbers)) most_lots ≡ true = le-leb _ _ (omega (arith, few, most)) in

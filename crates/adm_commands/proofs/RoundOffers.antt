@@ -7,8 +7,10 @@ use Rattle.std.specs.Option.{option_to_list}
 use Rattle.std.specs.List.{AllByRecursion, AllZip}
 use Rattle.std.specs.List.Sorted.{IsStrictlySortedBy}
 use Rattle.std.specs.FinMap.{get, contains_key}
-use Rattle.std.proofs.lemmas.Bool.{false≢true}
+use Rattle.std.proofs.lemmas.Bool.{false≢true, and_parts, not-true}
 use Rattle.std.proofs.lemmas.Option.{same_Some, none-some}
+use Rattle.adm_lists.proofs.Members.{In, in_all, in_map, from_map, from_filter_map, from_append, zip_in}
+use Rattle.adm_lists.proofs.Rising.{sorted_filter_map}
 use Rattle.adm_types.specs.Limits.{is_listed, is_from, first_day, last_day}
 use Rattle.adm_types.specs.Seasons.{closing}
 use Rattle.adm_types.specs.declared.rows.Application.{Application}
@@ -23,8 +25,7 @@ use Rattle.adm_register.specs.State.{State, is_plan}
 use Rattle.adm_commands.specs.Round.{entrants, sites, round_lots, AreOutcomes, offer_of, offers_on}
 use Rattle.adm_register.specs.Wanted.{has_left, own_school}
 use Rattle.adm_register.specs.WellFormed.{WellFormed, PlaceFits, has_round, is_state, lists_school}
-use Rattle.adm_register.proofs.Maps.{both_true, not_true}
-use Rattle.adm_register.proofs.RoundLemmas.{In, in_all, in_map, from_map, from_filter_map, from_append, zip_in, listed_in, in_listed, sorted_filter_map}
+use Rattle.adm_register.proofs.RoundLemmas.{listed_in, in_listed}
 use Rattle.adm_commands.proofs.RoundEntrants.{entrant_is, takes_part, school_there}
 use Rattle.adm_register.proofs.WaitLemmas.{wants_is}
 
@@ -52,7 +53,7 @@ wanted_fresh wanted own code lists fresh = elim (from_append wanted (option_to_l
     own_not : (own : Option Code) → In code (option_to_list own) → not (has own code) ≡ true → ⊥
     own_not None at fresh = at
     own_not (Some other) at fresh = elim at [
-      | inl same ↦ false≢true (sym (not_true (pointwise nat_eq other code) fresh) ∙ (bytes_decides other code).1 same)
+      | inl same ↦ false≢true (sym (not-true (pointwise nat_eq other code) fresh) ∙ (bytes_decides other code).1 same)
       | inr later ↦ later
     ]
 
@@ -162,7 +163,7 @@ module _ {old : State} {numbers : List ℕ} {outcomes : List Outcome} (facts : I
       → (applicant : Applicant) × In applicant (entrants old) × (number_of applicant ≡ number) × (applicant.own ≡ Some row.place.school)
   tenant_is number row there other =
       let fits = facts.well.places.each number row there in
-      let entitled = both_true (has_round old.draws) (lists_school (get old.applications row.child) row.place.school)
+      let entitled = and_parts (has_round old.draws) (lists_school (get old.applications row.child) row.place.school)
       (sym (ap (λ b. if b then not (is_some (get old.applications row.child)) else has_round old.draws && lists_school (get old.applications row.child) row.place.school) other) ∙ fits.entitled) in
       elim (get old.applications row.child) as (λ o. get old.applications row.child ≡ o → lists_school o row.place.school ≡ true → (applicant : Applicant) × In applicant (entrants old) × (number_of applicant ≡ number) × (applicant.own ≡ Some row.place.school)) [
         | None ↦ λ is lists. absurd (false≢true lists)

@@ -7,8 +7,13 @@ use Rattle.std.specs.Cmp.Lexicographic.{pointwise}
 use Rattle.std.specs.BTreeMap.{is_at}
 use Rattle.std.specs.Map.{lookup}
 use Rattle.std.specs.FinMap.{FinMap, get, entries, nat_cmp-IsAntisymmetric}
-use Rattle.std.proofs.lemmas.Bool.{cases_Bool, false≢true}
+use Rattle.std.specs.Option.{option_or}
+use Rattle.std.proofs.lemmas.Bool.{cases_Bool, false≢true, and_parts, not-true}
 use Rattle.std.proofs.lemmas.Option.{same_Some, none-some}
+use Rattle.adm_lists.proofs.Members.{All_in, none_in}
+use Rattle.adm_lists.proofs.Maps.{entries_in_order, map_of_entries, get_rows}
+use Rattle.adm_lists.proofs.Keys.{by_key, at_key, put_over, in_key, from_key, values_by}
+use Rattle.adm_lists.proofs.Counts.{count_le}
 use Rattle.adm_types.specs.declared.rows.School.{School}
 use Rattle.adm_types.specs.declared.rows.PlaceRow.{PlaceRow}
 use Rattle.adm_types.specs.declared.draws.Outcome.{Outcome}
@@ -20,13 +25,9 @@ use Rattle.adm_register.specs.State.{State, is_plan}
 use Rattle.adm_register.specs.Change.{put_all}
 use Rattle.adm_commands.specs.Round.{quota, sites, offer_of, offers_on}
 use Rattle.adm_register.specs.WellFormed.{AllRows, is_held, held_at}
-use Rattle.adm_register.proofs.Maps.{both_true, not_true}
 use Rattle.adm_commands.proofs.HeldLemmas.{held_le}
 use Rattle.adm_register.proofs.Puts.{get-put_all}
-use Rattle.adm_register.proofs.SameRows.{entries_in_order, map_of_entries}
-use Rattle.adm_register.proofs.TableMaps.{get_rows}
-use Rattle.adm_register.proofs.RoundLemmas.{All_in, in_any}
-use Rattle.adm_register.proofs.RoundKeys.{by_key, at_key, or_there, put_over, put_given, in_key, from_key, values_by, count_le}
+use Rattle.adm_register.proofs.RoundKeys.{put_given}
 use Rattle.adm_commands.proofs.RoundEntrants.{has_site}
 use Rattle.adm_commands.proofs.RoundOffers.{IsRound, allotted, offer_made, kept_school, outcome, its_outcome, is_given, tenants_given, children_rise, tenant_is}
 
@@ -55,8 +56,8 @@ module _ {old : State} {numbers : List ℕ} {outcomes : List Outcome} (facts : I
     stays : (number : ℕ) (row : PlaceRow) (found : Option Outcome) → at_key child_of outcomes number ≡ found → get old.places number ≡ Some row → is_held (Some row) code ≡ true
         → ((o : Outcome) → found ≡ Some o → offer_of day o ≡ None) → (o : Outcome) × (found ≡ Some o) × (has o.school code ≡ true)
     stays number row found at there held none =
-        let both = both_true (pointwise nat_eq row.place.school code) (not (is_plan row.place.state)) held in
-        let tenant = tenant_is facts number row there (not_true _ both.1) in
+        let both = and_parts (pointwise nat_eq row.place.school code) (not (is_plan row.place.state)) held in
+        let tenant = tenant_is facts number row there (not-true _ both.1) in
         let applicant = tenant.0 in
         let it = outcome facts applicant in
         let is : found ≡ Some it =
@@ -70,12 +71,12 @@ module _ {old : State} {numbers : List ℕ} {outcomes : List Outcome} (facts : I
     has_outcome : (number : ℕ) (row : PlaceRow) → get new number ≡ Some row → is_held (Some row) code ≡ true → (o : Outcome) × (at_key child_of outcomes number ≡ Some o) × (has o.school code ≡ true)
     has_outcome number row there held = by (at_key child_of outcomes number) refl (sym (at_child number) ∙ there)
       where
-        offered : (o : Outcome) → at_key child_of outcomes number ≡ Some o → (made : Option PlaceRow) → offer_of day o ≡ made → or_there made (get old.places number) ≡ Some row
+        offered : (o : Outcome) → at_key child_of outcomes number ≡ Some o → (made : Option PlaceRow) → offer_of day o ≡ made → option_or made (get old.places number) ≡ Some row
             → (o : Outcome) × (at_key child_of outcomes number ≡ Some o) × (has o.school code ≡ true)
         offered o at None is now = stays number row (at_key child_of outcomes number) refl now held (λ other same. ap (offer_of day) (same_Some other o (sym same ∙ at)) ∙ is)
         offered o at (Some other) is now =
             let school = (offer_made day o row (is ∙ now)).1 in
-            (o, at, ap (λ s. has s code) school ∙ (both_true (pointwise nat_eq row.place.school code) (not (is_plan row.place.state)) held).0)
+            (o, at, ap (λ s. has s code) school ∙ (and_parts (pointwise nat_eq row.place.school code) (not (is_plan row.place.state)) held).0)
 
         by : (found : Option Outcome) → at_key child_of outcomes number ≡ found → over day found (get old.places number) ≡ Some row → (o : Outcome) × (at_key child_of outcomes number ≡ Some o) × (has o.school code ≡ true)
         by None at now = stays number row (at_key child_of outcomes number) refl now held (λ o is. absurd (none-some o (sym at ∙ is)))
@@ -85,12 +86,12 @@ module _ {old : State} {numbers : List ℕ} {outcomes : List Outcome} (facts : I
     was_held : has_fresh code outcomes ≡ false → (number : ℕ) (row : PlaceRow) → get new number ≡ Some row → is_held (Some row) code ≡ true → is_held (get old.places number) code ≡ true
     was_held none number row there held = by (at_key child_of outcomes number) refl (sym (at_child number) ∙ there)
       where
-        offered : (o : Outcome) → at_key child_of outcomes number ≡ Some o → (made : Option PlaceRow) → offer_of day o ≡ made → or_there made (get old.places number) ≡ Some row → is_held (get old.places number) code ≡ true
+        offered : (o : Outcome) → at_key child_of outcomes number ≡ Some o → (made : Option PlaceRow) → offer_of day o ≡ made → option_or made (get old.places number) ≡ Some row → is_held (get old.places number) code ≡ true
         offered o at None is now = ap (λ p. is_held p code) now ∙ held
         offered o at (Some other) is now =
             let parts = offer_made day o row (is ∙ now) in
-            let here = (both_true (pointwise nat_eq row.place.school code) (not (is_plan row.place.state)) held).0 in
-            let fresh = in_any (λ (x : Outcome). has x.school code && x.fresh) outcomes o none (from_key child_of outcomes number o at).0 in
+            let here = (and_parts (pointwise nat_eq row.place.school code) (not (is_plan row.place.state)) held).0 in
+            let fresh = none_in (λ (x : Outcome). has x.school code && x.fresh) outcomes o none (from_key child_of outcomes number o at).0 in
             absurd (false≢true (sym fresh ∙ (λ i. has (parts.1 i) code && parts.0 i) ∙ ap (λ b. b && true) here))
 
         by : (found : Option Outcome) → at_key child_of outcomes number ≡ found → over day found (get old.places number) ≡ Some row → is_held (get old.places number) code ≡ true

@@ -3,6 +3,7 @@ use Rattle.std.proofs.Common.{◌≡◌, ◌∙◌, ap, refl, cond, Bool, true, 
 use Rattle.std.specs.Prelude.{is_some, not, Option, if◌then◌else◌}
 use Rattle.std.specs.Cmp.{nat_cmp_total}
 use Rattle.std.specs.FinMap.{get, get-insert, contains_key}
+use Rattle.adm_lists.proofs.Orders.{tied}
 use Rattle.adm_types.specs.declared.rows.ImportRow.{ImportRow}
 use Rattle.adm_types.specs.declared.commands.Refusal.{Refusal}
 use Rattle.adm_types.specs.declared.commands.Refusal.TheVariants.{RowDiffers, UnknownChild}
@@ -12,7 +13,6 @@ use Rattle.adm_commands.specs.Tests.{first_failing}
 use Rattle.adm_commands.specs.AddChild as add_child
 use Rattle.adm_commands.specs.Apply as apply
 use Rattle.adm_commands.specs.Import.{is_known, row_tests, refusal_of_row}
-use Rattle.adm_register.proofs.Maps.{tied}
 
 -- the first refusal, or else the second
 abbrev pub or_next : Option Refusal → Option Refusal → Option Refusal

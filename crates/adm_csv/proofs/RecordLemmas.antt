@@ -7,6 +7,7 @@ use Rattle.csv.specs.declared.parser.State.{State}
 use Rattle.csv.specs.declared.parser.Action.{Action}
 use Rattle.csv.specs.declared.parser.State.TheVariants as st
 use Rattle.csv.specs.declared.parser.Action.TheVariants as act
+use Rattle.std.proofs.lemmas.Option.{same_Some}
 use Rattle.adm_csv.specs.Kinds.{Text}
 use Rattle.adm_csv.specs.Left.{weight, records_left}
 
@@ -49,18 +50,15 @@ step_rests st.AfterQuote c = rests_else (c == default_config.quote) (st.InQuoted
 step_rests st.InComment c = rests_else (c == line_feed) (st.StartRecord, act.Skip) (st.InComment, act.Skip) (rests_other st.StartRecord act.Skip refl) (rests_other st.InComment act.Skip refl)
 step_rests st.AfterCr c = rests_else (c == line_feed) (st.StartRecord, act.Skip) (start_record default_config c) (rests_other st.StartRecord act.Skip refl) (record_rests c)
 
-some_is : {A : Type 0} (x y : A) → Some x ≡ Some y → x ≡ y
-some_is x y is = cc is
-
 -- the end of the text may end one record more
 less_end : (b : Bool) (x q : Read) → weight x.1 x.2 ≡ 0 → cond b (Some x) None ≡ Some q → weight q.1 q.2 < cond b 1 0
-less_end true x q none is = rw (← some_is x q is) (omega (arith, none))
+less_end true x q none is = rw (← same_Some x q is) (omega (arith, none))
 less_end false x q none is = absurd (cc is)
 
 -- a byte that ends a record, or one that does not
 less_byte : (b : Bool) (x q : Read) (more : Option Read) (w : ℕ) → (b ≡ true → weight x.1 x.2 < w) → (more ≡ Some q → weight q.1 q.2 < w)
     → cond b (Some x) more ≡ Some q → weight q.1 q.2 < w
-less_byte true x q more w here later is = rw (← some_is x q is) (here refl)
+less_byte true x q more w here later is = rw (← same_Some x q is) (here refl)
 less_byte false x q more w here later is = later is
 
 resting : (s : State) (c : ℕ) (text : Text) → Rests (step default_config s c) → is_end (step default_config s c).1 ≡ true

@@ -6,6 +6,7 @@ use Rattle.csv.specs.Machine.{step}
 use Rattle.csv.specs.Reading.{default_config, strip_bom, is_bom}
 use Rattle.csv.specs.declared.parser.State.{State}
 use Rattle.csv.specs.declared.parser.State.TheVariants as st
+use Rattle.std.proofs.Math.Bool.{and-false}
 use Rattle.adm_csv.specs.Kinds.{Text}
 use Rattle.adm_csv.specs.Ended.{ended_by, ended_from, ended_in, state_from}
 
@@ -31,11 +32,7 @@ not_empty (y ∷ rest) x = refl
 -- the mark goes
 pub strip_mark : (text : Text) (x : ℕ) → pointwise nat_eq (text ++ x ∷ []) the_mark ≡ true → strip_bom (text ++ x ∷ []) ≡ []
 unfolding strip_bom
-strip_mark [] x is = absurd (true≢false (sym is ∙ both_false (nat_eq x 239)))
-  where
-    both_false : (p : Bool) → (p && false) ≡ false
-    both_false true = refl
-    both_false false = refl
+strip_mark [] x is = absurd (true≢false (sym is ∙ and-false (nat_eq x 239)))
 strip_mark (a ∷ []) x is = absurd (true≢false (sym is ∙ last_false (nat_eq a 239) (nat_eq x 187)))
   where
     last_false : (p q : Bool) → (p && (q && false)) ≡ false

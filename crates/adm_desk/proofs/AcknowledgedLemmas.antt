@@ -1,6 +1,7 @@
 -- A run keeps what it acknowledged.
 use Rattle.std.proofs.Common.{◌≡◌, ◌∙◌, ℕ, List, [], ◌∷◌, true, false, Result, refl, sym, ap, subst, zip}
 use Rattle.sqlite.specs.State.{State as Disk}
+use Rattle.std.proofs.lemmas.Bool.{true≢false}
 use Rattle.adm_types.specs.declared.commands.Command.{Command}
 use Rattle.adm_wire.specs.declared.fault.WireFault.{WireFault}
 use Rattle.adm_wire.specs.declared.fault.WireFault.TheVariants as fault
@@ -54,15 +55,12 @@ over_lines {D} step old new (l ∷ lines) (Handled a ∷ answers) run =
 -- ---- what it keeps
 
 module _ {C : Type 0} (disk : C → Disk) where
-  apart : true ≡ false → ⊥
-  apart e = cc
-
   -- after a Failed nothing changes, and nothing is acknowledged
   pub all_failed : (old new : Standing C) (answered : List (Command × Answer)) → old.failed ≡ true → RunsOver (Handles disk) old answered new → (new ≡ old) × (acknowledged answered ≡ [])
   all_failed old new [] dead run = (run, refl)
-  all_failed old new ((c, Done reply) ∷ more) dead run = absurd (apart (sym dead ∙ run.1.0))
-  all_failed old new ((c, Refused refusal row) ∷ more) dead run = absurd (apart (sym dead ∙ run.1.0))
-  all_failed old new ((c, Memory) ∷ more) dead run = absurd (apart (sym dead ∙ run.1.0))
+  all_failed old new ((c, Done reply) ∷ more) dead run = absurd (true≢false (sym dead ∙ run.1.0))
+  all_failed old new ((c, Refused refusal row) ∷ more) dead run = absurd (true≢false (sym dead ∙ run.1.0))
+  all_failed old new ((c, Memory) ∷ more) dead run = absurd (true≢false (sym dead ∙ run.1.0))
   all_failed old new ((c, Failed) ∷ more) dead run =
       let same = run.1.2 dead in
       let rest = all_failed run.0 new more run.1.0 run.2 in

@@ -5,14 +5,16 @@ use Rattle.std.proofs.lemmas.List.Folds.{list_any-append}
 use Rattle.std.proofs.lemmas.Grind.{flat_map-append}
 use Rattle.std.proofs.lemmas.List.Sums.{sum_by-append}
 use Rattle.std.proofs.Math.Seq.{take-append-add, drop-append-add, take-length}
+use Rattle.adm_lists.proofs.Each.{each_append}
+use Rattle.adm_lists.proofs.KnownBytes.{Appends-then}
 use Rattle.adm_types.specs.declared.commands.Command.{Command}
 use Rattle.adm_desk.specs.declared.answer.Answer.{Answer}
 use Rattle.adm_desk.specs.declared.answer.LineAnswer.{LineAnswer}
 use Rattle.adm_desk.specs.declared.run.Run.{Run}
 use Rattle.adm_desk.specs.Lines.{AnswersLines, line_text, text_of, is_done, is_refused, is_failed}
 use Rattle.adm_desk.specs.Written.{Answered, Stopped, Counts, counted, IsBeginning, Takes, Breaks, joined, IsPlain}
-use Rattle.adm_desk.proofs.Known.{Appends-then, Appends-nothing}
-use Rattle.adm_desk.proofs.CutLemmas.{Cuts-then, Cuts-nothing, whole-then, All-append}
+use Rattle.adm_desk.proofs.Known.{Appends-nothing}
+use Rattle.adm_desk.proofs.CutLemmas.{Cuts-then, Cuts-nothing, whole-then}
 
 AnswersLines-append : {D : Type 0} (step : D → Command → Answer → D → Type 0) (old mid new : D) (ls ms : List (List ℕ)) (xs ys : List LineAnswer)
     → AnswersLines step old ls xs mid → AnswersLines step mid ms ys new → AnswersLines step old (ls ++ ms) (xs ++ ys) new
@@ -123,7 +125,7 @@ Takes-breaks step old mid new u v w a b p q xs ys first next = record {
   lines = first.lines ++ next.lines;
   more = next.more;
   whole = whole-then p xs q ys next.more first.lines next.lines first.cut.whole next.whole;
-  plain = λ plain. let before = first.cut.plain plain in All-append IsPlain first.lines next.lines before.0 (next.plain before.1);
+  plain = λ plain. let before = first.cut.plain plain in each_append IsPlain first.lines next.lines before.0 (next.plain before.1);
   stopped = Answered-stopped step old mid new u v w a b first.lines next.lines first.answered next.stopped;
 }
 

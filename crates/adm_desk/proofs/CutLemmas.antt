@@ -6,12 +6,9 @@ use Rattle.std.proofs.lemmas.Grind.{flat_map-append}
 use Rattle.std.proofs.lemmas.List.Sums.{sum_by-append}
 use Rattle.std.proofs.Math.Seq.{take-append_seam}
 use Rattle.std.proofs.lemmas.Bool.Decides.{Decides-eqb}
+use Rattle.adm_lists.proofs.Each.{each_append}
 use Rattle.adm_desk.specs.Lines.{lines_of, onto_first, ended}
 use Rattle.adm_desk.specs.Written.{IsPlain, joined, Cuts}
-
-pub All-append : {X : Type 0} (P : X → Type 0) (xs ys : List X) → AllByRecursion P xs → AllByRecursion P ys → AllByRecursion P (xs ++ ys)
-All-append P [] ys p q = q
-All-append P (x ∷ xs) ys p q = (p.0, All-append P xs ys p.1 q)
 
 pub joined-append : (xs ys : List (List ℕ)) → joined (xs ++ ys) ≡ joined xs ++ joined ys
 joined-append xs ys = flat_map-append (λ line. line ++ 10 ∷ []) xs ys
@@ -27,7 +24,7 @@ whole-then p xs q ys r ls ms first next =
 pub Cuts-then : (p xs q ys r : List ℕ) (ls ms : List (List ℕ)) → Cuts p xs ls q → Cuts q ys ms r → Cuts p (xs ++ ys) (ls ++ ms) r
 Cuts-then p xs q ys r ls ms first next = record {
   whole = whole-then p xs q ys r ls ms first.whole next.whole;
-  plain = λ plain. let a = first.plain plain in let b = next.plain a.1 in (All-append IsPlain ls ms a.0 b.0, b.1);
+  plain = λ plain. let a = first.plain plain in let b = next.plain a.1 in (each_append IsPlain ls ms a.0 b.0, b.1);
 }
 
 pub Cuts-end : (p : List ℕ) → Cuts p (10 ∷ []) (p ∷ []) []
@@ -39,7 +36,7 @@ Cuts-end p = record {
 pub Cuts-byte : (p : List ℕ) (b : ℕ) → (b ≡ 10 → ⊥) → Cuts p (b ∷ []) [] (p ++ b ∷ [])
 Cuts-byte p b other = record {
   whole = refl;
-  plain = λ plain. (tt, All-append (λ b. b ≡ 10 → ⊥) p (b ∷ []) plain (other, tt));
+  plain = λ plain. (tt, each_append (λ b. b ≡ 10 → ⊥) p (b ∷ []) plain (other, tt));
 }
 
 other_byte : (b : ℕ) → (b ≡ 10 → ⊥) → eqb b 10 ≡ false

@@ -1,6 +1,7 @@
 -- What a kept command answers.
-use Rattle.std.proofs.Common.{◌≡◌, ◌∙◌, true, false, sym, subst, Ok}
+use Rattle.std.proofs.Common.{◌≡◌, ◌∙◌, false, sym, subst, Ok}
 use Rattle.sqlite.specs.State.{State as Disk}
+use Rattle.std.proofs.lemmas.Bool.{true≢false}
 use Rattle.adm_types.specs.declared.commands.Command.{Command}
 use Rattle.adm_types.specs.declared.commands.Reply.{Reply}
 use Rattle.adm_register.specs.State.{State as Register}
@@ -22,7 +23,4 @@ handles disk old new command next reply (Done r) alive step keeps = (
 handles disk old new command next reply (Refused refusal row) alive step keeps = absurd keeps
 handles disk old new command next reply Memory alive step keeps = (alive, keeps)
 handles disk old new command next reply Failed alive step keeps =
-    (keeps.0, keeps.1, λ dead. absurd (differ (sym dead ∙ alive)), λ _. record { next = next; accepted = (reply, step); leaves = keeps.2 })
-  where
-    differ : true ≡ false → ⊥
-    differ e = cc
+    (keeps.0, keeps.1, λ dead. absurd (true≢false (sym dead ∙ alive)), λ _. record { next = next; accepted = (reply, step); leaves = keeps.2 })

@@ -1,5 +1,5 @@
 -- What is gathered from the rows of three tables, each put in order.
-use Rattle.std.proofs.Common.{◌≡◌, ◌∙◌, ap, sym, subst, true, List, [], map, Option, Some, None, IfNone}
+use Rattle.std.proofs.Common.{◌≡◌, ◌∙◌, ap, sym, subst, true, List, [], map, Some, None}
 use Rattle.std.specs.Prelude.{IsPermutation}
 use Rattle.std.specs.List.{flat_map}
 use Rattle.adm_types.specs.declared.draws.Draw.{Draw}
@@ -50,7 +50,3 @@ one_answer made x y h k = cc
 
 pub no_answer : (made : _) (x : List Draw) → made ≡ Some x → made ≡ None → ⊥
 no_answer made x h k = cc
-
-pub none_then : {A P Q : Type 0} (r : Option A) → IfNone r P → (P → Q) → IfNone r Q
-none_then None h f = f h
-none_then (Some x) h f = tt

@@ -41,9 +41,6 @@ module _ {X : Type 0} (p : X → Bool) where
   pub later_no : (x : X) (xs : List X) → p x ≡ false → later p (x ∷ xs) ≡ x ∷ xs
   later_no x xs h = ap (λ n. drop n (x ∷ xs)) (none_more x xs h)
 
-same_number : (n : ℕ) → nat_eq n n ≡ true
-same_number n = eq-eqb n n refl
-
 other_number : (n m : ℕ) → nat_cmp n m ≡ Less → nat_eq m n ≡ false
 other_number n m less =
     elim (eqb_tells m n) [
@@ -76,7 +73,7 @@ module _ {I R : Type 0} (items : Draw → List I) (row : ℕ → I → R) (numbe
   own_front : (n : ℕ) (xs : List I) (rest : List R) → front (is_of n) rest ≡ [] → front (is_of n) (map (row n) xs ++ rest) ≡ map (row n) xs
   own_front n [] rest none = none
   own_front n (x ∷ xs) rest none =
-      front_yes (is_of n) (row n x) (map (row n) xs ++ rest) (ap (λ k. nat_eq k n) (numbered n x) ∙ same_number n)
+      front_yes (is_of n) (row n x) (map (row n) xs ++ rest) (ap (λ k. nat_eq k n) (numbered n x) ∙ eq-eqb n n refl)
       ∙ ap (λ (rs : List R). row n x ∷ rs) (own_front n xs rest none)
 
   -- where the front is all of one part, what is behind it is the other

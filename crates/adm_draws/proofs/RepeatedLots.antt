@@ -2,12 +2,12 @@
 use Rattle.std.proofs.Common.{◌≡◌, ◌∙◌, sym, Bool, true, false, List, [], ◌∷◌, refl, map}
 use Rattle.std.specs.Prelude.{◌&&◌, ◌||◌}
 use Rattle.std.specs.declared.cmp.Ordering.{Ordering}
-use Rattle.std.specs.declared.cmp.Ordering.TheVariants.{Less, Equal, Greater}
-use Rattle.std.specs.Ordering.{nat_cmp, ordering_then, is_eq, eq_by_cmp}
-use Rattle.std.specs.Cmp.{unsigned_ties}
+use Rattle.std.specs.Ordering.{nat_cmp, ordering_then, eq_by_cmp}
+use Rattle.std.specs.Cmp.{unsigned_ties, tied_then}
 use Rattle.std.specs.Cmp.Lexicographic.{slice_cmp, texts_ties}
 use Rattle.std.specs.List.{IsDistinct, AllByRecursion, list_any}
 use Rattle.std.proofs.lemmas.Map.Keys.{IsDistinct-head, IsDistinct-tail, IsDistinct-cons}
+use Rattle.std.proofs.lemmas.Bool.{true≢false}
 use Rattle.adm_types.specs.declared.draws.Lot.{Lot}
 use Rattle.adm_draws.specs.declared.keys.DrawnLot.{DrawnLot}
 use Rattle.adm_draws.specs.Draws.{is_same_lot, repeats_lot}
@@ -17,15 +17,10 @@ use Rattle.adm_draws.specs.Grouped.{drawn_lot}
 abbrev pub drawn_cmp : DrawnLot → DrawnLot → Ordering
 drawn_cmp x y = ordering_then (slice_cmp nat_cmp x.school y.school) (nat_cmp x.lot y.lot)
 
-both_equal : (o p : Ordering) → is_eq (ordering_then o p) ≡ (is_eq o && is_eq p)
-both_equal Less p = refl
-both_equal Equal p = refl
-both_equal Greater p = refl
-
 same_drawn : (x y : Lot) → is_same_lot x y ≡ eq_by_cmp drawn_cmp (drawn_lot x) (drawn_lot y)
 same_drawn x y =
     (λ i. texts_ties x.school y.school i && unsigned_ties x.lot y.lot i)
-    ∙ sym (both_equal (slice_cmp nat_cmp x.school y.school) (nat_cmp x.lot y.lot))
+    ∙ tied_then (slice_cmp nat_cmp x.school y.school) (nat_cmp x.lot y.lot)
 
 or_none : (a b : Bool) → a ≡ false → b ≡ false → (a || b) ≡ false
 or_none a b p q = λ i. p i || q i
@@ -36,10 +31,7 @@ first_none true b h = cc
 
 second_none : (a b : Bool) → (a || b) ≡ false → b ≡ false
 second_none false b h = h
-second_none true b h = absurd (differ h)
-  where
-    differ : true ≡ false → ⊥
-    differ e = cc
+second_none true b h = absurd (true≢false h)
 
 none_same : (x : Lot) (lots : List Lot) → AllByRecursion (λ y. eq_by_cmp drawn_cmp (drawn_lot x) y ≡ false) (map drawn_lot lots) → list_any (is_same_lot x) lots ≡ false
 none_same x [] all = refl

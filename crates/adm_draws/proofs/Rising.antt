@@ -5,54 +5,35 @@ use mathlib.Core.Logic.{inl, inr}
 use Rattle.std.specs.declared.cmp.Ordering.{Ordering}
 use Rattle.std.specs.declared.cmp.Ordering.TheVariants.{Less, Equal, Greater}
 use Rattle.std.specs.Ordering.{is_lt, is_eq, eq_by_cmp, ordering_reverse}
-use Rattle.std.specs.Cmp.{IsTotalOrder, eq_by_cmp_equiv}
+use Rattle.std.specs.Cmp.{IsTotalOrder, eq_by_cmp_equiv, first_so, second_so}
 use Rattle.std.specs.List.{IsDistinct, AllByRecursion, list_all}
 use Rattle.std.specs.List.Sorted.{IsStrictlySortedBy, IsSortedBy}
 use Rattle.std.proofs.lemmas.Cmp.{tied_itself}
 use Rattle.std.proofs.lemmas.Map.Keys.{IsDistinct-from_sorted, IsDistinct-IsPermutation, sorted_from_all_adjacent, apart_from_distinct}
 use Rattle.std.proofs.lemmas.List.Sorted.{IsPermutation-sym, IsPermutation-trans, Contains-permutation}
+use Rattle.std.proofs.lemmas.Bool.{and_from, true≢false}
+use Rattle.std.proofs.Math.Bool.{and-false}
+use Rattle.adm_lists.proofs.Orders.{less_of}
 use Rattle.adm_draws.specs.Draws.{rises}
 use Rattle.adm_draws.specs.Grouped.{comes_first}
 
-pub and_left : (a b : Bool) → (a && b) ≡ true → a ≡ true
-and_left true b h = refl
-and_left false b h = absurd (differ h)
-  where
-    differ : false ≡ true → ⊥
-    differ e = cc
-
-pub and_right : (a b : Bool) → (a && b) ≡ true → b ≡ true
-and_right true b h = h
-and_right false b h = absurd (differ h)
-  where
-    differ : false ≡ true → ⊥
-    differ e = cc
-
-pub and_both : (a b : Bool) → a ≡ true → b ≡ true → (a && b) ≡ true
-and_both a b p q = λ i. p i && q i
-
-less_of : (o : Ordering) → is_lt o ≡ true → o ≡ Less
-less_of Less h = refl
-less_of Equal h = cc
-less_of Greater h = cc
-
 all_less : {X : Type 0} (f : X → Ordering) (xs : List X) → list_all (λ x. is_lt (f x)) xs ≡ true → AllByRecursion (λ x. f x ≡ Less) xs
 all_less f [] h = tt
-all_less f (x ∷ xs) h = (less_of (f x) (and_left _ _ h), all_less f xs (and_right _ _ h))
+all_less f (x ∷ xs) h = (less_of (f x) (first_so _ _ h), all_less f xs (second_so _ _ h))
 
 tested_less : {X : Type 0} (f : X → Ordering) (xs : List X) → AllByRecursion (λ x. f x ≡ Less) xs → list_all (λ x. is_lt (f x)) xs ≡ true
 tested_less f [] all = refl
-tested_less f (x ∷ xs) all = and_both _ _ (ap is_lt all.0) (tested_less f xs all.1)
+tested_less f (x ∷ xs) all = and_from _ _ (ap is_lt all.0) (tested_less f xs all.1)
 
 pub sorted_rises : {X : Type 0} (R : X → X → Ordering) (xs : List X) → IsStrictlySortedBy R xs → rises R xs ≡ true
 unfolding IsStrictlySortedBy
 sorted_rises R [] s = refl
-sorted_rises R (x ∷ xs) s = and_both _ _ (tested_less (R x) xs s.0) (sorted_rises R xs s.1)
+sorted_rises R (x ∷ xs) s = and_from _ _ (tested_less (R x) xs s.0) (sorted_rises R xs s.1)
 
 pub rises_sorted : {X : Type 0} (R : X → X → Ordering) (xs : List X) → rises R xs ≡ true → IsStrictlySortedBy R xs
 unfolding IsStrictlySortedBy
 rises_sorted R [] h = tt
-rises_sorted R (x ∷ xs) h = (all_less (R x) xs (and_left _ _ h), rises_sorted R xs (and_right _ _ h))
+rises_sorted R (x ∷ xs) h = (all_less (R x) xs (first_so _ _ h), rises_sorted R xs (second_so _ _ h))
 
 -- ---- one step of the test
 
@@ -60,19 +41,15 @@ module _ {X : Type 0} {R : X → X → Ordering} (total : IsTotalOrder R) where
   below_more : (x y : X) (ys : List X) → R x y ≡ Less → list_all (λ z. is_lt (R y z)) ys ≡ true → list_all (λ z. is_lt (R x z)) ys ≡ true
   below_more x y [] less all = refl
   below_more x y (z ∷ ys) less all =
-      and_both _ _ (ap is_lt (total.trans x y z less (less_of (R y z) (and_left _ _ all)))) (below_more x y ys less (and_right _ _ all))
+      and_from _ _ (ap is_lt (total.trans x y z less (less_of (R y z) (first_so _ _ all)))) (below_more x y ys less (second_so _ _ all))
 
   pub rises_on : (x : X) (xs : List X) → comes_first R x xs ≡ true → rises R (x ∷ xs) ≡ rises R xs
   rises_on x [] h = refl
   rises_on x (y ∷ ys) h = go (list_all (λ z. is_lt (R y z)) ys) refl
     where
-      nothing : (a : Bool) → (a && false) ≡ false
-      nothing true = refl
-      nothing false = refl
-
       go : (b : Bool) → list_all (λ z. is_lt (R y z)) ys ≡ b → ((is_lt (R x y) && list_all (λ z. is_lt (R x z)) ys) && (list_all (λ z. is_lt (R y z)) ys && rises R ys)) ≡ (list_all (λ z. is_lt (R y z)) ys && rises R ys)
       go true all = λ i. (h i && below_more x y ys (less_of (R x y) h) all i) && (list_all (λ z. is_lt (R y z)) ys && rises R ys)
-      go false all = (λ i. (is_lt (R x y) && list_all (λ z. is_lt (R x z)) ys) && (all i && rises R ys)) ∙ (nothing _ ∙ (λ i. sym all i && rises R ys))
+      go false all = (λ i. (is_lt (R x y) && list_all (λ z. is_lt (R x z)) ys) && (all i && rises R ys)) ∙ (and-false _ ∙ (λ i. sym all i && rises R ys))
 
 pub rises_not : {X : Type 0} (R : X → X → Ordering) (x : X) (xs : List X) → comes_first R x xs ≡ false → rises R (x ∷ xs) ≡ false
 rises_not R x [] h = cc
@@ -87,10 +64,7 @@ module _ {X : Type 0} {R : X → X → Ordering} (total : IsTotalOrder R) where
       go : (o p : Ordering) → p ≡ ordering_reverse o → is_lt p ≡ false → is_eq o ≡ false → o ≡ Less
       go Less p e h k = refl
       go Equal p e h k = cc
-      go Greater p e h k = absurd (differ (sym (ap is_lt e) ∙ h))
-        where
-          differ : true ≡ false → ⊥
-          differ e = cc
+      go Greater p e h k = absurd (true≢false (sym (ap is_lt e) ∙ h))
 
   pub sort_rises : (xs : List X) → IsSortedBy (λ x y. is_lt (R x y)) xs → IsDistinct (eq_by_cmp R) xs → rises R xs ≡ true
   sort_rises [] sorted apart = refl
@@ -107,10 +81,7 @@ module _ {X : Type 0} {R : X → X → Ordering} (total : IsTotalOrder R) where
 
   -- where the sorted rows do not rise, they are not distinct
   pub not_distinct : (rows sorted : List X) → IsPermutation rows sorted → IsSortedBy (λ x y. is_lt (R x y)) sorted → rises R sorted ≡ false → IsDistinct (eq_by_cmp R) rows → ⊥
-  not_distinct rows sorted same by falls apart = differ (sym (sort_rises sorted by (moved rows sorted same apart)) ∙ falls)
-    where
-      differ : true ≡ false → ⊥
-      differ e = cc
+  not_distinct rows sorted same by falls apart = true≢false (sym (sort_rises sorted by (moved rows sorted same apart)) ∙ falls)
 
   -- ---- only one order rises
 
@@ -119,12 +90,12 @@ module _ {X : Type 0} {R : X → X → Ordering} (total : IsTotalOrder R) where
   first_or x z xs (suc k, below, at) = inr (k, omega arith, at)
 
   above : (x z : X) (xs : List X) → rises R (x ∷ xs) ≡ true → Contains xs z → R x z ≡ Less
-  above x z xs up there = go xs (and_left _ _ up) there.0 there.1 there.2
+  above x z xs up there = go xs (first_so _ _ up) there.0 there.1 there.2
     where
       go : (ys : List X) → list_all (λ y. is_lt (R x y)) ys ≡ true → (k : ℕ) → k < length ys → get_or ys k z ≡ z → R x z ≡ Less
       go [] all k l at = absurd (omega arith)
-      go (y ∷ ys) all zero l at = ap (R x) (sym at) ∙ less_of (R x y) (and_left _ _ all)
-      go (y ∷ ys) all (suc k) l at = go ys (and_right _ _ all) k (omega arith) at
+      go (y ∷ ys) all zero l at = ap (R x) (sym at) ∙ less_of (R x y) (first_so _ _ all)
+      go (y ∷ ys) all (suc k) l at = go ys (second_so _ _ all) k (omega arith) at
 
   not_below_itself : (x : X) → R x x ≡ Less → ⊥
   not_below_itself x less = differ (sym less ∙ tied_itself total x)
@@ -165,7 +136,7 @@ module _ {X : Type 0} {R : X → X → Ordering} (total : IsTotalOrder R) where
       let vp' : rises R (x ∷ ys) ≡ true = subst (λ (w : X). rises R (w ∷ ys) ≡ true) (sym e) vp in
       let one' : (z : X) → Contains (x ∷ xs) z → Contains (x ∷ ys) z = λ z h. subst (λ (w : X). Contains (w ∷ ys) z) (sym e) (one z h) in
       let other' : (z : X) → Contains (x ∷ ys) z → Contains (x ∷ xs) z = λ z h. other z (subst (λ (w : X). Contains (w ∷ ys) z) e h) in
-      λ i. e i ∷ same_elements xs ys (and_right _ _ up) (and_right _ _ vp) (later_too x xs ys up one') (later_too x ys xs vp' other') i
+      λ i. e i ∷ same_elements xs ys (second_so _ _ up) (second_so _ _ vp) (later_too x xs ys up one') (later_too x ys xs vp' other') i
 
   pub same_order : (rows xs ys : List X) → IsPermutation rows xs → IsPermutation rows ys → rises R xs ≡ true → rises R ys ≡ true → xs ≡ ys
   same_order rows xs ys one other up vp =

@@ -1,53 +1,44 @@
 -- The rows of draws in order are in order, and rows in order are those of such draws.
-use Rattle.std.proofs.Common.{◌≡◌, ◌∙◌, ap, sym, refl, ℕ, Bool, true, false, List, [], ◌∷◌, ◌++◌}
+use Rattle.std.proofs.Common.{◌≡◌, ◌∙◌, ap, sym, refl, ℕ, true, List, [], ◌∷◌, ◌++◌}
 use Rattle.std.specs.Prelude.{◌&&◌, map, IsTrue}
 use Rattle.std.specs.declared.cmp.Ordering.{Ordering}
 use Rattle.std.specs.declared.cmp.Ordering.TheVariants.{Less}
 use Rattle.std.specs.Ordering.{nat_cmp, ordering_then, is_lt}
 use Rattle.std.specs.List.{All, AllByRecursion, list_all, flat_map}
 use Rattle.std.specs.List.Sorted.{IsStrictlySortedBy}
+use Rattle.std.specs.Cmp.{first_so, second_so}
 use Rattle.std.proofs.lemmas.Cmp.{tied_itself, nat_cmp_total}
 use Rattle.std.proofs.lemmas.List.Elements.{recursion_from_All, All-from_recursion}
 use Rattle.std.proofs.lemmas.Map.Keys.{sorted_head, sorted_tail}
+use Rattle.std.proofs.lemmas.Bool.{and_from}
+use Rattle.std.proofs.lemmas.List.Folds.{list_all-append, list_all-map}
 use Rattle.adm_types.specs.declared.draws.Draw.{Draw}
 use Rattle.adm_types.specs.declared.draws.DrawRow.{DrawRow}
 use Rattle.adm_types.specs.declared.draws.OfferRow.{OfferRow}
 use Rattle.adm_types.specs.declared.draws.LotRow.{LotRow}
 use Rattle.adm_draws.specs.Draws.{rises, row_of, offer_row, offers_of, lot_row, lots_of, outcome_cmp, lot_cmp, are_ordered, AreInOrder}
-use Rattle.adm_draws.proofs.Rising.{and_left, and_right, and_both, sorted_rises, rises_sorted}
+use Rattle.adm_draws.proofs.Rising.{sorted_rises, rises_sorted}
 
 -- ---- lists on end
-
-and_assoc : (a b c : Bool) → ((a && b) && c) ≡ (a && (b && c))
-and_assoc true b c = refl
-and_assoc false b c = refl
-
-all_append : {X : Type 0} (p : X → Bool) (xs ys : List X) → list_all p (xs ++ ys) ≡ (list_all p xs && list_all p ys)
-all_append p [] ys = refl
-all_append p (x ∷ xs) ys = ap (λ b. p x && b) (all_append p xs ys) ∙ sym (and_assoc (p x) (list_all p xs) (list_all p ys))
 
 -- two lists rise on end where the one is below the other
 rises_append : {X : Type 0} (R : X → X → Ordering) (xs ys : List X) → rises R xs ≡ true → rises R ys ≡ true → AllByRecursion (λ x. list_all (λ y. is_lt (R x y)) ys ≡ true) xs → rises R (xs ++ ys) ≡ true
 rises_append R [] ys up vp below = vp
 rises_append R (x ∷ xs) ys up vp below =
-    and_both _ _ (all_append (λ y. is_lt (R x y)) xs ys ∙ and_both _ _ (and_left _ _ up) below.0) (rises_append R xs ys (and_right _ _ up) vp below.1)
+    and_from _ _ (list_all-append (λ y. is_lt (R x y)) xs ys ∙ and_from _ _ (first_so _ _ up) below.0) (rises_append R xs ys (second_so _ _ up) vp below.1)
 
 first_rises : {X : Type 0} (R : X → X → Ordering) (xs ys : List X) → rises R (xs ++ ys) ≡ true → rises R xs ≡ true
 first_rises R [] ys up = refl
 first_rises R (x ∷ xs) ys up =
-    and_both _ _ (and_left _ _ (sym (all_append (λ y. is_lt (R x y)) xs ys) ∙ and_left _ _ up)) (first_rises R xs ys (and_right _ _ up))
+    and_from _ _ (first_so _ _ (sym (list_all-append (λ y. is_lt (R x y)) xs ys) ∙ first_so _ _ up)) (first_rises R xs ys (second_so _ _ up))
 
 second_rises : {X : Type 0} (R : X → X → Ordering) (xs ys : List X) → rises R (xs ++ ys) ≡ true → rises R ys ≡ true
 second_rises R [] ys up = up
-second_rises R (x ∷ xs) ys up = second_rises R xs ys (and_right _ _ up)
-
-all_map : {X Y : Type 0} (p : Y → Bool) (f : X → Y) (xs : List X) → list_all p (map f xs) ≡ list_all (λ x. p (f x)) xs
-all_map p f [] = refl
-all_map p f (x ∷ xs) = ap (λ b. p (f x) && b) (all_map p f xs)
+second_rises R (x ∷ xs) ys up = second_rises R xs ys (second_so _ _ up)
 
 rises_map : {X Y : Type 0} (R : Y → Y → Ordering) (f : X → Y) (xs : List X) → rises R (map f xs) ≡ rises (λ x y. R (f x) (f y)) xs
 rises_map R f [] = refl
-rises_map R f (x ∷ xs) = λ i. all_map (λ y. is_lt (R (f x) y)) f xs i && rises_map R f xs i
+rises_map R f (x ∷ xs) = λ i. list_all-map (λ y. is_lt (R (f x) y)) f xs i && rises_map R f xs i
 
 rises_same : {X : Type 0} (R S : X → X → Ordering) (xs : List X) → ((x y : X) → R x y ≡ S x y) → rises R xs ≡ rises S xs
 rises_same R S xs h = ap (λ (T : _ → _ → Ordering). rises T xs) (λ i x y. h x y i)
@@ -61,14 +52,14 @@ module _ {I R : Type 0} (items : Draw → List I) (row : ℕ → I → R) (c : I
 
   below_own : (n m : ℕ) (x : I) (ys : List I) → nat_cmp n m ≡ Less → list_all (λ r. is_lt (rc (row n x) r)) (map (row m) ys) ≡ true
   below_own n m x [] less = refl
-  below_own n m x (y ∷ ys) less = and_both _ _ (ap is_lt (across n m x y less)) (below_own n m x ys less)
+  below_own n m x (y ∷ ys) less = and_from _ _ (ap is_lt (across n m x y less)) (below_own n m x ys less)
 
   below_later : (n : ℕ) (x : I) (ds : List Draw) → AllByRecursion (λ m. nat_cmp n m ≡ Less) (map (λ draw. draw.number) ds)
       → list_all (λ r. is_lt (rc (row n x) r)) (flat_map (λ d. map (row d.number) (items d)) ds) ≡ true
   below_later n x [] all = refl
   below_later n x (d ∷ ds) all =
-      all_append (λ r. is_lt (rc (row n x) r)) (map (row d.number) (items d)) (flat_map (λ d. map (row d.number) (items d)) ds)
-      ∙ and_both _ _ (below_own n d.number x (items d) all.0) (below_later n x ds all.1)
+      list_all-append (λ r. is_lt (rc (row n x) r)) (map (row d.number) (items d)) (flat_map (λ d. map (row d.number) (items d)) ds)
+      ∙ and_from _ _ (below_own n d.number x (items d) all.0) (below_later n x ds all.1)
 
   all_below : (n : ℕ) (xs : List I) (ds : List Draw) → AllByRecursion (λ m. nat_cmp n m ≡ Less) (map (λ draw. draw.number) ds)
       → AllByRecursion (λ x. list_all (λ y. is_lt (rc x y)) (flat_map (λ d. map (row d.number) (items d)) ds) ≡ true) (map (row n) xs)
@@ -113,15 +104,15 @@ both_ordered ds all = recursion_from_All (λ draw. are_ordered draw ≡ true) ds
 
 first_of_both : (ds : List Draw) → AllByRecursion (λ draw. are_ordered draw ≡ true) ds → AllByRecursion (λ d. rises outcome_cmp d.outcomes ≡ true) ds
 first_of_both [] all = tt
-first_of_both (d ∷ ds) all = (and_left _ _ all.0, first_of_both ds all.1)
+first_of_both (d ∷ ds) all = (first_so _ _ all.0, first_of_both ds all.1)
 
 second_of_both : (ds : List Draw) → AllByRecursion (λ draw. are_ordered draw ≡ true) ds → AllByRecursion (λ d. rises lot_cmp d.lots ≡ true) ds
 second_of_both [] all = tt
-second_of_both (d ∷ ds) all = (and_right _ _ all.0, second_of_both ds all.1)
+second_of_both (d ∷ ds) all = (second_so _ _ all.0, second_of_both ds all.1)
 
 pair : (ds : List Draw) → AllByRecursion (λ d. rises outcome_cmp d.outcomes ≡ true) ds → AllByRecursion (λ d. rises lot_cmp d.lots ≡ true) ds → AllByRecursion (λ draw. are_ordered draw ≡ true) ds
 pair [] one other = tt
-pair (d ∷ ds) one other = (and_both _ _ one.0 other.0, pair ds one.1 other.1)
+pair (d ∷ ds) one other = (and_from _ _ one.0 other.0, pair ds one.1 other.1)
 
 heads_are : (ds : List Draw) → rises head_cmp (map row_of ds) ≡ rises nat_cmp (map (λ draw. draw.number) ds)
 heads_are ds = rises_map head_cmp row_of ds ∙ sym (rises_map nat_cmp (λ draw. draw.number) ds)

@@ -1,9 +1,9 @@
 -- Texts of values, one after another, and joined.
-use Rattle.std.proofs.Common.{◌≡◌, ◌∙◌, ap, sym, refl, ℕ, ◌+◌, ◌<◌, List, [], ◌∷◌, ◌++◌, map, take, get_or, length, append-nil, Option, Some, None}
+use Rattle.std.proofs.Common.{◌≡◌, ◌∙◌, ap, refl, ℕ, ◌+◌, ◌<◌, List, [], ◌∷◌, ◌++◌, map, take, get_or, length, Option, Some, None}
 use Rattle.std.specs.Prelude.{Result, Ok, Err, IfOk}
-use Rattle.std.specs.List.{filter_map, cons_option, flat_map, join_by}
-use Rattle.std.proofs.lemmas.List.{take_more, map-append}
-use Rattle.std.proofs.lemmas.List.Elements.{filter_map-append}
+use Rattle.std.specs.List.{filter_map, flat_map, join_by}
+use Rattle.std.proofs.lemmas.List.{map-append}
+use Rattle.adm_lists.proofs.Walks.{next_added, next_left_out}
 
 -- what a call gives, in other words
 pub same_after : {X A E : Type 0} (given : Result X E) (view : X → A) (a b : A) → a ≡ b → IfOk given (λ x. view x ≡ a) → IfOk given (λ x. view x ≡ b)
@@ -32,15 +32,9 @@ join_same {X} {Y} f g separator (x ∷ xs) (y ∷ ys) e =
 
 -- the texts of what is found of each of some rows, with one row more
 module _ {X Y A : Type 0} (find : X → Option Y) (text : Y → List A) (rows : List X) (i : ℕ) (row : X) (is : row ≡ get_or rows i row) (within : i < length rows) where
-  next : filter_map find (take (i + 1) rows) ≡ filter_map find (take i rows) ++ cons_option (find row) []
-  next =
-      ap (filter_map find) (take_more rows i row within) ∙ filter_map-append find (take i rows) (get_or rows i row ∷ [])
-      ∙ ap (λ x. filter_map find (take i rows) ++ cons_option (find x) []) (sym is)
-
   pub next_found : (one : Y) → find row ≡ Some one → map text (filter_map find (take (i + 1) rows)) ≡ map text (filter_map find (take i rows)) ++ text one ∷ []
   next_found one gives =
-      ap (map text) (next ∙ ap (λ found. filter_map find (take i rows) ++ cons_option found []) gives) ∙ map-append text (filter_map find (take i rows)) (one ∷ [])
+      ap (map text) (next_added find rows i row one is within gives) ∙ map-append text (filter_map find (take i rows)) (one ∷ [])
 
   pub next_not_found : find row ≡ None → map text (filter_map find (take (i + 1) rows)) ≡ map text (filter_map find (take i rows))
-  next_not_found gives =
-      ap (map text) (next ∙ ap (λ found. filter_map find (take i rows) ++ cons_option found []) gives ∙ append-nil (filter_map find (take i rows)))
+  next_not_found gives = ap (map text) (next_left_out find rows i row is within gives)

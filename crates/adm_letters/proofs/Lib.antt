@@ -1,5 +1,4 @@
 mod Dates
-mod Found
 mod Joined
 mod Told
 mod Widths

@@ -1,7 +1,8 @@
 -- Deferred acceptance: what holds from turn to turn, and that it ends at the best allocation.
-use Rattle.std.proofs.Common.{◌≡◌, ◌≢◌, ◌⊎◌, ℕ, ◌+◌, ◌<◌, ◌≤◌, List, length, set, Option, None, Some, Bool, true, false, cond, inl, inr, refl, sym, ap, ◌∙◌, subst, arith, length-set}
+use Rattle.std.proofs.Common.{◌≡◌, ◌≢◌, ◌⊎◌, ℕ, ◌+◌, ◌<◌, ◌≤◌, List, length, set, Option, None, Some, true, false, inl, inr, refl, sym, ap, ◌∙◌, subst, arith, length-set}
 use Rattle.std.specs.List.{slice_get}
 use Rattle.std.proofs.lemmas.Option.{none-some, same_Some}
+use Rattle.adm_lists.proofs.Counts.{one_if}
 use Rattle.adm_match.specs.declared.problem.Wish.{Wish}
 use Rattle.adm_match.specs.declared.progress.Progress.{Progress}
 use Rattle.adm_match.specs.Market.{Code, Candidate, Market, has, assigned_rank, is_tenant, ranks_before, quota_of}
@@ -20,29 +21,26 @@ pub record Arrived (m : Market) (rows : List Progress) (i : ℕ) (s : Code) : Ty
   pub outranked_here : (k : ℕ) (e : Candidate) (r : Progress) (j : ℕ) (w : Wish) → slice_get m.entrants k ≡ Some e → slice_get rows k ≡ Some r → j < r.rejections → slice_get e.list j ≡ Some w → w.school ≡ s → (l : ℕ) (d : Candidate) → l ≢ i → IsGuestAt m.entrants rows s l d → ranks_before s d e ≡ true
   pub none_lost : NoneLost m rows
 
-abbrev tally : Bool → ℕ
-tally b = cond b 1 0
-
 -- a school that holds nobody new holds as many
 pub held_set_other : (rows : List Progress) (i : ℕ) (r v : Progress) (t : Code) → slice_get rows i ≡ Some r → has r.school t ≡ false → has v.school t ≡ false → held_at (set rows i v) t ≡ held_at rows t
 held_set_other rows i r v t at was is =
     let e = count_set (λ row. has row.school t) rows i r v at in
-    let w : tally (has r.school t) ≡ 0 = ap tally was in
-    let n : tally (has v.school t) ≡ 0 = ap tally is in
+    let w : one_if (has r.school t) ≡ 0 = ap one_if was in
+    let n : one_if (has v.school t) ≡ 0 = ap one_if is in
     omega (arith, e, w, n)
 
 pub held_set_more : (rows : List Progress) (i : ℕ) (r v : Progress) (t : Code) → slice_get rows i ≡ Some r → has r.school t ≡ false → has v.school t ≡ true → held_at (set rows i v) t ≡ held_at rows t + 1
 held_set_more rows i r v t at was is =
     let e = count_set (λ row. has row.school t) rows i r v at in
-    let w : tally (has r.school t) ≡ 0 = ap tally was in
-    let n : tally (has v.school t) ≡ 1 = ap tally is in
+    let w : one_if (has r.school t) ≡ 0 = ap one_if was in
+    let n : one_if (has v.school t) ≡ 1 = ap one_if is in
     omega (arith, e, w, n)
 
 pub held_set_less : (rows : List Progress) (i : ℕ) (r v : Progress) (t : Code) → slice_get rows i ≡ Some r → has r.school t ≡ true → has v.school t ≡ false → held_at (set rows i v) t + 1 ≡ held_at rows t
 held_set_less rows i r v t at was is =
     let e = count_set (λ row. has row.school t) rows i r v at in
-    let w : tally (has r.school t) ≡ 1 = ap tally was in
-    let n : tally (has v.school t) ≡ 0 = ap tally is in
+    let w : one_if (has r.school t) ≡ 1 = ap one_if was in
+    let n : one_if (has v.school t) ≡ 0 = ap one_if is in
     omega (arith, e, w, n)
 
 pub none_has : (o : Option Code) (s : Code) → o ≡ None → has o s ≡ false

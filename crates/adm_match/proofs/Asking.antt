@@ -5,7 +5,7 @@ use Rattle.std.specs.List.{list_any, slice_get}
 use Rattle.std.specs.Ordering.{is_eq, nat_cmp, ordering_then}
 use Rattle.std.specs.Cmp.Lexicographic.{slice_cmp}
 use Rattle.std.specs.declared.cmp.Ordering.{Ordering}
-use Rattle.std.specs.declared.cmp.Ordering.TheVariants.{Less, Equal, Greater}
+use Rattle.std.specs.Cmp.{tied_then}
 use Rattle.std.proofs.Math.Seq.{take-suc}
 use Rattle.std.proofs.lemmas.Bool.{cases_Bool, false≢true, and_parts, and_from, or_parts}
 use Rattle.std.proofs.lemmas.Bool.Decides.{nat_tests}
@@ -65,17 +65,12 @@ claim_cmp a b =
 abbrev pub same_claim : Claim → Claim → Bool
 same_claim a b = bytes_eq a.school b.school && is_key (Some b.key) a.key
 
-eq_then : (x y : Ordering) → is_eq (ordering_then x y) ≡ (is_eq x && is_eq y)
-eq_then Less y = refl
-eq_then Equal y = refl
-eq_then Greater y = refl
-
 eq_key : (a b : RankKey) → is_eq (ordering_then (nat_cmp a.class b.class) (ordering_then (nat_cmp a.distance b.distance) (nat_cmp a.lot b.lot))) ≡ is_key (Some b) a
 eq_key a b = grind (arith, nat_tests)
 
 pub eq_claim : (a b : Claim) → is_eq (claim_cmp a b) ≡ same_claim a b
 eq_claim a b =
-    eq_then _ (slice_cmp nat_cmp a.school b.school)
+    sym (tied_then _ (slice_cmp nat_cmp a.school b.school))
     ∙ ((λ i. eq_key a.key b.key i && is_eq-slice_cmp a.school b.school i)
     ∙ and_turned (is_key (Some b.key) a.key) (bytes_eq a.school b.school))
   where

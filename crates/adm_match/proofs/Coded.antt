@@ -1,14 +1,15 @@
 -- What the sets and lists of keys say of a problem.
-use Rattle.std.proofs.Common.{◌≡◌, ℕ, ◌+◌, ◌<◌, List, [], ◌∷◌, ◌++◌, length, get_or, take, map, Bool, true, false, cond, not, ◌||◌, refl, sym, ap, ◌∙◌, arith, add-one, bytes_eq, ◌==◌}
+use Rattle.std.proofs.Common.{◌≡◌, ℕ, ◌+◌, ◌<◌, List, [], ◌∷◌, ◌++◌, length, get_or, take, map, Bool, true, cond, not, sym, ap, ◌∙◌, add-one, bytes_eq}
 use Rattle.std.specs.Prelude.{Result, Ok, Err, IfOk}
 use Rattle.std.specs.List.{list_any}
 use Rattle.std.specs.Ordering.{is_eq, nat_cmp}
 use Rattle.std.specs.Cmp.Lexicographic.{slice_cmp}
 use Rattle.std.specs.BTreeSet.{BTreeSet, contains, Updates}
 use Rattle.std.proofs.Math.Seq.{take-suc}
-use Rattle.std.proofs.lemmas.Bool.Decides.{nat_tests}
 use Rattle.std.proofs.lemmas.List.Folds.{list_any-append}
 use Rattle.std.proofs.lemmas.Map.Text.{is_eq-slice_cmp}
+use Rattle.adm_lists.proofs.Tests.{or_test}
+use Rattle.adm_lists.proofs.Orders.{eq_number}
 use Rattle.adm_match.specs.declared.problem.Wish.{Wish}
 use Rattle.adm_match.specs.declared.problem.Seats.{Seats}
 use Rattle.adm_match.specs.Market.{Code, Candidate, market_of, some_pair, same_code, same_school, same_child, names_unknown}
@@ -17,9 +18,6 @@ use Rattle.adm_match.proofs.Twice.{pair_map, pair_same}
 pub answer_as : {E : Type 0} (r : Result Bool E) (a b : Bool) → a ≡ b → IfOk r (λ answer. answer ≡ a) → IfOk r (λ answer. answer ≡ b)
 answer_as (Ok x) a b same h = h ∙ same
 answer_as (Err e) a b same h = tt
-
-eq_number : (a b : ℕ) → is_eq (nat_cmp a b) ≡ (a == b)
-eq_number a b = grind (arith, nat_tests)
 
 pub codes_twice : (seats : List Seats) (codes : List Code) → codes ≡ map (λ seat. seat.code) seats → some_pair (λ a b. is_eq (slice_cmp nat_cmp a b)) codes ≡ some_pair same_code seats
 codes_twice seats codes is =
@@ -38,12 +36,6 @@ children_twice entrants children is =
     ap (some_pair (λ a b. is_eq (nat_cmp a b))) is
     ∙ (pair_map (λ a b. is_eq (nat_cmp a b)) (λ (entrant : Candidate). entrant.child) entrants
     ∙ pair_same (λ x y. is_eq (nat_cmp x.child y.child)) same_child entrants (λ x y. eq_number x.child y.child))
-
-or_test : (b c : Bool) → cond b true c ≡ (c || (b || false))
-or_test true true = refl
-or_test true false = refl
-or_test false true = refl
-or_test false false = refl
 
 -- one more code goes into the set
 pub codes_more : (seats : List Seats) (old new : BTreeSet Code) (i : ℕ) (seat : Seats) → i < length seats → seat ≡ get_or seats i seat → ((code : Code) → contains (slice_cmp nat_cmp) old code ≡ list_any (λ seat. bytes_eq seat.code code) (take i seats)) → Updates (slice_cmp nat_cmp) old new seat.code true → (code : Code) → contains (slice_cmp nat_cmp) new code ≡ list_any (λ seat. bytes_eq seat.code code) (take (i + 1) seats)

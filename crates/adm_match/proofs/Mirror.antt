@@ -6,6 +6,7 @@ use Rattle.std.specs.Option.{option_to_list}
 use Rattle.std.proofs.lemmas.Bool.{cases_order, and_from, and_parts, not-true, not_from_false}
 use Rattle.std.proofs.lemmas.Option.{none-some, same_Some}
 use Rattle.std.proofs.lemmas.List.Sorted.{IsPermutation-trans, IsPermutation-sym, IsPermutation-append_left, IsPermutation-append_right, IsPermutation-append_comm, Contains-permutation}
+use Rattle.adm_lists.proofs.Counts.{one_if}
 use Rattle.adm_rank.specs.declared.keys.RankKey.{RankKey}
 use Rattle.adm_match.specs.declared.held.Guest.{Guest}
 use Rattle.adm_match.specs.declared.progress.Progress.{Progress}
@@ -99,9 +100,6 @@ entry_behind (d ∷ es) (q ∷ rows) s zero e key g h =
 entry_behind (d ∷ es) (q ∷ rows) s (suc k) e key g h =
     Contains-append_right (entry_of d q s) (guests_of es rows s) _ (entry_behind es rows s k e key g h)
 
-abbrev tally : Bool → ℕ
-tally b = cond b 1 0
-
 pub bag_of : (xs ys : List Guest) → IsPermutation xs ys → SameBag xs ys
 bag_of xs ys h p = sym (sum_by-IsPermutation (λ x. cond (p x) 1 0) xs ys h)
 
@@ -128,7 +126,7 @@ same_itself a = grind (arith, nat_tests)
 counted : (p : Guest → Bool) (xs : List Guest) (g : Guest) → Contains xs g → p g ≡ true → 1 ≤ count_by p xs
 counted p xs g h t =
     let one = get_or-le-sum_by (λ x. cond (p x) 1 0) xs h.0 g h.1 in
-    let is : tally (p (get_or xs h.0 g)) ≡ 1 = ap (λ x. tally (p x)) h.2 ∙ ap tally t in
+    let is : one_if (p (get_or xs h.0 g)) ≡ 1 = ap (λ x. one_if (p x)) h.2 ∙ ap one_if t in
     omega (arith, one, is)
 
 found : (p : Guest → Bool) (xs : List Guest) → 1 ≤ count_by p xs → (x : Guest) × Contains xs x × (p x ≡ true)

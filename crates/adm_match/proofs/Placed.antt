@@ -1,11 +1,12 @@
 -- All stable allocations of a problem place the same children.
-use Rattle.std.proofs.Common.{◌≡◌, ℕ, zero, suc, ◌+◌, ◌<◌, ◌≤◌, List, [], ◌∷◌, length, Option, None, Some, Bool, true, false, cond, ◌||◌, inl, inr, refl, sym, ap, ◌∙◌, subst, arith}
+use Rattle.std.proofs.Common.{◌≡◌, ℕ, zero, suc, ◌+◌, ◌<◌, ◌≤◌, List, [], ◌∷◌, length, Option, None, Some, Bool, true, false, ◌||◌, inl, inr, refl, sym, ap, ◌∙◌, subst, arith}
 use Rattle.std.specs.Prelude.{IfSome, nat_lt, is_some, bytes_eq}
 use Rattle.std.specs.List.{slice_get, list_any, count_by, sum_by}
 use Rattle.std.proofs.lemmas.Bool.{cases_Bool, cases_lt, false≢true, true≢false, or_parts, and_from, or_cases, lt-ltb, ltb-false}
 use Rattle.std.proofs.lemmas.Option.{none-some, same_Some}
 use Rattle.std.proofs.lemmas.List.Sums.{sum_by-cons}
 use Rattle.std.proofs.lemmas.Slice.Eq.{bytes_eq-Decides}
+use Rattle.adm_lists.proofs.Counts.{one_if}
 use Rattle.adm_match.specs.declared.problem.Seats.{Seats}
 use Rattle.adm_match.specs.Market.{Code, Candidate, Market, has, preference_rank, assigned_rank, is_tenant, quota_of, some_pair, same_code}
 use Rattle.adm_match.specs.Distinct.{Seated}
@@ -64,12 +65,9 @@ no_more m best a s b h = elim (cases_lt (count_at m a s) (count_at m best s)) [
       omega (arith, few, full.1)
 ]
 
-abbrev tally : Bool → ℕ
-tally b = cond b 1 0
-
 -- counts over the schools
 abbrev at_seats : List Seats → Option Code → ℕ
-at_seats seats o = sum_by (λ seat. tally (has o seat.code)) seats
+at_seats seats o = sum_by (λ seat. one_if (has o seat.code)) seats
 
 sum_plus : {X : Type 0} (f g : X → ℕ) (xs : List X) → sum_by (λ x. f x + g x) xs ≡ sum_by f xs + sum_by g xs
 sum_plus f g [] = refl
@@ -87,39 +85,39 @@ sum_upto f g (x ∷ xs) h = omega (arith, sum_by-cons f x xs, sum_by-cons g x xs
 swap_sums : (a : Allocation) (seats : List Seats) (es : List Candidate) → sum_by (λ seat. count_by (λ e. has (a e.child) seat.code) es) seats ≡ sum_by (λ e. at_seats seats (a e.child)) es
 swap_sums a seats [] = sum_zero seats
 swap_sums a seats (e ∷ es) =
-    let split : sum_by (λ seat. count_by (λ x. has (a x.child) seat.code) (e ∷ es)) seats ≡ sum_by (λ seat. tally (has (a e.child) seat.code) + count_by (λ x. has (a x.child) seat.code) es) seats
-    = ap (λ (f : Seats → ℕ). sum_by f seats) (λ i seat. sum_by-cons (λ (x : Candidate). tally (has (a x.child) seat.code)) e es i) in
-    omega (arith, split, sum_plus (λ (seat : Seats). tally (has (a e.child) seat.code)) (λ seat. count_by (λ x. has (a x.child) seat.code) es) seats, swap_sums a seats es, sum_by-cons (λ (x : Candidate). at_seats seats (a x.child)) e es)
+    let split : sum_by (λ seat. count_by (λ x. has (a x.child) seat.code) (e ∷ es)) seats ≡ sum_by (λ seat. one_if (has (a e.child) seat.code) + count_by (λ x. has (a x.child) seat.code) es) seats
+    = ap (λ (f : Seats → ℕ). sum_by f seats) (λ i seat. sum_by-cons (λ (x : Candidate). one_if (has (a x.child) seat.code)) e es i) in
+    omega (arith, split, sum_plus (λ (seat : Seats). one_if (has (a e.child) seat.code)) (λ seat. count_by (λ x. has (a x.child) seat.code) es) seats, swap_sums a seats es, sum_by-cons (λ (x : Candidate). at_seats seats (a x.child)) e es)
 
 none_of : (x : Seats) (t : Code) (xs : List Seats) → t ≡ x.code → list_any (same_code x) xs ≡ false → at_seats xs (Some t) ≡ 0
 none_of x t [] is h = refl
 none_of x t (y ∷ ys) is h =
     let parts = or_parts (same_code x y) (list_any (same_code x) ys) h in
-    let out : tally (bytes_eq t y.code) ≡ 0 = ap tally (ap (λ c. bytes_eq c y.code) is ∙ parts.0) in
-    omega (arith, sum_by-cons (λ (seat : Seats). tally (has (Some t) seat.code)) y ys, out, none_of x t ys is parts.1)
+    let out : one_if (bytes_eq t y.code) ≡ 0 = ap one_if (ap (λ c. bytes_eq c y.code) is ∙ parts.0) in
+    omega (arith, sum_by-cons (λ (seat : Seats). one_if (has (Some t) seat.code)) y ys, out, none_of x t ys is parts.1)
 
-seats_once : (seats : List Seats) (o : Option Code) → some_pair same_code seats ≡ false → at_seats seats o ≤ tally (is_some o)
+seats_once : (seats : List Seats) (o : Option Code) → some_pair same_code seats ≡ false → at_seats seats o ≤ one_if (is_some o)
 seats_once seats None h = omega (arith, sum_zero seats)
 seats_once [] (Some t) h = omega arith
 seats_once (x ∷ xs) (Some t) h =
     let parts = or_parts (list_any (same_code x) xs) (some_pair same_code xs) h in
-    let sum = sum_by-cons (λ (seat : Seats). tally (has (Some t) seat.code)) x xs in
+    let sum = sum_by-cons (λ (seat : Seats). one_if (has (Some t) seat.code)) x xs in
     elim (cases_Bool (bytes_eq t x.code)) [
       | inl hit ↦
-          let one : tally (bytes_eq t x.code) ≡ 1 = ap tally hit in
+          let one : one_if (bytes_eq t x.code) ≡ 1 = ap one_if hit in
           omega (arith, sum, one, none_of x t xs ((bytes_eq-Decides t x.code).0 hit) parts.0)
       | inr miss ↦
-          let none : tally (bytes_eq t x.code) ≡ 0 = ap tally miss in
+          let none : one_if (bytes_eq t x.code) ≡ 0 = ap one_if miss in
           omega (arith, sum, none, seats_once xs (Some t) parts.1)
     ]
 
 seats_has : (seats : List Seats) (s : Code) → list_any (λ seat. bytes_eq seat.code s) seats ≡ true → 1 ≤ at_seats seats (Some s)
 seats_has [] s h = absurd (false≢true h)
 seats_has (x ∷ xs) s h =
-    let sum = sum_by-cons (λ (seat : Seats). tally (has (Some s) seat.code)) x xs in
+    let sum = sum_by-cons (λ (seat : Seats). one_if (has (Some s) seat.code)) x xs in
     elim (or_cases (bytes_eq x.code s) (list_any (λ seat. bytes_eq seat.code s) xs) h) [
       | inl hit ↦
-          let one : tally (bytes_eq s x.code) ≡ 1 = ap tally ((bytes_eq-Decides s x.code).1 (sym ((bytes_eq-Decides x.code s).0 hit))) in
+          let one : one_if (bytes_eq s x.code) ≡ 1 = ap one_if ((bytes_eq-Decides s x.code).1 (sym ((bytes_eq-Decides x.code s).0 hit))) in
           omega (arith, sum, one)
       | inr rest ↦ omega (arith, sum, seats_has xs s rest)
     ]
@@ -136,14 +134,14 @@ some_from o s e = ap is_some e
 
 -- at most as many are placed as the schools have
 placed_from : (m : Market) (a : Allocation) → Seated m → IsAcceptable m a → count_by (placed a) m.entrants ≤ sum_by (λ e. at_seats m.seats (a e.child)) m.entrants
-placed_from m a h l = sum_beside (λ e. tally (placed a e)) (λ e. at_seats m.seats (a e.child)) m.entrants m.entrants refl (λ k e e' ek ek'.
-    subst (λ (x : Candidate). tally (placed a e) ≤ at_seats m.seats (a x.child)) (same_Some e e' (sym ek ∙ ek')) (one k e ek))
+placed_from m a h l = sum_beside (λ e. one_if (placed a e)) (λ e. at_seats m.seats (a e.child)) m.entrants m.entrants refl (λ k e e' ek ek'.
+    subst (λ (x : Candidate). one_if (placed a e) ≤ at_seats m.seats (a x.child)) (same_Some e e' (sym ek ∙ ek')) (one k e ek))
   where
-    one : (k : ℕ) (e : Candidate) → slice_get m.entrants k ≡ Some e → tally (placed a e) ≤ at_seats m.seats (a e.child)
+    one : (k : ℕ) (e : Candidate) → slice_get m.entrants k ≡ Some e → one_if (placed a e) ≤ at_seats m.seats (a e.child)
     one k e ek = elim (cases_Bool (placed a e)) [
-      | inr out ↦ let zero' : tally (placed a e) ≡ 0 = ap tally out in omega (arith, zero')
+      | inr out ↦ let zero' : one_if (placed a e) ≡ 0 = ap one_if out in omega (arith, zero')
       | inl in' ↦
-          let one' : tally (placed a e) ≡ 1 = ap tally in' in
+          let one' : one_if (placed a e) ≡ 1 = ap one_if in' in
           let s = some_of (a e.child) in' in
           let w = wish_at_rank e.list s.0 (on_list m a k e s.0 l ek s.1) in
           let known = h.known k e (preference_rank e.list s.0) w.0 ek w.1 in
@@ -152,7 +150,7 @@ placed_from m a h l = sum_beside (λ e. tally (placed a e)) (λ e. at_seats m.se
     ]
 
 placed_upto : (m : Market) (a : Allocation) → Seated m → sum_by (λ e. at_seats m.seats (a e.child)) m.entrants ≤ count_by (placed a) m.entrants
-placed_upto m a h = sum_upto (λ e. at_seats m.seats (a e.child)) (λ e. tally (placed a e)) m.entrants (λ e. seats_once m.seats (a e.child) h.once)
+placed_upto m a h = sum_upto (λ e. at_seats m.seats (a e.child)) (λ e. one_if (placed a e)) m.entrants (λ e. seats_once m.seats (a e.child) h.once)
 
 -- a test that passes wherever another one does, and once more, passes more often
 count_less : {X : Type 0} (p q : X → Bool) (xs : List X) (k : ℕ) (x : X) → ((j : ℕ) (y : X) → slice_get xs j ≡ Some y → q y ≡ true → p y ≡ true) → slice_get xs k ≡ Some x → p x ≡ true → q x ≡ false → count_by q xs < count_by p xs

@@ -1,10 +1,11 @@
 -- One turn: what it keeps, and that it takes one from what is left to do.
-use Rattle.std.proofs.Common.{◌≡◌, ℕ, suc, ◌+◌, ◌<◌, ◌≤◌, List, [], ◌∷◌, length, get_or, map, set, None, Some, Bool, cond, inl, refl, sym, ap, ◌∙◌, subst, arith}
+use Rattle.std.proofs.Common.{◌≡◌, ℕ, suc, ◌+◌, ◌<◌, ◌≤◌, List, [], ◌∷◌, length, get_or, map, set, None, Some, inl, refl, sym, ap, ◌∙◌, subst, arith}
 use Rattle.std.specs.Prelude.{is_none, option_map}
 use Rattle.std.specs.List.{slice_get, sum_by}
 use Rattle.std.proofs.lemmas.List.{length-map}
 use Rattle.std.proofs.lemmas.Option.{none-some, same_Some, slice_get_within, get_or_from_slice_get, slice_get_read, slice_get-map}
 use Rattle.std.proofs.lemmas.List.Sums.{sum_by-cons, sum_by-set}
+use Rattle.adm_lists.proofs.Counts.{one_if}
 use Rattle.adm_match.specs.declared.problem.Wish.{Wish}
 use Rattle.adm_match.specs.declared.progress.Progress.{Progress}
 use Rattle.adm_match.specs.Market.{Code, Candidate, Market, first_fault, quota_of}
@@ -26,9 +27,6 @@ sum_set f xs i x y e =
     subst (λ z. sum_by f (set xs i y) + f z ≡ sum_by f xs + f y) (get_or_from_slice_get xs i x x e)
     (sum_by-set f xs i y x (slice_get_within xs i x e))
 
-abbrev tally : Bool → ℕ
-tally b = cond b 1 0
-
 rejected_few : (m : Market) (rows : List Progress) → Shaped m rows → sum_by (λ r. r.rejections) rows ≤ sum_by (λ e. length e.list) m.entrants
 rejected_few m rows h = sum_beside (λ r. r.rejections) (λ e. length e.list) rows m.entrants h.same (λ k r e rk ek. h.within k e r ek rk)
 
@@ -37,7 +35,7 @@ pub turns_left_arrive : (m : Market) (rows : List Progress) (i : ℕ) (r : Progr
 turns_left_arrive m rows i r s h at free =
     let v : Progress = record r { school = Some s } in
     let c = count_set (λ x. is_none x.school) rows i r v at in
-    let was : tally (is_none r.school) ≡ 1 = ap (λ o. tally (is_none o)) free in
+    let was : one_if (is_none r.school) ≡ 1 = ap (λ o. one_if (is_none o)) free in
     let same = sum_set (λ x. x.rejections) rows i r v at in
     omega (arith, c, was, same, rejected_few m rows h)
 
@@ -46,7 +44,7 @@ pub turns_left_leave : (m : Market) (rows : List Progress) (k : ℕ) (q : Progre
 turns_left_leave m rows k q s at here =
     let v : Progress = record q { school = None; rejections = q.rejections + 1 } in
     let c = count_set (λ x. is_none x.school) rows k q v at in
-    let was : tally (is_none q.school) ≡ 0 = ap (λ o. tally (is_none o)) here in
+    let was : one_if (is_none q.school) ≡ 0 = ap (λ o. one_if (is_none o)) here in
     let more = sum_set (λ x. x.rejections) rows k q v at in
     omega (arith, c, was, more)
 

@@ -1,12 +1,14 @@
 -- Whether an element comes twice, told from the set of those before it.
-use Rattle.std.proofs.Common.{◌≡◌, ℕ, zero, suc, ◌+◌, ◌<◌, List, [], ◌∷◌, ◌++◌, length, get_or, take, drop, map, Bool, true, false, cond, not, ◌||◌, refl, sym, ap, ◌∙◌, add-one, Ordering}
+use Rattle.std.proofs.Common.{◌≡◌, ℕ, zero, suc, ◌+◌, ◌<◌, List, [], ◌∷◌, ◌++◌, length, get_or, take, drop, map, Bool, true, false, cond, not, ◌||◌, refl, sym, ap, ◌∙◌, Ordering}
 use Rattle.std.specs.List.{list_any}
 use Rattle.std.specs.Ordering.{is_eq}
 use Rattle.std.specs.BTreeSet.{BTreeSet, contains, Updates}
 use Rattle.std.specs.BTreeMap.{is_at}
-use Rattle.std.proofs.Math.Seq.{take-suc}
 use Rattle.std.proofs.lemmas.Bool.{not-false, not-true}
 use Rattle.std.proofs.lemmas.List.Folds.{list_any-append}
+use Rattle.adm_lists.proofs.Tests.{or_test}
+use Rattle.adm_lists.proofs.Walks.{next_of}
+use Rattle.adm_lists.proofs.Each.{any-map}
 use Rattle.adm_match.specs.Market.{some_pair}
 
 or_front : (a b c d : Bool) → ((a || (b || false)) || (c || d)) ≡ ((a || c) || (b || d))
@@ -41,11 +43,7 @@ pair_of_front t xs ys h = pair_append t xs ys ∙ (λ i. (h i || list_any (λ x.
 
 pub pair_map : {X Y : Type 0} (t : Y → Y → Bool) (f : X → Y) (xs : List X) → some_pair t (map f xs) ≡ some_pair (λ x y. t (f x) (f y)) xs
 pair_map t f [] = refl
-pair_map t f (x ∷ xs) = λ i. any_map (t (f x)) f xs i || pair_map t f xs i
-  where
-    any_map : {X Y : Type 0} (p : Y → Bool) (f : X → Y) (xs : List X) → list_any p (map f xs) ≡ list_any (λ x. p (f x)) xs
-    any_map p f [] = refl
-    any_map p f (x ∷ xs) = ap (λ b. p (f x) || b) (any_map p f xs)
+pair_map t f (x ∷ xs) = λ i. any-map (t (f x)) f xs i || pair_map t f xs i
 
 -- tests that agree on all give the same
 pub pair_same : {X : Type 0} (t u : X → X → Bool) (xs : List X) → ((x y : X) → t x y ≡ u x y) → some_pair t xs ≡ some_pair u xs
@@ -59,18 +57,9 @@ pub record SeenAll {K : Type 0} (cmp : K → K → Ordering) (keys : List K) (se
   pub held : (q : K) → contains cmp seen q ≡ list_any (λ key. is_eq (cmp key q)) (take n keys)
   pub apart : some_pair (λ a b. is_eq (cmp a b)) (take n keys) ≡ false
 
-next_key : {K : Type 0} (keys : List K) (i : ℕ) (x : K) → i < length keys → x ≡ get_or keys i x → take (i + 1) keys ≡ take i keys ++ x ∷ []
-next_key keys i x l at = rw add-one (take-suc keys i x l ∙ ap (λ z. take i keys ++ z ∷ []) (sym at))
-
-or_test : (b c : Bool) → cond b true c ≡ (c || (b || false))
-or_test true true = refl
-or_test true false = refl
-or_test false true = refl
-or_test false false = refl
-
 pub seen_more : {K : Type 0} (cmp : K → K → Ordering) (keys : List K) (old new : BTreeSet K) (i : ℕ) (x : K) (added : Bool) → i < length keys → x ≡ get_or keys i x → SeenAll cmp keys old i → Updates cmp old new x true → added ≡ not (contains cmp old x) → added ≡ true → SeenAll cmp keys new (i + 1)
 seen_more cmp keys old new i x added l at h up is fresh =
-    let step = next_key keys i x l at in
+    let step = next_of keys i x l at in
     let absent : contains cmp old x ≡ false = not-true (contains cmp old x) (sym is ∙ fresh) in
     record {
       held = λ q. up.0 q ∙ (ap (λ b. cond (is_at (cmp x) q) true b) (h.held q)
@@ -83,7 +72,7 @@ seen_more cmp keys old new i x added l at h up is fresh =
 -- a key that was there makes a pair
 pub seen_twice : {K : Type 0} (cmp : K → K → Ordering) (keys : List K) (old : BTreeSet K) (i : ℕ) (x : K) (added : Bool) → i < length keys → x ≡ get_or keys i x → SeenAll cmp keys old i → added ≡ not (contains cmp old x) → added ≡ false → true ≡ some_pair (λ a b. is_eq (cmp a b)) keys
 seen_twice cmp keys old i x added l at h is twice =
-    let step = next_key keys i x l at in
+    let step = next_of keys i x l at in
     let there : contains cmp old x ≡ true = not-false (contains cmp old x) (sym is ∙ twice) in
     let pair : some_pair (λ a b. is_eq (cmp a b)) (take (i + 1) keys) ≡ true =
     ap (some_pair (λ a b. is_eq (cmp a b))) step ∙ (pair_pushed (λ a b. is_eq (cmp a b)) (take i keys) x

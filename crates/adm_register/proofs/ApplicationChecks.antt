@@ -4,22 +4,22 @@ use Rattle.std.specs.Prelude.{nat_eq, ◌&&◌, ◌↔◌}
 use Rattle.std.specs.Ordering.{nat_cmp}
 use Rattle.std.specs.Cmp.{unsigned_Decides}
 use Rattle.std.specs.FinMap.{FinMap}
+use Rattle.std.proofs.lemmas.Bool.{and_parts}
 use Rattle.adm_types.specs.declared.rows.Application.{Application}
 use Rattle.adm_types.specs.declared.rows.Child.{Child}
 use Rattle.adm_types.specs.declared.rows.School.{School}
 use Rattle.adm_register.specs.State.{code_cmp}
 use Rattle.adm_register.specs.WellFormed.{ApplicationFits, fits_application, is_application}
-use Rattle.adm_register.proofs.Maps.{both_true}
 
 pub application_decided : (last_day : ℕ) (schools : FinMap code_cmp School) (children : FinMap nat_cmp Child) (number : ℕ) (application : Application)
     → (fits_application last_day schools children number application ≡ true) ↔ ApplicationFits last_day schools children number application
 application_decided last_day schools children number application = (
   λ test.
-      let own = both_true (nat_eq application.child number) (is_application last_day schools children application) test in
-      let known = both_true _ _ own.1 in
-      let without_repeat = both_true _ _ known.0 in
-      let list_length = both_true _ _ without_repeat.0 in
-      let day = both_true _ _ list_length.0 in
+      let own = and_parts (nat_eq application.child number) (is_application last_day schools children application) test in
+      let known = and_parts _ _ own.1 in
+      let without_repeat = and_parts _ _ known.0 in
+      let list_length = and_parts _ _ without_repeat.0 in
+      let day = and_parts _ _ list_length.0 in
       record {
         own_number = (unsigned_Decides application.child number).0 own.0;
         child = day.0;

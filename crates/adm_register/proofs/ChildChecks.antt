@@ -3,21 +3,21 @@ use Rattle.std.proofs.Common.{◌≡◌, true, ℕ}
 use Rattle.std.specs.Prelude.{nat_eq, ◌&&◌, ◌↔◌}
 use Rattle.std.specs.Cmp.{unsigned_Decides}
 use Rattle.std.specs.FinMap.{FinMap}
+use Rattle.std.proofs.lemmas.Bool.{and_parts}
 use Rattle.adm_types.specs.declared.rows.Child.{Child}
 use Rattle.adm_types.specs.declared.rows.School.{School}
 use Rattle.adm_register.specs.State.{code_cmp}
 use Rattle.adm_register.specs.WellFormed.{ChildFits, fits_child, is_child}
-use Rattle.adm_register.proofs.Maps.{both_true}
 
 pub child_decided : (schools : FinMap code_cmp School) (number : ℕ) (child : Child) → (fits_child schools number child ≡ true) ↔ ChildFits schools number child
 child_decided schools number child = (
   λ test.
-      let own = both_true (nat_eq child.no number) (is_child schools child) test in
-      let siblings = both_true _ _ own.1 in
-      let flags = both_true _ _ siblings.0 in
-      let in_range = both_true _ _ flags.0 in
-      let name = both_true _ _ in_range.0 in
-      let text = both_true _ _ name.0 in
+      let own = and_parts (nat_eq child.no number) (is_child schools child) test in
+      let siblings = and_parts _ _ own.1 in
+      let flags = and_parts _ _ siblings.0 in
+      let in_range = and_parts _ _ flags.0 in
+      let name = and_parts _ _ in_range.0 in
+      let text = and_parts _ _ name.0 in
       record {
         own_number = (unsigned_Decides child.no number).0 own.0;
         number_form = text.0;

@@ -6,6 +6,7 @@ use Rattle.std.specs.Cmp.{unsigned_Decides, nat_cmp_total}
 use Rattle.std.specs.List.{list_all}
 use Rattle.std.specs.FinMap.{FinMap, values, nat_cmp-IsAntisymmetric}
 use Rattle.std.proofs.lemmas.List.Elements.{All-nil, All-cons, All-head, All-tail}
+use Rattle.std.proofs.lemmas.Bool.{and_parts}
 use Rattle.adm_types.specs.declared.rows.Child.{Child}
 use Rattle.adm_types.specs.declared.rows.School.{School}
 use Rattle.adm_types.specs.declared.draws.Draw.{Draw}
@@ -13,7 +14,6 @@ use Rattle.adm_draws.specs.Draws.{is_draw}
 use Rattle.adm_register.specs.State.{code_cmp}
 use Rattle.adm_register.specs.WellFormed.{AllRows}
 use Rattle.adm_register.specs.Draws.{DrawFits, fits_known_draw, is_known_draw}
-use Rattle.adm_register.proofs.Maps.{both_true}
 use Rattle.adm_register.proofs.SameRows.{values_hold, rows_hold}
 
 -- the form is left out
@@ -26,10 +26,10 @@ module _ (schools : FinMap code_cmp School) (children : FinMap nat_cmp Child) wh
 
   fits : (number : ℕ) (draw : Draw) → IsKnown schools children number draw → is_draw draw ≡ true → DrawFits schools children number draw
   fits number draw known form =
-      let own = both_true (nat_eq draw.number number) (is_known_draw schools children draw) known.test in
-      let lots = both_true _ _ own.1 in
-      let outcomes = both_true _ _ lots.0 in
-      let school = both_true _ _ outcomes.0 in
+      let own = and_parts (nat_eq draw.number number) (is_known_draw schools children draw) known.test in
+      let lots = and_parts _ _ own.1 in
+      let outcomes = and_parts _ _ lots.0 in
+      let school = and_parts _ _ outcomes.0 in
       record { own_number = (unsigned_Decides draw.number number).0 own.0; form = form; day = school.0; school = school.1; outcomes = outcomes.1; lots = lots.1 }
 
   known : (number : ℕ) (draw : Draw) → DrawFits schools children number draw → IsKnown schools children number draw
@@ -41,7 +41,7 @@ module _ (schools : FinMap code_cmp School) (children : FinMap nat_cmp Child) wh
     where
       All-from_list_all : (ds : List Draw) → list_all is_draw ds ≡ true → All (λ d. is_draw d ≡ true) ds
       All-from_list_all [] e = All-nil (λ d. is_draw d ≡ true)
-      All-from_list_all (d ∷ ds) e = let both = both_true (is_draw d) (list_all is_draw ds) e in All-cons (λ d. is_draw d ≡ true) d ds both.0 (All-from_list_all ds both.1)
+      All-from_list_all (d ∷ ds) e = let both = and_parts (is_draw d) (list_all is_draw ds) e in All-cons (λ d. is_draw d ≡ true) d ds both.0 (All-from_list_all ds both.1)
 
   pub draws_known : (draws : FinMap nat_cmp Draw) → AllRows (DrawFits schools children) draws → AllRows (IsKnown schools children) draws
   draws_known draws all number draw there = known number draw (all number draw there)

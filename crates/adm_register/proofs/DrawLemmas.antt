@@ -8,6 +8,10 @@ use Rattle.std.specs.List.{AllByRecursion}
 use Rattle.std.specs.Map.{keys_of, values_of}
 use Rattle.std.specs.FinMap.{FinMap, get, insert, put, entries, values, contains_key, entries-insert, get-insert, nat_cmp-IsAntisymmetric}
 use Rattle.std.proofs.lemmas.List.Elements.{All-nil, All-cons, All-head, All-tail}
+use Rattle.std.proofs.lemmas.Bool.{and_parts}
+use Rattle.std.proofs.lemmas.Option.{same_Some}
+use Rattle.adm_lists.proofs.Orders.{same_key}
+use Rattle.adm_lists.proofs.Each.{list_all-weaker}
 use Rattle.adm_types.specs.Seasons.{SeasonFacts}
 use Rattle.adm_types.specs.declared.rows.School.{School}
 use Rattle.adm_types.specs.declared.rows.Child.{Child}
@@ -19,7 +23,6 @@ use Rattle.adm_register.specs.State.{code_cmp}
 use Rattle.adm_register.specs.Change.{put_all}
 use Rattle.adm_register.specs.WellFormed.{AllRows}
 use Rattle.adm_register.specs.Draws.{no_draws, with_draw, with_draws, is_next, are_in_order, is_choice, is_known_outcome, is_known_lot, DrawFits}
-use Rattle.adm_register.proofs.Maps.{both_true, same_key, list_all-weaker}
 use Rattle.adm_register.proofs.Puts.{Grows}
 use Rattle.adm_register.proofs.SameRows.{entries_at_own_keys, rows_hold}
 
@@ -36,23 +39,23 @@ with_draws-append before (draw ∷ xs) ys = with_draws-append (with_draw before 
 pub are_in_order-append : (season : SeasonFacts) (before : DrawsSoFar) (xs ys : List Draw) → are_in_order season before xs ≡ true → are_in_order season (with_draws before xs) ys ≡ true → are_in_order season before (xs ++ ys) ≡ true
 are_in_order-append season before [] ys first second = second
 are_in_order-append season before (draw ∷ xs) ys first second =
-    let both = both_true (is_next season before draw) _ first in
+    let both = and_parts (is_next season before draw) _ first in
     λ i. both.0 i && are_in_order-append season (with_draw before draw) xs ys both.1 second i
 
 -- the next draw has the next number
 pub next_number : (season : SeasonFacts) (before : DrawsSoFar) (draw : Draw) → is_next season before draw ≡ true → draw.number ≡ before.draws + 1
 next_number season before draw next =
-    let a = both_true _ _ next in
-    let b = both_true _ _ a.0 in
-    let d = both_true _ _ b.0 in
-    let e = both_true _ _ d.0 in
-    let f = both_true _ _ e.0 in
+    let a = and_parts _ _ next in
+    let b = and_parts _ _ a.0 in
+    let d = and_parts _ _ b.0 in
+    let e = and_parts _ _ d.0 in
+    let f = and_parts _ _ e.0 in
     (unsigned_Decides draw.number (before.draws + 1)).0 f.0
 
 numbers_up_to : (season : SeasonFacts) (before : DrawsSoFar) (draws : List Draw) → are_in_order season before draws ≡ true → All (λ (draw : Draw). draw.number ≤ (with_draws before draws).draws) draws
 numbers_up_to season before [] in_order = All-nil (λ (draw : Draw). draw.number ≤ before.draws)
 numbers_up_to season before (draw ∷ draws) in_order =
-    let both = both_true (is_next season before draw) _ in_order in
+    let both = and_parts (is_next season before draw) _ in_order in
     let number = next_number season before draw both.0 in
     let more = more_draws (with_draw before draw) draws in
     All-cons (λ (d : Draw). d.number ≤ (with_draws (with_draw before draw) draws).draws) draw draws (omega (arith, number, more)) (numbers_up_to season (with_draw before draw) draws both.1)
@@ -60,7 +63,7 @@ numbers_up_to season before (draw ∷ draws) in_order =
 numbers_from : (season : SeasonFacts) (before : DrawsSoFar) (draws : List Draw) (n : ℕ) → n ≤ before.draws → are_in_order season before draws ≡ true → AllByRecursion (λ (draw : Draw). n < draw.number) draws
 numbers_from season before [] n least in_order = tt
 numbers_from season before (draw ∷ draws) n least in_order =
-    let both = both_true (is_next season before draw) _ in_order in
+    let both = and_parts (is_next season before draw) _ in_order in
     let number = next_number season before draw both.0 in
     (omega (arith, number, least), numbers_from season (with_draw before draw) draws n (omega (arith, least)) both.1)
 
@@ -87,9 +90,6 @@ All-below n m (draw ∷ draws) less all =
 
 abbrev at_own_numbers : FinMap nat_cmp Draw → Type 0
 at_own_numbers draws = AllRows (λ number (draw : Draw). draw.number ≡ number) draws
-
-same_Some : {A : Type 0} (x y : A) → Some x ≡ Some y → x ≡ y
-same_Some x y e = cc
 
 -- with the next draw at its number, the draws are those that were there, and it
 put_next : (rows : FinMap nat_cmp Draw) (season : SeasonFacts) (draw : Draw) → at_own_numbers rows → are_in_order season no_draws (values rows) ≡ true
@@ -122,7 +122,7 @@ values_put rows season [] own in_order next = sym (append_nil (values rows))
     append_nil (x ∷ xs) = ap (λ more. x ∷ more) (append_nil xs)
 values_put rows season (draw ∷ draws) own in_order next =
     let so_far = with_draws no_draws (values rows) in
-    let both = both_true (is_next season so_far draw) _ next in
+    let both = and_parts (is_next season so_far draw) _ next in
     let here = put_next rows season draw own in_order both.0 in
     let reached : with_draws no_draws (values (insert rows draw.number draw)) ≡ with_draw so_far draw = ap (with_draws no_draws) here ∙ with_draws-append no_draws (values rows) (draw ∷ []) in
     let one : are_in_order season so_far (draw ∷ []) ≡ true = λ i. both.0 i && true in
@@ -160,12 +160,12 @@ module _ (schools new_schools : FinMap code_cmp School) (children new_children :
   is_choice-grows (Some code) there = more_schools code there
 
   outcome-grows : (o : Outcome) → is_known_outcome schools children o ≡ true → is_known_outcome new_schools new_children o ≡ true
-  outcome-grows o there = let both = both_true _ _ there in λ i. more_children o.child both.0 i && is_choice-grows o.school both.1 i
+  outcome-grows o there = let both = and_parts _ _ there in λ i. more_children o.child both.0 i && is_choice-grows o.school both.1 i
 
   lot-grows : (l : Lot) → is_known_lot schools children l ≡ true → is_known_lot new_schools new_children l ≡ true
   lot-grows l there =
-      let below = both_true _ _ there in
-      let both = both_true _ _ below.0 in
+      let below = and_parts _ _ there in
+      let both = and_parts _ _ below.0 in
       λ i. more_schools l.school both.0 i && more_children l.child both.1 i && below.1 i
 
   pub DrawFits-grows : (number : ℕ) (draw : Draw) → DrawFits schools children number draw → DrawFits new_schools new_children number draw

@@ -1,31 +1,26 @@
 -- A test of every row of a table decides a fact of every row of its map.
-use Rattle.std.proofs.Common.{◌≡◌, ◌∙◌, ap, sym, subst, refl, cond, Bool, true, false, List, [], ◌∷◌, Some, None}
+use Rattle.std.proofs.Common.{◌≡◌, ◌∙◌, ap, sym, subst, refl, cond, Bool, true, false, List, [], ◌∷◌, Some}
 use Rattle.std.specs.Prelude.{◌&&◌, ◌↔◌}
-use Rattle.std.specs.List.{list_all, AllByRecursion}
+use Rattle.std.specs.List.{list_all}
 use Rattle.std.specs.List.Sorted.{IsStrictlySortedBy}
 use Rattle.std.specs.Map.{keys_of}
 use Rattle.std.specs.BTreeMap.{is_at}
 use Rattle.std.specs.declared.cmp.Ordering.{Ordering}
-use Rattle.std.specs.declared.cmp.Ordering.TheVariants.{Less}
-use Rattle.std.specs.Ordering.{is_eq}
 use Rattle.std.specs.Cmp.{IsTotalOrder}
 use Rattle.std.specs.FinMap.{FinMap, from_entries, IsAntisymmetric}
+use Rattle.std.proofs.lemmas.Bool.{and_parts}
+use Rattle.std.proofs.lemmas.Option.{none-some, same_Some}
+use Rattle.adm_lists.proofs.Orders.{tied, same_key}
+use Rattle.adm_lists.proofs.Maps.{get_rows, apart}
 use Rattle.adm_table.specs.TableRows.{row_at}
-use Rattle.adm_register.proofs.TableMaps.{get_rows}
 use Rattle.adm_register.specs.WellFormed.{AllRows}
-use Rattle.adm_register.proofs.Maps.{AllRows-weaker, tied, same_key, both_true}
-
-not_Some : {A : Type 0} (x : A) → None ≡ Some x → ⊥
-not_Some x e = cc
-
-same_Some : {A : Type 0} (x y : A) → Some x ≡ Some y → x ≡ y
-same_Some x y e = cc
+use Rattle.adm_register.proofs.Maps.{AllRows-weaker}
 
 module _ {K V : Type 0} {R : K → K → Ordering} (p : K → V → Bool) where
   found : IsAntisymmetric R → (rows : List (K × V)) → list_all (λ e. p e.0 e.1) rows ≡ true → (key : K) (row : V) → row_at R rows key ≡ Some row → p key row ≡ true
-  found same [] all key row there = absurd (not_Some row there)
+  found same [] all key row there = absurd (none-some row there)
   found same (e ∷ es) all key row there =
-      let both = both_true _ _ all in
+      let both = and_parts _ _ all in
       elim (is_at (R key) e.0) as (λ b. is_at (R key) e.0 ≡ b → cond b (Some e.1) (row_at R es key) ≡ Some row → p key row ≡ true) [
         | true ↦ λ tie here. subst (λ k. p k row ≡ true) (sym (same_key same key e.0 tie)) (subst (λ v. p e.0 v ≡ true) (same_Some e.1 row here) both.0)
         | false ↦ λ tie here. found same es both.1 key row here
@@ -34,19 +29,6 @@ module _ {K V : Type 0} {R : K → K → Ordering} (p : K → V → Bool) where
   -- the test of every row says it of the map
   pub AllRows-from_list_all : IsTotalOrder R → IsAntisymmetric R → (rows : List (K × V)) → list_all (λ e. p e.0 e.1) rows ≡ true → AllRows (λ key row. p key row ≡ true) (from_entries {R = R} rows)
   AllRows-from_list_all total same rows all key row there = found same rows all key row (sym (get_rows total rows key) ∙ there)
-
-pub none_at : {K V : Type 0} (R : K → K → Ordering) (key : K) (rows : List (K × V)) → AllByRecursion (λ other. R key other ≡ Less) (keys_of rows) → row_at R rows key ≡ None
-none_at R key [] above = refl
-none_at R key (e ∷ es) above = ap (λ r. cond (is_eq r) (Some e.1) (row_at R es key)) above.0 ∙ none_at R key es above.1
-
-module _ {K V : Type 0} {R : K → K → Ordering} (same : IsAntisymmetric R) where
-  -- a row that is there after the first one is at another key
-  pub apart : (first : K) (rows : List (K × V)) → AllByRecursion (λ other. R first other ≡ Less) (keys_of rows) → (key : K) (row : V) → row_at R rows key ≡ Some row → is_at (R key) first ≡ false
-  apart first rows above key row there =
-      elim (is_at (R key) first) as (λ b. is_at (R key) first ≡ b → b ≡ false) [
-        | true ↦ λ tie. absurd (not_Some row (sym (none_at R first rows above) ∙ ap (row_at R rows) (sym (same_key same key first tie)) ∙ there))
-        | false ↦ λ tie. refl
-      ] refl
 
 module _ {K V : Type 0} {R : K → K → Ordering} (p : K → V → Bool) (total : IsTotalOrder R) (same : IsAntisymmetric R) where
   passes : (rows : List (K × V)) → IsStrictlySortedBy R (keys_of rows) → ((key : K) (row : V) → row_at R rows key ≡ Some row → p key row ≡ true) → list_all (λ e. p e.0 e.1) rows ≡ true

@@ -15,6 +15,11 @@ use Rattle.std.proofs.lemmas.Map.Entries.{option_filter, lookup-filter-values}
 use Rattle.std.proofs.lemmas.Map.Keys.{IsDistinct-from_sorted}
 use Rattle.std.proofs.lemmas.Map.Made.{is_some-lookup}
 use Rattle.std.proofs.lemmas.List.Kept.{IsStrictlySortedBy-filter}
+use Rattle.std.proofs.Math.Bool.{and-false}
+use Rattle.std.proofs.lemmas.Bool.{false≢true}
+use Rattle.adm_lists.proofs.Options.{none_of}
+use Rattle.adm_lists.proofs.Orders.{same_key}
+use Rattle.adm_lists.proofs.Maps.{get_rows, none_at, entries_in_order, map_of_entries}
 use Rattle.adm_types.specs.declared.rows.School.{School}
 use Rattle.adm_types.specs.declared.rows.Child.{Child}
 use Rattle.adm_types.specs.declared.rows.Application.{Application}
@@ -29,19 +34,12 @@ use Rattle.adm_register.specs.Change.{put_all, cut_all, after}
 use Rattle.adm_register.specs.Difference.{AreNew, IsDifference, differing}
 use Rattle.adm_table.specs.Same.{is_other, is_same_school, is_same_child, is_same_application, is_same_place, is_same_left, is_same_draw, is_same_import}
 use Rattle.adm_register.specs.WellFormed.{WellFormed, AllRows}
-use Rattle.adm_register.proofs.TableMaps.{get_rows, entries_rows}
-use Rattle.adm_register.proofs.Maps.{code_cmp-IsAntisymmetric, left_cmp-total, left_cmp-IsAntisymmetric, none_of, same_key}
-use Rattle.adm_register.proofs.EachRow.{none_at}
-use Rattle.adm_register.proofs.SameRows.{entries_in_order, map_of_entries, entries_at_own_keys}
+use Rattle.adm_register.proofs.TableMaps.{entries_rows}
+use Rattle.adm_register.proofs.Maps.{code_cmp-IsAntisymmetric, left_cmp-total, left_cmp-IsAntisymmetric}
+use Rattle.adm_register.proofs.SameRows.{entries_at_own_keys}
 use Rattle.adm_register.proofs.Puts.{get-put_all, get-cut_all, there_before}
 use Rattle.adm_register.proofs.SameLemmas.{same_school, same_child, same_application, same_place, same_left, same_draw, same_import, other_row}
 use Rattle.adm_register.specs.Fits.{IsTidyIn, IsTidy}
-
-not_Some : {A : Type 0} (x : A) → None ≡ Some x → ⊥
-not_Some x e = cc
-
-same_Some : {A : Type 0} (x y : A) → Some x ≡ Some y → x ≡ y
-same_Some x y e = cc
 
 pairs : {K V : Type 0} → (V → K) → List V → List (K × V)
 pairs key [] = []
@@ -198,24 +196,17 @@ module _ {K : Type 0} {R : K → K → Ordering} (total : IsTotalOrder R) (same 
       elim (eq_by_cmp R q x) as (λ b. eq_by_cmp R q x ≡ b → list_any (eq_by_cmp R q) (cond (p x) (x ∷ filter p xs) (filter p xs)) ≡ ((b || list_any (eq_by_cmp R q) xs) && p q)) [
         | true ↦ λ tie. elim (p x) as (λ b. p x ≡ b → list_any (eq_by_cmp R q) (cond b (x ∷ filter p xs) (filter p xs)) ≡ p q) [
           | true ↦ λ is. ap (λ b. b || list_any (eq_by_cmp R q) (filter p xs)) tie ∙ sym (ap p (same_key same q x tie) ∙ is)
-          | false ↦ λ is. any-filter p xs q ∙ ap (λ b. list_any (eq_by_cmp R q) xs && b) (ap p (same_key same q x tie) ∙ is) ∙ and_false (list_any (eq_by_cmp R q) xs) ∙ sym (ap p (same_key same q x tie) ∙ is)
+          | false ↦ λ is. any-filter p xs q ∙ ap (λ b. list_any (eq_by_cmp R q) xs && b) (ap p (same_key same q x tie) ∙ is) ∙ and-false (list_any (eq_by_cmp R q) xs) ∙ sym (ap p (same_key same q x tie) ∙ is)
         ] refl
         | false ↦ λ tie. elim (p x) as (λ b. list_any (eq_by_cmp R q) (cond b (x ∷ filter p xs) (filter p xs)) ≡ (list_any (eq_by_cmp R q) xs && p q)) [
           | true ↦ ap (λ b. b || list_any (eq_by_cmp R q) (filter p xs)) tie ∙ any-filter p xs q
           | false ↦ any-filter p xs q
         ]
       ] refl
-    where
-      and_false : (b : Bool) → (b && false) ≡ false
-      and_false true = refl
-      and_false false = refl
 
   -- what holds of each key holds of one that is among them
   at_one : (P : K → Type 0) (ks : List K) (q : K) → AllByRecursion P ks → list_any (eq_by_cmp R q) ks ≡ true → P q
-  at_one P [] q all among = absurd (no among)
-    where
-      no : false ≡ true → ⊥
-      no e = cc
+  at_one P [] q all among = absurd (false≢true among)
   at_one P (k ∷ ks) q all among = elim (eq_by_cmp R q k) as (λ b. eq_by_cmp R q k ≡ b → (b || list_any (eq_by_cmp R q) ks) ≡ true → P q) [
     | true ↦ λ tie _. subst P (sym (same_key same q k tie)) all.0
     | false ↦ λ tie rest. at_one P ks q all.1 rest

@@ -7,6 +7,7 @@ use Rattle.std.specs.List.{AllByRecursion}
 use Rattle.std.specs.Cmp.{nat_cmp_total}
 use Rattle.std.specs.Cmp.Lexicographic.{nat_list_cmp_total, pointwise, bytes_decides}
 use Rattle.std.specs.FinMap.{FinMap, get, len, values, contains_key, nat_cmp-IsAntisymmetric}
+use Rattle.std.proofs.lemmas.Bool.{and_parts}
 use Rattle.adm_types.specs.Limits.{most_schools, most_children}
 use Rattle.adm_types.specs.Seasons.{lists_end}
 use Rattle.adm_types.specs.declared.rows.School.{School}
@@ -22,7 +23,7 @@ use Rattle.adm_register.specs.Change.{put_all, cut_all, after}
 use Rattle.adm_register.specs.Fits.{FewAfter, BasePut, PlacesPut, LeftPut, DrawsPut, ImportedPut, Fit}
 use Rattle.adm_register.specs.Extends.{Extends, KeepsSchools}
 use Rattle.adm_register.specs.WellFormed.{WellFormed, AllRows, BaseFits, PlacesFit, LeftFits, DrawsFit, ImportedFit, has_round, held_at, is_entitled, lists_school, SchoolFits, ChildFits, ApplicationFits, PlaceFits, LeftPairFits, ImportFits, is_held}
-use Rattle.adm_register.proofs.Maps.{both_true, code_cmp-IsAntisymmetric, left_cmp-total, left_cmp-IsAntisymmetric}
+use Rattle.adm_register.proofs.Maps.{code_cmp-IsAntisymmetric, left_cmp-total, left_cmp-IsAntisymmetric}
 use Rattle.adm_register.specs.Draws.{DrawFits, are_in_order, no_draws, with_draws}
 use Rattle.adm_register.proofs.DrawLemmas.{DrawFits-grows, values_put, new_draws, are_in_order-append}
 use Rattle.adm_register.proofs.Puts.{Grows, put_all-grows, there_before, all_stay, AllRows-put_all, are_schools-grows}
@@ -72,7 +73,7 @@ module _ (schools new_schools : FinMap code_cmp School) (children new_children :
         where
           by : (plan : Bool) → (if plan then not (is_some o) else held && lists_school o row.place.school) ≡ true → (if plan then not (is_some o) else new_held && lists_school o row.place.school) ≡ true
           by true is = is
-          by false is = let both = both_true held (lists_school o row.place.school) is in λ i. more both.0 i && both.1 i
+          by false is = let both = and_parts held (lists_school o row.place.school) is in λ i. more both.0 i && both.1 i
 
 module _ (old : State) (change : Difference) where
   abbrev new : State

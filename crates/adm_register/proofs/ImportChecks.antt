@@ -3,6 +3,7 @@ use Rattle.std.proofs.Common.{◌≡◌, true, ℕ}
 use Rattle.std.specs.Prelude.{◌&&◌, ◌↔◌}
 use Rattle.std.specs.Ordering.{nat_cmp}
 use Rattle.std.specs.FinMap.{FinMap}
+use Rattle.std.proofs.lemmas.Bool.{and_parts}
 use Rattle.adm_types.specs.declared.rows.Child.{Child}
 use Rattle.adm_types.specs.declared.rows.ImportRow.{ImportRow}
 use Rattle.adm_types.specs.declared.rows.School.{School}
@@ -10,7 +11,6 @@ use Rattle.adm_register.specs.State.{code_cmp, application_of}
 use Rattle.adm_register.specs.WellFormed.{ImportFits, fits_import, fits_child, fits_application}
 use Rattle.adm_register.proofs.ApplicationChecks.{application_decided}
 use Rattle.adm_register.proofs.ChildChecks.{child_decided}
-use Rattle.adm_register.proofs.Maps.{both_true}
 
 pub import_decided : (last_day : ℕ) (schools : FinMap code_cmp School) (children : FinMap nat_cmp Child) (number : ℕ) (row : ImportRow)
     → (fits_import last_day schools children number row ≡ true) ↔ ImportFits last_day schools children number row
@@ -18,7 +18,7 @@ import_decided last_day schools children number row =
     let child = child_decided schools number row.child in
     let application = application_decided last_day schools children number (application_of row) in (
       λ test.
-          let both = both_true (fits_child schools number row.child) (fits_application last_day schools children number (application_of row)) test in
+          let both = and_parts (fits_child schools number row.child) (fits_application last_day schools children number (application_of row)) test in
           record { child = child.0 both.0; application = application.0 both.1 },
       λ fits i. child.1 fits.child i && application.1 fits.application i,
     )

@@ -1,6 +1,5 @@
 pub mod TableMaps
 pub mod PieceRows
-pub mod EntrantLemmas
 pub mod Maps
 pub mod Puts
 pub mod DrawLemmas

@@ -1,62 +1,25 @@
 -- What an application's list keeps where some of its schools are left out.
 use Rattle.std.proofs.Common.{◌≡◌, ◌∙◌, ap, refl, ℕ, Bool, true, false, not, cond, ◌&&◌, ◌||◌, List, [], ◌∷◌, Option, Some, None}
 use Rattle.std.specs.Prelude.{IfSome, filter, nat_eq}
-use Rattle.std.specs.List.{list_any, list_all, take_while}
+use Rattle.std.specs.List.{list_all, take_while}
 use Rattle.std.specs.Option.{option_to_list}
 use Rattle.std.specs.Cmp.Lexicographic.{pointwise}
-use Rattle.std.proofs.lemmas.Bool.{or_parts}
+use Rattle.std.proofs.lemmas.Bool.{and_parts, not-true}
 use Rattle.std.proofs.lemmas.List.Sums.{take_while-cons}
+use Rattle.adm_lists.proofs.Each.{any-filter, any-take_while, all-take_while}
 use Rattle.adm_types.specs.Limits.{is_listed, is_without_repeat}
 use Rattle.adm_types.specs.declared.rows.PlaceRow.{PlaceRow}
 use Rattle.adm_register.specs.State.{is_plan}
 use Rattle.adm_register.specs.Wanted.{above, own_school}
-use Rattle.adm_register.proofs.Maps.{both_true, not_true}
 
-module _ {X : Type 0} where
-  any-filter : (t p : X → Bool) (xs : List X) → list_any t xs ≡ false → list_any t (filter p xs) ≡ false
-  any-filter t p [] none = refl
-  any-filter t p (x ∷ xs) none =
-      let parts = or_parts (t x) (list_any t xs) none in
-      elim (p x) as (λ b. list_any t (cond b (x ∷ filter p xs) (filter p xs)) ≡ false) [
-        | true ↦ λ i. parts.0 i || any-filter t p xs parts.1 i
-        | false ↦ any-filter t p xs parts.1
-      ]
-
-  any-take_while : (t p : X → Bool) (xs : List X) → list_any t xs ≡ false → list_any t (take_while p xs) ≡ false
-  any-take_while t p [] none = refl
-  any-take_while t p (x ∷ xs) none =
-      let parts = or_parts (t x) (list_any t xs) none in
-      ap (list_any t) (take_while-cons p x xs)
-      ∙ elim (p x) as (λ b. list_any t (cond b (x ∷ take_while p xs) []) ≡ false) [
-        | true ↦ λ i. parts.0 i || any-take_while t p xs parts.1 i
-        | false ↦ refl
-      ]
-
-  pub all-filter : (q p : X → Bool) (xs : List X) → list_all q xs ≡ true → list_all q (filter p xs) ≡ true
-  all-filter q p [] all = refl
-  all-filter q p (x ∷ xs) all =
-      let both = both_true (q x) (list_all q xs) all in
-      elim (p x) as (λ b. list_all q (cond b (x ∷ filter p xs) (filter p xs)) ≡ true) [
-        | true ↦ λ i. both.0 i && all-filter q p xs both.1 i
-        | false ↦ all-filter q p xs both.1
-      ]
-
-  all-take_while : (q p : X → Bool) (xs : List X) → list_all q xs ≡ true → list_all q (take_while p xs) ≡ true
-  all-take_while q p [] all = refl
-  all-take_while q p (x ∷ xs) all =
-      let both = both_true (q x) (list_all q xs) all in
-      ap (list_all q) (take_while-cons p x xs)
-      ∙ elim (p x) as (λ b. list_all q (cond b (x ∷ take_while p xs) []) ≡ true) [
-        | true ↦ λ i. both.0 i && all-take_while q p xs both.1 i
-        | false ↦ refl
-      ]
+-- ---- codes without repeats
 
 module _ (p : List ℕ → Bool) where
   pub once-filter : (codes : List (List ℕ)) → is_without_repeat codes ≡ true → is_without_repeat (filter p codes) ≡ true
   once-filter [] once = refl
   once-filter (code ∷ codes) once =
-      let both = both_true (not (is_listed codes code)) (is_without_repeat codes) once in
-      let first : not (is_listed (filter p codes) code) ≡ true = ap not (any-filter (λ other. pointwise nat_eq other code) p codes (not_true _ both.0)) in
+      let both = and_parts (not (is_listed codes code)) (is_without_repeat codes) once in
+      let first : not (is_listed (filter p codes) code) ≡ true = ap not (any-filter (λ other. pointwise nat_eq other code) p codes (not-true _ both.0)) in
       elim (p code) as (λ b. is_without_repeat (cond b (code ∷ filter p codes) (filter p codes)) ≡ true) [
         | true ↦ λ i. first i && once-filter codes both.1 i
         | false ↦ once-filter codes both.1
@@ -65,8 +28,8 @@ module _ (p : List ℕ → Bool) where
   once-take_while : (codes : List (List ℕ)) → is_without_repeat codes ≡ true → is_without_repeat (take_while p codes) ≡ true
   once-take_while [] once = refl
   once-take_while (code ∷ codes) once =
-      let both = both_true (not (is_listed codes code)) (is_without_repeat codes) once in
-      let first : not (is_listed (take_while p codes) code) ≡ true = ap not (any-take_while (λ other. pointwise nat_eq other code) p codes (not_true _ both.0)) in
+      let both = and_parts (not (is_listed codes code)) (is_without_repeat codes) once in
+      let first : not (is_listed (take_while p codes) code) ≡ true = ap not (any-take_while (λ other. pointwise nat_eq other code) p codes (not-true _ both.0)) in
       ap is_without_repeat (take_while-cons p code codes)
       ∙ elim (p code) as (λ b. is_without_repeat (cond b (code ∷ take_while p codes) []) ≡ true) [
         | true ↦ λ i. first i && once-take_while codes both.1 i

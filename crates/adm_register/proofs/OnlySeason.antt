@@ -2,6 +2,7 @@
 use Rattle.std.proofs.Common.{ap, ◌≤◌, arith}
 use Rattle.std.specs.Ordering.{nat_cmp}
 use Rattle.std.specs.FinMap.{empty, len-empty}
+use Rattle.adm_lists.proofs.Maps.{values-empty}
 use Rattle.adm_types.specs.Seasons.{SeasonFacts, IsSeason, lists_end}
 use Rattle.adm_types.specs.declared.rows.School.{School}
 use Rattle.adm_types.specs.declared.rows.Child.{Child}
@@ -9,7 +10,7 @@ use Rattle.adm_types.specs.declared.draws.Draw.{Draw}
 use Rattle.adm_register.specs.State.{code_cmp, left_cmp, only_season}
 use Rattle.adm_register.specs.WellFormed.{WellFormed, SchoolFits, ChildFits, ApplicationFits, PlaceFits, LeftPairFits, ImportFits, has_round, held_at}
 use Rattle.adm_register.specs.Draws.{DrawFits, are_in_order, no_draws}
-use Rattle.adm_register.proofs.Maps.{AllRows-empty, values-empty}
+use Rattle.adm_register.proofs.Maps.{AllRows-empty}
 
 pub only_season-WellFormed : (season : SeasonFacts) → IsSeason season → WellFormed (only_season season)
 only_season-WellFormed season is = record {

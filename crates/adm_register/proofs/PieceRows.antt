@@ -1,22 +1,14 @@
 -- What is read off the rows of pieces, piece by piece.
-use Rattle.std.proofs.Common.{◌≡◌, ◌∙◌, ap, sym, refl, ℕ, ◌+◌, ◌<◌, ◌≤◌, Bool, true, false, cond, length, take, drop, get_or, arith, List, [], ◌∷◌, ◌++◌, append-nil, append_assoc, Some}
+use Rattle.std.proofs.Common.{◌≡◌, ◌∙◌, ap, sym, refl, ℕ, ◌+◌, ◌<◌, ◌≤◌, Bool, cond, length, take, drop, get_or, arith, List, [], ◌∷◌, ◌++◌, append-nil, append_assoc, Some}
 use Rattle.std.specs.Prelude.{◌&&◌, count_by, find}
 use Rattle.std.specs.Option.{option_or}
 use Rattle.std.specs.List.{list_all}
 use Rattle.std.specs.Map.{values_of}
 use Rattle.std.proofs.lemmas.List.{take_more, take-append-drop, map-append, length-append, length-map}
-use Rattle.std.proofs.lemmas.List.Folds.{find-append}
+use Rattle.std.proofs.lemmas.List.Folds.{find-append, list_all-append}
 use Rattle.std.proofs.lemmas.List.Sums.{count_by-le-length, sum_by-append}
 use Rattle.adm_table.specs.declared.pieces.Piece.{Piece}
 use Rattle.adm_table.specs.Pieces.{rows_of_pieces}
-
-both-assoc : (a b c : Bool) → ((a && b) && c) ≡ (a && (b && c))
-both-assoc true b c = refl
-both-assoc false b c = refl
-
-list_all-both : {A : Type 0} (p : A → Bool) (xs ys : List A) → list_all p (xs ++ ys) ≡ (list_all p xs && list_all p ys)
-list_all-both p [] ys = refl
-list_all-both p (x ∷ xs) ys = ap (λ b. p x && b) (list_all-both p xs ys) ∙ sym (both-assoc (p x) (list_all p xs) (list_all p ys))
 
 module _ {K V : Type 0} where
   rows-both : (xs ys : List (Piece K V)) → rows_of_pieces (xs ++ ys) ≡ rows_of_pieces xs ++ rows_of_pieces ys
@@ -27,7 +19,7 @@ module _ {K V : Type 0} where
   pub list_all-pieces : (p : K × V → Bool) (pieces : List (Piece K V)) → list_all p (rows_of_pieces pieces) ≡ list_all (λ piece. list_all p piece.rows.value.entries) pieces
   list_all-pieces p [] = refl
   list_all-pieces p (piece ∷ pieces) =
-      list_all-both p piece.rows.value.entries (rows_of_pieces pieces) ∙ ap (λ b. list_all p piece.rows.value.entries && b) (list_all-pieces p pieces)
+      list_all-append p piece.rows.value.entries (rows_of_pieces pieces) ∙ ap (λ b. list_all p piece.rows.value.entries && b) (list_all-pieces p pieces)
 
   -- the values of the pieces before a place, and of one more
   pub values-more : (place : ℕ) (pieces : List (Piece K V)) (piece : Piece K V) → place < length pieces → piece ≡ get_or pieces place piece

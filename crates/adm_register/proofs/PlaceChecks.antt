@@ -4,22 +4,22 @@ use Rattle.std.specs.Prelude.{nat_eq, ◌&&◌, ◌↔◌}
 use Rattle.std.specs.Ordering.{nat_cmp}
 use Rattle.std.specs.Cmp.{unsigned_Decides}
 use Rattle.std.specs.FinMap.{FinMap}
+use Rattle.std.proofs.lemmas.Bool.{and_parts}
 use Rattle.adm_types.specs.declared.rows.Application.{Application}
 use Rattle.adm_types.specs.declared.rows.Child.{Child}
 use Rattle.adm_types.specs.declared.rows.PlaceRow.{PlaceRow}
 use Rattle.adm_types.specs.declared.rows.School.{School}
 use Rattle.adm_register.specs.State.{code_cmp}
 use Rattle.adm_register.specs.WellFormed.{PlaceFits, fits_place, is_place}
-use Rattle.adm_register.proofs.Maps.{both_true}
 
 pub place_decided : (schools : FinMap code_cmp School) (children : FinMap nat_cmp Child) (applications : FinMap nat_cmp Application) (held : Bool) (number : ℕ) (row : PlaceRow)
     → (fits_place schools children applications held number row ≡ true) ↔ PlaceFits schools children applications held number row
 place_decided schools children applications held number row = (
   λ test.
-      let own = both_true (nat_eq row.child number) (is_place schools children applications held row) test in
-      let entitled = both_true _ _ own.1 in
-      let state = both_true _ _ entitled.0 in
-      let school = both_true _ _ state.0 in
+      let own = and_parts (nat_eq row.child number) (is_place schools children applications held row) test in
+      let entitled = and_parts _ _ own.1 in
+      let state = and_parts _ _ entitled.0 in
+      let school = and_parts _ _ state.0 in
       record {
         own_number = (unsigned_Decides row.child number).0 own.0;
         child = school.0;

@@ -6,19 +6,16 @@ use Rattle.std.specs.Ordering.{eq_by_cmp}
 use Rattle.std.specs.List.{AllByRecursion}
 use Rattle.std.specs.Cmp.{IsTotalOrder, eq_by_cmp_equiv}
 use Rattle.std.specs.FinMap.{FinMap, get, insert, remove, contains_key, from_entries, get-insert, get-remove, same_map, IsAntisymmetric}
+use Rattle.std.proofs.lemmas.Option.{none-some, same_Some}
+use Rattle.adm_lists.proofs.Options.{none_of}
+use Rattle.adm_lists.proofs.Orders.{same_key, tied}
+use Rattle.adm_lists.proofs.Each.{list_all-weaker}
+use Rattle.adm_lists.proofs.Maps.{get_rows, contains_key-insert}
 use Rattle.adm_types.specs.declared.rows.School.{School}
 use Rattle.adm_register.specs.State.{code_cmp}
 use Rattle.adm_table.specs.TableRows.{row_at, put_at, cut_at}
 use Rattle.adm_register.specs.Change.{put_all, cut_all}
 use Rattle.adm_register.specs.WellFormed.{AllRows, are_schools}
-use Rattle.adm_register.proofs.TableMaps.{get_rows}
-use Rattle.adm_register.proofs.Maps.{same_key, tied, contains_key-insert, list_all-weaker, none_of}
-
-not_Some : {A : Type 0} (x : A) → None ≡ Some x → ⊥
-not_Some x e = cc
-
-same_Some : {A : Type 0} (x y : A) → Some x ≡ Some y → x ≡ y
-same_Some x y e = cc
 
 -- each key that was there is there still
 abbrev pub Grows : {K V : Type 0} {R : K → K → Ordering} → FinMap R V → FinMap R V → Type 0
@@ -54,7 +51,7 @@ module _ {K V : Type 0} {R : K → K → Ordering} (total : IsTotalOrder R) wher
   there_before rows [] q row there = there
   there_before rows (key ∷ cut) q row there =
       elim (eq_by_cmp R q key) as (λ b. cond b None (get rows q) ≡ Some row → get rows q ≡ Some row) [
-        | true ↦ λ none. absurd (not_Some row none)
+        | true ↦ λ none. absurd (none-some row none)
         | false ↦ λ is. is
       ] (sym (get-remove total rows key q) ∙ there_before (remove rows key) cut q row there)
 
@@ -73,7 +70,7 @@ module _ {K V : Type 0} {R : K → K → Ordering} (total : IsTotalOrder R) wher
       others [] news = tt
       others (it ∷ them) news = (
         elim (eq_by_cmp R q (key it)) as (λ b. eq_by_cmp R q (key it) ≡ b → b ≡ false) [
-          | true ↦ λ tie. absurd (not_Some row (sym (none_of _ news.0) ∙ ap (get rows) (sym (same_key same q (key it) tie)) ∙ there))
+          | true ↦ λ tie. absurd (none-some row (sym (none_of _ news.0) ∙ ap (get rows) (sym (same_key same q (key it) tie)) ∙ there))
           | false ↦ λ tie. refl
         ] refl,
         others them news.1,

@@ -1,5 +1,5 @@
 -- The rows of a map, put into a table again, make that map.
-use Rattle.std.proofs.Common.{◌≡◌, ◌∙◌, ap, sym, subst, refl, List, [], ◌∷◌}
+use Rattle.std.proofs.Common.{◌≡◌, ◌∙◌, sym, subst, List}
 use Rattle.std.specs.Prelude.{map}
 use Rattle.std.specs.declared.cmp.Ordering.{Ordering}
 use Rattle.std.specs.Cmp.{IsTotalOrder}
@@ -7,6 +7,7 @@ use Rattle.std.specs.Map.{keys_of, values_of}
 use Rattle.std.specs.List.Sorted.{IsPermutation, IsStrictlySortedBy}
 use Rattle.std.specs.FinMap.{FinMap, from_entries, values, IsAntisymmetric}
 use Rattle.std.proofs.lemmas.List.Sorted.{IsPermutation-refl, IsPermutation-sym, IsPermutation-trans}
+use Rattle.adm_lists.proofs.Rising.{one_order}
 use Rattle.adm_register.specs.WellFormed.{AllRows}
 use Rattle.adm_register.proofs.TableMaps.{values_rows}
 use Rattle.adm_register.proofs.SameRows.{rows_at_own_keys, same_maps}
@@ -30,32 +31,8 @@ same_values total same key m table own keyed sorted is =
     same_maps total same key m (from_entries table) own (rows_at_own_keys total same key table keyed)
     (subst (IsPermutation (values m)) (is ∙ sym (values_rows total table sorted)) (IsPermutation-refl (values m)))
 
-abbrev with_keys : {K V : Type 0} → (V → K) → List V → List (K × V)
-with_keys key rows = map (λ row. (key row, row)) rows
-
-keys_of-with_keys : {K V : Type 0} (key : V → K) (rows : List V) → keys_of (with_keys key rows) ≡ map key rows
-keys_of-with_keys key [] = refl
-keys_of-with_keys key (row ∷ rows) = ap (λ more. key row ∷ more) (keys_of-with_keys key rows)
-
-values_of-with_keys : {K V : Type 0} (key : V → K) (rows : List V) → values_of (with_keys key rows) ≡ rows
-values_of-with_keys key [] = refl
-values_of-with_keys key (row ∷ rows) = ap (λ more. row ∷ more) (values_of-with_keys key rows)
-
 -- a table of rows that were in order has them in that order
 pub same_order : {K V : Type 0} {R : K → K → Ordering} → IsTotalOrder R → IsAntisymmetric R → (key : V → K) (rows : List V) (table : List (K × V))
     → (IsPermutation rows (values_of table) × (map key (values_of table) ≡ keys_of table) × IsStrictlySortedBy R (keys_of table)) → IsStrictlySortedBy R (map key rows) → values_of table ≡ rows
 same_order {R = R} total same key rows table made sorted =
-    let keyed = with_keys key rows in
-    let listed : values (from_entries {R = R} keyed) ≡ rows = values_rows total keyed (subst (IsStrictlySortedBy R) (sym (keys_of-with_keys key rows)) sorted) ∙ values_of-with_keys key rows in
-    let own = rows_at_own_keys total same key keyed (ap (map key) (values_of-with_keys key rows) ∙ sym (keys_of-with_keys key rows)) in
-    let permuted = subst (IsPermutation (values (from_entries {R = R} table))) (sym listed) (IsPermutation-sym rows _ (rows_of_table total same key rows table made)) in
-    let is = same_maps total same key (from_entries table) (from_entries keyed) (rows_at_own_keys total same key table made.1) own permuted in
-    sym (values_rows total table made.2) ∙ ap values is ∙ listed
-
--- so rows are in order in one way
-pub one_order : {K V : Type 0} {R : K → K → Ordering} → IsTotalOrder R → IsAntisymmetric R → (key : V → K) (xs ys : List V)
-    → IsPermutation xs ys → IsStrictlySortedBy R (map key xs) → IsStrictlySortedBy R (map key ys) → xs ≡ ys
-one_order {R = R} total same key xs ys permuted sorted other =
-    let listed = values_of-with_keys key ys in
-    let keys = keys_of-with_keys key ys in
-    sym (same_order total same key xs (with_keys key ys) (subst (IsPermutation xs) (sym listed) permuted, ap (map key) listed ∙ sym keys, subst (IsStrictlySortedBy R) (sym keys) other) sorted) ∙ listed
+    one_order total key (values_of table) rows (IsPermutation-sym rows (values_of table) made.0) (subst (IsStrictlySortedBy R) (sym made.1) made.2) sorted

@@ -4,6 +4,8 @@ use Rattle.std.proofs.Common.{refl, ap, sym, subst, true≢false}
 use Rattle.std.specs.Option.{option_eq}
 use Rattle.std.specs.Cmp.{unsigned_Decides, booleans_Decides, first_so, second_so}
 use Rattle.std.specs.Cmp.Lexicographic.{pointwise, pointwise_decides, bytes_decides}
+use Rattle.std.proofs.lemmas.Option.{none-some, same_Some}
+use Rattle.std.proofs.lemmas.Bool.{and_parts}
 use Rattle.adm_types.specs.declared.rows.Point.{Point}
 use Rattle.adm_types.specs.declared.rows.Criterion.{Criterion}
 use Rattle.adm_types.specs.declared.rows.Criterion.TheVariants.{Sibling, Within, Flag}
@@ -26,9 +28,6 @@ use Rattle.adm_table.specs.Same.{is_same_school, is_same_child, is_same_applicat
 
 not_true : {A : Type 0} → false ≡ true → A
 not_true e = absurd (true≢false (sym e))
-
-split : (a b : Bool) → (a && b) ≡ true → (a ≡ true) × (b ≡ true)
-split a b e = (first_so a b e, second_so a b e)
 
 -- a test that is true of each value and itself, and of no others
 module _ {A : Type 0} (test : A → A → Bool) where
@@ -56,7 +55,7 @@ same_day = decided (option_eq nat_eq) told itself
 
 same_point : (x y : Point) → ((nat_eq x.east y.east && nat_eq x.north y.north) ≡ true) ↔ (x ≡ y)
 same_point = decided (λ x y. nat_eq x.east y.east && nat_eq x.north y.north)
-    (λ x y e i. let parts = split _ _ e in record { east = (same_nat x.east y.east).0 parts.0 i; north = (same_nat x.north y.north).0 parts.1 i })
+    (λ x y e i. let parts = and_parts _ _ e in record { east = (same_nat x.east y.east).0 parts.0 i; north = (same_nat x.north y.north).0 parts.1 i })
     (λ x i. (same_nat x.east x.east).1 refl i && (same_nat x.north x.north).1 refl i)
 
 same_criterion : (x y : Criterion) → (criterion_eq.it x y ≡ true) ↔ (x ≡ y)
@@ -103,10 +102,10 @@ same_criteria = pointwise_decides same_criterion
 pub same_school : (x y : School) → (is_same_school x y ≡ true) ↔ (x ≡ y)
 same_school = decided is_same_school
     (λ x y e.
-    let code = split _ _ e in
-    let name = split _ _ code.1 in
-    let pan = split _ _ name.1 in
-    let at = split _ _ pan.1 in
+    let code = and_parts _ _ e in
+    let name = and_parts _ _ code.1 in
+    let pan = and_parts _ _ name.1 in
+    let at = and_parts _ _ pan.1 in
     λ i. record {
       code = (bytes_decides x.code y.code).0 code.0 i;
       name = (bytes_decides x.name y.name).0 name.0 i;
@@ -124,11 +123,11 @@ same_school = decided is_same_school
 pub same_child : (x y : Child) → (is_same_child x y ≡ true) ↔ (x ≡ y)
 same_child = decided is_same_child
     (λ x y e.
-    let number = split _ _ e in
-    let name = split _ _ number.1 in
-    let home = split _ _ name.1 in
-    let looked = split _ _ home.1 in
-    let flags = split _ _ looked.1 in
+    let number = and_parts _ _ e in
+    let name = and_parts _ _ number.1 in
+    let home = and_parts _ _ name.1 in
+    let looked = and_parts _ _ home.1 in
+    let flags = and_parts _ _ looked.1 in
     λ i. record {
       no = (same_nat x.no y.no).0 number.0 i;
       name = (bytes_decides x.name y.name).0 name.0 i;
@@ -148,8 +147,8 @@ same_child = decided is_same_child
 pub same_application : (x y : Application) → (is_same_application x y ≡ true) ↔ (x ≡ y)
 same_application = decided is_same_application
     (λ x y e.
-    let child = split _ _ e in
-    let day = split _ _ child.1 in
+    let child = and_parts _ _ e in
+    let day = and_parts _ _ child.1 in
     λ i. record {
       child = (same_nat x.child y.child).0 child.0 i;
       day = (same_nat x.day y.day).0 day.0 i;
@@ -160,8 +159,8 @@ same_application = decided is_same_application
 pub same_import : (x y : ImportRow) → (is_same_import x y ≡ true) ↔ (x ≡ y)
 same_import = decided is_same_import
     (λ x y e.
-    let child = split _ _ e in
-    let day = split _ _ child.1 in
+    let child = and_parts _ _ e in
+    let day = and_parts _ _ child.1 in
     λ i. record {
       child = (same_child x.child y.child).0 child.0 i;
       day = (same_nat x.day y.day).0 day.0 i;
@@ -172,8 +171,8 @@ same_import = decided is_same_import
 pub same_place : (x y : PlaceRow) → (is_same_place x y ≡ true) ↔ (x ≡ y)
 same_place = decided is_same_place
     (λ x y e.
-    let child = split _ _ e in
-    let school = split _ _ child.1 in
+    let child = and_parts _ _ e in
+    let school = and_parts _ _ child.1 in
     λ i. record {
       child = (same_nat x.child y.child).0 child.0 i;
       place = record { school = (bytes_decides x.place.school y.place.school).0 school.0 i; state = (same_state x.place.state y.place.state).0 school.1 i };
@@ -182,7 +181,7 @@ same_place = decided is_same_place
 
 pub same_left : (x y : LeftPair) → (is_same_left x y ≡ true) ↔ (x ≡ y)
 same_left = decided is_same_left
-    (λ x y e i. let parts = split _ _ e in record { child = (same_nat x.child y.child).0 parts.0 i; school = (bytes_decides x.school y.school).0 parts.1 i })
+    (λ x y e i. let parts = and_parts _ _ e in record { child = (same_nat x.child y.child).0 parts.0 i; school = (bytes_decides x.school y.school).0 parts.1 i })
     (λ x i. (same_nat x.child x.child).1 refl i && (bytes_decides x.school x.school).1 refl i)
 
 same_choice : (x y : Option (List ℕ)) → (option_eq (pointwise nat_eq) x y ≡ true) ↔ (x ≡ y)
@@ -201,27 +200,27 @@ same_choice = decided (option_eq (pointwise nat_eq)) told itself
 same_outcome : (x y : Outcome) → (outcome_eq.it x y ≡ true) ↔ (x ≡ y)
 same_outcome = decided outcome_eq.it
     (λ x y e.
-    let child = split _ _ e in
-    let school = split _ _ child.1 in
+    let child = and_parts _ _ e in
+    let school = and_parts _ _ child.1 in
     λ i. record { child = (same_nat x.child y.child).0 child.0 i; school = (same_choice x.school y.school).0 school.0 i; fresh = (booleans_Decides x.fresh y.fresh).0 school.1 i })
     (λ x i. (same_nat x.child x.child).1 refl i && ((same_choice x.school x.school).1 refl i && (booleans_Decides x.fresh x.fresh).1 refl i))
 
 same_lot : (x y : Lot) → (lot_eq.it x y ≡ true) ↔ (x ≡ y)
 same_lot = decided lot_eq.it
     (λ x y e.
-    let school = split _ _ e in
-    let child = split _ _ school.1 in
+    let school = and_parts _ _ e in
+    let child = and_parts _ _ school.1 in
     λ i. record { school = (bytes_decides x.school y.school).0 school.0 i; child = (same_nat x.child y.child).0 child.0 i; lot = (same_nat x.lot y.lot).0 child.1 i })
     (λ x i. (bytes_decides x.school x.school).1 refl i && ((same_nat x.child x.child).1 refl i && (same_nat x.lot x.lot).1 refl i))
 
 pub same_draw : (x y : Draw) → (is_same_draw x y ≡ true) ↔ (x ≡ y)
 same_draw = decided is_same_draw
     (λ x y e.
-    let number = split _ _ e in
-    let round = split _ _ number.1 in
-    let school = split _ _ round.1 in
-    let day = split _ _ school.1 in
-    let outcomes = split _ _ day.1 in
+    let number = and_parts _ _ e in
+    let round = and_parts _ _ number.1 in
+    let school = and_parts _ _ round.1 in
+    let day = and_parts _ _ school.1 in
+    let outcomes = and_parts _ _ day.1 in
     λ i. record {
       number = (same_nat x.number y.number).0 number.0 i;
       round = (same_nat x.round y.round).0 round.0 i;
@@ -238,12 +237,6 @@ same_draw = decided is_same_draw
     && ((pointwise_decides same_outcome x.outcomes x.outcomes).1 refl i
     && (pointwise_decides same_lot x.lots x.lots).1 refl i)))))
 
-same_Some : {A : Type 0} (x y : A) → Some x ≡ Some y → x ≡ y
-same_Some x y e = cc
-
-not_Some : {A : Type 0} (x : A) → None ≡ Some x → ⊥
-not_Some x e = cc
-
 not_both : (b : Bool) → not b ≡ true → b ≡ true → ⊥
 not_both true one other = cc
 not_both false one other = cc
@@ -251,7 +244,7 @@ not_both false one other = cc
 -- a row is another than the one that is there just where the two are not equal
 module _ {V : Type 0} (same : V → V → Bool) (decides : (x y : V) → (same x y ≡ true) ↔ (x ≡ y)) where
   pub other_row : (there : Option V) (row : V) → (is_other same there row ≡ true) ↔ (there ≡ Some row → ⊥)
-  other_row None row = (λ other e. not_Some row e, λ differs. refl)
+  other_row None row = (λ other e. none-some row e, λ differs. refl)
   other_row (Some there) row = (
     λ other e. not_both (same there row) other ((decides there row).1 (same_Some there row e)),
     λ differs. elim (same there row) as (λ b. same there row ≡ b → not b ≡ true) [

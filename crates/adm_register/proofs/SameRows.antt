@@ -1,62 +1,29 @@
 -- Two maps with the same rows, each row at the key that is in it.
-use Rattle.std.proofs.Common.{◌≡◌, ◌∙◌, ap, sym, subst, refl, cond, Bool, true, false, List, [], ◌∷◌, Some, None}
-use Rattle.std.specs.Prelude.{map, Option, T, ◌&&◌}
+use Rattle.std.proofs.Common.{◌≡◌, ◌∙◌, ap, sym, subst, refl, cond, true, false, List, [], ◌∷◌, Some, None}
+use Rattle.std.specs.Prelude.{map, Option}
 use Rattle.std.specs.declared.cmp.Ordering.{Ordering}
-use Rattle.std.specs.declared.cmp.Ordering.TheVariants.{Less, Equal, Greater}
-use Rattle.std.specs.Ordering.{eq_by_cmp, is_lt}
+use Rattle.std.specs.Ordering.{eq_by_cmp}
 use Rattle.std.specs.Cmp.{IsTotalOrder}
 use Rattle.std.specs.BTreeMap.{is_at}
 use Rattle.std.specs.Map.{lookup, keys_of, values_of}
-use Rattle.std.specs.List.{IsDistinct, All, AllByRecursion, list_all}
+use Rattle.std.specs.List.{IsDistinct, All, list_all}
 use Rattle.std.specs.List.Sorted.{IsPermutation, IsStrictlySortedBy}
-use Rattle.std.specs.FinMap.Entries.{below_all}
-use Rattle.std.specs.FinMap.{FinMap, get, entries, values, from_entries, entries_sorted, is_sorted, get-entries, get-from_entries, same_map, IsAntisymmetric}
+use Rattle.std.specs.FinMap.{FinMap, get, entries, values, from_entries, same_map, IsAntisymmetric}
 use Rattle.std.proofs.lemmas.List.Sorted.{All-permutation, IsPermutation-map, IsPermutation-sym}
 use Rattle.std.proofs.lemmas.List.Elements.{All-nil, All-cons, All-head, All-tail}
 use Rattle.std.proofs.lemmas.Map.Keys.{IsDistinct-from_sorted, IsDistinct-IsPermutation}
 use Rattle.std.specs.Cmp.{eq_by_cmp_equiv}
+use Rattle.std.proofs.lemmas.Bool.{and_parts}
+use Rattle.std.proofs.lemmas.Option.{none-some, same_Some}
+use Rattle.adm_lists.proofs.Orders.{tied, same_key}
+use Rattle.adm_lists.proofs.Maps.{get_rows, apart, entries_in_order, map_of_entries}
 use Rattle.adm_table.specs.TableRows.{row_at}
 use Rattle.adm_register.specs.WellFormed.{AllRows}
-use Rattle.adm_register.proofs.TableMaps.{get_rows}
-use Rattle.adm_register.proofs.Maps.{tied, same_key, both_true}
-use Rattle.adm_register.proofs.EachRow.{apart, list_all-from_AllRows}
-
-not_Some : {A : Type 0} (x : A) → None ≡ Some x → ⊥
-not_Some x e = cc
-
-same_Some : {A : Type 0} (x y : A) → Some x ≡ Some y → x ≡ y
-same_Some x y e = cc
-
-is_less : (o : Ordering) → T (is_lt o) → o ≡ Less
-is_less Less h = refl
-is_less Equal h = absurd h
-is_less Greater h = absurd h
-
-both_hold : (a b : Bool) → T (a && b) → T a × T b
-both_hold true b h = (tt, h)
-both_hold false b h = absurd h
-
-below : {K V : Type 0} (R : K → K → Ordering) (k : K) (es : List (K × V)) → T (below_all R k es) → AllByRecursion (λ y. R k y ≡ Less) (keys_of es)
-below R k [] h = tt
-below R k (e ∷ es) h = let parts = both_hold _ _ h in (is_less _ parts.0, below R k es parts.1)
-
-in_order : {K V : Type 0} (R : K → K → Ordering) (es : List (K × V)) → T (is_sorted R es) → IsStrictlySortedBy R (keys_of es)
-unfolding IsStrictlySortedBy
-in_order R [] h = tt
-in_order R (e ∷ es) h = let parts = both_hold _ _ h in (below R e.0 es parts.0, in_order R es parts.1)
-
-module _ {K V : Type 0} {R : K → K → Ordering} where
-  -- the entries of a map are in the order of their keys
-  pub entries_in_order : (m : FinMap R V) → IsStrictlySortedBy R (keys_of (entries m))
-  entries_in_order m = in_order R (entries m) (entries_sorted m)
-
-  -- a map is that of its entries
-  pub map_of_entries : IsTotalOrder R → IsAntisymmetric R → (m : FinMap R V) → from_entries (entries m) ≡ m
-  map_of_entries total same m = same_map total same _ _ (λ q. get-from_entries total (entries m) q ∙ sym (get-entries m q))
+use Rattle.adm_register.proofs.EachRow.{list_all-from_AllRows}
 
 module _ {K V : Type 0} {R : K → K → Ordering} (total : IsTotalOrder R) (same : IsAntisymmetric R) (key : V → K) where
   found_at_own_key : (es : List (K × V)) → map key (values_of es) ≡ keys_of es → (k : K) (v : V) → lookup (is_at (R k)) es ≡ Some v → key v ≡ k
-  found_at_own_key [] keyed k v there = absurd (not_Some v there)
+  found_at_own_key [] keyed k v there = absurd (none-some v there)
   found_at_own_key (e ∷ es) keyed k v there =
       let first : key e.1 ≡ e.0 = cc (keyed) in
       let others : map key (values_of es) ≡ keys_of es = cc (keyed) in
@@ -72,7 +39,7 @@ module _ {K V : Type 0} {R : K → K → Ordering} (total : IsTotalOrder R) (sam
   listed_at_own_keys : (es : List (K × V)) → list_all (λ e. eq_by_cmp R (key e.1) e.0) es ≡ true → map key (values_of es) ≡ keys_of es
   listed_at_own_keys [] all = refl
   listed_at_own_keys (e ∷ es) all =
-      let both = both_true _ _ all in
+      let both = and_parts _ _ all in
       λ i. same_key same (key e.1) e.0 both.0 i ∷ listed_at_own_keys es both.1 i
 
   -- and a map of rows at their own keys has entries at their own keys
@@ -100,7 +67,7 @@ module _ {K V : Type 0} {R : K → K → Ordering} (total : IsTotalOrder R) (sam
 
   -- and what holds of each value, of each row that is there
   each_row : (es : List (K × V)) → All P (values_of es) → (k : K) (v : V) → row_at R es k ≡ Some v → P v
-  each_row [] all k v there = absurd (not_Some v there)
+  each_row [] all k v there = absurd (none-some v there)
   each_row (e ∷ es) all k v there =
       elim (is_at (R k) e.0) as (λ b. cond b (Some e.1) (row_at R es k) ≡ Some v → P v) [
         | true ↦ λ here. subst P (same_Some e.1 v here) (All-head P e.1 (values_of es) all)

@@ -5,18 +5,18 @@ use Rattle.std.specs.Cmp.Lexicographic.{pointwise, bytes_decides}
 use Rattle.std.specs.Ordering.{nat_cmp}
 use Rattle.std.specs.FinMap.{FinMap}
 use borrow.Author.Tests.{le-leb, leb-true}
+use Rattle.std.proofs.lemmas.Bool.{and_parts}
 use Rattle.adm_types.specs.declared.rows.PlaceRow.{PlaceRow}
 use Rattle.adm_types.specs.declared.rows.School.{School}
 use Rattle.adm_register.specs.WellFormed.{SchoolFits, fits_school, fits_school_with, is_school, held_at}
-use Rattle.adm_register.proofs.Maps.{both_true}
 
 pub school_decided : (code : List ℕ) (school : School) → (fits_school code school ≡ true) ↔ SchoolFits code school
 school_decided code school = (
   λ test.
-      let own = both_true (pointwise nat_eq school.code code) (is_school school) test in
-      let first = both_true _ _ own.1 in
-      let second = both_true _ _ first.0 in
-      let third = both_true _ _ second.0 in
+      let own = and_parts (pointwise nat_eq school.code code) (is_school school) test in
+      let first = and_parts _ _ own.1 in
+      let second = and_parts _ _ first.0 in
+      let third = and_parts _ _ second.0 in
       record { own_code = (bytes_decides school.code code).0 own.0; code_form = third.0; text = third.1; name = second.1; in_range = first.1 },
   λ fits i. (bytes_decides school.code code).1 fits.own_code i && (fits.code_form i && fits.text i && fits.name i && fits.in_range i),
 )
@@ -24,7 +24,7 @@ school_decided code school = (
 -- and the test beside the places, that there is room too
 pub school_decided_with : (places : FinMap nat_cmp PlaceRow) (code : List ℕ) (school : School) → (fits_school_with places code school ≡ true) ↔ (SchoolFits code school × (held_at places code ≤ school.pan))
 school_decided_with places code school = (
-  λ test. let both = both_true (fits_school code school) _ test in ((school_decided code school).0 both.0, le_told both.1),
+  λ test. let both = and_parts (fits_school code school) _ test in ((school_decided code school).0 both.0, le_told both.1),
   λ fits i. (school_decided code school).1 fits.0 i && le_test fits.1 i,
 )
   where

@@ -1,26 +1,12 @@
 -- The rows of a table as a finite map.
-use Rattle.std.proofs.Common.{◌≡◌, ◌∙◌, ap, sym, refl, List, [], ◌∷◌, Some, length, arith}
-use Rattle.std.specs.Prelude.{cond, map}
+use Rattle.std.proofs.Common.{◌≡◌, ◌∙◌, ap, sym, refl, List, [], ◌∷◌, length}
+use Rattle.std.specs.Prelude.{map}
 use Rattle.std.specs.declared.cmp.Ordering.{Ordering}
 use Rattle.std.specs.Cmp.{IsTotalOrder}
 use Rattle.std.specs.Map.{keys_of, values_of}
 use Rattle.std.specs.List.Sorted.{IsStrictlySortedBy}
-use Rattle.std.specs.FinMap.{put, entries, values, len, len-entries, len-empty, entries-insert, find, get, from_entries, get-from_entries}
-use Rattle.std.specs.BTreeMap.{is_at}
-use Rattle.adm_table.specs.TableRows.{row_at}
-
-find_row : {K V : Type 0} (R : K → K → Ordering) (rows : List (K × V)) (key : K) → find R key rows ≡ row_at R rows key
-find_row R [] key = refl
-find_row R (row ∷ rows) key = ap (cond (is_at (R key) row.0) (Some row.1)) (find_row R rows key)
-
-module _ {K V : Type 0} {R : K → K → Ordering} where
-  -- what the map of the rows has at a key
-  pub get_rows : IsTotalOrder R → (rows : List (K × V)) (key : K) → get (from_entries {R = R} rows) key ≡ row_at R rows key
-  get_rows total rows key = get-from_entries total rows key ∙ find_row R rows key
-
-no_length : {A : Type 0} (xs : List A) → length xs ≡ 0 → xs ≡ []
-no_length [] e = refl
-no_length (x ∷ xs) e = absurd (omega arith)
+use Rattle.std.specs.FinMap.{put, entries, values, len, len-entries, len-empty, entries-insert, from_entries}
+use Rattle.std.proofs.lemmas.List.{nil_from_length}
 
 put_first : {K V : Type 0} (R : K → K → Ordering) (row : K × V) (rows : List (K × V)) → IsStrictlySortedBy R (keys_of (row ∷ rows)) → put R row.0 row.1 rows ≡ row ∷ rows
 unfolding IsStrictlySortedBy
@@ -30,7 +16,7 @@ put_first R row (next ∷ rows) sorted = rw sorted.0.0 refl
 -- rows in the order of their keys are the entries of their map
 pub entries_rows : {K V : Type 0} {R : K → K → Ordering} → IsTotalOrder R → (rows : List (K × V)) → IsStrictlySortedBy R (keys_of rows) → entries (from_entries {R = R} rows) ≡ rows
 unfolding IsStrictlySortedBy
-entries_rows {V = V} {R = R} total [] sorted = no_length _ (sym (len-entries (from_entries {R = R} [])) ∙ len-empty R V)
+entries_rows {V = V} {R = R} total [] sorted = nil_from_length _ (sym (len-entries (from_entries {R = R} [])) ∙ len-empty R V)
 entries_rows {R = R} total (row ∷ rows) sorted = entries-insert total (from_entries rows) row.0 row.1 ∙ ap (put R row.0 row.1) (entries_rows total rows sorted.1) ∙ put_first R row rows sorted
 
 -- as many as the map has

@@ -7,9 +7,13 @@ use Rattle.std.specs.Cmp.{nat_cmp_total}
 use Rattle.std.specs.Cmp.Lexicographic.{pointwise, bytes_decides}
 use Rattle.std.specs.List.{prefix_len}
 use Rattle.std.specs.FinMap.{get, values, nat_cmp-IsAntisymmetric}
-use Rattle.std.proofs.lemmas.Bool.{false≢true, cases_Bool}
+use Rattle.std.proofs.lemmas.Bool.{false≢true, cases_Bool, and_parts, not-true}
 use Rattle.std.proofs.lemmas.Option.{none-some}
 use Rattle.std.proofs.lemmas.List.Elements.{All-from_recursion}
+use Rattle.std.proofs.Math.Bool.{and-false}
+use Rattle.adm_lists.proofs.Members.{In, in_all, from_filter, from_filter_map, from_take}
+use Rattle.adm_lists.proofs.Rising.{sorted_filter_map}
+use Rattle.adm_lists.proofs.Maps.{entries_in_order}
 use Rattle.adm_types.specs.Limits.{is_listed, is_child_in_range}
 use Rattle.adm_types.specs.declared.rows.Child.{Child}
 use Rattle.adm_types.specs.declared.rows.Application.{Application}
@@ -18,17 +22,12 @@ use Rattle.adm_register.specs.State.{State, is_plan}
 use Rattle.adm_register.specs.WellFormed.{WellFormed, has_round, is_held}
 use Rattle.adm_register.specs.Wanted.{above, has_left, wanted_of}
 use Rattle.adm_register.specs.Waits.{waits, waiting_child, waiting_at}
-use Rattle.adm_register.proofs.Maps.{both_true, not_true}
-use Rattle.adm_register.proofs.SameRows.{entries_in_order, entries_at_own_keys}
+use Rattle.adm_register.proofs.SameRows.{entries_at_own_keys}
 use Rattle.adm_register.proofs.ListsKept.{own_apart}
-use Rattle.adm_register.proofs.RoundLemmas.{In, in_all, listed_in, in_listed, from_filter, from_filter_map, from_take, sorted_filter_map}
+use Rattle.adm_register.proofs.RoundLemmas.{listed_in, in_listed}
 use Rattle.adm_register.proofs.RoundKeys.{from_values}
 
 -- ---- the test, one part after another
-
-and_false : (b : Bool) → (b && false) ≡ false
-and_false true = refl
-and_false false = refl
 
 -- a code is among those that pass where it is among all, and passes
 listed-filter : (p : List ℕ → Bool) (codes : List (List ℕ)) (code : List ℕ) → is_listed (filter p codes) code ≡ (is_listed codes code && p code)
@@ -40,7 +39,7 @@ listed-filter p (other ∷ codes) code = elim (cases_Bool (pointwise nat_eq othe
         | true ↦ λ passes. (λ i. here i || is_listed (filter p codes) code) ∙ sym (λ i. (here i || is_listed codes code) && (ap p (sym same) ∙ passes) i)
         | false ↦ λ fails.
             let out : p code ≡ false = ap p (sym same) ∙ fails in
-            listed-filter p codes code ∙ ap (λ b. is_listed codes code && b) out ∙ and_false (is_listed codes code) ∙ sym (λ i. (here i || is_listed codes code) && out i)
+            listed-filter p codes code ∙ ap (λ b. is_listed codes code && b) out ∙ and-false (is_listed codes code) ∙ sym (λ i. (here i || is_listed codes code) && out i)
       ] refl
   | inr apart ↦
       elim (p other) as (λ b. is_listed (cond b (other ∷ filter p codes) (filter p codes)) code ≡ ((pointwise nat_eq other code || is_listed codes code) && p code)) [
@@ -59,7 +58,7 @@ module _ (old : State) (well : WellFormed old) where
   pub wants_is : (application : Application) (code : List ℕ) → is_listed (wanted_of old application) code ≡ true → (is_listed application.list code ≡ true) × (has_left old.left application.child code ≡ false)
   wants_is application code wanted =
       let both = from_filter (λ other. not (has_left old.left application.child other)) (above (get old.places application.child) application.list) code (listed_in (wanted_of old application) code wanted) in
-      (in_listed application.list code (on_list (get old.places application.child) application.list code both.0), not_true (has_left old.left application.child code) both.1)
+      (in_listed application.list code (on_list (get old.places application.child) application.list code both.0), not-true (has_left old.left application.child code) both.1)
 
 -- what is above a place is on the list
 on_list_above : (place : Option PlaceRow) (list : List (List ℕ)) (code : List ℕ) → is_listed (above place list) code ≡ true → is_listed list code ≡ true
@@ -79,7 +78,7 @@ unlisted s application code none =
       | inl higher ↦ absurd (false≢true (sym none ∙ on_list_above place application.list code higher))
       | inr lower ↦ lower
     ] in
-    sym (ap (λ b. has_round s.draws && b) (sym (wanted_parts s application code) ∙ ap (λ b. b && not (has_left s.left application.child code)) apart) ∙ and_false (has_round s.draws))
+    sym (ap (λ b. has_round s.draws && b) (sym (wanted_parts s application code) ∙ ap (λ b. b && not (has_left s.left application.child code)) apart) ∙ and-false (has_round s.draws))
 
 -- ---- what is known of who waits
 
@@ -103,7 +102,7 @@ apart_from p (Some row) list code wanted =
 
 pub waits_is : (s : State) → WellFormed s → (application : Application) (code : List ℕ) → waits s application code ≡ true → IsWaiting s application code
 waits_is s well application code waiting =
-    let both = both_true (has_round s.draws) (is_listed (wanted_of s application) code) waiting in
+    let both = and_parts (has_round s.draws) (is_listed (wanted_of s application) code) waiting in
     let wants = wants_is s well application code both.1 in
     record {
       held = both.0;

@@ -1,5 +1,5 @@
 -- The problem that a round poses has no fault.
-use Rattle.std.proofs.Common.{◌≡◌, ℕ, List, [], ◌∷◌, ◌++◌, map, Option, None, Some, Bool, true, false, cond, not, ◌||◌, ◌&&◌, inl, inr, refl, sym, ap, ◌∙◌, subst, arith}
+use Rattle.std.proofs.Common.{◌≡◌, ℕ, List, ◌++◌, map, Option, None, Some, Bool, true, false, cond, not, ◌&&◌, inl, inr, refl, sym, ap, ◌∙◌, subst, arith}
 use Rattle.std.specs.Prelude.{bytes_eq, option_map, unwrap_or, ◌==◌, find, filter}
 use Rattle.std.specs.List.{list_any}
 use Rattle.std.specs.Option.{option_to_list}
@@ -10,6 +10,9 @@ use Rattle.std.proofs.lemmas.Bool.{cases_Bool, false≢true, or_from, and_parts,
 use Rattle.std.proofs.lemmas.Bool.Decides.{nat_tests}
 use Rattle.std.proofs.lemmas.Map.Text.{is_eq-slice_cmp}
 use Rattle.std.proofs.lemmas.Slice.Eq.{bytes_eq-Decides}
+use Rattle.adm_lists.proofs.Members.{In, in_map, from_map, in_filter, in_flat_map, from_append, none_in, finds, find_gives, All_in}
+use Rattle.adm_lists.proofs.Orders.{eq_number}
+use Rattle.adm_lists.proofs.Each.{any-map}
 use Rattle.adm_types.specs.declared.draws.Lot.{Lot}
 use Rattle.adm_types.specs.Limits.{is_listed}
 use Rattle.adm_rank.specs.declared.keys.RankKey.{RankKey}
@@ -25,21 +28,14 @@ use Rattle.adm_round.specs.Round.{code_of, number_of, wants, listed, pair_at, pa
 use Rattle.adm_round.specs.Ranks.{site_of, lot_at, wishes_for, candidate_of, seats_of, market_of}
 use Rattle.adm_round.specs.declared.directory.Directory.{Directory}
 use Rattle.adm_round.specs.Lookups.{site_in, lot_in, IsDirectory}
-use Rattle.adm_round.proofs.Among.{In, in_map, from_map, in_filter, in_flat_map, from_append, none_in, finds, find_gives, All_in, pair_not, no_pair}
+use Rattle.adm_round.proofs.Pairs.{pair_not, no_pair}
 use Rattle.adm_round.proofs.Lists.{code_swap, code_self, site_known, school_of_wish, schools_are, wish_is, no_repeat, none_any, no_unknown, own_last}
 
 less_apart : (s t : Code) → slice_cmp nat_cmp s t ≡ Less → bytes_eq s t ≡ false
 less_apart s t h = sym (is_eq-slice_cmp s t) ∙ ap is_eq h
 
 less_numbers : (a b : ℕ) → nat_cmp a b ≡ Less → a == b ≡ false
-less_numbers a b h = sym (number_equal a b) ∙ ap is_eq h
-  where
-    number_equal : (a b : ℕ) → is_eq (nat_cmp a b) ≡ (a == b)
-    number_equal a b = grind (arith, nat_tests)
-
-any_mapped : {X Y : Type 0} (p : Y → Bool) (f : X → Y) (xs : List X) → list_any p (map f xs) ≡ list_any (λ x. p (f x)) xs
-any_mapped p f [] = refl
-any_mapped p f (x ∷ xs) = λ i. p (f x) || any_mapped p f xs i
+less_numbers a b h = sym (eq_number a b) ∙ ap is_eq h
 
 -- the lot of a child at a school that it wants
 pub record LotAt (lots : List Lot) (code : Code) (child : ℕ) : Type 0 where
@@ -160,7 +156,7 @@ module _ (sites : List Site) (applicants : List Applicant) (lots : List Lot) (h 
   entrant = candidate_of (site_of sites) (lot_at lots)
 
   no_entrant : (p : Candidate → Bool) → ((a : Applicant) → In a applicants → p (entrant a) ≡ false) → list_any p (map entrant applicants) ≡ false
-  no_entrant p n = any_mapped p entrant applicants ∙ none_any (λ a. p (entrant a)) applicants n
+  no_entrant p n = any-map p entrant applicants ∙ none_any (λ a. p (entrant a)) applicants n
 
   pub seats_once : some_pair same_code (map seats_of sites) ≡ false
   seats_once = no_pair code_of (slice_cmp nat_cmp) seats_of same_code sites (λ x y i j less. less_apart (code_of x) (code_of y) less) h.codes_rise
@@ -172,7 +168,7 @@ module _ (sites : List Site) (applicants : List Applicant) (lots : List Lot) (h 
   known_seats =
       no_entrant (λ e. list_any (λ w. not (list_any (λ seat. bytes_eq seat.code w.school) (map seats_of sites))) e.list) (λ a i.
       no_unknown (λ code. list_any (λ seat. bytes_eq seat.code code) (map seats_of sites)) (list_of a) (listed a) (its_schools a i)
-      (λ code l. any_mapped (λ seat. bytes_eq seat.code code) seats_of sites ∙ known_of a i code l))
+      (λ code l. any-map (λ seat. bytes_eq seat.code code) seats_of sites ∙ known_of a i code l))
 
   children_once : some_pair same_child (map entrant applicants) ≡ false
   children_once = no_pair number_of nat_cmp entrant same_child applicants (λ x y i j less. less_numbers (number_of x) (number_of y) less) h.numbers_rise

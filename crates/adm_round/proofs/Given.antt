@@ -6,6 +6,7 @@ use Rattle.std.specs.Option.{option_to_list}
 use Rattle.std.proofs.lemmas.Bool.{cases_Bool, or_parts, false≢true, lt-ltb}
 use Rattle.std.proofs.lemmas.List.Sums.{sum_by-cons}
 use Rattle.std.proofs.lemmas.Slice.Eq.{bytes_eq-Decides}
+use Rattle.adm_lists.proofs.Members.{In, in_map, All_in, in_All, none_in}
 use Rattle.adm_types.specs.declared.draws.Lot.{Lot}
 use Rattle.adm_types.specs.declared.draws.Outcome.{Outcome}
 use Rattle.adm_types.specs.Limits.{is_listed}
@@ -18,7 +19,6 @@ use Rattle.adm_round.specs.declared.applicants.Site.{Site}
 use Rattle.adm_round.specs.Round.{code_of, number_of, listed, IsListFit, IsPosed}
 use Rattle.adm_round.specs.Ranks.{site_of, lot_at, candidate_of, seats_of, market_of}
 use Rattle.adm_round.specs.Outcomes.{is_fresh, outcome_of, outcomes_of, AreBest, IsListed, KeepsTenant, HasRoom, AllotmentFits, count_at, has_fresh}
-use Rattle.adm_round.proofs.Among.{In, in_map, All_in, in_All, none_in}
 use Rattle.adm_round.proofs.Lists.{school_of_wish, on_list, own_within, code_self}
 use Rattle.adm_round.proofs.Faultless.{its_schools, seats_once}
 

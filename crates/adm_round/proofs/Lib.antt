@@ -1,4 +1,4 @@
-pub mod Among
+pub mod Pairs
 pub mod Walks
 pub mod Wants
 pub mod Lists

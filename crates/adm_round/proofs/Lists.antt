@@ -7,6 +7,7 @@ use Rattle.std.proofs.lemmas.Bool.{cases_Bool, false≢true, and_parts, and_from
 use Rattle.std.proofs.lemmas.List.Folds.{list_any-append}
 use Rattle.std.proofs.lemmas.Option.{same_Some}
 use Rattle.std.proofs.lemmas.Slice.Eq.{bytes_eq-Decides}
+use Rattle.adm_lists.proofs.Members.{In, any_in, finds, find_gives, from_filter_map}
 use Rattle.adm_types.specs.declared.rows.Child.{Child}
 use Rattle.adm_types.specs.Limits.{is_listed, is_without_repeat}
 use Rattle.adm_match.specs.declared.problem.Wish.{Wish}
@@ -14,7 +15,6 @@ use Rattle.adm_match.specs.Market.{Code, preference_rank, some_pair, same_school
 use Rattle.adm_round.specs.declared.applicants.Site.{Site}
 use Rattle.adm_round.specs.Round.{code_of, is_site}
 use Rattle.adm_round.specs.Ranks.{site_of, wish_at, wishes_for}
-use Rattle.adm_round.proofs.Among.{In, any_in, finds, find_gives, from_filter_map}
 
 pub code_swap : (s t : Code) → bytes_eq s t ≡ bytes_eq t s
 code_swap s t = elim (cases_Bool (bytes_eq s t)) [

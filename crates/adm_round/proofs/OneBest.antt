@@ -2,6 +2,7 @@
 use Rattle.std.proofs.Common.{◌≡◌, ◌∙◌, ap, sym, refl, cond, not, ◌<◌, ◌≤◌, ◌+◌, List, [], ◌∷◌, length, Option, None, Some, Bool, true, false, inl, inr, arith}
 use Rattle.std.specs.Prelude.{bytes_eq, IfSome, map}
 use Rattle.std.proofs.lemmas.Slice.Eq.{bytes_eq-Decides}
+use Rattle.adm_lists.proofs.Members.{In, in_map, All_in}
 use Rattle.adm_match.specs.declared.problem.Wish.{Wish}
 use Rattle.adm_match.specs.Market.{Code, Candidate, preference_rank, assigned_rank}
 use Rattle.adm_match.specs.Stability.{Allocation}
@@ -9,7 +10,6 @@ use Rattle.adm_round.specs.declared.applicants.Applicant.{Applicant}
 use Rattle.adm_round.specs.Round.{number_of}
 use Rattle.adm_round.specs.Ranks.{site_of, lot_at, candidate_of}
 use Rattle.adm_round.specs.Outcomes.{outcome_of, outcomes_of, OneAllotment}
-use Rattle.adm_round.proofs.Among.{In, in_map, All_in}
 
 rank-first : (w : Wish) (ws : List Wish) (s : Code) → bytes_eq w.school s ≡ true → preference_rank (w ∷ ws) s ≡ 0
 rank-first w ws s e = ap (λ b. cond (not b) (1 + preference_rank ws s) 0) e

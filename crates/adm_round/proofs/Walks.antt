@@ -1,17 +1,17 @@
 -- One more step of the walks over sites, applicants, schools and lots.
-use Rattle.std.proofs.Common.{◌≡◌, ℕ, suc, ◌+◌, ◌-◌, ◌<◌, List, [], ◌∷◌, ◌++◌, length, get_or, take, drop, map, Option, None, Some, Bool, true, false, cond, refl, sym, ap, ◌∙◌, subst, append_assoc, add-one, arith, Ordering, drop-cons, length-take-le}
+use Rattle.std.proofs.Common.{◌≡◌, ℕ, suc, ◌+◌, ◌-◌, ◌<◌, List, [], ◌∷◌, ◌++◌, length, get_or, take, drop, map, Option, None, Some, Bool, true, false, cond, refl, sym, ap, ◌∙◌, subst, append_assoc, arith, Ordering, drop-cons, length-take-le}
 use Rattle.std.specs.Prelude.{option_map, unwrap_or, find, ◌==◌, ◌&&◌, bytes_eq}
 use Rattle.std.specs.Ordering.{is_eq, nat_cmp, ordering_then}
-use Rattle.std.specs.declared.cmp.Ordering.TheVariants.{Less, Equal, Greater}
 use Rattle.std.specs.Cmp.Lexicographic.{slice_cmp}
 use Rattle.std.specs.BTreeMap.{BTreeMap, is_at, Updates}
 use Rattle.std.specs.Prelude.{option_and_then, slice_get, All}
 use Rattle.std.specs.List.{enumerate_from}
+use Rattle.std.specs.Cmp.{tied_then}
 use Rattle.std.proofs.lemmas.Option.{none-some, slice_get_within, get_or_from_slice_get}
-use Rattle.std.proofs.Math.Seq.{take-suc}
-use Rattle.std.proofs.lemmas.Bool.Decides.{nat_tests}
 use Rattle.std.proofs.lemmas.List.Elements.{filter_map-append}
 use Rattle.std.proofs.lemmas.Map.Text.{is_eq-slice_cmp}
+use Rattle.adm_lists.proofs.Orders.{eq_number}
+use Rattle.adm_lists.proofs.Walks.{next_of}
 use Rattle.adm_types.specs.declared.draws.Lot.{Lot}
 use Rattle.adm_types.specs.declared.rows.Child.{Child}
 use Rattle.adm_match.specs.Market.{Code}
@@ -22,9 +22,6 @@ use Rattle.adm_round.specs.declared.directory.Directory.{Directory}
 use Rattle.adm_round.specs.Round.{code_of, pair_of}
 use Rattle.adm_round.specs.Ranks.{wish_at, site_of, wishes_for}
 use Rattle.adm_round.specs.Lookups.{code_cmp, pair_cmp, first_value, HasFirst, IsDirectory}
-
-pub next_of : {X : Type 0} (xs : List X) (i : ℕ) (x : X) → i < length xs → x ≡ get_or xs i x → take (i + 1) xs ≡ take i xs ++ x ∷ []
-next_of xs i x l at = rw add-one (take-suc xs i x l ∙ ap (λ z. take i xs ++ z ∷ []) (sym at))
 
 -- one more row, from the last one on
 pub first_more : {K V : Type 0} (cmp : K → K → Ordering) (rows : List (K × V)) (back : ℕ) (row : K × V) (old new : BTreeMap K V) → back < length rows → row ≡ get_or rows (length rows - 1 - back) row → HasFirst cmp (drop (length rows - back) rows) old → Updates cmp old new row.0 (Some row.1) → HasFirst cmp (drop (length rows - (back + 1)) rows) new
@@ -42,17 +39,9 @@ first_more cmp rows back row old new less at was up key =
     chosen true r o = refl
     chosen false r o = refl
 
-then_equal : (one other : Ordering) → is_eq (ordering_then one other) ≡ (is_eq one && is_eq other)
-then_equal Less other = refl
-then_equal Equal other = refl
-then_equal Greater other = refl
-
-number_equal : (a b : ℕ) → is_eq (nat_cmp a b) ≡ (a == b)
-number_equal a b = grind (arith, nat_tests)
-
 both_equal : (s t : Code) (a b : ℕ) → is_eq (ordering_then (slice_cmp nat_cmp s t) (nat_cmp a b)) ≡ (bytes_eq s t && a == b)
 both_equal s t a b =
-    then_equal (slice_cmp nat_cmp s t) (nat_cmp a b) ∙ (λ i. is_eq-slice_cmp s t i && number_equal a b i)
+    sym (tied_then (slice_cmp nat_cmp s t) (nat_cmp a b)) ∙ (λ i. is_eq-slice_cmp s t i && eq_number a b i)
 
 -- the lot of a pair is that of the first row with it
 lots_found : (lots : List Lot) (school : Code) (child : ℕ) → first_value pair_cmp (map (λ lot. (pair_of lot, lot.lot)) lots) (record { school = school; child = child }) ≡ option_map (λ lot. lot.lot) (find (λ lot. bytes_eq lot.school school && lot.child == child) lots)

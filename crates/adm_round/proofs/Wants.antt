@@ -8,6 +8,7 @@ use Rattle.std.proofs.lemmas.List.Concat.{flat_map-append}
 use Rattle.std.proofs.lemmas.List.Folds.{list_any-append}
 use Rattle.std.proofs.lemmas.Map.Text.{is_eq-slice_cmp}
 use Rattle.std.proofs.lemmas.Slice.Eq.{bytes_eq-Decides}
+use Rattle.adm_lists.proofs.Walks.{next_of}
 use Rattle.adm_types.specs.Limits.{is_listed}
 use Rattle.adm_match.specs.Market.{Code}
 use Rattle.adm_round.specs.declared.applicants.Applicant.{Applicant}
@@ -15,7 +16,6 @@ use Rattle.adm_round.specs.declared.applicants.Pair.{Pair}
 use Rattle.adm_round.specs.declared.applicants.Site.{Site}
 use Rattle.adm_round.specs.Round.{code_of, number_of, wants, pair_at, pairs_at, pairs}
 use Rattle.adm_round.specs.Lookups.{code_cmp, children_for}
-use Rattle.adm_round.proofs.Walks.{next_of}
 
 -- those of a look-up, or none
 abbrev pub items_of : Option (Vec ℕ Global) → List ℕ

@@ -1,5 +1,5 @@
 -- What a CREATE TABLE leaves.
-use Rattle.std.proofs.Common.{◌≡◌, ℕ, zero, suc, ◌+◌, List, [], ◌∷◌, ◌++◌, Ok, Some, None, slice_get, false, sym, ap, ◌∙◌, subst, subst₂}
+use Rattle.std.proofs.Common.{◌≡◌, ℕ, zero, suc, ◌+◌, List, [], ◌∷◌, Ok, Some, None, slice_get, false, sym, ap, ◌∙◌, subst, subst₂}
 use Rattle.std.specs.List.{AllByRecursion}
 use Rattle.sqlite.specs.Schema.{Schema}
 use Rattle.sqlite.specs.Table.{Table}
@@ -10,6 +10,8 @@ use Rattle.sqlite.specs.Effect.{Database, IsDatabase}
 use Rattle.sqlite.specs.State.{Writes, State, ExecutesInside}
 use Rattle.sqlite.specs.Tree.{Trees}
 use Rattle.sqlite.proofs.Callers.{runs_as}
+use Rattle.std.proofs.lemmas.Option.{same_Some}
+use Rattle.adm_lists.proofs.Each.{each_push}
 use Rattle.adm_schema.specs.Effects.{SeesNoRows}
 use Rattle.adm_schema.specs.Creations.{IsCreation, creations, schema_after}
 use Rattle.adm_schema.specs.Schema.{new_meta, new_school, new_child, new_application, new_place, new_left_list, new_draw, new_offer, new_lot, new_imported, new_present}
@@ -35,10 +37,6 @@ creates {before} {after} {table} {sql} made old new count has h =
       w.sound,
     )
 
-all_push : {X : Type 0} (P : X → Type 0) (xs : List X) (x : X) → AllByRecursion P xs → P x → AllByRecursion P (xs ++ x ∷ [])
-all_push P [] x all one = (one, tt)
-all_push P (y ∷ ys) x all one = (all.0, all_push P ys x all.1 one)
-
 all_kept : (tables : List Table) (old new : Trees) → KeepsRows tables old new → AllByRecursion (λ t. old t.tree ≡ []) tables → AllByRecursion (λ t. new t.tree ≡ []) tables
 all_kept [] old new kept all = tt
 all_kept (t ∷ tables) old new kept all = (kept.0 ∙ all.0, all_kept tables old new kept.1 all.1)
@@ -52,23 +50,20 @@ makes_next before after table sql made old new count sees h =
       schema_is = it.0;
       sound = it.3;
       empty = subst (λ (s : Schema). AllByRecursion (λ t. new.now.trees t.tree ≡ []) s.tables) made.makes
-          (all_push (λ (t : Table). new.now.trees t.tree ≡ []) before.tables next (all_kept before.tables old.now.trees new.now.trees it.2 sees.empty) it.1);
+          (each_push (λ (t : Table). new.now.trees t.tree ≡ []) before.tables next (all_kept before.tables old.now.trees new.now.trees it.2 sees.empty) it.1);
     }
-
-some_is : {X : Type 0} {a b : X} → Some a ≡ Some b → a ≡ b
-some_is e = cc
 
 -- each text of the list makes the next schema of the one before
 pub creation_at : (i : ℕ) (sql : List ℕ) → slice_get creations i ≡ Some sql → (table : Table) × IsCreation (schema_after i) sql table (schema_after (i + 1))
-creation_at zero sql is = (new_meta, subst (λ t. IsCreation (schema_after 0) t new_meta (schema_after 1)) (some_is is) creates_meta)
-creation_at (suc zero) sql is = (new_school, subst (λ t. IsCreation (schema_after 1) t new_school (schema_after 2)) (some_is is) creates_school)
-creation_at (suc (suc zero)) sql is = (new_child, subst (λ t. IsCreation (schema_after 2) t new_child (schema_after 3)) (some_is is) creates_child)
-creation_at (suc (suc (suc zero))) sql is = (new_application, subst (λ t. IsCreation (schema_after 3) t new_application (schema_after 4)) (some_is is) creates_application)
-creation_at (suc (suc (suc (suc zero)))) sql is = (new_place, subst (λ t. IsCreation (schema_after 4) t new_place (schema_after 5)) (some_is is) creates_place)
-creation_at (suc (suc (suc (suc (suc zero))))) sql is = (new_left_list, subst (λ t. IsCreation (schema_after 5) t new_left_list (schema_after 6)) (some_is is) creates_left_list)
-creation_at (suc (suc (suc (suc (suc (suc zero)))))) sql is = (new_draw, subst (λ t. IsCreation (schema_after 6) t new_draw (schema_after 7)) (some_is is) creates_draw)
-creation_at (suc (suc (suc (suc (suc (suc (suc zero))))))) sql is = (new_offer, subst (λ t. IsCreation (schema_after 7) t new_offer (schema_after 8)) (some_is is) creates_offer)
-creation_at (suc (suc (suc (suc (suc (suc (suc (suc zero)))))))) sql is = (new_lot, subst (λ t. IsCreation (schema_after 8) t new_lot (schema_after 9)) (some_is is) creates_lot)
-creation_at (suc (suc (suc (suc (suc (suc (suc (suc (suc zero))))))))) sql is = (new_imported, subst (λ t. IsCreation (schema_after 9) t new_imported (schema_after 10)) (some_is is) creates_imported)
-creation_at (suc (suc (suc (suc (suc (suc (suc (suc (suc (suc zero)))))))))) sql is = (new_present, subst (λ t. IsCreation (schema_after 10) t new_present (schema_after 11)) (some_is is) creates_present)
+creation_at zero sql is = (new_meta, subst (λ t. IsCreation (schema_after 0) t new_meta (schema_after 1)) (same_Some _ _ is) creates_meta)
+creation_at (suc zero) sql is = (new_school, subst (λ t. IsCreation (schema_after 1) t new_school (schema_after 2)) (same_Some _ _ is) creates_school)
+creation_at (suc (suc zero)) sql is = (new_child, subst (λ t. IsCreation (schema_after 2) t new_child (schema_after 3)) (same_Some _ _ is) creates_child)
+creation_at (suc (suc (suc zero))) sql is = (new_application, subst (λ t. IsCreation (schema_after 3) t new_application (schema_after 4)) (same_Some _ _ is) creates_application)
+creation_at (suc (suc (suc (suc zero)))) sql is = (new_place, subst (λ t. IsCreation (schema_after 4) t new_place (schema_after 5)) (same_Some _ _ is) creates_place)
+creation_at (suc (suc (suc (suc (suc zero))))) sql is = (new_left_list, subst (λ t. IsCreation (schema_after 5) t new_left_list (schema_after 6)) (same_Some _ _ is) creates_left_list)
+creation_at (suc (suc (suc (suc (suc (suc zero)))))) sql is = (new_draw, subst (λ t. IsCreation (schema_after 6) t new_draw (schema_after 7)) (same_Some _ _ is) creates_draw)
+creation_at (suc (suc (suc (suc (suc (suc (suc zero))))))) sql is = (new_offer, subst (λ t. IsCreation (schema_after 7) t new_offer (schema_after 8)) (same_Some _ _ is) creates_offer)
+creation_at (suc (suc (suc (suc (suc (suc (suc (suc zero)))))))) sql is = (new_lot, subst (λ t. IsCreation (schema_after 8) t new_lot (schema_after 9)) (same_Some _ _ is) creates_lot)
+creation_at (suc (suc (suc (suc (suc (suc (suc (suc (suc zero))))))))) sql is = (new_imported, subst (λ t. IsCreation (schema_after 9) t new_imported (schema_after 10)) (same_Some _ _ is) creates_imported)
+creation_at (suc (suc (suc (suc (suc (suc (suc (suc (suc (suc zero)))))))))) sql is = (new_present, subst (λ t. IsCreation (schema_after 10) t new_present (schema_after 11)) (same_Some _ _ is) creates_present)
 creation_at (suc (suc (suc (suc (suc (suc (suc (suc (suc (suc (suc more))))))))))) sql is = absurd (cc)

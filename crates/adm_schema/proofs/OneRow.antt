@@ -4,8 +4,6 @@ use Rattle.std.specs.Prelude.{◌&&◌, ◌||◌}
 use Rattle.std.specs.List.{list_any, list_all}
 use Rattle.std.specs.Ordering.{is_eq, int_cmp}
 use Rattle.std.specs.FinMap.{int_cmp-IsAntisymmetric}
-use Rattle.std.specs.declared.cmp.Ordering.{Ordering}
-use Rattle.std.specs.declared.cmp.Ordering.TheVariants.{Less, Equal, Greater}
 use Rattle.std.specs.List.Sorted.{IsPermutation}
 use Rattle.std.proofs.lemmas.Bool.{not-true}
 use Rattle.sqlite.specs.declared.types.Value.TheVariants.{Int}
@@ -41,6 +39,7 @@ use Rattle.sqlite.specs.declared.types.Value.TheVariants.{Null}
 use Rattle.sqlite.specs.Query.{IsAnswer, Output, output}
 use Rattle.sqlite.specs.Program.{overlay}
 use Rattle.sqlite.specs.Effect.{Database, Answers}
+use Rattle.adm_lists.proofs.Orders.{same_key}
 use Rattle.adm_schema.specs.Queries.{query_of, program_of}
 use Rattle.adm_schema.specs.RowTexts.{has_key}
 use Rattle.adm_schema.specs.Effects.{PutsRow, CutsRow, key_of}
@@ -54,11 +53,6 @@ use Rattle.adm_schema.specs.Rows.{columns_of, rows_of}
 use Rattle.adm_schema.proofs.Lists.{has_source, has_mapped, ids_have, keyed_without}
 use Rattle.sqlite_rules.proofs.ListLemmas.{has_filtered, has_kept, has_contained, contains_had, test_has}
 use Rattle.sqlite_rules.proofs.TableLemmas.{int_is}
-
-is_tie : (o : Ordering) → is_eq o ≡ true → o ≡ Equal
-is_tie Less h = absurd (cc)
-is_tie Equal h = refl
-is_tie Greater h = absurd (cc)
 
 pub truth_is : (t : Bool) → is_true (from_truth (Some t)) ≡ t
 truth_is true = refl
@@ -78,7 +72,7 @@ equal_rowid r k own = subst (λ v. equal Binary v (Int k) ≡ is_eq (value_cmp v
 own_rowid : (r : Row) (k : ℤ) → is_int (rowid r) ≡ true → has_rowid k r ≡ true → id_in (rowid r) ≡ k
 own_rowid r k own h =
     let tie : is_eq (int_cmp (id_in (rowid r)) k) ≡ true = ap is_eq (sym (value_cmp-Int (id_in (rowid r)) k)) ∙ subst (λ v. is_eq (value_cmp v (Int k)) ≡ true) (int_is (rowid r) own) h in
-    int_cmp-IsAntisymmetric (id_in (rowid r)) k (is_tie _ tie)
+    same_key int_cmp-IsAntisymmetric (id_in (rowid r)) k tie
 
 -- where no row has the rowid, taking it out changes nothing
 none_goes : (k : ℤ) (rows : List Row) → ((r : Row) → Has rows r → has_rowid k r ≡ false) → without_rowid k rows ≡ rows

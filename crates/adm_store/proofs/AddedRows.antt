@@ -10,8 +10,9 @@ use Rattle.std.specs.FinMap.Entries.{where_key, is_sorted-where_key, find-where_
 use Rattle.std.specs.FinMap.{FinMap, get, values, entries, entries_sorted, get-entries, contains_key, IsAntisymmetric}
 use Rattle.sqlite.specs.Order.{Row}
 use Rattle.sqlite_rules.specs.Lists.{Has}
+use Rattle.std.proofs.lemmas.Option.{none-some, same_Some}
 use Rattle.adm_register.specs.Difference.{AreNew}
-use Rattle.adm_store.proofs.Entries.{same_Some, not_Some, own_entry, value_at}
+use Rattle.adm_store.proofs.Entries.{own_entry, value_at}
 use Rattle.adm_store.proofs.MapRows.{row_there}
 
 same_where : {X : Type 0} (p q : X → Bool) (xs : List X) → ((x : X) → Has xs x → p x ≡ q x) → filter p xs ≡ filter q xs
@@ -55,7 +56,7 @@ module _ {K V : Type 0} {R : K → K → Ordering} (total : IsTotalOrder R) (sam
         subst (λ xs. IsPermutation (values old ++ xs) (values new)) (sym added) (subst (λ xs. IsPermutation (xs ++ filter (λ v. not (p v)) (values new)) (values new)) was both)
       where
         new_where : (v : V) → get new (key v) ≡ Some v → (b : Bool) → differ.is_new v ≡ b → (o : Option V) → get old (key v) ≡ o → differ.is_new v ≡ not (is_some (get old (key v)))
-        new_where v there b is None none = (differ.decides v there).1 (λ e. not_Some v (sym none ∙ e)) ∙ sym (ap (λ o. not (is_some o)) none)
+        new_where v there b is None none = (differ.decides v there).1 (λ e. none-some v (sym none ∙ e)) ∙ sym (ap (λ o. not (is_some o)) none)
         new_where v there true is (Some w) was = absurd ((differ.decides v there).0 is (was ∙ ap Some (same_Some w v (sym (kept (key v) w was) ∙ there))))
         new_where v there false is (Some w) was = is ∙ sym (ap (λ o. not (is_some o)) was)
 

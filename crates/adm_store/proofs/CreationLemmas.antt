@@ -1,9 +1,9 @@
 -- The file of a new register.
-use Rattle.std.proofs.Common.{◌≡◌, ◌≤◌, true, inl, [], ◌∷◌, map, flat_map, Some, None, refl, sym, ap, ◌∙◌, subst, arith, IsTrue}
+use Rattle.std.proofs.Common.{◌≡◌, ◌≤◌, true, inl, [], ◌∷◌, map, flat_map, refl, sym, ap, ◌∙◌, subst, arith, IsTrue}
 use Rattle.std.specs.List.Sorted.{IsPermutation}
 use Rattle.std.specs.declared.cmp.Ordering.{Ordering}
 use Rattle.std.specs.Ordering.{nat_cmp}
-use Rattle.std.specs.FinMap.{empty, entries, values, get-empty, len-empty, len-entries}
+use Rattle.std.specs.FinMap.{empty, get-empty, len-empty}
 use Rattle.sqlite.specs.Table.{Table}
 use Rattle.sqlite.specs.Held.{Held, state}
 use Rattle.sqlite_trees.specs.declared.store.Store as store
@@ -11,6 +11,8 @@ use Rattle.sqlite_trees.specs.View.{doubt}
 use Rattle.sqlite.specs.State.{State, HasCleanDisk, IsLive}
 use Rattle.sqlite_catalog.specs.Listing.{IsSound}
 use Rattle.sqlite_rules.specs.Lists.{Has}
+use Rattle.std.proofs.lemmas.Option.{none-some}
+use Rattle.adm_lists.proofs.Maps.{values-empty}
 use Rattle.adm_types.specs.Seasons.{SeasonFacts, IsSeason}
 use Rattle.adm_types.specs.declared.rows.School.{School}
 use Rattle.adm_types.specs.declared.rows.Child.{Child}
@@ -28,19 +30,13 @@ use Rattle.adm_store.specs.declared.rows.SeasonRow.{SeasonRow}
 use Rattle.adm_store.specs.Changes.{IsRowOf, written_season}
 use Rattle.adm_store.specs.StandsFor.{StandsAs, HasRows, written_in, written_tables}
 use Rattle.adm_store.specs.Writes.{Adds, Leaves, Writes, write_of, after, are_keyed}
-use Rattle.adm_store.proofs.LogLemmas.{no_rows, keyed_none}
+use Rattle.adm_store.proofs.LogLemmas.{keyed_none}
 use Rattle.adm_store.proofs.RegisterRows.{each_table}
 use Rattle.adm_store.proofs.RowLemmas.{recursion_had}
 
-no_values : {K V : Type 0} (R : K → K → Ordering) → values (empty {K = K} {X = V} {R = R}) ≡ []
-no_values {K} {V} R = ap (map (λ e. e.1)) (no_rows (entries (empty {R = R})) (sym (len-entries (empty {R = R})) ∙ len-empty R V))
-
-not_there : {X : Type 0} {x : X} → None ≡ Some x → ⊥
-not_there e = cc
-
 -- no row is without what each row has to have
 none_wrong : {K V : Type 0} (R : K → K → Ordering) (P : K → V → Type 0) → AllRows P (empty {K = K} {X = V} {R = R})
-none_wrong R P key row there = absurd (not_there (sym (get-empty R key) ∙ there))
+none_wrong R P key row there = absurd (none-some row (sym (get-empty R key) ∙ there))
 
 -- the season and no other row is a register
 pub formed_new : (season : SeasonFacts) → IsSeason season → WellFormed (only_season season)
@@ -55,7 +51,7 @@ formed_new season fits = record {
   };
   places = record { each = none_wrong nat_cmp _; room = none_wrong code_cmp _ };
   left = none_wrong left_cmp _;
-  draws = record { each = none_wrong nat_cmp _; in_order = ap (are_in_order season no_draws) (no_values nat_cmp) };
+  draws = record { each = none_wrong nat_cmp _; in_order = ap (are_in_order season no_draws) (values-empty nat_cmp _) };
   imported = none_wrong nat_cmp _;
 }
 
@@ -64,7 +60,7 @@ abbrev season_alone : SeasonFacts → Rows
 season_alone season = record { season = season; schools = []; children = []; applications = []; places = []; left = []; draws = []; offers = []; lots = []; imported = [] }
 
 only_rows : (season : SeasonFacts) → rows_in_order (only_season season) ≡ season_alone season
-only_rows season = λ k. record { season = season; schools = no_values code_cmp k; children = no_values nat_cmp k; applications = no_values nat_cmp k; places = no_values nat_cmp k; left = no_values left_cmp k; draws = map row_of (no_values nat_cmp k); offers = flat_map offers_of (no_values nat_cmp k); lots = flat_map lots_of (no_values nat_cmp k); imported = no_values nat_cmp k }
+only_rows season = λ k. record { season = season; schools = values-empty code_cmp _ k; children = values-empty nat_cmp _ k; applications = values-empty nat_cmp _ k; places = values-empty nat_cmp _ k; left = values-empty left_cmp _ k; draws = map row_of (values-empty nat_cmp _ k); offers = flat_map offers_of (values-empty nat_cmp _ k); lots = flat_map lots_of (values-empty nat_cmp _ k); imported = values-empty nat_cmp _ k }
 
 pub stands_for_new : (made last : State) (season : SeasonFacts) (row : SeasonRow) → IsRowOf season row → SeesNoRows register_schema made → Leaves (write_of Adds meta written_season (row ∷ []) ∷ []) made last → StandsAs Second last.now.trees (only_season season)
 stands_for_new made last season row it none wrote = record {

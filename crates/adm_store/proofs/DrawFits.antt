@@ -7,6 +7,7 @@ use Rattle.std.specs.FinMap.{values, contains_key, nat_cmp-IsAntisymmetric}
 use Rattle.std.proofs.lemmas.Bool.{and_parts}
 use Rattle.std.proofs.lemmas.Bool.Decides.{nat_tests}
 use Rattle.sqlite_trees.proofs.ListLemmas.{all-flat_map}
+use Rattle.adm_lists.proofs.Each.{each_weaker, each_both}
 use Rattle.adm_types.specs.Limits.{most_draws}
 use Rattle.adm_types.specs.Seasons.{SeasonFacts, lists_end}
 use Rattle.adm_types.specs.declared.draws.Draw.{Draw}
@@ -20,7 +21,6 @@ use Rattle.adm_register.specs.declared.draws_so_far.DrawsSoFar.{DrawsSoFar}
 use Rattle.adm_store.specs.DrawForms.{IsDrawRow, IsOfferRow, IsLotRow, is_number, is_code_or_none}
 use Rattle.adm_store.proofs.KnownRows.{code_there, number_there}
 use Rattle.adm_store.proofs.MapRows.{each_value}
-use Rattle.adm_store.proofs.RowLemmas.{recursion_map}
 
 -- ---- numbers and days
 
@@ -52,10 +52,6 @@ each_in_turn season before (d ∷ ds) few order =
 low_number : (n : ℕ) → n ≤ most_draws → is_number n ≡ true
 low_number n low = grind (arith, nat_tests)
 
-both : {X : Type 0} (P Q : X → Type 0) (xs : List X) → AllByRecursion P xs → AllByRecursion Q xs → AllByRecursion (λ x. P x × Q x) xs
-both P Q [] p q = tt
-both P Q (x ∷ xs) p q = ((p.0, q.0), both P Q xs p.1 q.1)
-
 -- ---- the draws of a register, and their rows
 
 module _ (r : Register) (formed : WellFormed r) where
@@ -83,7 +79,7 @@ module _ (r : Register) (formed : WellFormed r) where
   FitsInTurn d = ((number : ℕ) × DrawFits r.schools r.children number d) × IsInTurn r.season d
 
   each_draw : AllByRecursion FitsInTurn (values r.draws)
-  each_draw = both _ _ (values r.draws)
+  each_draw = each_both _ _ (values r.draws)
       (each_value nat_cmp_total nat_cmp-IsAntisymmetric (λ d. (number : ℕ) × DrawFits r.schools r.children number d) r.draws (λ number d is. (number, formed.draws.each number d is)))
       (each_in_turn r.season no_draws (values r.draws) (omega arith) formed.draws.in_order)
 
@@ -97,14 +93,14 @@ module _ (r : Register) (formed : WellFormed r) where
 
   pub offers_fit : AllByRecursion IsOfferRow (flat_map offers_of (values r.draws))
   offers_fit = all-flat_map IsOfferRow offers_of (values r.draws)
-      (recursion_map FitsInTurn _ (λ d it. outcomes_fit d.number (low_number d.number it.1.number) d.outcomes it.0.1.outcomes) (values r.draws) each_draw)
+      (each_weaker FitsInTurn _ (λ d it. outcomes_fit d.number (low_number d.number it.1.number) d.outcomes it.0.1.outcomes) (values r.draws) each_draw)
 
   pub lots_fit : AllByRecursion IsLotRow (flat_map lots_of (values r.draws))
   lots_fit = all-flat_map IsLotRow lots_of (values r.draws)
-      (recursion_map FitsInTurn _ (λ d it. drawn_fit d.number (low_number d.number it.1.number) d.lots it.0.1.lots) (values r.draws) each_draw)
+      (each_weaker FitsInTurn _ (λ d it. drawn_fit d.number (low_number d.number it.1.number) d.lots it.0.1.lots) (values r.draws) each_draw)
 
 pub draws_fit : (r : Register) (last : ℕ) → WellFormed r → last ≡ lists_end r.season → AllByRecursion (IsDrawRow last) (map row_of (values r.draws))
-draws_fit r last formed same = all_mapped (values r.draws) (recursion_map (FitsInTurn r formed) _ (head_fits r formed last same) (values r.draws) (each_draw r formed))
+draws_fit r last formed same = all_mapped (values r.draws) (each_weaker (FitsInTurn r formed) _ (head_fits r formed last same) (values r.draws) (each_draw r formed))
   where
     all_mapped : (ds : List Draw) → AllByRecursion (λ d. IsDrawRow last (row_of d)) ds → AllByRecursion (IsDrawRow last) (map row_of ds)
     all_mapped [] all = tt

@@ -1,15 +1,16 @@
 -- Draws in the order of their numbers: what order says of each, and which of new ones is the last.
 use Rattle.std.proofs.Common.{◌≡◌, ◌⊎◌, ◌∙◌, ◌+◌, ◌<◌, ◌≤◌, ◌-◌, ℕ, inl, inr, Bool, true, false, cond, List, [], ◌∷◌, ◌++◌, filter, length, drop, Some, None, Option, refl, sym, ap, subst, arith, nat_lt, length-append}
-use Rattle.std.specs.Prelude.{nat_eq}
 use Rattle.std.specs.Cmp.{nat_cmp_total}
 use Rattle.std.specs.List.{AllByRecursion}
 use Rattle.std.specs.Ordering.{nat_cmp}
 use Rattle.std.specs.FinMap.{FinMap, get, values, nat_cmp-IsAntisymmetric}
-use Rattle.std.proofs.lemmas.Bool.{and_parts}
+use Rattle.std.proofs.lemmas.Bool.{and_parts, eqb-true}
 use Rattle.std.proofs.lemmas.Bool.Decides.{nat_tests}
 use Rattle.std.proofs.lemmas.List.Elements.{filter-append}
 use Rattle.std.proofs.lemmas.List.Sorted.{length_permutation}
 use Rattle.sqlite_rules.specs.Lists.{Has}
+use Rattle.std.proofs.lemmas.Option.{none-some}
+use Rattle.std.proofs.lemmas.List.{nil_from_length}
 use Rattle.adm_types.specs.Limits.{most_draws}
 use Rattle.adm_types.specs.Seasons.{SeasonFacts}
 use Rattle.adm_types.specs.declared.draws.Draw.{Draw}
@@ -19,15 +20,11 @@ use Rattle.adm_register.specs.Draws.{no_draws, with_draw, is_next, are_in_order}
 use Rattle.adm_register.specs.declared.draws_so_far.DrawsSoFar.{DrawsSoFar}
 use Rattle.adm_store.specs.Changes.{last_draw}
 use Rattle.adm_store.proofs.AddedRows.{old_and_new}
-use Rattle.adm_store.proofs.Entries.{has_value, value_at, not_Some}
-use Rattle.adm_store.proofs.LogLemmas.{no_rows}
+use Rattle.adm_store.proofs.Entries.{has_value, value_at}
 use Rattle.adm_store.proofs.RowLemmas.{recursion_had}
 
 below : (a b : ℕ) → nat_lt a b ≡ true → a < b
 below a b h = grind (arith, nat_tests)
-
-same_number : (a b : ℕ) → nat_eq a b ≡ true → a ≡ b
-same_number a b h = grind (arith, nat_tests)
 
 -- ---- one after another
 
@@ -43,7 +40,7 @@ next_numbered season before draw next =
     let due = and_parts _ _ day.0 in
     let room = and_parts _ _ due.0 in
     let number = and_parts _ _ room.0 in
-    record { number = same_number _ _ number.0; room = below _ _ room.1 }
+    record { number = eqb-true _ _ number.0; room = below _ _ room.1 }
 
 -- there are not too many
 pub few_draws : (season : SeasonFacts) (before : DrawsSoFar) (draws : List Draw) → before.draws ≤ most_draws → are_in_order season before draws ≡ true → before.draws + length draws ≤ most_draws
@@ -105,7 +102,7 @@ module _ (season : SeasonFacts) (old new : FinMap nat_cmp Draw) (own_old : (k : 
   more = let all = length_permutation _ _ (old_and_new nat_cmp_total nat_cmp-IsAntisymmetric (λ (d : Draw). d.number) old new own kept news differ) in omega (arith, all, length-append (values old) news)
 
   none_new : length (values new) ≤ length (values old) → Counted
-  none_new low = inl (no_rows news (omega (arith, more, low)), omega (arith, more, low))
+  none_new low = inl (nil_from_length news (omega (arith, more, low)), omega (arith, more, low))
 
   pub counted : Counted
   counted = elim (last_of (values new)) [
@@ -127,7 +124,7 @@ module _ (season : SeasonFacts) (old new : FinMap nat_cmp Draw) (own_old : (k : 
 
           -- it was there, and so no draw is new
           stayed : differ.is_new last ≡ false → (o : Option Draw) → get old last.number ≡ o → Counted
-          stayed not_new None none = absurd (let wrong : false ≡ true = sym not_new ∙ (differ.decides last there).1 (λ e. not_Some last (sym none ∙ e)) in cc)
+          stayed not_new None none = absurd (let wrong : false ≡ true = sym not_new ∙ (differ.decides last there).1 (λ e. none-some last (sym none ∙ e)) in cc)
           stayed not_new (Some draw) had =
               let low = recursion_had (λ (d : Draw). d.number ≤ no_draws.draws + length (values old)) (values old) draw (low_numbers season no_draws (values old) was) (has_value nat_cmp_total nat_cmp-IsAntisymmetric old last.number draw had) in
               let same = own_old last.number draw had in

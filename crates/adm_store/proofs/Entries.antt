@@ -1,34 +1,17 @@
 -- What stands in a map at each of its keys.
-use Rattle.std.proofs.Common.{◌≡◌, ◌∙◌, inl, inr, Bool, true, false, cond, List, [], ◌∷◌, map, Some, None, refl, sym, ap, subst}
-use Rattle.std.specs.Prelude.{T, ◌&&◌}
+use Rattle.std.proofs.Common.{◌≡◌, ◌∙◌, inl, inr, Bool, true, false, cond, List, [], ◌∷◌, map, Some, refl, sym, ap, subst}
+use Rattle.std.specs.Prelude.{T}
 use Rattle.std.specs.declared.cmp.Ordering.{Ordering}
-use Rattle.std.specs.declared.cmp.Ordering.TheVariants.{Less, Equal, Greater}
-use Rattle.std.specs.Ordering.{is_eq, is_lt, eq_by_cmp}
+use Rattle.std.specs.declared.cmp.Ordering.TheVariants.{Less, Equal}
+use Rattle.std.specs.Ordering.{is_eq, eq_by_cmp}
 use Rattle.std.specs.Cmp.{IsTotalOrder, tied_itself}
 use Rattle.std.specs.FinMap.Entries.{below_all}
 use Rattle.std.specs.FinMap.{FinMap, find, is_sorted, get, values, entries, entries_sorted, get-entries, IsAntisymmetric}
 use Rattle.sqlite_rules.specs.Lists.{Has}
+use Rattle.std.proofs.lemmas.Option.{none-some, same_Some}
+use Rattle.adm_lists.proofs.Tests.{both_hold}
+use Rattle.adm_lists.proofs.Orders.{is_less, same_key}
 use Rattle.adm_schema.proofs.Lists.{has_source}
-
-pub is_less : (o : Ordering) → T (is_lt o) → o ≡ Less
-is_less Less h = refl
-is_less Equal h = absurd h
-is_less Greater h = absurd h
-
-pub is_tie : (o : Ordering) → is_eq o ≡ true → o ≡ Equal
-is_tie Less h = absurd (cc)
-is_tie Equal h = refl
-is_tie Greater h = absurd (cc)
-
-pub both_hold : (a b : Bool) → T (a && b) → T a × T b
-both_hold true b h = (tt, h)
-both_hold false b h = absurd h
-
-pub same_Some : {A : Type 0} (x y : A) → Some x ≡ Some y → x ≡ y
-same_Some x y e = cc
-
-pub not_Some : {A : Type 0} (x : A) → None ≡ Some x → ⊥
-not_Some x e = cc
 
 -- ---- the entries of a map
 
@@ -49,7 +32,7 @@ module _ {K V : Type 0} {R : K → K → Ordering} (total : IsTotalOrder R) (sam
     where
       go : (b : Bool) → eq_by_cmp R e.0 x.0 ≡ b → R x.0 e.0 ≡ Less → find R e.0 es ≡ Some e.1 → cond b (Some x.1) (find R e.0 es) ≡ Some e.1
       go true tie less there = absurd (
-          let is : e.0 ≡ x.0 = same e.0 x.0 (is_tie _ tie) in
+          let is : e.0 ≡ x.0 = same_key same e.0 x.0 tie in
           let wrong : Less ≡ Equal = sym less ∙ ap (λ k. R x.0 k) is ∙ tied_itself total x.0 in
           cc
           )
@@ -57,7 +40,7 @@ module _ {K V : Type 0} {R : K → K → Ordering} (total : IsTotalOrder R) (sam
 
   -- what is found is an entry
   had : (q : K) (es : List (K × V)) (v : V) → find R q es ≡ Some v → Has (map (λ e. e.1) es) v
-  had q [] v there = absurd (not_Some v there)
+  had q [] v there = absurd (none-some v there)
   had q (e ∷ es) v there = go (eq_by_cmp R q e.0) there (had q es v)
     where
       go : (b : Bool) → cond b (Some e.1) (find R q es) ≡ Some v → (find R q es ≡ Some v → Has (map (λ x. x.1) es) v) → Has (map (λ x. x.1) (e ∷ es)) v

@@ -4,7 +4,7 @@ use Rattle.std.specs.Prelude.{◌&&◌, is_some, fold, if◌then◌else◌}
 use Rattle.std.specs.List.{list_all}
 use Rattle.std.specs.List.Sorted.{IsPermutation}
 use Rattle.std.proofs.lemmas.Bool.{and_parts, not-true, eqb-true, eqb-false}
-use Rattle.std.proofs.lemmas.List.{map-append, length-append, take_more}
+use Rattle.std.proofs.lemmas.List.{map-append, length-append, take_more, nil_from_length}
 use Rattle.std.proofs.lemmas.List.Sorted.{IsPermutation-refl, IsPermutation-trans, IsPermutation-map, IsPermutation-append_left, IsPermutation-append_comm}
 use Rattle.std.proofs.lemmas.List.Sums.{fold-append, sum_by-append}
 use Rattle.sqlite.specs.Order.{Row}
@@ -270,10 +270,6 @@ pub record Ran (writes : List Write) (old new : State) : Type 0 where
 pub ran_then : {p q : List Write} {a b c : State} → Ran p a b → Ran q b c → Ran (p ++ q) a c
 ran_then {p} {q} {a} {b} {c} x y = record { survives = survives_on a b c x.survives y.survives; leaves = writes_then p q a b c x.survives y.survives x.leaves y.leaves }
 
-pub no_rows : {X : Type 0} (xs : List X) → length xs ≡ 0 → xs ≡ []
-no_rows [] e = refl
-no_rows (x ∷ xs) e = absurd (omega (arith, e))
-
 pub keyed_none : (t : Table) → IsTrue (are_keyed t [])
 keyed_none t = go (is_some t.key)
   where
@@ -286,7 +282,7 @@ pub after_none : (t : Table) (writes : List Write) (rows : List Row) → count_o
 after_none t [] rows none = refl
 after_none t (w ∷ writes) rows none =
     let parts = count_more (w ∷ []) writes in
-    let own : w.rows ≡ [] = no_rows w.rows (omega (arith, parts, none)) in
+    let own : w.rows ≡ [] = nil_from_length w.rows (omega (arith, parts, none)) in
     let rest : count_of writes ≡ 0 = omega (arith, parts, none) in
     ap (λ xs. after t writes xs) (go own (t.tree == w.table.tree)) ∙ after_none t writes rows rest
   where

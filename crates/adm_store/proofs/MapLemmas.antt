@@ -2,7 +2,7 @@
 use Rattle.std.proofs.Common.{◌≡◌, ◌∙◌, ◌⊎◌, inl, inr, pos, Bool, true, false, not, cond, List, [], ◌∷◌, map, ℕ, Some, None, Option, refl, sym, ap, subst, arith}
 use base.Stored.{Gv, gnil, gnum, gcons}
 use Rattle.std.specs.Coded.{Coded}
-use Rattle.std.proofs.lemmas.Bool.{and_parts}
+use Rattle.std.proofs.lemmas.Bool.{and_parts, eqb-true, eq-eqb}
 use Rattle.std.specs.Prelude.{T, ◌&&◌, nat_eq, IsTrue}
 use Rattle.std.specs.List.Sorted.{IsPermutation}
 use Rattle.std.proofs.lemmas.List.Sorted.{IsPermutation-refl, IsPermutation-sym, IsPermutation-trans, IsPermutation-cons, IsPermutation-map, IsPermutation-append_left, IsPermutation-append_comm, Contains-permutation}
@@ -22,10 +22,13 @@ use Rattle.sqlite.specs.View.{is_int}
 use Rattle.sqlite_value.proofs.OrderLemmas.{value_cmp-Int}
 use Rattle.sqlite_rules.specs.Lists.{Has}
 use Rattle.sqlite_rules.proofs.ListLemmas.{has_filtered, has_kept, has_contained, contains_had, test_has, test_from}
+use Rattle.std.proofs.lemmas.Option.{none-some, same_Some}
+use Rattle.adm_lists.proofs.Tests.{both_hold}
+use Rattle.adm_lists.proofs.Orders.{same_key}
 use Rattle.adm_register.specs.Difference.{AreNew}
 use Rattle.adm_schema.specs.Effects.{put_in, put_each}
 use Rattle.adm_schema.proofs.Inside.{put_moved, without_moved}
-use Rattle.adm_store.proofs.Entries.{is_tie, both_hold, same_Some, not_Some, below, has_value, own_entry, value_at}
+use Rattle.adm_store.proofs.Entries.{below, has_value, own_entry, value_at}
 
 less_both : (k a b : ℕ) → nat_cmp k a ≡ Less → nat_cmp a b ≡ Less → nat_cmp k b ≡ Less
 less_both k a b p q = grind (arith, nat_tests)
@@ -86,14 +89,8 @@ abbrev pub Stable : Type 0 → Type 0
 Stable V = (x y : V) → ((x ≡ y → ⊥) → ⊥) → x ≡ y
 
 some_stable : {V : Type 0} → Stable V → (o : Option V) (v : V) → ((o ≡ Some v → ⊥) → ⊥) → o ≡ Some v
-some_stable stable None v h = absurd (h (not_Some v))
+some_stable stable None v h = absurd (h (none-some v))
 some_stable stable (Some w) v h = ap Some (stable w v (λ differ. h (λ e. differ (same_Some w v e))))
-
-same_number : (a b : ℕ) → nat_eq a b ≡ true → a ≡ b
-same_number a b e = grind (arith, nat_tests)
-
-own_number : (a : ℕ) → nat_eq a a ≡ true
-own_number a = grind (arith, nat_tests)
 
 abbrev same_code : Gv → Gv → Bool
 same_code gnil gnil = true
@@ -111,7 +108,7 @@ code_is gnil gnil e = refl
 code_is gnil (gnum n) e = absurd (cc)
 code_is gnil (gcons a b) e = absurd (cc)
 code_is (gnum n) gnil e = absurd (cc)
-code_is (gnum n) (gnum m) e = ap gnum (same_number n m e)
+code_is (gnum n) (gnum m) e = ap gnum (eqb-true n m e)
 code_is (gnum n) (gcons a b) e = absurd (cc)
 code_is (gcons a b) gnil e = absurd (cc)
 code_is (gcons a b) (gnum n) e = absurd (cc)
@@ -119,7 +116,7 @@ code_is (gcons a b) (gcons c d) e = λ i. gcons (code_is a c (and_parts _ _ e).0
 
 code_itself : (x : Gv) → same_code x x ≡ true
 code_itself gnil = refl
-code_itself (gnum n) = own_number n
+code_itself (gnum n) = eq-eqb n n refl
 code_itself (gcons a b) = rw (code_itself a, code_itself b)
 
 -- what has a code is stable
@@ -170,14 +167,14 @@ module _ {V : Type 0} (key : V → ℕ) (row_of : V → Row) (own_rowid : (v : V
   own_removed m k own q v there = go (eq_by_cmp nat_cmp q k) (sym (get-remove number_total m k q) ∙ there)
     where
       go : (b : Bool) → cond b None (get m q) ≡ Some v → key v ≡ q
-      go true here = absurd (not_Some v here)
+      go true here = absurd (none-some v here)
       go false here = own q v here
 
   own_inserted : (m : FinMap nat_cmp V) (x : V) → Own m → Own (insert m (key x) x)
   own_inserted m x own q v there = go (eq_by_cmp nat_cmp q (key x)) refl (sym (get-insert number_total m (key x) x q) ∙ there)
     where
       go : (b : Bool) → eq_by_cmp nat_cmp q (key x) ≡ b → cond b (Some x) (get m q) ≡ Some v → key v ≡ q
-      go true tie here = ap key (sym (same_Some x v here)) ∙ sym (nat_cmp-IsAntisymmetric q (key x) (is_tie _ tie))
+      go true tie here = ap key (sym (same_Some x v here)) ∙ sym (same_key nat_cmp-IsAntisymmetric q (key x) tie)
       go false tie here = own q v here
 
   -- the map with each of these values put in, and with each of these keys taken out
@@ -211,7 +208,7 @@ module _ {V : Type 0} (key : V → ℕ) (row_of : V → Row) (own_rowid : (v : V
   with_each_gets new (x ∷ news) m there all q = with_each_gets new news (insert m (key x) x) (λ v h. there v (inr h)) (λ k. next k (eq_by_cmp nat_cmp k (key x)) refl (all k)) q
     where
       next : (k : ℕ) (b : Bool) → eq_by_cmp nat_cmp k (key x) ≡ b → (get m k ≡ get new k) ⊎ ((v : V) × Has (x ∷ news) v × (key v ≡ k)) → (get (insert m (key x) x) k ≡ get new k) ⊎ ((v : V) × Has news v × (key v ≡ k))
-      next k true tie before = inl (get-insert number_total m (key x) x k ∙ ap (λ b. cond b (Some x) (get m k)) tie ∙ sym (there x (inl refl)) ∙ ap (get new) (sym (nat_cmp-IsAntisymmetric k (key x) (is_tie _ tie))))
+      next k true tie before = inl (get-insert number_total m (key x) x k ∙ ap (λ b. cond b (Some x) (get m k)) tie ∙ sym (there x (inl refl)) ∙ ap (get new) (sym (same_key nat_cmp-IsAntisymmetric k (key x) tie)))
       next k false tie (inl same) = inl (get-insert number_total m (key x) x k ∙ ap (λ b. cond b (Some x) (get m k)) tie ∙ same)
       next k false tie (inr it) = elim it.1 [
         | inl is ↦ absurd (
@@ -236,7 +233,7 @@ module _ {V : Type 0} (key : V → ℕ) (row_of : V → Row) (own_rowid : (v : V
   other_key (k ∷ keys) m q apart_from = other_key keys (remove m k) q (λ h. apart_from (inr h)) ∙ get-remove number_total m k q ∙ go (eq_by_cmp nat_cmp q k) refl
     where
       go : (b : Bool) → eq_by_cmp nat_cmp q k ≡ b → cond b None (get m q) ≡ get m q
-      go true tie = absurd (apart_from (inl (nat_cmp-IsAntisymmetric q k (is_tie _ tie))))
+      go true tie = absurd (apart_from (inl (same_key nat_cmp-IsAntisymmetric q k tie)))
       go false tie = refl
 
   -- ---- the values of the new map that the old one has not

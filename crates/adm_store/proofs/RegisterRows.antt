@@ -8,6 +8,7 @@ use Rattle.std.specs.declared.cmp.Ordering.TheVariants.{Less, Equal, Greater}
 use Rattle.std.specs.Ordering.{ordering_then}
 use Rattle.std.specs.Cmp.Lexicographic.{nat_list_cmp_total}
 use Rattle.std.specs.FinMap.{values, IsAntisymmetric, slice_cmp-IsAntisymmetric, nat_cmp-IsAntisymmetric}
+use Rattle.adm_lists.proofs.Each.{each_weaker}
 use Rattle.adm_types.specs.Limits.{is_from, first_day}
 use Rattle.adm_types.specs.Seasons.{SeasonFacts, IsSeason, lists_end}
 use Rattle.adm_types.specs.declared.rows.Child.{Child}
@@ -42,7 +43,7 @@ use Rattle.adm_register.specs.declared.register_rows.Rows.{Rows}
 use Rattle.adm_register.specs.Rows.{AreRowsOf, rows_in_order}
 use Rattle.adm_store.specs.Faults.{IsSchool, IsReadAgain, IsChild, IsApplication, IsImportRow, IsImportReadAgain, IsPlaceRow, IsLeftRow, AreReadAgain}
 use Rattle.adm_store.proofs.SeasonRows.{same_season, same_version, same_count}
-use Rattle.adm_store.proofs.RowLemmas.{values_back, recursion_had, recursion_map}
+use Rattle.adm_store.proofs.RowLemmas.{values_back, recursion_had}
 use Rattle.adm_store.proofs.SchoolRows.{school_from, from_row, reads_again}
 use Rattle.adm_store.proofs.ChildRows.{child_from, child_back, application_from, application_back, imported_from, imported_back, import_again, place_from, place_back, state_days, left_from, left_back}
 use Rattle.adm_store.proofs.CodeLemmas.{codes_again}
@@ -184,10 +185,10 @@ one_row a b same = first_row a b (sym (one_permutation a (b ∷ []) same))
 -- each row of a register is read back
 pub read_back : (r : Register) → WellFormed r → AreReadBack (rows_in_order r)
 read_back r formed = record {
-  schools = recursion_map IsSchool IsReadAgain reads_again _ (schools_fit r formed);
-  children = recursion_map IsChild (λ x. AreReadAgain x.siblings) (λ x fits. codes_again x.siblings fits.codes) _ (children_fit r formed);
-  applications = recursion_map (IsApplication (lists_end r.season)) (λ x. AreReadAgain x.list) (λ x fits. codes_again x.list fits.codes) _ (applications_fit r (lists_end r.season) formed refl);
-  imported = recursion_map (IsImportRow (lists_end r.season)) IsImportReadAgain (import_again (lists_end r.season)) _ (imported_fit r (lists_end r.season) formed refl);
+  schools = each_weaker IsSchool IsReadAgain reads_again _ (schools_fit r formed);
+  children = each_weaker IsChild (λ x. AreReadAgain x.siblings) (λ x fits. codes_again x.siblings fits.codes) _ (children_fit r formed);
+  applications = each_weaker (IsApplication (lists_end r.season)) (λ x. AreReadAgain x.list) (λ x fits. codes_again x.list fits.codes) _ (applications_fit r (lists_end r.season) formed refl);
+  imported = each_weaker (IsImportRow (lists_end r.season)) IsImportReadAgain (import_again (lists_end r.season)) _ (imported_fit r (lists_end r.season) formed refl);
 }
 
 -- the season that was read is that of the register, and so is the count of draws

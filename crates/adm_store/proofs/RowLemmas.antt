@@ -9,6 +9,7 @@ use Rattle.sqlite_rules.proofs.ListLemmas.{has_at, has_contained, contains_had}
 use Rattle.sqlite.specs.declared.types.Value.{Value}
 use Rattle.sqlite.specs.declared.types.Value.TheVariants.{Int, Text}
 use Rattle.sqlite.specs.Order.{Row}
+use Rattle.adm_lists.proofs.Each.{each_weaker}
 use Rattle.adm_schema.proofs.Lists.{has_source}
 use Rattle.adm_store.specs.declared.fault.OpenFault.{OpenFault}
 use Rattle.adm_store.specs.declared.fault.OpenFault.TheVariants.{BadRow, Memory}
@@ -48,14 +49,6 @@ recursion_had P [] x all h = absurd h
 recursion_had P (y ∷ ys) x all (inl is) = subst P (sym is) all.0
 recursion_had P (y ∷ ys) x all (inr h) = recursion_had P ys x all.1 h
 
-pub recursion_push : {X : Type 0} (P : X → Type 0) (xs : List X) (x : X) → AllByRecursion P xs → P x → AllByRecursion P (xs ++ x ∷ [])
-recursion_push P [] x all one = (one, tt)
-recursion_push P (y ∷ ys) x all one = (all.0, recursion_push P ys x all.1 one)
-
-pub recursion_map : {X : Type 0} (P Q : X → Type 0) → ((x : X) → P x → Q x) → (xs : List X) → AllByRecursion P xs → AllByRecursion Q xs
-recursion_map P Q turn [] all = tt
-recursion_map P Q turn (x ∷ xs) all = (turn x all.0, recursion_map P Q turn xs all.1)
-
 -- ---- the rows of a table, and the values that they were written from
 
 module _ {X : Type 0} (row_of : X → Row) where
@@ -85,4 +78,4 @@ module _ {X : Type 0} (row_of : X → Row) where
   pub values_back : (back : Row → X) (IsRead Fits : X → Type 0) → ((x : X) → IsRead x → back (row_of x) ≡ x) → ((x : X) → Fits x → IsRead x) → (read values : List X) (rows : List Row)
       → AllByRecursion IsRead read → AllByRecursion Fits values → IsPermutation (map row_of read) rows → IsPermutation (map row_of values) rows → IsPermutation read values
   values_back back IsRead Fits returns fits read values rows again formed one two =
-      same_values back read values (recursion_map IsRead (λ x. back (row_of x) ≡ x) returns read again) (recursion_map Fits (λ x. back (row_of x) ≡ x) (λ x f. returns x (fits x f)) values formed) (IsPermutation-trans _ _ _ two (IsPermutation-sym _ _ one))
+      same_values back read values (each_weaker IsRead (λ x. back (row_of x) ≡ x) returns read again) (each_weaker Fits (λ x. back (row_of x) ≡ x) (λ x f. returns x (fits x f)) values formed) (IsPermutation-trans _ _ _ two (IsPermutation-sym _ _ one))

@@ -5,7 +5,7 @@ use Rattle.std.specs.List.{list_all}
 use Rattle.std.specs.List.Sorted.{IsPermutation}
 use Rattle.std.specs.Ordering.{nat_cmp, is_lt}
 use Rattle.std.specs.declared.cmp.Ordering.{Ordering}
-use Rattle.std.specs.declared.cmp.Ordering.TheVariants.{Less, Equal, Greater}
+use Rattle.std.specs.declared.cmp.Ordering.TheVariants.{Less, Equal}
 use Rattle.std.specs.Cmp.{IsTotalOrder, nat_cmp_total, on_total, then_total, tied_itself}
 use Rattle.std.specs.Cmp.Lexicographic.{nat_list_cmp_total}
 use Rattle.std.specs.FinMap.{FinMap, get, values, same_map, nat_cmp-IsAntisymmetric}
@@ -13,6 +13,8 @@ use Rattle.std.proofs.lemmas.Bool.{and_parts}
 use Rattle.std.proofs.lemmas.List.Sorted.{IsPermutation-sym, Contains-permutation}
 use Rattle.sqlite_rules.specs.Lists.{Has}
 use Rattle.sqlite_rules.proofs.ListLemmas.{has_contained, contains_had, test_has}
+use Rattle.std.proofs.lemmas.Option.{same_Some}
+use Rattle.adm_lists.proofs.Orders.{less_of}
 use Rattle.adm_schema.proofs.Lists.{has_source, has_mapped}
 use Rattle.adm_types.specs.declared.draws.Draw.{Draw}
 use Rattle.adm_types.specs.declared.draws.DrawRow.{DrawRow}
@@ -21,14 +23,9 @@ use Rattle.adm_types.specs.declared.draws.LotRow.{LotRow}
 use Rattle.adm_types.specs.declared.draws.Outcome.{Outcome}
 use Rattle.adm_types.specs.declared.draws.Lot.{Lot}
 use Rattle.adm_draws.specs.Draws.{row_of, offer_row, lot_row, offers_of, lots_of, outcome_cmp, lot_cmp, rises, are_ordered, AreRowsOf}
-use Rattle.adm_store.proofs.Entries.{has_value, value_at, same_Some}
+use Rattle.adm_store.proofs.Entries.{has_value, value_at}
 
 -- ---- lists in order with the same members
-
-is_less : (o : Ordering) → is_lt o ≡ true → o ≡ Less
-is_less Less h = refl
-is_less Equal h = absurd (cc)
-is_less Greater h = absurd (cc)
 
 has_moved : {X : Type 0} (xs ys : List X) (x : X) → IsPermutation xs ys → Has xs x → Has ys x
 has_moved xs ys x same h = has_contained ys x (Contains-permutation xs ys x same (contains_had xs x h))
@@ -38,7 +35,7 @@ module _ {X : Type 0} {R : X → X → Ordering} (total : IsTotalOrder R) where
   not_both x y one two = let wrong : Less ≡ Equal = sym (total.trans x y x one two) ∙ tied_itself total x in absurd (cc)
 
   head_first : (x : X) (xs : List X) (y : X) → rises R (x ∷ xs) ≡ true → Has xs y → R x y ≡ Less
-  head_first x xs y rise h = is_less (R x y) (test_has (λ z. is_lt (R x z)) xs y (and_parts (list_all (λ z. is_lt (R x z)) xs) (rises R xs) rise).0 h)
+  head_first x xs y rise h = less_of (R x y) (test_has (λ z. is_lt (R x z)) xs y (and_parts (list_all (λ z. is_lt (R x z)) xs) (rises R xs) rise).0 h)
 
   tails_too : (x : X) (xs ys : List X) → rises R (x ∷ xs) ≡ true → ((z : X) → Has (x ∷ xs) z → Has (x ∷ ys) z) → (z : X) → Has xs z → Has ys z
   tails_too x xs ys rise there z h = elim (there z (inr h)) [

@@ -1,19 +1,19 @@
 -- The texts of days are read back as what they were written from, and so is each list of texts.
-use Rattle.std.proofs.Common.{◌≡◌, ◌∙◌, ℕ, zero, suc, ◌<◌, ◌^◌, Bool, true, false, List, [], ◌∷◌, map, length, All, Some, Option, nat_eq, nat_lt, refl, ap, arith, rules}
-use Rattle.std.specs.Prelude.{◌==◌, ◌&&◌, ◌||◌, not, slice_index}
+use Rattle.std.proofs.Common.{◌≡◌, ◌∙◌, ℕ, zero, suc, ◌<◌, ◌^◌, true, false, List, [], ◌∷◌, map, length, All, Some, Option, nat_eq, nat_lt, refl, ap, arith}
+use Rattle.std.specs.Prelude.{◌==◌, ◌||◌, not, slice_index}
 use Rattle.std.specs.Option.{option_map, option_and_then}
 use Rattle.std.specs.List.{AllByRecursion, list_all}
 use Rattle.std.specs.Char.{is_ascii_digit}
 use Rattle.std.specs.Fmt.{decimal}
 use Rattle.std.specs.Str.{IsAscii, IsUtf8}
 use Rattle.std.specs.Str.Parse.{digits_value}
-use Rattle.std.proofs.lemmas.Bool.{and_parts}
+use Rattle.std.proofs.lemmas.Bool.{and_parts, and_from}
 use Rattle.std.proofs.lemmas.Bool.Decides.{nat_tests}
 use Rattle.std.proofs.lemmas.Fmt.{IsAscii-decimal, decimal_digit, decimal_nonempty, first_decimal, length-decimal-le, digits_decimal, digits_value-decimal}
 use Rattle.std.proofs.lemmas.List.Splits.{slice_split_at, slice_split_none}
 use Rattle.std.proofs.lemmas.Str.{IsUtf8-from_ascii, IsAscii-append}
 use Rattle.std.proofs.lemmas.Str.Ascii.{IsAscii-nil, IsAscii-cons}
-use Rattle.std.proofs.lemmas.Str.Parse.{IsNumeralModel, numerals_by_value}
+use Rattle.adm_lists.proofs.Numerals.{digits}
 use Rattle.adm_types.specs.Fields.{has_plain_digits, plain_of}
 use Rattle.adm_types.specs.Limits.{is_from}
 use Rattle.adm_types.specs.Seasons.{IsDay}
@@ -21,9 +21,6 @@ use Rattle.adm_types.specs.Joined.{joined, all_some, pieces, items_of}
 use Rattle.adm_store.specs.Forms.{days_text, day_of, days_of}
 
 -- ---- numbers
-
-digits : IsNumeralModel (λ ds. list_all is_ascii_digit ds ≡ true) (digits_value 10)
-digits = numerals_by_value _ (search rules)
 
 pub small_enough : (n : ℕ) → n < 2 ^ 32 → n < 2 ^ 64
 small_enough n h = omega arith
@@ -35,12 +32,9 @@ no_leading_zero (suc n) h = grind (arith, nat_tests, first_decimal (suc n) (omeg
 length_fits : (n : ℕ) → n < 2 ^ 32 → is_from 1 10 (length (decimal n)) ≡ true
 length_fits n h = grind (arith, nat_tests, length-decimal-le 10 n (omega arith) (omega arith) (small_enough n h), decimal_nonempty n (small_enough n h))
 
-and_true : (a b : Bool) → a ≡ true → b ≡ true → (a && b) ≡ true
-and_true a b p q = rw p q
-
 plain_digits : (n : ℕ) → n < 2 ^ 32 → has_plain_digits (decimal n) ≡ true
 plain_digits n h =
-    and_true _ _ (and_true _ _ (length_fits n h) (digits_decimal digits n (small_enough n h))) (no_leading_zero n (small_enough n h))
+    and_from _ _ (and_from _ _ (length_fits n h) (digits_decimal digits n (small_enough n h))) (no_leading_zero n (small_enough n h))
 
 -- the text of a number is read as that number
 pub plain_decimal : (n : ℕ) → n < 2 ^ 32 → plain_of (decimal n) ≡ Some n

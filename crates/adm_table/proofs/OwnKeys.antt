@@ -12,6 +12,7 @@ use Rattle.std.specs.List.Sorted.{IsPermutation}
 use Rattle.std.proofs.lemmas.List.Sorted.{IsPermutation-refl, IsPermutation-sym, IsPermutation-trans, IsPermutation-cons, IsPermutation-middle, IsPermutation-map, list_any-IsPermutation}
 use Rattle.std.proofs.lemmas.Map.Keys.{IsDistinct-head, IsDistinct-IsPermutation}
 use Rattle.std.proofs.lemmas.Map.Made.{is_some-lookup}
+use Rattle.std.proofs.lemmas.Bool.{both_ways}
 
 not_none : {A : Type 0} (x : A) → Some x ≡ None → ⊥
 not_none x e = cc
@@ -50,9 +51,6 @@ none_of_them : {K : Type 0} (p : K → Bool) (xs ys : List K) → AllByRecursion
 none_of_them p [] ys all = refl
 none_of_them p (x ∷ xs) ys all = λ i. all.0 i || none_of_them p xs ys all.1 i
 
-not_both : (b : Bool) → b ≡ true → b ≡ false → ⊥
-not_both b one other = cc
-
 module _ {K V : Type 0} {R : K → K → Ordering} (total : IsTotalOrder R) (key : V → K) where
   -- rows of which one has the key of an earlier one are not distinct
   pub two_with_one_key : (es : List (K × V)) (before after : List V) (row : V) → IsPermutation before (values_of es) → map key (values_of es) ≡ keys_of es
@@ -65,7 +63,7 @@ module _ {K V : Type 0} {R : K → K → Ordering} (total : IsTotalOrder R) (key
       IsDistinct-IsPermutation (eq_by_cmp R) (eq_by_cmp_equiv total).symm _ _ (IsPermutation-map key _ _ (IsPermutation-middle before row after)) distinct in
       let none : list_any (eq_by_cmp R k) (map key before) ≡ false =
       none_of_them (eq_by_cmp R k) (map key before) (map key after) (subst (AllByRecursion (λ y. eq_by_cmp R k y ≡ false)) (split before after) (IsDistinct-head (eq_by_cmp R) k _ moved)) in
-      not_both _ found none
+      both_ways _ none found
     where
       split : (xs ys : List V) → map key (xs ++ ys) ≡ map key xs ++ map key ys
       split [] ys = refl

@@ -8,9 +8,10 @@ use Rattle.std.specs.Map.{keys_of, lookup, remove_entry}
 use Rattle.std.specs.List.{AllByRecursion, slice_get}
 use Rattle.std.specs.List.Sorted.{IsStrictlySortedBy}
 use Rattle.std.proofs.lemmas.List.{take-append-drop, drop_more, take_at, drop_at, length-take-le, take_more, drop_all}
+use Rattle.adm_lists.proofs.Each.{each_weaker, each_append}
 use Rattle.adm_table.specs.declared.pieces.Piece.{Piece}
 use Rattle.adm_table.specs.Pieces.{ArePieces, StartsRight, IsFirst, rows_of_pieces, first_rows}
-use Rattle.adm_table.proofs.Runs.{all-weaker, all-both, all-first, all-second, keys-both, sorted-before, sorted-after, sorted-inserted, sorted-removed, below, below_both}
+use Rattle.adm_table.proofs.Runs.{all-first, all-second, keys-both, sorted-before, sorted-after, sorted-inserted, sorted-removed, below, below_both}
 use Rattle.adm_table.proofs.Runs.{lookup-after, lookup-before, insert-after, insert-before, remove-after, remove-before}
 
 module _ {K V : Type 0} where
@@ -41,7 +42,7 @@ module _ {K V : Type 0} where
   -- without the piece at a place the others start as they did
   pub starts-without : (place : ℕ) (pieces others : List (Piece K V)) → others ≡ take place pieces ++ drop (place + 1) pieces → AllByRecursion StartsRight pieces → AllByRecursion StartsRight others
   starts-without place pieces others e starts =
-      subst (AllByRecursion StartsRight) (sym e) (all-both StartsRight (take place pieces) (drop (place + 1) pieces) (starts-before place pieces starts) (starts-from (place + 1) pieces starts))
+      subst (AllByRecursion StartsRight) (sym e) (each_append StartsRight (take place pieces) (drop (place + 1) pieces) (starts-before place pieces starts) (starts-from (place + 1) pieces starts))
 
   from-place : (place : ℕ) (pieces : List (Piece K V)) (piece : Piece K V) → place < length pieces → piece ≡ get_or pieces place piece → drop place pieces ≡ piece ∷ drop (place + 1) pieces
   from-place place pieces piece within at = drop_more pieces place piece within ∙ ap (λ p. p ∷ drop (place + 1) pieces) (sym at)
@@ -71,7 +72,7 @@ module _ {K V : Type 0} {R : K → K → Ordering} (total : IsTotalOrder R) (pla
   -- the rows before a piece that starts at a key or before it are below the key
   pub rows-below : (R piece.first key ≡ Greater → ⊥) → AllByRecursion (λ other. R other key ≡ Less) (keys_of (rows_of_pieces (take place pieces)))
   rows-below not_above =
-      all-weaker (λ other. R other piece.first ≡ Less) (λ other. R other key ≡ Less) (λ other less. below_both total other piece.first key less not_above) _
+      each_weaker (λ other. R other piece.first ≡ Less) (λ other. R other key ≡ Less) (λ other less. below_both total other piece.first key less not_above) _
       (sorted-before R (keys_of (rows_of_pieces (take place pieces))) piece.first (keys-at place pieces piece within at are.starts).0 in_order)
 
   -- and the rows from a piece on that starts after it are above it
@@ -80,7 +81,7 @@ module _ {K V : Type 0} {R : K → K → Ordering} (total : IsTotalOrder R) (pla
       let less = below total piece.first key greater in
       subst (AllByRecursion (λ other. R key other ≡ Less)) (sym (keys-at place pieces piece within at are.starts).1) (
         less,
-        all-weaker (λ other. R piece.first other ≡ Less) (λ other. R key other ≡ Less) (λ other more. total.trans key piece.first other less more) _
+        each_weaker (λ other. R piece.first other ≡ Less) (λ other. R key other ≡ Less) (λ other more. total.trans key piece.first other less more) _
             (sorted-after R (keys_of (rows_of_pieces (take place pieces))) piece.first (keys-at place pieces piece within at are.starts).0 in_order),
       )
 
@@ -120,7 +121,7 @@ module _ {K V : Type 0} where
       let entries = ap (λ m. m.entries) rows in (
         ap rows_of_pieces pushed ∙ rows-both copies (copy ∷ []) ∙ (λ i. so_far.0 i ++ (entries i ++ [])) ∙ ap (λ p. rows_of_pieces (take place pieces) ++ rows_of_pieces (p ∷ [])) at
             ∙ sym (rows-both (take place pieces) (get_or pieces place piece ∷ [])) ∙ ap rows_of_pieces (sym (take_more pieces place piece within)),
-        subst (AllByRecursion StartsRight) (sym pushed) (all-both StartsRight copies (copy ∷ []) so_far.1 (same-first piece.first copy.first piece.rows.value.entries copy.rows.value.entries first entries right, tt)),
+        subst (AllByRecursion StartsRight) (sym pushed) (each_append StartsRight copies (copy ∷ []) so_far.1 (same-first piece.first copy.first piece.rows.value.entries copy.rows.value.entries first entries right, tt)),
       )
 
 module _ {K V : Type 0} {R : K → K → Ordering} (total : IsTotalOrder R) (place : ℕ) (pieces : List (Piece K V)) (key : K)

@@ -11,20 +11,14 @@ use Rattle.std.specs.List.{AllByRecursion}
 use Rattle.std.specs.List.Sorted.{IsStrictlySortedBy}
 use Rattle.std.proofs.lemmas.Map.{lookup-remove_entry}
 use Rattle.std.proofs.lemmas.Map.Keys.{IsDistinct-from_sorted}
+use Rattle.adm_lists.proofs.Each.{each_weaker}
 
--- what holds of each element of a list
-pub all-weaker : {A : Type 0} (P Q : A → Type 0) → ((x : A) → P x → Q x) → (xs : List A) → AllByRecursion P xs → AllByRecursion Q xs
-all-weaker P Q weaker [] all = tt
-all-weaker P Q weaker (x ∷ xs) all = (weaker x all.0, all-weaker P Q weaker xs all.1)
-
-pub all-both : {A : Type 0} (P : A → Type 0) (xs ys : List A) → AllByRecursion P xs → AllByRecursion P ys → AllByRecursion P (xs ++ ys)
-all-both P [] ys first second = second
-all-both P (x ∷ xs) ys first second = (first.0, all-both P xs ys first.1 second)
-
+-- what holds of each of two lists joined holds of each of the first
 pub all-first : {A : Type 0} (P : A → Type 0) (xs ys : List A) → AllByRecursion P (xs ++ ys) → AllByRecursion P xs
 all-first P [] ys all = tt
 all-first P (x ∷ xs) ys all = (all.0, all-first P xs ys all.1)
 
+-- and of each of the second
 pub all-second : {A : Type 0} (P : A → Type 0) (xs ys : List A) → AllByRecursion P (xs ++ ys) → AllByRecursion P ys
 all-second P [] ys all = all
 all-second P (x ∷ xs) ys all = all-second P xs ys all.1
@@ -155,7 +149,7 @@ module _ {K : Type 0} {R : K → K → Ordering} (total : IsTotalOrder R) where
     sorted-inserted [] k v sorted = (tt, tt)
     sorted-inserted (e ∷ es) k v sorted =
         elim (R k e.0) as (λ r. R k e.0 ≡ r → IsStrictlySortedBy R (keys_of (match_ordering r ((k, v) ∷ e ∷ es) ((e.0, v) ∷ es) (e ∷ insert_entry R es k v)))) [
-          | Less ↦ λ is. ((is, all-weaker (λ y. R e.0 y ≡ Less) (λ y. R k y ≡ Less) (λ y less. total.trans k e.0 y is less) (keys_of es) sorted.0), sorted)
+          | Less ↦ λ is. ((is, each_weaker (λ y. R e.0 y ≡ Less) (λ y. R k y ≡ Less) (λ y less. total.trans k e.0 y is less) (keys_of es) sorted.0), sorted)
           | Equal ↦ λ is. sorted
           | Greater ↦ λ is. (all-inserted (λ y. R e.0 y ≡ Less) es k v sorted.0 (below k e.0 is), sorted-inserted es k v sorted.1)
         ] refl

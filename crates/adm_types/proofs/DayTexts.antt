@@ -1,6 +1,6 @@
 -- Texts of days.
 use Rattle.std.proofs.Common.{◌≡◌, ◌∙◌, ap, sym, refl, arith, ℕ, ◌≤◌, ℤ, pos, negsuc, ◌≤ℤ◌, ◌<ℤ◌, Bool, true, false, true≢false, List, Some, None, Ok, Err}
-use Rattle.std.specs.Prelude.{Option, Result, IfSome, IfNone, IsSome, ◌↔◌, ◌&&◌, int_le, unsigned_abs, if◌then◌else◌}
+use Rattle.std.specs.Prelude.{Option, Result, IfSome, IsSome, ◌↔◌, ◌&&◌, int_le, unsigned_abs, if◌then◌else◌}
 use Rattle.std.specs.Str.{bytes_eq}
 use Rattle.std.proofs.lemmas.Bool.{and_parts}
 use Rattle.std.proofs.lemmas.Int.{ints}
@@ -30,10 +30,6 @@ read_same date other is = let parts : date_parts other ≡ date_parts date = cc 
 
 pub same_text : (a b : Date) → (a.year ≡ b.year) × (a.month ≡ b.month) × (a.day ≡ b.day) → date_text a ≡ date_text b
 same_text a b same = let year = same.0 in let month = same.1 in let day = same.2 in cc
-
-pub if_none_weaker : {A : Type 0} (P Q : Type 0) (r : Option A) → IfNone r P → (P → Q) → IfNone r Q
-if_none_weaker P Q None p f = f p
-if_none_weaker P Q (Some x) p f = tt
 
 -- a text that is the text of this date and of another names one day
 pub none_read : (text : List ℕ) (date : Date) → date_view (Ok date) ≡ parse_date text

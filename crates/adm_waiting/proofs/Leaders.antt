@@ -1,14 +1,14 @@
 -- The child before which none ranks is the one that ranks before all others, where there is one.
-use Rattle.std.proofs.Common.{◌≡◌, ◌⊎◌, ℕ, List, [], ◌∷◌, Option, None, Some, Bool, true, false, cond, ◌||◌, inl, inr, refl, sym, ap, ◌∙◌, subst, arith}
+use Rattle.std.proofs.Common.{◌≡◌, ◌⊎◌, ℕ, List, [], ◌∷◌, Option, None, Some, true, false, cond, ◌||◌, inl, inr, refl, sym, ap, ◌∙◌, subst, arith}
 use Rattle.std.specs.Prelude.{fold, find, option_map, nat_eq}
 use Rattle.std.proofs.lemmas.Bool.{cases_Bool, false≢true, eqb-true}
 use Rattle.std.proofs.lemmas.Bool.Decides.{nat_tests}
 use Rattle.std.proofs.lemmas.Option.{none-some, same_Some}
+use Rattle.adm_lists.proofs.Members.{In, passes_in, find_gives, find_none}
 use Rattle.adm_rank.specs.declared.keys.RankKey.{RankKey}
 use Rattle.adm_rank.specs.Ranking.{precedes}
 use Rattle.adm_waiting.specs.declared.vacancies.Drawn.{Drawn}
 use Rattle.adm_waiting.specs.Ranks.{better, best_of, is_before, is_before_others}
-use Rattle.adm_waiting.proofs.Rising.{In, all_in}
 
 -- ---- the best of several
 
@@ -107,28 +107,7 @@ before_best all one best there here least first = elim (cases_Bool (nat_eq best.
   | inr apart ↦
       absurd (false≢true
       (sym (least one there) ∙ sym (ap (λ b. b || precedes one.key best.key) apart)
-      ∙ all_in (is_before one) all best first here))
-]
-
-find_gives : {X : Type 0} (p : X → Bool) (xs : List X) (x : X) → find p xs ≡ Some x → In x xs × (p x ≡ true)
-find_gives p [] x h = absurd (none-some x h)
-find_gives p (y ∷ ys) x h = elim (cases_Bool (p y)) [
-  | inl hit ↦
-      let same : y ≡ x = same_Some y x (sym (ap (λ b. cond b (Some y) (find p ys)) hit) ∙ h) in
-      (inl same, ap p (sym same) ∙ hit)
-  | inr miss ↦
-      let later = find_gives p ys x (sym (ap (λ b. cond b (Some y) (find p ys)) miss) ∙ h) in
-      (inr later.0, later.1)
-]
-
-find_none : {X : Type 0} (p : X → Bool) (xs : List X) → find p xs ≡ None → (x : X) → In x xs → p x ≡ false
-find_none p [] h x there = absurd there
-find_none p (y ∷ ys) h x there = elim (cases_Bool (p y)) [
-  | inl hit ↦ absurd (none-some y (sym h ∙ ap (λ b. cond b (Some y) (find p ys)) hit))
-  | inr miss ↦ elim there [
-    | inl same ↦ ap p (sym same) ∙ miss
-    | inr later ↦ find_none p ys (sym (ap (λ b. cond b (Some y) (find p ys)) miss) ∙ h) x later
-  ]
+      ∙ passes_in (is_before one) all best first here))
 ]
 
 -- the number of the first that ranks before all others

@@ -1,4 +1,3 @@
-pub mod Rising
 pub mod Sorting
 pub mod Positions
 pub mod Leaders

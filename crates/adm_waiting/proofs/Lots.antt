@@ -3,22 +3,22 @@ use Rattle.std.proofs.Common.{◌≡◌, ◌<◌, ◌≤◌, ◌+◌, min, ℕ, 
 use Rattle.std.specs.Prelude.{find, option_map, Contains, nat_eq}
 use Rattle.std.specs.declared.cmp.Ordering.TheVariants.{Less}
 use Rattle.std.specs.Ordering.{nat_cmp}
-use Rattle.std.specs.List.{list_all, list_any, zip, AllByRecursion}
+use Rattle.std.specs.List.{list_any, zip, AllByRecursion}
 use Rattle.std.specs.List.Sorted.{IsStrictlySortedBy}
 use Rattle.std.proofs.lemmas.Bool.{cases_Bool, false≢true, or_parts, or_left, or_right, and_left, eq-eqb}
-use Rattle.std.proofs.lemmas.Bool.Decides.{nat_tests}
 use Rattle.std.proofs.lemmas.List.{get_or-map, length-map, take_all, take-append-drop}
 use Rattle.std.proofs.lemmas.List.Sums.{fold_more}
-use Rattle.std.proofs.lemmas.List.Folds.{list_all_more, list_all-append}
+use Rattle.std.proofs.lemmas.List.Folds.{list_all_more, list_all-append, list_all-map}
 use Rattle.std.proofs.lemmas.Slice.Zip.{get_or-zip, length-zip}
 use Rattle.std.proofs.lemmas.Option.{none-some}
+use Rattle.adm_lists.proofs.Members.{In, contains, list_all_in}
+use Rattle.adm_lists.proofs.Orders.{less_apart}
 use Rattle.adm_types.specs.declared.rows.School.{School}
 use Rattle.adm_types.specs.declared.rows.Child.{Child}
 use Rattle.adm_rank.specs.Ranking.{precedes}
 use Rattle.adm_waiting.specs.declared.vacancies.Drawn.{Drawn}
 use Rattle.adm_waiting.specs.Waiting.{number_of, first_by_lot, repeats}
 use Rattle.adm_waiting.specs.Ranks.{drawn_of, better, best_of, is_before, is_before_others}
-use Rattle.adm_waiting.proofs.Rising.{In, contains, in_all}
 use Rattle.adm_waiting.proofs.Leaders.{IsBestOf, IsApart, best_is, some_from, first_of, one_way, child_of}
 
 -- ---- walks over the children and their lots
@@ -70,19 +70,12 @@ find_map f p g (x ∷ xs) = elim (cases_Bool (p (f x))) [
       ∙ sym (λ i. option_map (λ y. g (f y)) (cond (miss i) (Some x) (find (λ y. p (f y)) xs)))
 ]
 
-all_map : {X Y : Type 0} (f : X → Y) (p : Y → Bool) (xs : List X) → list_all p (map f xs) ≡ list_all (λ x. p (f x)) xs
-all_map f p [] = refl
-all_map f p (x ∷ xs) = ap (λ b. p (f x) && b) (all_map f p xs)
-
 pub first_here : (school : School) (children : List Child) (lots : List ℕ) → first_of (drawn school children lots) ≡ first_by_lot school children lots
 unfolding first_by_lot
 first_here school children lots =
     find_map (drawn_of school) (is_before_others (drawn school children lots)) (λ one. one.child) (zip children lots)
     ∙ (λ i. option_map (λ (one : Child × ℕ). one.0.no) (find (λ (one : Child × ℕ).
-    all_map (drawn_of school) (λ other. nat_eq other.child one.0.no || precedes (drawn_of school one).key other.key) (zip children lots) i) (zip children lots)))
-
-less_apart : (a b : ℕ) → nat_cmp a b ≡ Less → a ≡ b → ⊥
-less_apart a b h e = grind (arith, nat_tests)
+    list_all-map (λ other. nat_eq other.child one.0.no || precedes (drawn_of school one).key other.key) (drawn_of school) (zip children lots) i) (zip children lots)))
 
 below_all : (school : School) (number : ℕ) (children : List Child) (lots : List ℕ) → AllByRecursion (λ y. nat_cmp number y ≡ Less) (map number_of children) → (z : Drawn) → In z (drawn school children lots) → number ≡ z.child → ⊥
 below_all school number [] lots all z there = absurd there
@@ -140,7 +133,7 @@ one_lot school (child ∷ children) (lot ∷ lots) none one other i j e =
 -- where no two lots are equal, the best ranks before all others
 pub before_all : (school : School) (children : List Child) (lots : List ℕ) (best : Drawn) → repeats lots ≡ false → best_of (drawn school children lots) ≡ Some best → is_before_others (drawn school children lots) best ≡ true
 before_all school children lots best none h =
-    in_all (is_before best) (drawn school children lots) (λ other there.
+    list_all_in (is_before best) (drawn school children lots) (λ other there.
     elim (cases_Bool (nat_eq other.child best.child)) [
       | inl same ↦ or_left (nat_eq other.child best.child) (precedes best.key other.key) same
       | inr differ ↦

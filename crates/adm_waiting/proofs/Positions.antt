@@ -13,13 +13,14 @@ use Rattle.std.proofs.lemmas.List.{map_more}
 use Rattle.std.proofs.lemmas.List.Sorted.{IsPermutation-sym, IsPermutation-map, All-permutation, length_permutation, sum_by-IsPermutation, ranks_by, sorted_far}
 use Rattle.std.proofs.lemmas.List.Sums.{sum_by-cons}
 use Rattle.std.proofs.lemmas.Map.Keys.{IsDistinct-head, IsDistinct-tail, IsDistinct-cons, IsDistinct-IsPermutation}
+use Rattle.adm_lists.proofs.Members.{In, contains, in_moved, in_map, from_map, passes_in, list_all_in, All_in, in_All}
+use Rattle.adm_lists.proofs.Rising.{rises}
 use Rattle.adm_types.specs.declared.rows.School.{School}
 use Rattle.adm_types.specs.declared.rows.Child.{Child}
 use Rattle.adm_waiting.specs.declared.lists.Waiting.{Waiting}
 use Rattle.adm_waiting.specs.declared.ranks.Rank.{Rank}
 use Rattle.adm_waiting.specs.Waiting.{number_of, entry_of, comes_before, waiting_list, IsEntryFor}
 use Rattle.adm_waiting.specs.Ranks.{rank_of, rank_cmp, is_rank_ahead, entry_among, IsRankInRange}
-use Rattle.adm_waiting.proofs.Rising.{In, contains, in_moved, in_map, from_map, all_in, in_all, All_in, in_All, rises}
 use Rattle.adm_waiting.proofs.Sorting.{child_of, only_order}
 
 -- ---- the order of ranks
@@ -61,7 +62,7 @@ far_rises : (xs : List Rank) → ((i j : ℕ) (d : Rank) → i ≤ j → j < len
 far_rises [] up apart = refl
 far_rises (x ∷ xs) up apart =
     and_from (list_all (before x) xs) (rises before xs)
-    (in_all (before x) xs (λ z there.
+    (list_all_in (before x) xs (λ z there.
     let at : Contains xs z = contains xs z there in
     other_way x z (head xs (IsDistinct-head same_child x xs apart) z there)
     (ap (λ w. before w x) (sym at.2) ∙ up zero (suc at.0) z (omega arith) (omega (arith, at.1)))))
@@ -197,9 +198,9 @@ entries_rise all [] among up = refl
 entries_rise all (x ∷ xs) among up =
     let parts = and_parts (list_all (before x) xs) (rises before xs) up in
     let first : list_all (comes_before (entry_among all x)) (map (entry_among all) xs) ≡ true =
-    in_all (comes_before (entry_among all x)) (map (entry_among all) xs) (λ w there.
+    list_all_in (comes_before (entry_among all x)) (map (entry_among all) xs) (λ w there.
     let f = from_map (entry_among all) xs w there in
-    ap (comes_before (entry_among all x)) (sym f.2) ∙ entry_rises all x f.0 (among x (inl refl)) (all_in (before x) xs f.0 parts.0 f.1)) in
+    ap (comes_before (entry_among all x)) (sym f.2) ∙ entry_rises all x f.0 (among x (inl refl)) (passes_in (before x) xs f.0 parts.0 f.1)) in
     and_from (list_all (comes_before (entry_among all x)) (map (entry_among all) xs)) (rises comes_before (map (entry_among all) xs)) first
     (entries_rise all xs (λ z there. among z (inr there)) parts.1)
 

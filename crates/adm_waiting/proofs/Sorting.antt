@@ -8,9 +8,11 @@ use Rattle.std.specs.List.Sorted.{IsStrictlySortedBy}
 use Rattle.std.proofs.lemmas.Bool.{cases_Bool, and_parts, and_from}
 use Rattle.std.proofs.lemmas.Bool.Decides.{nat_tests}
 use Rattle.std.proofs.lemmas.List.Sorted.{IsPermutation-refl, IsPermutation-sym, IsPermutation-trans, IsPermutation-cons, IsPermutation-middle}
+use Rattle.adm_lists.proofs.Members.{In, in_moved, passes_in, list_all_in}
+use Rattle.adm_lists.proofs.Rising.{rises, same_list}
+use Rattle.adm_lists.proofs.Orders.{less_apart}
 use Rattle.adm_waiting.specs.declared.lists.Waiting.{Waiting}
 use Rattle.adm_waiting.specs.Waiting.{comes_before, put_in_order, in_order}
-use Rattle.adm_waiting.proofs.Rising.{In, in_moved, all_in, in_all, rises, same_list}
 
 -- ---- the order of entries
 
@@ -45,10 +47,10 @@ in_order_same (x ∷ xs) =
 -- ---- each before all that follow
 
 all_put : (p : Waiting → Bool) (x : Waiting) (ys : List Waiting) → p x ≡ true → list_all p ys ≡ true → list_all p (put_in_order x ys) ≡ true
-all_put p x ys h all = in_all p (put_in_order x ys) (λ z there.
+all_put p x ys h all = list_all_in p (put_in_order x ys) (λ z there.
     elim (in_moved (put_in_order x ys) (x ∷ ys) z (IsPermutation-sym (x ∷ ys) (put_in_order x ys) (put_same x ys)) there) [
       | inl same ↦ ap p (sym same) ∙ h
-      | inr later ↦ all_in p ys z all later
+      | inr later ↦ passes_in p ys z all later
     ])
 
 put_rises : (x : Waiting) (ys : List Waiting) → ((z : Waiting) → In z ys → x.child ≡ z.child → ⊥) → rises comes_before ys ≡ true → rises comes_before (put_in_order x ys) ≡ true
@@ -57,9 +59,9 @@ put_rises x (y ∷ ys) apart up =
     let parts = and_parts (list_all (comes_before y) ys) (rises comes_before ys) up in
     elim (cases_Bool (comes_before x y)) [
       | inl hit ↦
-          let all : list_all (comes_before x) (y ∷ ys) ≡ true = in_all (comes_before x) (y ∷ ys) (λ z there. elim there [
+          let all : list_all (comes_before x) (y ∷ ys) ≡ true = list_all_in (comes_before x) (y ∷ ys) (λ z there. elim there [
             | inl same ↦ ap (comes_before x) (sym same) ∙ hit
-            | inr later ↦ transitive x y z hit (all_in (comes_before y) ys z parts.0 later)
+            | inr later ↦ transitive x y z hit (passes_in (comes_before y) ys z parts.0 later)
           ]) in
           ap (λ b. rises comes_before (cond b (x ∷ y ∷ ys) (y ∷ put_in_order x ys))) hit
           ∙ and_from (list_all (comes_before x) (y ∷ ys)) (rises comes_before (y ∷ ys)) all up
@@ -72,9 +74,6 @@ put_rises x (y ∷ ys) apart up =
 
 abbrev pub child_of : Waiting → ℕ
 child_of entry = entry.child
-
-less_apart : (a b : ℕ) → nat_cmp a b ≡ Less → a ≡ b → ⊥
-less_apart a b h e = grind (arith, nat_tests)
 
 -- a number below all of those is none of them
 below_all : (number : ℕ) (xs : List Waiting) → AllByRecursion (λ y. nat_cmp number y ≡ Less) (map child_of xs) → (z : Waiting) → In z xs → number ≡ z.child → ⊥

@@ -1,4 +1,2 @@
-pub mod Each
 pub mod KeyLemmas
-pub mod Known
 pub mod Puts

@@ -1,5 +1,5 @@
 -- What `parse` reads as a number.
-use Rattle.std.proofs.Common.{◌≡◌, ℕ, ◌<◌, ◌^◌, Bool, true, false, cond, refl, List, length, Some, None, Ok, Err, rules}
+use Rattle.std.proofs.Common.{◌≡◌, ℕ, ◌<◌, ◌^◌, Bool, true, false, cond, refl, List, length, Some, None, Ok, Err}
 use Rattle.std.specs.Prelude.{Result, nat_lt, ◌&&◌}
 use Rattle.std.specs.Bool.{Decides}
 use Rattle.std.specs.Char.{is_ascii_digit}
@@ -7,11 +7,8 @@ use Rattle.std.specs.List.{list_all}
 use Rattle.std.specs.Result.{OkIff, result_ok}
 use Rattle.std.specs.Str.Parse.{ParsesUnsigned, IsNumeral, digits_value, without_leading_plus}
 use Rattle.std.proofs.lemmas.Bool.Decides.{Decides-ltb, Decides-and}
-use Rattle.std.proofs.lemmas.Str.Parse.{IsNumeralModel, numerals_by_value}
+use Rattle.adm_lists.proofs.Numerals.{digits}
 use Rattle.adm_words.specs.Lines.{number_of}
-
-digits : IsNumeralModel (λ ds. list_all is_ascii_digit ds ≡ true) (digits_value 10)
-digits = numerals_by_value _ (search rules)
 
 pub decided : (ds : List ℕ) → Decides (nat_lt 0 (length ds) && (list_all is_ascii_digit ds && nat_lt (digits_value 10 ds) (2 ^ 32))) (IsNumeral 10 ds × (digits_value 10 ds < 2 ^ 32))
 decided ds =

@@ -1,9 +1,9 @@
 use Rattle.std.proofs.Common.{◌∙◌, ap, sym, ◌++◌, ◌∷◌, [], ◌-◌}
 use Rattle.std.specs.Prelude.{count_by, nat_eq}
 use Rattle.std.specs.Cmp.Lexicographic.{pointwise}
+use Rattle.adm_lists.proofs.Walks.{map_next}
 use Rattle.adm_types.specs.declared.rows.School.{School}
 use Rattle.adm_round.specs.declared.applicants.Site.{Site}
-use Rattle.adm_register.proofs.EntrantLemmas.{map_next}
 use Rattle.adm_commands.proofs.entrants.sites_of.Goals as goal
 
 pub loop-index-preserved : goal.loop-index-preserved

@@ -1,7 +1,7 @@
 use Rattle.std.proofs.Common.{◌≡◌, ◌∙◌, ◌+◌, ap, sym, subst, true, false, length, [], ◌∷◌, ◌++◌, None, arith}
+use Rattle.std.proofs.lemmas.List.{nil_from_length}
 use Rattle.adm_commands.specs.Import.{with_row, is_known, refusal_of_row}
 use Rattle.adm_commands.proofs.ImportSeen.{Seen, refused_here, known_seen, new_seen, seen_all}
-use Rattle.adm_register.proofs.Maps.{no_length}
 use Rattle.adm_commands.proofs.import.walk.Goals.{then-not-is_known+in_ok-seen-2, else-not-is_known}
 use Rattle.adm_commands.proofs.import.walk.Goals as goal
 
@@ -43,10 +43,10 @@ loop-row-preserved c =
 
 pub returns-clause-why : goal.returns-clause-why
 returns-clause-why c =
-    let so_far = subst (λ rest. Seen c.args.old.now c.args.rows.now c.loop-row.seen c.loop-row.number rest c.loop-row.added.items) (no_length c.loop-row.rest.now c.in_default.ensures.cases) c.loop-row.invariant.0 in
+    let so_far = subst (λ rest. Seen c.args.old.now c.args.rows.now c.loop-row.seen c.loop-row.number rest c.loop-row.added.items) (nil_from_length c.loop-row.rest.now c.in_default.ensures.cases) c.loop-row.invariant.0 in
     (seen_all c.args.old.now c.args.rows.now c.loop-row.seen c.loop-row.number c.loop-row.added.items so_far).0
 
 pub returns-clause-added : goal.returns-clause-added
 returns-clause-added c none =
-    let so_far = subst (λ rest. Seen c.args.old.now c.args.rows.now c.loop-row.seen c.loop-row.number rest c.loop-row.added.items) (no_length c.loop-row.rest.now c.in_default.ensures.cases) c.loop-row.invariant.0 in
+    let so_far = subst (λ rest. Seen c.args.old.now c.args.rows.now c.loop-row.seen c.loop-row.number rest c.loop-row.added.items) (nil_from_length c.loop-row.rest.now c.in_default.ensures.cases) c.loop-row.invariant.0 in
     (seen_all c.args.old.now c.args.rows.now c.loop-row.seen c.loop-row.number c.loop-row.added.items so_far).1

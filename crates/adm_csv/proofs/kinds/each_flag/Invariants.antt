@@ -1,6 +1,6 @@
 use Rattle.std.proofs.Common.{◌≡◌, drop}
+use Rattle.adm_lists.proofs.Options.{with_front}
 use Rattle.adm_types.specs.Joined.{all_some}
-use Rattle.adm_csv.proofs.Each.{with_front}
 use Rattle.adm_csv.proofs.kinds.each_flag.Given as goal
 
 abbrev pub invariant-loop-piece : goal.invariant-loop-piece

@@ -2,10 +2,11 @@ use Rattle.std.proofs.Common.{◌≡◌, ◌∙◌, sym, [], map}
 use Rattle.std.specs.List.{flat_map}
 use Rattle.std.proofs.lemmas.Result.{IfOk-weaker}
 use Rattle.std.proofs.lemmas.Option.{IfSome_then}
+use Rattle.adm_lists.proofs.Options.{if_none_weaker}
 use Rattle.adm_draws.specs.Draws.{row_of, offers_of, lots_of}
 use Rattle.adm_draws.specs.Grouped.{draws_after}
 use Rattle.adm_draws.proofs.RowOrder.{heads_rise, offers_rise, lots_rise}
-use Rattle.adm_draws.proofs.FromRows.{are_rows, are_in_order, gathered_from, one_answer, no_answer, none_then}
+use Rattle.adm_draws.proofs.FromRows.{are_rows, are_in_order, gathered_from, one_answer, no_answer}
 use Rattle.adm_draws.proofs.gathering.draws_of.Goals as goal
 
 pub returns-in_default-clause-none : goal.returns-in_default-clause-none
@@ -53,7 +54,7 @@ returns-clause-none c =
     let lots = c.in-Some-in_order-2.lots.items in
     let same : draws_after [] heads offers lots ≡ draws_after [] c.deref.result.now c.deref-2.result.now c.deref-3.result.now =
     λ i. draws_after [] (sym c.deref.ensures.value i) (sym c.deref-2.ensures.value i) (sym c.deref-3.ensures.value i) in
-    IfOk-weaker c.gathered.result _ _ (λ made told. none_then made told (λ is list rows order.
+    IfOk-weaker c.gathered.result _ _ (λ made told. if_none_weaker _ _ made told (λ is list rows order.
     no_answer (draws_after [] heads offers lots) list
     (gathered_from c.args.draw_rows.items heads c.args.offer_rows.items offers c.args.lot_rows.items lots list rows order
     c.in-Some.ensures.only c.in-Some-in_order.ensures.only c.in-Some-in_order-2.ensures.only)

@@ -4,6 +4,7 @@ use Rattle.std.specs.Cmp.{nat_cmp_total}
 use Rattle.std.specs.Cmp.Lexicographic.{nat_list_cmp_total}
 use Rattle.std.specs.FinMap.{values, nat_cmp-IsAntisymmetric}
 use Rattle.std.specs.List.{list_all}
+use Rattle.std.proofs.lemmas.Bool.{and_parts}
 use Rattle.adm_types.specs.Seasons.{IsSeason, lists_end}
 use Rattle.adm_register.specs.WellFormed.{fits_school_with, held_at, has_round, SchoolFits, fits_child, ChildFits, fits_application, ApplicationFits, fits_place, PlaceFits, fits_left, LeftPairFits, fits_import, ImportFits}
 use Rattle.adm_register.proofs.ApplicationChecks.{application_decided}
@@ -11,7 +12,7 @@ use Rattle.adm_register.proofs.ChildChecks.{child_decided}
 use Rattle.adm_register.proofs.EachRow.{rows_decided}
 use Rattle.adm_register.proofs.ImportChecks.{import_decided}
 use Rattle.adm_register.proofs.LeftChecks.{left_decided}
-use Rattle.adm_register.proofs.Maps.{both_true, code_cmp-IsAntisymmetric, left_cmp-total, left_cmp-IsAntisymmetric}
+use Rattle.adm_register.proofs.Maps.{code_cmp-IsAntisymmetric, left_cmp-total, left_cmp-IsAntisymmetric}
 use Rattle.adm_register.proofs.PlaceChecks.{place_decided}
 use Rattle.adm_register.proofs.SchoolChecks.{school_decided_with}
 use Rattle.adm_register.proofs.DrawChecks.{IsKnown, draw_known, draws_fit, draws_known, draws_formed}
@@ -38,16 +39,16 @@ returns c =
     let formed = c.in_ok-all_formed.ensures ∙ ap (list_all is_draw) (c.deref.ensures.value ∙ rows_listed) in
     let in_order = c.are_in_order.ensures ∙ (λ i. are_in_order (c.season-2.ensures i) no_draws ((c.deref-2.ensures.value ∙ rows_listed) i)) in (
       λ fit.
-          let a = both_true c.are_few.result _ (sym c.all_hold.ensures ∙ fit) in
-          let b = both_true c.all_fit.result _ a.1 in
-          let d = both_true c.all_fit-2.result _ b.1 in
-          let e = both_true c.all_fit-3.result _ d.1 in
-          let f = both_true c.all_fit-4.result _ e.1 in
-          let g = both_true c.all_fit-5.result _ f.1 in
-          let h = both_true c.all_fit-6.result _ g.1 in
-          let j = both_true c.all_fit-7.result _ h.1 in
-          let k = both_true c.in_ok-all_formed.field-0 _ j.1 in
-          let l = both_true c.are_in_order.result _ k.1 in
+          let a = and_parts c.are_few.result _ (sym c.all_hold.ensures ∙ fit) in
+          let b = and_parts c.all_fit.result _ a.1 in
+          let d = and_parts c.all_fit-2.result _ b.1 in
+          let e = and_parts c.all_fit-3.result _ d.1 in
+          let f = and_parts c.all_fit-4.result _ e.1 in
+          let g = and_parts c.all_fit-5.result _ f.1 in
+          let h = and_parts c.all_fit-6.result _ g.1 in
+          let j = and_parts c.all_fit-7.result _ h.1 in
+          let k = and_parts c.in_ok-all_formed.field-0 _ j.1 in
+          let l = and_parts c.are_in_order.result _ k.1 in
           let few = c.are_few.ensures.0 a.0 in
           record {
             base = record {

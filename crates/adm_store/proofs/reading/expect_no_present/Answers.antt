@@ -4,13 +4,13 @@ use Rattle.std.proofs.lemmas.List.Sorted.{IsPermutation-sym, IsPermutation-trans
 use Rattle.std.proofs.lemmas.Result.{err_from_is_err_and}
 use Rattle.sqlite.specs.Held.{state}
 use Rattle.sqlite.specs.Order.{Row}
+use Rattle.std.proofs.lemmas.List.{nil_from_length}
 use Rattle.adm_schema.specs.declared.version.Version.TheVariants.{Second}
 use Rattle.adm_schema.specs.Schema.{present}
 use Rattle.adm_schema.specs.Texts.{select_present}
 use Rattle.adm_schema.proofs.Texts.{asks_present}
 use Rattle.adm_store.specs.Reads.{AsksAll}
 use Rattle.adm_store.specs.StandsFor.{HasRows}
-use Rattle.adm_store.proofs.LogLemmas.{no_rows}
 use Rattle.adm_store.proofs.reading.expect_no_present.Goals as goal
 
 asks : AsksAll Second present select_present
@@ -28,7 +28,7 @@ returns-in_err-rows-clause-disk g c =
 
 pub returns-then-is_empty-clause-ok : goal.returns-then-is_empty-clause-ok
 returns-then-is_empty-clause-ok g c clean has =
-    let none : c.in_ok-rows.rows.items ≡ [] = no_rows c.in_ok-rows.rows.items (ap length (sym c.as_slice.ensures.value) ∙ eqb-true (length c.as_slice.result.now) 0 (sym c.is_empty.ensures ∙ c.if-is_empty.true)) in
+    let none : c.in_ok-rows.rows.items ≡ [] = nil_from_length c.in_ok-rows.rows.items (ap length (sym c.as_slice.ensures.value) ∙ eqb-true (length c.as_slice.result.now) 0 (sym c.is_empty.ensures ∙ c.if-is_empty.true)) in
     subst (λ (rows : List Row). HasRows present rows (state g.S.Store c.args.tx.now.conn.now).now.trees) none (c.in_ok-rows.ensures.ok Second present asks clean has)
 
 -- a row is there

@@ -4,6 +4,7 @@ use Rattle.std.specs.Cmp.{nat_cmp_total}
 use Rattle.std.specs.Cmp.Lexicographic.{nat_list_cmp_total}
 use Rattle.std.specs.FinMap.{get}
 use Rattle.std.specs.List.{filter}
+use Rattle.adm_lists.proofs.Maps.{get_rows}
 use Rattle.adm_types.specs.declared.rows.Application.{Application}
 use Rattle.adm_types.specs.declared.rows.Child.{Child}
 use Rattle.adm_types.specs.declared.rows.PlaceRow.{PlaceRow}
@@ -13,7 +14,6 @@ use Rattle.adm_types.specs.declared.draws.Draw.{Draw}
 use Rattle.adm_types.specs.declared.rows.School.{School}
 use Rattle.adm_table.specs.Same.{is_other, is_same_school, is_same_child, is_same_application, is_same_place, is_same_left, is_same_draw, is_same_import}
 use Rattle.adm_register.proofs.Maps.{left_cmp-total}
-use Rattle.adm_register.proofs.TableMaps.{get_rows}
 use Rattle.adm_register.proofs.tables.Tables.differing.Goals as goal
 
 pub returns : goal.returns

@@ -7,6 +7,8 @@ use Rattle.std.specs.List.Sorted.{IsPermutation, IsStrictlySortedBy}
 use Rattle.std.specs.Map.{values_of, keys_of}
 use Rattle.std.specs.List.{IsDistinct}
 use Rattle.std.specs.Ordering.{eq_by_cmp}
+use Rattle.std.proofs.lemmas.Bool.{and_parts}
+use Rattle.adm_lists.proofs.Maps.{entries_in_order}
 use Rattle.adm_types.specs.declared.rows.Application.{Application}
 use Rattle.adm_types.specs.declared.rows.Child.{Child}
 use Rattle.adm_types.specs.declared.rows.ImportRow.{ImportRow}
@@ -16,8 +18,8 @@ use Rattle.adm_types.specs.declared.rows.School.{School}
 use Rattle.adm_types.specs.declared.draws.Draw.{Draw}
 use Rattle.adm_draws.specs.Draws.{AreRowsOf, AreInOrder, are_ordered}
 use Rattle.adm_register.specs.WellFormed.{WellFormed}
-use Rattle.adm_register.proofs.Maps.{both_true, code_cmp-IsAntisymmetric, left_cmp-total, left_cmp-IsAntisymmetric}
-use Rattle.adm_register.proofs.SameRows.{distinct_keys, entries_at_own_keys, entries_in_order, values_hold}
+use Rattle.adm_register.proofs.Maps.{code_cmp-IsAntisymmetric, left_cmp-total, left_cmp-IsAntisymmetric}
+use Rattle.adm_register.proofs.SameRows.{distinct_keys, entries_at_own_keys, values_hold}
 use Rattle.adm_register.proofs.TableMaps.{values_rows}
 use Rattle.adm_register.proofs.RowsAgain.{rows_of_table, same_as_table, same_values}
 use Rattle.adm_register.specs.State.{State, left_cmp}
@@ -55,7 +57,7 @@ in_order state well =
     record {
       rising = subst (IsStrictlySortedBy nat_cmp) (sym own) (entries_in_order state.draws);
       each = values_hold nat_cmp_total nat_cmp-IsAntisymmetric (λ d. are_ordered d ≡ true) state.draws
-          (λ key draw there. let a = both_true _ _ (well.draws.each key draw there).form in let b = both_true _ _ a.0 in (both_true (are_ordered draw) _ b.0).0);
+          (λ key draw there. let a = and_parts _ _ (well.draws.each key draw there).form in let b = and_parts _ _ a.0 in (and_parts (are_ordered draw) _ b.0).0);
     }
 
 pub returns-in_default-6-clause-repeated : goal.returns-in_default-6-clause-repeated

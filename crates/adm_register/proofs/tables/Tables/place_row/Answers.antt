@@ -1,7 +1,7 @@
 use Rattle.std.proofs.Common.{◌∙◌, ap, sym}
 use Rattle.std.specs.FinMap.{get}
 use Rattle.std.specs.Cmp.{nat_cmp_total}
-use Rattle.adm_register.proofs.TableMaps.{get_rows}
+use Rattle.adm_lists.proofs.Maps.{get_rows}
 use Rattle.adm_register.proofs.tables.Tables.place_row.Goals as goal
 
 pub returns : goal.returns

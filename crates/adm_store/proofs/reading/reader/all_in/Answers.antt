@@ -1,7 +1,8 @@
 use Rattle.std.proofs.Common.{◌≡◌, [], ◌∷◌, ◌++◌, sym, subst, rules}
 use Rattle.std.specs.List.{AllByRecursion}
 use Rattle.std.proofs.lemmas.Result.{err_from_is_err_and}
-use Rattle.adm_store.proofs.RowLemmas.{has_value, read_more, recursion_push}
+use Rattle.adm_lists.proofs.Each.{each_push}
+use Rattle.adm_store.proofs.RowLemmas.{has_value, read_more}
 use Rattle.adm_store.proofs.reading.reader.all_in.Goals as goal
 
 pub rows-preserved : goal.rows-preserved
@@ -9,7 +10,7 @@ rows-preserved g c =
     let items : c.push.new.self.items ≡ c.rows.all.items ++ c.in_ok-one.one ∷ [] = search rules in
     record {
       read = read_more g.R.Reader.row_of c.args.rows.now c.rows.row-index c.row-item.result c.rows.all.items _ c.in_ok-one.one c.rows-test.true c.row-item.is c.rows.invariant.read c.in_ok-one.ensures.ok items;
-      again = subst (AllByRecursion g.R.Reader.IsRead) (sym items) (recursion_push g.R.Reader.IsRead c.rows.all.items c.in_ok-one.one c.rows.invariant.again c.in_ok-one.ensures.again);
+      again = subst (AllByRecursion g.R.Reader.IsRead) (sym items) (each_push g.R.Reader.IsRead c.rows.all.items c.in_ok-one.one c.rows.invariant.again c.in_ok-one.ensures.again);
     }
 
 pub returns-in_err-one-clause-bad : goal.returns-in_err-one-clause-bad

@@ -1,4 +1,4 @@
-use Rattle.std.proofs.Common.{◌≡◌, ◌∙◌, ap, sym, subst, refl, arith, append-nil, length, List, map, [], ◌∷◌, ◌++◌, None}
+use Rattle.std.proofs.Common.{◌≡◌, ◌∙◌, ap, sym, subst, append-nil, map, [], ◌∷◌, ◌++◌, None}
 use Rattle.std.specs.Prelude.{is_some}
 use Rattle.std.specs.BTreeMap.{is_at, insert_entry}
 use Rattle.std.specs.Map.{lookup, keys_of, values_of}
@@ -7,6 +7,7 @@ use Rattle.std.specs.List.Sorted.{IsPermutation, IsStrictlySortedBy}
 use Rattle.std.specs.Ordering.{eq_by_cmp}
 use Rattle.std.proofs.lemmas.List.Sorted.{IsPermutation-push_more}
 use mathlib.Core.List.{append_assoc}
+use Rattle.std.proofs.lemmas.List.{nil_from_length}
 use Rattle.adm_table.proofs.OwnKeys.{none_of, new_entry, own_keys, two_with_one_key}
 use Rattle.adm_table.proofs.table.Table.of_rows.Goals as goal
 
@@ -35,16 +36,12 @@ loop-row-preserved g c =
       ordered = c.in_ok-all.ensures.ordered;
     }
 
-no_items : {A : Type 0} (xs : List A) → length xs ≡ 0 → xs ≡ []
-no_items [] e = refl
-no_items (x ∷ xs) e = absurd (omega arith)
-
 pub returns-clause-made : goal.returns-clause-made
 returns-clause-made g c =
     let inside = c.loop-row.invariant in
     let R = g.K.Ord.cmp in
     let rest = c.loop-row.row-iterator.rest.items in
-    let ended : rest ≡ [] = no_items rest (sym c.loop-row.row-iterator.rest.ok.0 ∙ c.in-None.ensures.steps.0) in
+    let ended : rest ≡ [] = nil_from_length rest (sym c.loop-row.row-iterator.rest.ok.0 ∙ c.in-None.ensures.steps.0) in
     let whole : c.loop-row.yielded ≡ c.args.rows.items = sym (append-nil c.loop-row.yielded) ∙ ap (λ r. c.loop-row.yielded ++ r) (sym ended) ∙ inside.split in
     let kept : c.in_ok-new.field-0.value ≡ c.loop-row.all = c.in_ok-new.ensures.ok in
     subst (λ es. IsPermutation c.args.rows.items (values_of es) × (map g.V.Keyed.key (values_of es) ≡ keys_of es) × IsStrictlySortedBy R (keys_of es)) (sym kept)

@@ -1,6 +1,7 @@
 use Rattle.std.proofs.Common.{◌∙◌, ap}
 use Rattle.jiff.specs.Words.{parse_date}
-use Rattle.adm_types.proofs.DayTexts.{if_none_weaker, none_read, none_unread, named_read, named_unread}
+use Rattle.adm_lists.proofs.Options.{if_none_weaker}
+use Rattle.adm_types.proofs.DayTexts.{none_read, none_unread, named_read, named_unread}
 use Rattle.adm_types.proofs.days.Day.parse.Goals as goal
 
 pub returns-in-Ok-clause-none : goal.returns-in-Ok-clause-none

@@ -1,5 +1,5 @@
 use Rattle.std.proofs.Common.{rules, ◌++◌, take}
-use Rattle.adm_wire.proofs.Known.{Appends-then}
+use Rattle.adm_lists.proofs.KnownBytes.{Appends-then}
 use Rattle.adm_wire.proofs.Puts.{put_failed, cut_more}
 use Rattle.adm_wire.proofs.streams.WatchedOutput.put.Goals as goal
 

@@ -1,0 +1,12 @@
+pub mod Tests
+pub mod Orders
+pub mod Options
+pub mod Each
+pub mod Members
+pub mod Walks
+pub mod Rising
+pub mod Maps
+pub mod Keys
+pub mod Counts
+pub mod Numerals
+pub mod KnownBytes
