@@ -1,14 +1,12 @@
--- What the types of a command's values keep.
-use Rattle.std.specs.Prelude.{⊤, ℕ, List, IsTrue, nat_le, nat_lt}
-use Rattle.std.specs.List.{list_all, AllByRecursion}
+-- What the types of values keep.
+use Rattle.std.specs.Prelude.{ℕ, List, IsTrue, nat_le, nat_lt}
+use Rattle.std.specs.List.{list_all}
 use Rattle.std.specs.Str.{is_utf8}
 use Rattle.adm_types.specs.Code.{is_code}
 use Rattle.adm_types.specs.Limits.{is_from, is_child_number, first_day, last_day}
 use Rattle.adm_types.specs.declared.rows.School.{School}
 use Rattle.adm_types.specs.declared.rows.Child.{Child}
 use Rattle.adm_types.specs.declared.rows.ImportRow.{ImportRow}
-use Rattle.adm_types.specs.declared.commands.Command.{Command}
-use Rattle.adm_types.specs.declared.commands.Command.TheVariants.{AddSchool, AddChild, Amend, NamePlan, Apply, Round, Accept, Decline, Remind, Lapse, LeaveList, Fill, Import}
 
 -- a school's code is one, and its name is a text
 pub record KeptBySchool (school : School) : Type 0 where
@@ -30,18 +28,3 @@ pub record KeptByRound (day : ℕ) (numbers : List ℕ) : Type 0 where
 pub record KeptByImportRow (row : ImportRow) : Type 0 where
   pub child : KeptByChild row.child
   pub day : IsTrue (nat_le first_day row.day)
-
-abbrev pub KeptByTypes : Command → Type 0
-KeptByTypes (AddSchool school) = KeptBySchool school
-KeptByTypes (AddChild child) = KeptByChild child
-KeptByTypes (Amend child) = KeptByChild child
-KeptByTypes (NamePlan child school) = ⊤
-KeptByTypes (Apply application) = IsTrue (nat_le first_day application.day)
-KeptByTypes (Round draw day lots) = KeptByRound day lots
-KeptByTypes (Accept child school) = ⊤
-KeptByTypes (Decline child school) = ⊤
-KeptByTypes (Remind child school day) = IsTrue (nat_le day last_day)
-KeptByTypes (Lapse child school day) = ⊤
-KeptByTypes (LeaveList child school) = ⊤
-KeptByTypes (Fill draw school day lots) = KeptByRound day lots
-KeptByTypes (Import rows) = AllByRecursion KeptByImportRow rows

@@ -1,5 +1,7 @@
 -- What a command leaves and answers.
-use Rattle.std.specs.Prelude.{◌≡◌, ⊤, ℕ, Bool, List, [], Option, Some, None, Result, Ok, Err}
+use Rattle.std.specs.Prelude.{◌≡◌, ⊤, ℕ, Bool, List, [], Option, Some, None, Result, Ok, Err, IsTrue, nat_le}
+use Rattle.std.specs.List.{AllByRecursion}
+use Rattle.adm_types.specs.Limits.{first_day, last_day}
 use Rattle.adm_types.specs.declared.commands.Command.{Command}
 use Rattle.adm_types.specs.declared.commands.Command.TheVariants.{AddSchool, AddChild, Amend, NamePlan, Apply, Round, Accept, Decline, Remind, Lapse, LeaveList, Fill, Import}
 use Rattle.adm_types.specs.declared.commands.Refusal.{Refusal}
@@ -9,6 +11,7 @@ use Rattle.adm_register.specs.declared.difference.Difference.{Difference}
 use Rattle.adm_register.specs.State.{State}
 use Rattle.adm_register.specs.Change.{after, put_child}
 use Rattle.adm_commands.specs.Tests.{first_failing}
+use Rattle.adm_commands.specs.KeptByTypes.{KeptBySchool, KeptByChild, KeptByRound, KeptByImportRow}
 use Rattle.adm_register.specs.WellFormed.{WellFormed}
 use Rattle.adm_commands.specs.AddSchool as add_school
 use Rattle.adm_commands.specs.AddChild as add_child
@@ -31,6 +34,22 @@ use Rattle.adm_types.specs.declared.draws.Outcome.{Outcome as OutcomeRow}
 use Rattle.adm_commands.specs.declared.not_done.NotDone.{NotDone}
 use Rattle.adm_commands.specs.declared.proposals.Proposal.{Proposal}
 use Rattle.adm_commands.specs.declared.not_done.NotDone.TheVariants.{Refused, Memory}
+
+-- what the types of a command's values keep
+abbrev pub KeptByTypes : Command → Type 0
+KeptByTypes (AddSchool school) = KeptBySchool school
+KeptByTypes (AddChild child) = KeptByChild child
+KeptByTypes (Amend child) = KeptByChild child
+KeptByTypes (NamePlan child school) = ⊤
+KeptByTypes (Apply application) = IsTrue (nat_le first_day application.day)
+KeptByTypes (Round draw day lots) = KeptByRound day lots
+KeptByTypes (Accept child school) = ⊤
+KeptByTypes (Decline child school) = ⊤
+KeptByTypes (Remind child school day) = IsTrue (nat_le day last_day)
+KeptByTypes (Lapse child school day) = ⊤
+KeptByTypes (LeaveList child school) = ⊤
+KeptByTypes (Fill draw school day lots) = KeptByRound day lots
+KeptByTypes (Import rows) = AllByRecursion KeptByImportRow rows
 
 -- the tests of a command, in their order; those of an import are its rows', below
 abbrev pub tests_of : State → Command → List (Bool × Refusal)

@@ -1,8 +1,7 @@
 // What comes of each command.
 ghost use Rattle.std.specs.Prelude.{IfOk};
 ghost use Rattle.adm_register.specs.WellFormed.{WellFormed};
-ghost use Rattle.adm_commands.specs.Outcome.{Comes, refused, Changes};
-ghost use Rattle.adm_commands.specs.KeptByTypes.{KeptByTypes};
+ghost use Rattle.adm_commands.specs.Outcome.{Comes, refused, Changes, KeptByTypes};
 
 use crate::child_values::kept_by_child;
 use crate::tried::Tried;

@@ -1,6 +1,6 @@
 -- What bytes say: a command, or the first fault.
-use Rattle.std.specs.Prelude.{ℕ, List, codes, Option, None, Result, Ok, if◌then◌else◌}
-use Rattle.std.specs.Str.{is_utf8}
+use Rattle.std.specs.Prelude.{ℕ, List, codes, Option, Some, None, Result, Ok, if◌then◌else◌}
+use Rattle.std.specs.Str.{bytes_eq, is_utf8}
 use Rattle.serde_json.specs.Data.{Data}
 use Rattle.serde_json.specs.Find.{as_object}
 use Rattle.serde_json.specs.Read.{read}
@@ -8,12 +8,27 @@ use Rattle.adm_types.specs.declared.commands.Command.{Command}
 use Rattle.adm_types.specs.declared.commands.Command.TheVariants as c
 use Rattle.adm_wire.specs.declared.fault.WireFault.{WireFault}
 use Rattle.adm_wire.specs.declared.fault.WireFault.TheVariants.{NotJson, UnknownCommand, WrongKind}
-use Rattle.adm_wire.specs.declared.name.Name.{Name}
-use Rattle.adm_wire.specs.declared.name.Name.TheVariants as n
+use Rattle.adm_wire.specs.declared.read.Name.{Name}
+use Rattle.adm_wire.specs.declared.read.Name.TheVariants as n
 use Rattle.adm_wire.specs.Forms.{school_form, child_form, pair_form, notice_form, draw_form, fill_form, application_form}
 use Rattle.adm_wire.specs.Kinds.{a_text}
-use Rattle.adm_wire.specs.Names.{name_of}
 use Rattle.adm_wire.specs.Reading.{◌>>=◌, some_or, field_at}
+
+-- the command that a text names
+unfoldable pub name_of : List ℕ → Option Name
+name_of s =
+    if bytes_eq s (codes "add_school") then Some n.AddSchool else (
+    if bytes_eq s (codes "add_child") then Some n.AddChild else (
+    if bytes_eq s (codes "amend") then Some n.Amend else (
+    if bytes_eq s (codes "name_plan") then Some n.NamePlan else (
+    if bytes_eq s (codes "apply") then Some n.Apply else (
+    if bytes_eq s (codes "round") then Some n.Round else (
+    if bytes_eq s (codes "accept") then Some n.Accept else (
+    if bytes_eq s (codes "decline") then Some n.Decline else (
+    if bytes_eq s (codes "remind") then Some n.Remind else (
+    if bytes_eq s (codes "lapse") then Some n.Lapse else (
+    if bytes_eq s (codes "leave_list") then Some n.LeaveList else (
+    if bytes_eq s (codes "fill") then Some n.Fill else None)))))))))))
 
 -- a command of this name
 unfoldable pub form_of : Name → Data → Result Command WireFault

@@ -5,7 +5,6 @@
 mod fault;
 mod field;
 mod keys;
-mod name;
 mod read;
 mod streams;
 mod texts;

@@ -1,6 +1,7 @@
 // The reader of a command: bytes to JSON, JSON to a command.
+ghost use Rattle.std.specs.Prelude.{◌≡◌};
 ghost use Rattle.serde_json.specs.View.{view};
-ghost use Rattle.adm_wire.specs.Commands.{form_of, command_in, command_of, json_of};
+ghost use Rattle.adm_wire.specs.Commands.{name_of, form_of, command_in, command_of, json_of};
 ghost use Rattle.adm_wire.specs.Forms.{school_form, child_form, pair_form, notice_form, draw_form, fill_form, application_form};
 ghost use Rattle.adm_wire.specs.Reading.{Gives, GivesSeen, some_or};
 ghost use Rattle.adm_wire.specs.declared.fault.WireFault.TheVariants.{NotJson};
@@ -8,7 +9,6 @@ ghost use Rattle.adm_wire.specs.declared.fault.WireFault.TheVariants.{NotJson};
 use crate::WireFault;
 use crate::field::field;
 use crate::keys::only;
-use crate::name::{Name, read_name};
 use adm_types::{
     Application, Child, ChildNo, Command, Day, Flag, Point, School, SchoolCode, Seq, Text,
     flag_bits,
@@ -131,6 +131,46 @@ fn application(alloc: Global, object: &Value) -> Result<Application, WireFault>
     Ok(Application { child, day, list })
 }
 
+/// The name of a command.
+#[derive(Clone, Copy, Debug, PartialEq, Eq)]
+enum Name {
+    AddSchool,
+    AddChild,
+    Amend,
+    NamePlan,
+    Apply,
+    Round,
+    Accept,
+    Decline,
+    Remind,
+    Lapse,
+    LeaveList,
+    Fill,
+}
+
+/// The command that a text names.
+#[tactic(auto, unfolding(crate::specs::Commands::name_of))]
+fn read_name(text: &str) -> Option<Name>
+    ensures { result ≡ name_of text.now }
+{
+    match text {
+        "add_school" => Some(Name::AddSchool),
+        "add_child" => Some(Name::AddChild),
+        "amend" => Some(Name::Amend),
+        "name_plan" => Some(Name::NamePlan),
+        "apply" => Some(Name::Apply),
+        "round" => Some(Name::Round),
+        "accept" => Some(Name::Accept),
+        "decline" => Some(Name::Decline),
+        "remind" => Some(Name::Remind),
+        "lapse" => Some(Name::Lapse),
+        "leave_list" => Some(Name::LeaveList),
+        "fill" => Some(Name::Fill),
+        _ => None,
+    }
+}
+
+/// A command of this name.
 #[tactic(auto, unfolding(crate::specs::Commands::form_of))]
 fn command(alloc: Global, name: Name, object: &Value) -> Result<Command, WireFault>
     ensures { Gives result (form_of name (view object.now)) }
