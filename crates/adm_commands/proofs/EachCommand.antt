@@ -268,7 +268,7 @@ import_shows rows = record {
   one_change = λ law old one other first second x y.
       let key = λ (r : ImportRow). r.child.no in
       let permuted = IsPermutation-trans x.0 (import.new_rows old rows) y.0 (IsPermutation-sym (import.new_rows old rows) x.0 x.1) y.1 in
-      x.3 ∙ ap import.change_of (one_order nat_cmp_total nat_cmp-IsAntisymmetric key x.0 y.0 permuted x.2 y.2) ∙ sym y.3;
+      x.3 ∙ ap import.change_of (one_order nat_cmp_total key x.0 y.0 permuted x.2 y.2) ∙ sym y.3;
   draws = λ old new change reply ordered accepted done is. unchanged old new change (ap (λ (c : Difference). c.draws) done.3) is ordered;
   imports = λ old new change reply known accepted done is.
       stay_beside old new (import.change_of done.0) (is ∙ ap (after old) done.3) known (each_new old rows done.0 known accepted done.1)
