@@ -126,19 +126,35 @@ fn found_on(alloc: Global, disks: &Disks, act: &Act, ends: &Ends) -> io::Result<
     Ok(Found { left, again })
 }
 
+/// What a stop left on these disks, where it is known of the disks before. The same disks come to the
+/// same, so it is looked for once.
+fn found_after(
+    alloc: Global,
+    disks: &Disks,
+    (before, known): (&Disks, Found),
+    act: &Act,
+    ends: &Ends,
+) -> io::Result<Found> {
+    if disks.is_same(before) {
+        return Ok(known);
+    }
+    found_on(alloc, disks, act, ends)
+}
+
 /// What a stop left at which an act came so far: on the disks as they were written, and after a loss of power.
 fn stop_of(
     alloc: Global,
     came: Came,
     (written, synced): (&Disks, &Disks),
+    before: (&Disks, Found),
     act: &Act,
     ends: &Ends,
 ) -> io::Result<Stop> {
-    let written = found_on(alloc, written, act, ends)?;
-    let synced = found_on(alloc, synced, act, ends)?;
+    let found = found_after(alloc, written, before, act, ends)?;
+    let synced = found_after(alloc, synced, (written, found), act, ends)?;
     Ok(Stop {
         came,
-        written,
+        written: found,
         synced,
     })
 }
@@ -146,21 +162,21 @@ fn stop_of(
 /// What the act comes to where a disk passes so many calls.
 fn stopped(
     alloc: Global,
-    disks: &Disks,
+    before: (&Disks, Found),
     act: &Act,
     ends: &Ends,
     stop: (Which, u64),
 ) -> io::Result<Stop> {
-    let (came, written, synced) = disks.after_stop(alloc, stop, &Doing { act })?;
+    let (came, written, synced) = before.0.after_stop(alloc, stop, &Doing { act })?;
     let came = came.unwrap_or(Came::NoDatabase);
-    stop_of(alloc, came, (&written, &synced), act, ends)
+    stop_of(alloc, came, (&written, &synced), before, act, ends)
 }
 
 /// Stops the act at each call of a disk, until none stops it or one leaves what it may not.
 fn stops_of(
     rt: &impl Print,
     alloc: Global,
-    disks: &Disks,
+    before: (&Disks, Found),
     act: &Act,
     ends: &Ends,
     turns: &Turns,
@@ -169,7 +185,7 @@ fn stops_of(
     let mut written = Counts::new();
     let mut synced = Counts::new();
     for calls in 0..MOST {
-        let stop = stopped(alloc, disks, act, ends, (disk, calls))?;
+        let stop = stopped(alloc, before, act, ends, (disk, calls))?;
         if !stop.is_right(turns) {
             return println!(rt; "  PROBLEM: {disk:?} at call {calls}: {stop:?}");
         }
@@ -209,8 +225,9 @@ pub(crate) fn stops(
         Some(ends) => {
             let turns = Turns::of(alloc, disks, act)?;
             turns.print(rt)?;
-            stops_of(rt, alloc, disks, act, &ends, &turns, Which::Log)?;
-            stops_of(rt, alloc, disks, act, &ends, &turns, Which::Database)
+            let before = (disks, found_on(alloc, disks, act, &ends)?);
+            stops_of(rt, alloc, before, act, &ends, &turns, Which::Log)?;
+            stops_of(rt, alloc, before, act, &ends, &turns, Which::Database)
         }
     }
 }
