@@ -40,35 +40,36 @@ impl Stop {
     }
 }
 
-/// How far an act comes that nothing stops, over the register before it and then over the one after it.
+/// What is found of the disks before an act, and how far the same act comes over the register after it.
 #[derive(Clone, Copy)]
 struct Turns {
-    first: Came,
+    before: Found,
     second: Came,
 }
 
 impl Turns {
-    fn of(alloc: Global, disks: &Disks, act: &Act) -> io::Result<Turns> {
-        let (first, after) = sent(alloc, disks, act)?;
-        Turns::over(alloc, first, &after, act)
+    fn of(alloc: Global, disks: &Disks, act: &Act, ends: &Ends) -> io::Result<Turns> {
+        let (again, after) = sent(alloc, disks, act)?;
+        let left = ends.left_on(alloc, disks)?;
+        Turns::over(alloc, Found { left, again }, &after, act)
     }
 
-    fn over(alloc: Global, first: Came, after: &Disks, act: &Act) -> io::Result<Turns> {
+    fn over(alloc: Global, before: Found, after: &Disks, act: &Act) -> io::Result<Turns> {
         let second = again(alloc, after, act)?;
-        Ok(Turns { first, second })
+        Ok(Turns { before, second })
     }
 
     /// Whether the act that was sent again came as far as it does over the register that was found.
     fn are_kept(&self, found: Found) -> bool {
         match found.left {
-            Left::Before => found.again == self.first,
+            Left::Before => found.again == self.before.again,
             Left::After => found.again == self.second,
             Left::Both | Left::Neither => false,
         }
     }
 
     fn print(&self, rt: &impl Print) -> io::Result<()> {
-        println!(rt; "  {:?}, and then {:?}", self.first, self.second)
+        println!(rt; "  {:?}, and then {:?}", self.before.again, self.second)
     }
 }
 
@@ -131,7 +132,8 @@ fn found_on(alloc: Global, disks: &Disks, act: &Act, ends: &Ends) -> io::Result<
 fn found_after(
     alloc: Global,
     disks: &Disks,
-    (before, known): (&Disks, Found),
+    before: &Disks,
+    known: Found,
     act: &Act,
     ends: &Ends,
 ) -> io::Result<Found> {
@@ -146,12 +148,13 @@ fn stop_of(
     alloc: Global,
     came: Came,
     (written, synced): (&Disks, &Disks),
-    before: (&Disks, Found),
+    disks: &Disks,
+    known: Found,
     act: &Act,
     ends: &Ends,
 ) -> io::Result<Stop> {
-    let found = found_after(alloc, written, before, act, ends)?;
-    let synced = found_after(alloc, synced, (written, found), act, ends)?;
+    let found = found_after(alloc, written, disks, known, act, ends)?;
+    let synced = found_after(alloc, synced, written, found, act, ends)?;
     Ok(Stop {
         came,
         written: found,
@@ -162,21 +165,22 @@ fn stop_of(
 /// What the act comes to where a disk passes so many calls.
 fn stopped(
     alloc: Global,
-    before: (&Disks, Found),
+    disks: &Disks,
+    known: Found,
     act: &Act,
     ends: &Ends,
     stop: (Which, u64),
 ) -> io::Result<Stop> {
-    let (came, written, synced) = before.0.after_stop(alloc, stop, &Doing { act })?;
+    let (came, written, synced) = disks.after_stop(alloc, stop, &Doing { act })?;
     let came = came.unwrap_or(Came::NoDatabase);
-    stop_of(alloc, came, (&written, &synced), before, act, ends)
+    stop_of(alloc, came, (&written, &synced), disks, known, act, ends)
 }
 
 /// Stops the act at each call of a disk, until none stops it or one leaves what it may not.
 fn stops_of(
     rt: &impl Print,
     alloc: Global,
-    before: (&Disks, Found),
+    disks: &Disks,
     act: &Act,
     ends: &Ends,
     turns: &Turns,
@@ -185,7 +189,7 @@ fn stops_of(
     let mut written = Counts::new();
     let mut synced = Counts::new();
     for calls in 0..MOST {
-        let stop = stopped(alloc, before, act, ends, (disk, calls))?;
+        let stop = stopped(alloc, disks, turns.before, act, ends, (disk, calls))?;
         if !stop.is_right(turns) {
             return println!(rt; "  PROBLEM: {disk:?} at call {calls}: {stop:?}");
         }
@@ -223,11 +227,10 @@ pub(crate) fn stops(
     match Ends::of(alloc, disks, other)? {
         None => println!(rt; "  there is no register after it"),
         Some(ends) => {
-            let turns = Turns::of(alloc, disks, act)?;
+            let turns = Turns::of(alloc, disks, act, &ends)?;
             turns.print(rt)?;
-            let before = (disks, found_on(alloc, disks, act, &ends)?);
-            stops_of(rt, alloc, before, act, &ends, &turns, Which::Log)?;
-            stops_of(rt, alloc, before, act, &ends, &turns, Which::Database)
+            stops_of(rt, alloc, disks, act, &ends, &turns, Which::Log)?;
+            stops_of(rt, alloc, disks, act, &ends, &turns, Which::Database)
         }
     }
 }
