@@ -133,12 +133,12 @@ fn found_after(
     alloc: Global,
     disks: &Disks,
     before: &Disks,
-    known: Found,
+    known: &Found,
     act: &Act,
     ends: &Ends,
 ) -> io::Result<Found> {
     if disks.is_same(before) {
-        return Ok(known);
+        return Ok(*known);
     }
     found_on(alloc, disks, act, ends)
 }
@@ -149,15 +149,15 @@ fn stop_of(
     came: Came,
     (written, synced): (&Disks, &Disks),
     disks: &Disks,
-    known: Found,
+    known: &Found,
     act: &Act,
     ends: &Ends,
 ) -> io::Result<Stop> {
-    let found = found_after(alloc, written, disks, known, act, ends)?;
-    let synced = found_after(alloc, synced, written, found, act, ends)?;
+    let written = found_after(alloc, written, disks, known, act, ends)?;
+    let synced = found_after(alloc, synced, disks, known, act, ends)?;
     Ok(Stop {
         came,
-        written: found,
+        written,
         synced,
     })
 }
@@ -166,7 +166,7 @@ fn stop_of(
 fn stopped(
     alloc: Global,
     disks: &Disks,
-    known: Found,
+    known: &Found,
     act: &Act,
     ends: &Ends,
     stop: (Which, u64),
@@ -189,7 +189,7 @@ fn stops_of(
     let mut written = Counts::new();
     let mut synced = Counts::new();
     for calls in 0..MOST {
-        let stop = stopped(alloc, disks, turns.before, act, ends, (disk, calls))?;
+        let stop = stopped(alloc, disks, &turns.before, act, ends, (disk, calls))?;
         if !stop.is_right(turns) {
             return println!(rt; "  PROBLEM: {disk:?} at call {calls}: {stop:?}");
         }
