@@ -1,4 +1,5 @@
 pub mod Arguments
+pub mod Building
 pub mod Days
 pub mod Faultless
 pub mod FoundRows

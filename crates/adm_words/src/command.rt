@@ -1,9 +1,10 @@
 // The command line as `clap` sees it.
 ghost use Rattle.std.specs.Prelude.{◌≡◌, IfOk, false, true};
-ghost use Rattle.clap.specs.Words.{app_of, rule_of, new_app, with_rule};
+ghost use Rattle.clap.specs.Words.{App, Rule, app_of, new_app, with_rule, with_subcommand};
 ghost use Rattle.clap.specs.declared.builder.command.Command.TheViews.{out-Command as fields_of};
 ghost use Rattle.clap.specs.declared.builder.value_parser.ValueParser.{ValueParser};
-ghost use Rattle.adm_words.specs.Program.{IsPhases, required_rule, file_rule, phase_rule, holiday_rule, year_rule, port_rule, count_rule, init_app, do_app, import_app, serve_app, letter_app, list_app, report_app, with_file_writers, with_writers, with_readers, program_app};
+ghost use Rattle.adm_words.specs.Building.{IsArg, IsCommand, Builds};
+ghost use Rattle.adm_words.specs.Program.{IsPhases, required_rule, file_rule, phase_rule, holiday_rule, year_rule, port_rule, count_rule, init_app, serve_app, top_app, with_writers, with_readers, program_app};
 
 use clap::{Arg, ArgAction, Command, value_parser};
 use std::alloc::{AllocError, Global};
@@ -11,12 +12,15 @@ use std::alloc::{AllocError, Global};
 /// The version that `--version` tells.
 const VERSION: &str = "0.1.0";
 
+/// The help of a file that is there.
+const REGISTER: &str = "The file of the register";
+
 static PHASES: [&str; 2] = ["primary", "secondary"];
 
 /// A required argument: its id, and its name and its line in the help.
+#[tactic(auto, unfolding(crate::specs::Building::IsArg))]
 fn required<'a>(alloc: Global, id: &'a str, name: &'a str, help: &'a str) -> Arg<'a>
-    ensures rule { rule_of result ≡ required_rule id.now }
-    ensures local { result.global ≡ false }
+    ensures { IsArg (required_rule id.now) result }
 {
     Arg::new(alloc, id)
         .value_name(name)
@@ -26,22 +30,21 @@ fn required<'a>(alloc: Global, id: &'a str, name: &'a str, help: &'a str) -> Arg
 }
 
 fn file<'a>(alloc: Global, help: &'a str) -> Arg<'a>
-    ensures rule { rule_of result ≡ file_rule }
-    ensures local { result.global ≡ false }
+    ensures { IsArg file_rule result }
 {
     required(alloc, "file", "FILE", help)
 }
 
+#[tactic(auto, unfolding(crate::specs::Building::IsArg))]
 fn phase<'a>(alloc: Global) -> Arg<'a>
-    ensures rule { (phases : ValueParser) × IsPhases phases × (rule_of result ≡ phase_rule phases) }
-    ensures local { result.global ≡ false }
+    ensures { (phases : ValueParser) × IsPhases phases × IsArg (phase_rule phases) result }
 {
     required(alloc, "phase", "PHASE", "The phase of education").value_parser(PHASES.as_slice())
 }
 
+#[tactic(auto, unfolding(crate::specs::Building::IsArg))]
 fn year<'a>(alloc: Global) -> Arg<'a>
-    ensures rule { rule_of result ≡ year_rule }
-    ensures local { result.global ≡ false }
+    ensures { IsArg year_rule result }
 {
     required(
         alloc,
@@ -52,17 +55,17 @@ fn year<'a>(alloc: Global) -> Arg<'a>
     .value_parser(value_parser!(u32).range(2000..=2100))
 }
 
+#[tactic(auto, unfolding(crate::specs::Building::IsArg))]
 fn port<'a>(alloc: Global) -> Arg<'a>
-    ensures rule { rule_of result ≡ port_rule }
-    ensures local { result.global ≡ false }
+    ensures { IsArg port_rule result }
 {
     let port = required(alloc, "port", "PORT", "The port, from 1 to 65535");
     port.value_parser(value_parser!(u32).range(1..=65_535))
 }
 
+#[tactic(auto, unfolding(crate::specs::Building::IsArg))]
 fn count<'a>(alloc: Global) -> Arg<'a>
-    ensures rule { rule_of result ≡ count_rule }
-    ensures local { result.global ≡ false }
+    ensures { IsArg count_rule result }
 {
     Arg::new(alloc, "count")
         .long("count")
@@ -72,9 +75,9 @@ fn count<'a>(alloc: Global) -> Arg<'a>
         .value_parser(value_parser!(u32).range(1..=1_000_000))
 }
 
+#[tactic(auto, unfolding(crate::specs::Building::IsArg))]
 fn holiday<'a>(alloc: Global) -> Arg<'a>
-    ensures rule { rule_of result ≡ holiday_rule }
-    ensures local { result.global ≡ false }
+    ensures { IsArg holiday_rule result }
 {
     Arg::new(alloc, "holiday")
         .value_name("HOLIDAY")
@@ -83,127 +86,121 @@ fn holiday<'a>(alloc: Global) -> Arg<'a>
         .num_args(0..)
 }
 
-fn do_command<'a>(alloc: Global) -> Result<Command<'a>, AllocError>
-    ensures app { IfOk result (λ c. app_of c ≡ do_app) }
-    ensures local { IfOk result (λ c. (fields_of c).has_globals ≡ false) }
+/// The command with one more argument, the last.
+///
+/// It takes the command as a call gave it, and so does `with`: a command is a large value, and a
+/// function that may let one go at several `?` is dear to prove.
+#[tactic(auto, unfolding(crate::specs::Building::IsArg, crate::specs::Building::IsCommand))]
+fn with_arg<'a>(
+    command: Result<Command<'a>, AllocError>,
+    arg: Arg<'a>,
+) -> Result<Command<'a>, AllocError>
+    ensures { (app : App) (rule : Rule) → Builds app command.entry → IsArg rule arg.entry → Builds (with_rule app rule) result }
 {
-    Command::new(alloc, "do")
-        .about("Answers the commands of the standard input, line by line")
-        .arg(file(alloc, "The file of the register"))
+    command?.arg(arg)
 }
 
-fn init_command<'a>(alloc: Global) -> Result<Command<'a>, AllocError>
-    ensures app { IfOk result (λ c. (phases : ValueParser) × IsPhases phases × (app_of c ≡ init_app phases)) }
-    ensures local { IfOk result (λ c. (fields_of c).has_globals ≡ false) }
+/// The command with one more subcommand, the last.
+#[tactic(auto, unfolding(crate::specs::Building::IsCommand))]
+fn with<'a>(
+    command: Result<Command<'a>, AllocError>,
+    subcommand: Result<Command<'a>, AllocError>,
+) -> Result<Command<'a>, AllocError>
+    ensures { (app : App) (sub : App) → Builds app command.entry → Builds sub subcommand.entry → Builds (with_subcommand app sub.top) result }
 {
-    Command::new(alloc, "init")
-        .about("Creates the register of a season")
-        .arg(file(alloc, "The file to make, or an empty one"))?
-        .arg(phase(alloc))?
-        .arg(year(alloc))?
-        .arg(holiday(alloc))
+    command?.subcommand(subcommand?)
 }
 
-/// A subcommand of a file and one more word.
+/// A command of this name, with its line in the help.
+#[tactic(auto, unfolding(crate::specs::Building::IsCommand))]
+fn named<'a>(alloc: Global, name: &'a str, about: &'a str) -> Command<'a>
+    ensures { IsCommand (new_app name.now) result }
+{
+    Command::new(alloc, name).about(about)
+}
+
+/// The command of a line that names a file: its name, its line in the help, and that of its file.
+fn file_command<'a>(
+    alloc: Global,
+    name: &'a str,
+    about: &'a str,
+    help: &'a str,
+) -> Result<Command<'a>, AllocError>
+    ensures { Builds (with_rule (new_app name.now) file_rule) result }
+{
+    with_arg(Ok(named(alloc, name, about)), file(alloc, help))
+}
+
+/// The command of a line of the register's file and one more word.
 fn pair_command<'a>(
     alloc: Global,
     name: &'a str,
     about: &'a str,
     word: Arg<'a>,
 ) -> Result<Command<'a>, AllocError>
-    requires { word.global ≡ false }
-    ensures app { IfOk result (λ c. app_of c ≡ with_rule (with_rule (new_app name.now) file_rule) (rule_of word.entry)) }
-    ensures local { IfOk result (λ c. (fields_of c).has_globals ≡ false) }
+    ensures { (rule : Rule) → IsArg rule word.entry → Builds (with_rule (with_rule (new_app name.now) file_rule) rule) result }
 {
-    Command::new(alloc, name)
-        .about(about)
-        .arg(file(alloc, "The file of the register"))?
-        .arg(word)
+    with_arg(file_command(alloc, name, about, REGISTER), word)
 }
 
-fn import_command<'a>(alloc: Global) -> Result<Command<'a>, AllocError>
-    ensures app { IfOk result (λ c. app_of c ≡ import_app) }
-    ensures local { IfOk result (λ c. (fields_of c).has_globals ≡ false) }
+fn init_command<'a>(alloc: Global) -> Result<Command<'a>, AllocError>
+    ensures { (phases : ValueParser) × IsPhases phases × Builds (init_app phases) result }
 {
-    let csv = required(alloc, "csv", "CSV", "The file of rows");
-    pair_command(
-        alloc,
-        "import",
-        "Adds the children and applications of a CSV file",
-        csv,
-    )
+    let about = "Creates the register of a season";
+    let init = file_command(alloc, "init", about, "The file to make, or an empty one");
+    let init = with_arg(init, phase(alloc));
+    with_arg(with_arg(init, year(alloc)), holiday(alloc))
 }
 
 fn serve_command<'a>(alloc: Global) -> Result<Command<'a>, AllocError>
-    ensures app { IfOk result (λ c. app_of c ≡ serve_app) }
-    ensures local { IfOk result (λ c. (fields_of c).has_globals ≡ false) }
+    ensures { Builds serve_app result }
 {
-    Command::new(alloc, "serve")
-        .about("Answers requests over HTTP on 127.0.0.1")
-        .arg(file(alloc, "The file of the register"))?
-        .arg(port(alloc))?
-        .arg(count(alloc))
-}
-
-fn letter_command<'a>(alloc: Global) -> Result<Command<'a>, AllocError>
-    ensures app { IfOk result (λ c. app_of c ≡ letter_app) }
-    ensures local { IfOk result (λ c. (fields_of c).has_globals ≡ false) }
-{
-    let child = required(alloc, "child", "CHILD", "The number of the child");
-    pair_command(alloc, "letter", "Prints the letter of a child", child)
-}
-
-fn list_command<'a>(alloc: Global) -> Result<Command<'a>, AllocError>
-    ensures app { IfOk result (λ c. app_of c ≡ list_app) }
-    ensures local { IfOk result (λ c. (fields_of c).has_globals ≡ false) }
-{
-    let school = required(alloc, "school", "SCHOOL", "The code of the school");
-    pair_command(alloc, "list", "Prints the waiting list of a school", school)
-}
-
-fn report_command<'a>(alloc: Global) -> Result<Command<'a>, AllocError>
-    ensures app { IfOk result (λ c. app_of c ≡ report_app) }
-    ensures local { IfOk result (λ c. (fields_of c).has_globals ≡ false) }
-{
-    let round = required(alloc, "round", "ROUND", "The number of the round");
-    pair_command(alloc, "round-report", "Prints the report of a round", round)
-}
-
-/// The program with the subcommands that make the register, or write to it what a file or the
-/// standard input holds.
-fn with_file_writers<'a>(alloc: Global, program: Command<'a>) -> Result<Command<'a>, AllocError>
-    requires { (fields_of program).has_globals ≡ false }
-    ensures app { IfOk result (λ c. (phases : ValueParser) × IsPhases phases × (app_of c ≡ with_file_writers phases (app_of program.entry))) }
-    ensures local { IfOk result (λ c. (fields_of c).has_globals ≡ false) }
-    ensures required { IfOk result (λ c. (fields_of c).subcommand_required ≡ (fields_of program.entry).subcommand_required) }
-{
-    program
-        .subcommand(init_command(alloc)?)?
-        .subcommand(do_command(alloc)?)?
-        .subcommand(import_command(alloc)?)
+    let about = "Answers requests over HTTP on 127.0.0.1";
+    let serve = pair_command(alloc, "serve", about, port(alloc));
+    with_arg(serve, count(alloc))
 }
 
 /// The program with the subcommands that write to the register.
-fn with_writers<'a>(alloc: Global, program: Command<'a>) -> Result<Command<'a>, AllocError>
-    requires { (fields_of program).has_globals ≡ false }
-    ensures app { IfOk result (λ c. (phases : ValueParser) × IsPhases phases × (app_of c ≡ with_writers phases (app_of program.entry))) }
-    ensures local { IfOk result (λ c. (fields_of c).has_globals ≡ false) }
-    ensures required { IfOk result (λ c. (fields_of c).subcommand_required ≡ (fields_of program.entry).subcommand_required) }
+fn with_writers<'a>(
+    alloc: Global,
+    program: Result<Command<'a>, AllocError>,
+) -> Result<Command<'a>, AllocError>
+    ensures { (app : App) → Builds app program.entry → (phases : ValueParser) × IsPhases phases × Builds (with_writers phases app) result }
 {
-    with_file_writers(alloc, program)?.subcommand(serve_command(alloc)?)
+    let program = with(program, init_command(alloc));
+    let about = "Answers the commands of the standard input, line by line";
+    let program = with(program, file_command(alloc, "do", about, REGISTER));
+    let about = "Adds the children and applications of a CSV file";
+    let csv = required(alloc, "csv", "CSV", "The file of rows");
+    let program = with(program, pair_command(alloc, "import", about, csv));
+    with(program, serve_command(alloc))
 }
 
 /// The program with the subcommands that only read it.
-fn with_readers<'a>(alloc: Global, program: Command<'a>) -> Result<Command<'a>, AllocError>
-    requires { (fields_of program).has_globals ≡ false }
-    ensures app { IfOk result (λ c. app_of c ≡ with_readers (app_of program.entry)) }
-    ensures local { IfOk result (λ c. (fields_of c).has_globals ≡ false) }
-    ensures required { IfOk result (λ c. (fields_of c).subcommand_required ≡ (fields_of program.entry).subcommand_required) }
+fn with_readers<'a>(
+    alloc: Global,
+    program: Result<Command<'a>, AllocError>,
+) -> Result<Command<'a>, AllocError>
+    ensures { (app : App) → Builds app program.entry → Builds (with_readers app) result }
 {
-    program
-        .subcommand(letter_command(alloc)?)?
-        .subcommand(list_command(alloc)?)?
-        .subcommand(report_command(alloc)?)
+    let child = required(alloc, "child", "CHILD", "The number of the child");
+    let letter = pair_command(alloc, "letter", "Prints the letter of a child", child);
+    let school = required(alloc, "school", "SCHOOL", "The code of the school");
+    let list = pair_command(alloc, "list", "Prints the waiting list of a school", school);
+    let round = required(alloc, "round", "ROUND", "The number of the round");
+    let report = pair_command(alloc, "round-report", "Prints the report of a round", round);
+    with(with(with(program, letter), list), report)
+}
+
+/// The program without its subcommands.
+#[tactic(auto, unfolding(crate::specs::Building::IsCommand))]
+fn top<'a>(alloc: Global) -> Command<'a>
+    ensures { IsCommand top_app result }
+{
+    Command::new(alloc, "admissions")
+        .about("A register for coordinated school admissions")
+        .version(VERSION)
+        .subcommand_required(true)
 }
 
 pub(crate) fn program<'a>(alloc: Global) -> Result<Command<'a>, AllocError>
@@ -211,9 +208,5 @@ pub(crate) fn program<'a>(alloc: Global) -> Result<Command<'a>, AllocError>
     ensures local { IfOk result (λ c. (fields_of c).has_globals ≡ false) }
     ensures required { IfOk result (λ c. (fields_of c).subcommand_required ≡ true) }
 {
-    let program = Command::new(alloc, "admissions")
-        .about("A register for coordinated school admissions")
-        .version(VERSION)
-        .subcommand_required(true);
-    with_readers(alloc, with_writers(alloc, program)?)
+    with_readers(alloc, with_writers(alloc, Ok(top(alloc))))
 }

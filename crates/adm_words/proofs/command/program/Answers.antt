@@ -1,0 +1,18 @@
+use Rattle.adm_words.specs.Program.{top_app, with_writers}
+use Rattle.adm_words.proofs.Building.{app_is, is_local, wants_subcommand}
+use Rattle.adm_words.proofs.command.program.Goals as goal
+
+pub returns-clause-app : goal.returns-clause-app
+returns-clause-app c =
+    let q = c.with_writers.ensures top_app c.top.ensures in
+    app_is q.0 _ q.1 (c.with_readers.ensures (with_writers q.0 top_app) q.2)
+
+pub returns-clause-local : goal.returns-clause-local
+returns-clause-local c =
+    let q = c.with_writers.ensures top_app c.top.ensures in
+    is_local q.0 _ (c.with_readers.ensures (with_writers q.0 top_app) q.2)
+
+pub returns-clause-required : goal.returns-clause-required
+returns-clause-required c =
+    let q = c.with_writers.ensures top_app c.top.ensures in
+    wants_subcommand q.0 _ (c.with_readers.ensures (with_writers q.0 top_app) q.2)
