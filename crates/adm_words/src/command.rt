@@ -4,7 +4,7 @@ ghost use Rattle.clap.specs.Words.{App, Rule, app_of, new_app, with_rule, with_s
 ghost use Rattle.clap.specs.declared.builder.command.Command.TheViews.{out-Command as fields_of};
 ghost use Rattle.clap.specs.declared.builder.value_parser.ValueParser.{ValueParser};
 ghost use Rattle.adm_words.specs.Building.{IsArg, IsCommand, Builds};
-ghost use Rattle.adm_words.specs.Program.{IsPhases, required_rule, file_rule, phase_rule, holiday_rule, year_rule, port_rule, count_rule, init_app, serve_app, top_app, with_writers, with_readers, program_app};
+ghost use Rattle.adm_words.specs.Program.{IsPhases, required_rule, file_rule, phase_rule, holiday_rule, year_rule, port_rule, count_rule, pair_app, init_app, do_app, serve_app, top_app, with_writers, with_readers, program_app};
 
 use clap::{Arg, ArgAction, Command, value_parser};
 use std::alloc::{AllocError, Global};
@@ -14,6 +14,48 @@ const VERSION: &str = "0.1.0";
 
 /// The help of a file that is there.
 const REGISTER: &str = "The file of the register";
+
+/// A line of the register's file and one more word: its name and its line in the help, and the id,
+/// the name and the line in the help of the word.
+struct Pair<'a> {
+    name: &'a str,
+    about: &'a str,
+    id: &'a str,
+    word: &'a str,
+    help: &'a str,
+}
+
+static IMPORT: Pair<'static> = Pair {
+    name: "import",
+    about: "Adds the children and applications of a CSV file",
+    id: "csv",
+    word: "CSV",
+    help: "The file of rows",
+};
+
+static LETTER: Pair<'static> = Pair {
+    name: "letter",
+    about: "Prints the letter of a child",
+    id: "child",
+    word: "CHILD",
+    help: "The number of the child",
+};
+
+static LIST: Pair<'static> = Pair {
+    name: "list",
+    about: "Prints the waiting list of a school",
+    id: "school",
+    word: "SCHOOL",
+    help: "The code of the school",
+};
+
+static ROUND_REPORT: Pair<'static> = Pair {
+    name: "round-report",
+    about: "Prints the report of a round",
+    id: "round",
+    word: "ROUND",
+    help: "The number of the round",
+};
 
 static PHASES: [&str; 2] = ["primary", "secondary"];
 
@@ -97,7 +139,17 @@ fn with_arg<'a>(
 ) -> Result<Command<'a>, AllocError>
     ensures { (app : App) (rule : Rule) → Builds app command.entry → IsArg rule arg.entry → Builds (with_rule app rule) result }
 {
-    command?.arg(arg)
+    match command {
+        Ok(command) => command.arg(arg),
+        Err(error) => Err(error),
+    }
+}
+
+/// Both values, or the first error.
+fn both<A: Drop, B: Drop, E: Drop>(a: Result<A, E>, b: Result<B, E>) -> Result<(A, B), E>
+    ensures { IfOk result (λ p. (a ≡ Ok p.0) × (b ≡ Ok p.1)) }
+{
+    Ok((a?, b?))
 }
 
 /// The command with one more subcommand, the last.
@@ -108,7 +160,10 @@ fn with<'a>(
 ) -> Result<Command<'a>, AllocError>
     ensures { (app : App) (sub : App) → Builds app command.entry → Builds sub subcommand.entry → Builds (with_subcommand app sub.top) result }
 {
-    command?.subcommand(subcommand?)
+    match both(command, subcommand) {
+        Ok((command, subcommand)) => command.subcommand(subcommand),
+        Err(error) => Err(error),
+    }
 }
 
 /// A command of this name, with its line in the help.
@@ -132,15 +187,18 @@ fn file_command<'a>(
 }
 
 /// The command of a line of the register's file and one more word.
-fn pair_command<'a>(
-    alloc: Global,
-    name: &'a str,
-    about: &'a str,
-    word: Arg<'a>,
-) -> Result<Command<'a>, AllocError>
-    ensures { (rule : Rule) → IsArg rule word.entry → Builds (with_rule (with_rule (new_app name.now) file_rule) rule) result }
+fn pair_command<'a>(alloc: Global, pair: &Pair<'a>) -> Result<Command<'a>, AllocError>
+    ensures { Builds (pair_app pair.now.name.now pair.now.id.now) result }
 {
-    with_arg(file_command(alloc, name, about, REGISTER), word)
+    let word = required(alloc, pair.id, pair.word, pair.help);
+    with_arg(file_command(alloc, pair.name, pair.about, REGISTER), word)
+}
+
+fn do_command<'a>(alloc: Global) -> Result<Command<'a>, AllocError>
+    ensures { Builds do_app result }
+{
+    let about = "Answers the commands of the standard input, line by line";
+    file_command(alloc, "do", about, REGISTER)
 }
 
 fn init_command<'a>(alloc: Global) -> Result<Command<'a>, AllocError>
@@ -156,7 +214,7 @@ fn serve_command<'a>(alloc: Global) -> Result<Command<'a>, AllocError>
     ensures { Builds serve_app result }
 {
     let about = "Answers requests over HTTP on 127.0.0.1";
-    let serve = pair_command(alloc, "serve", about, port(alloc));
+    let serve = with_arg(file_command(alloc, "serve", about, REGISTER), port(alloc));
     with_arg(serve, count(alloc))
 }
 
@@ -168,11 +226,8 @@ fn with_writers<'a>(
     ensures { (app : App) → Builds app program.entry → (phases : ValueParser) × IsPhases phases × Builds (with_writers phases app) result }
 {
     let program = with(program, init_command(alloc));
-    let about = "Answers the commands of the standard input, line by line";
-    let program = with(program, file_command(alloc, "do", about, REGISTER));
-    let about = "Adds the children and applications of a CSV file";
-    let csv = required(alloc, "csv", "CSV", "The file of rows");
-    let program = with(program, pair_command(alloc, "import", about, csv));
+    let program = with(program, do_command(alloc));
+    let program = with(program, pair_command(alloc, &IMPORT));
     with(program, serve_command(alloc))
 }
 
@@ -183,13 +238,9 @@ fn with_readers<'a>(
 ) -> Result<Command<'a>, AllocError>
     ensures { (app : App) → Builds app program.entry → Builds (with_readers app) result }
 {
-    let child = required(alloc, "child", "CHILD", "The number of the child");
-    let letter = pair_command(alloc, "letter", "Prints the letter of a child", child);
-    let school = required(alloc, "school", "SCHOOL", "The code of the school");
-    let list = pair_command(alloc, "list", "Prints the waiting list of a school", school);
-    let round = required(alloc, "round", "ROUND", "The number of the round");
-    let report = pair_command(alloc, "round-report", "Prints the report of a round", round);
-    with(with(with(program, letter), list), report)
+    let program = with(program, pair_command(alloc, &LETTER));
+    let program = with(program, pair_command(alloc, &LIST));
+    with(program, pair_command(alloc, &ROUND_REPORT))
 }
 
 /// The program without its subcommands.

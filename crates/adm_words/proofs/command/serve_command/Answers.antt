@@ -5,5 +5,6 @@ use Rattle.adm_words.proofs.command.serve_command.Goals as goal
 
 pub returns : goal.returns
 returns c =
-    let served : App = with_rule (with_rule (new_app (codes "serve")) file_rule) port_rule in
-    c.with_arg.ensures served count_rule (c.pair_command-serve.ensures port_rule c.port.ensures) c.count.ensures
+    let named : App = with_rule (new_app (codes "serve")) file_rule in
+    let first = c.with_arg-serve.ensures named port_rule c.file_command.ensures c.port.ensures in
+    c.with_arg.ensures (with_rule named port_rule) count_rule first c.count.ensures

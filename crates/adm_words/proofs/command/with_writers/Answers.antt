@@ -1,6 +1,5 @@
-use Rattle.std.proofs.Common.{codes}
 use Rattle.clap.specs.Words.{App, with_subcommand}
-use Rattle.adm_words.specs.Program.{required_rule, init_app, do_app, import_app, serve_app}
+use Rattle.adm_words.specs.Program.{init_app, do_app, import_app, serve_app}
 use Rattle.adm_words.proofs.command.with_writers.Goals as goal
 
 pub returns : goal.returns
@@ -10,6 +9,6 @@ returns c = λ app is.
     let b : App = with_subcommand a do_app.top in
     let d : App = with_subcommand b import_app.top in
     let first = c.with-program.ensures app (init_app q.0) is q.2 in
-    let second = c.with-program-2.ensures a do_app first c.file_command.ensures in
-    let third = c.with-program-3.ensures b import_app second (c.pair_command.ensures (required_rule (codes "csv")) c.required-csv.ensures) in
+    let second = c.with-program-2.ensures a do_app first c.do_command.ensures in
+    let third = c.with-program-3.ensures b import_app second c.pair_command.ensures in
     (q.0, q.1, c.with.ensures d serve_app third c.serve_command.ensures)
