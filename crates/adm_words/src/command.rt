@@ -130,8 +130,8 @@ fn holiday<'a>(alloc: Global) -> Arg<'a>
 
 /// The command with one more argument, the last.
 ///
-/// It takes the command as a call gave it, and so does `with`: a command is a large value, and a
-/// function that may let one go at several `?` is dear to prove.
+/// It takes the command as a call gave it, and so does `with`: a command has some fifty fields, which
+/// a proof carries through each way out, so no function here has several `?` beside one.
 #[tactic(auto, unfolding(crate::specs::Building::IsArg, crate::specs::Building::IsCommand))]
 fn with_arg<'a>(
     command: Result<Command<'a>, AllocError>,
@@ -145,11 +145,11 @@ fn with_arg<'a>(
     }
 }
 
-/// Both values, or the first error.
-fn both<A: Drop, B: Drop, E: Drop>(a: Result<A, E>, b: Result<B, E>) -> Result<(A, B), E>
-    ensures { IfOk result (λ p. (a ≡ Ok p.0) × (b ≡ Ok p.1)) }
+/// Both values, or the first error. It is generic, so that its proof carries no field of a command.
+fn both<A: Drop, B: Drop, E: Drop>(first: Result<A, E>, second: Result<B, E>) -> Result<(A, B), E>
+    ensures { IfOk result (λ p. (first ≡ Ok p.0) × (second ≡ Ok p.1)) }
 {
-    Ok((a?, b?))
+    Ok((first?, second?))
 }
 
 /// The command with one more subcommand, the last.
