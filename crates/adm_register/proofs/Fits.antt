@@ -1,6 +1,6 @@
 -- What a change of rows that fit leaves is a register.
 use Rattle.std.proofs.Common.{◌≡◌, ◌∙◌, ap, sym, subst, refl, Bool, true, false, ℕ, ◌≤◌, List, [], ◌∷◌, Some, None}
-use Rattle.std.specs.Prelude.{⊤, ◌&&◌, ◌||◌, not, is_some, nat_eq, Option, if◌then◌else◌}
+use Rattle.std.specs.Prelude.{◌&&◌, ◌||◌, not, is_some, nat_eq, Option, if◌then◌else◌}
 use Rattle.std.specs.Ordering.{nat_cmp}
 use Rattle.std.specs.declared.cmp.Ordering.{Ordering}
 use Rattle.std.specs.List.{AllByRecursion}
@@ -22,9 +22,9 @@ use Rattle.adm_register.specs.State.{State, code_cmp, is_plan, application_of}
 use Rattle.adm_register.specs.Change.{put_all, cut_all, after}
 use Rattle.adm_register.specs.Fits.{FewAfter, BasePut, PlacesPut, LeftPut, DrawsPut, ImportedPut, Fit}
 use Rattle.adm_register.specs.Extends.{Extends, KeepsSchools}
-use Rattle.adm_register.specs.WellFormed.{WellFormed, AllRows, BaseFits, PlacesFit, LeftFits, DrawsFit, ImportedFit, has_round, held_at, is_entitled, lists_school, SchoolFits, ChildFits, ApplicationFits, PlaceFits, LeftPairFits, ImportFits, is_held}
+use Rattle.adm_register.specs.WellFormed.{WellFormed, AllRows, BaseFits, PlacesFit, LeftFits, DrawsFit, ImportedFit, has_round, is_entitled, lists_school, SchoolFits, ChildFits, ApplicationFits, PlaceFits, LeftPairFits, ImportFits, is_held}
 use Rattle.adm_register.proofs.Maps.{code_cmp-IsAntisymmetric, left_cmp-total, left_cmp-IsAntisymmetric}
-use Rattle.adm_register.specs.Draws.{DrawFits, are_in_order, no_draws, with_draws}
+use Rattle.adm_register.specs.Draws.{DrawFits, are_in_order, no_draws}
 use Rattle.adm_register.proofs.DrawLemmas.{DrawFits-grows, values_put, new_draws, are_in_order-append}
 use Rattle.adm_register.proofs.Puts.{Grows, put_all-grows, there_before, all_stay, AllRows-put_all, are_schools-grows}
 

@@ -17,6 +17,7 @@ pub mod LeftChecks
 pub mod DrawChecks
 pub mod ImportChecks
 pub mod RowsAgain
+pub mod SameFault
 pub mod SameLemmas
 pub mod RoundLemmas
 pub mod RoundKeys

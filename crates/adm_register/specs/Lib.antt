@@ -1,4 +1,5 @@
 pub mod State
+pub mod Groups
 pub mod Draws
 pub mod WellFormed
 pub mod Plans

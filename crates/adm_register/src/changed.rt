@@ -2,8 +2,10 @@
 ghost use Rattle.std.specs.Prelude.{◌≡◌, IfOk};
 ghost use Rattle.adm_register.specs.Change.{after};
 ghost use Rattle.adm_register.specs.Difference.{differing};
+ghost use Rattle.adm_register.specs.Groups.{IsBaseOf, IsCourseOf};
 
 use crate::Difference;
+use crate::groups::{Base, Course};
 use crate::tables::Tables;
 use std::alloc::{AllocError, Global};
 
@@ -13,24 +15,44 @@ impl Tables {
         ensures { IfOk result (λ new. new ≡ after self.now change.now) }
     {
         Ok(Tables {
-            season: self.season.clone()?,
-            schools: self
+            base: self.base_after(alloc, change)?,
+            course: self.course_after(alloc, change)?,
+        })
+    }
+
+    /// The first tables after the change.
+    fn base_after(&self, alloc: Global, change: &Difference) -> Result<Base, AllocError>
+        ensures { IfOk result (λ base. IsBaseOf base (after self.now change.now)) }
+    {
+        let base = &self.base;
+        Ok(Base {
+            season: base.season.clone()?,
+            schools: base
                 .schools
                 .with_all(alloc, &[], change.schools.as_slice())?,
-            children: self
+            children: base
                 .children
                 .with_all(alloc, &[], change.children.as_slice())?,
-            applications: self.applications.with_all(
+            applications: base.applications.with_all(
                 alloc,
                 change.ended.as_slice(),
                 change.applications.as_slice(),
             )?,
-            places: self
+        })
+    }
+
+    /// The others.
+    fn course_after(&self, alloc: Global, change: &Difference) -> Result<Course, AllocError>
+        ensures { IfOk result (λ course. IsCourseOf course (after self.now change.now)) }
+    {
+        let course = &self.course;
+        Ok(Course {
+            places: course
                 .places
                 .with_all(alloc, change.vacated.as_slice(), change.places.as_slice())?,
-            left: self.left.with_all(alloc, &[], change.left.as_slice())?,
-            draws: self.draws.with_all(alloc, &[], change.draws.as_slice())?,
-            imported: self
+            left: course.left.with_all(alloc, &[], change.left.as_slice())?,
+            draws: course.draws.with_all(alloc, &[], change.draws.as_slice())?,
+            imported: course
                 .imported
                 .with_all(alloc, &[], change.imported.as_slice())?,
         })
@@ -56,15 +78,15 @@ impl Tables {
             vacated,
         } = change;
         Ok(Difference {
-            schools: self.schools.lacked(alloc, schools)?,
-            children: self.children.lacked(alloc, children)?,
-            applications: self.applications.lacked(alloc, applications)?,
-            places: self.places.lacked(alloc, places)?,
-            left: self.left.lacked(alloc, left)?,
-            draws: self.draws.lacked(alloc, draws)?,
-            imported: self.imported.lacked(alloc, imported)?,
-            ended: self.applications.known(alloc, ended)?,
-            vacated: self.places.known(alloc, vacated)?,
+            schools: self.base.schools.lacked(alloc, schools)?,
+            children: self.base.children.lacked(alloc, children)?,
+            applications: self.base.applications.lacked(alloc, applications)?,
+            places: self.course.places.lacked(alloc, places)?,
+            left: self.course.left.lacked(alloc, left)?,
+            draws: self.course.draws.lacked(alloc, draws)?,
+            imported: self.course.imported.lacked(alloc, imported)?,
+            ended: self.base.applications.known(alloc, ended)?,
+            vacated: self.course.places.known(alloc, vacated)?,
         })
     }
 }

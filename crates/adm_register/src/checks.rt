@@ -34,16 +34,16 @@ pub(crate) fn is_well_formed(alloc: Global, tables: &Tables) -> Result<bool, All
     ensures { IfOk result (λ fits. IsTrue fits ↔ WellFormed tables.now) }
 {
     let _year = tables.season().year();
-    let draws = tables.draws.to_vec(alloc)?;
+    let draws = tables.course.draws.to_vec(alloc)?;
     Ok(all_hold(&[
         are_few(tables),
-        all_fit(tables, &tables.schools),
-        all_fit(tables, &tables.children),
-        all_fit(tables, &tables.applications),
-        all_fit(tables, &tables.places),
-        all_fit(tables, &tables.left),
-        all_fit(tables, &tables.draws),
-        all_fit(tables, &tables.imported),
+        all_fit(tables, &tables.base.schools),
+        all_fit(tables, &tables.base.children),
+        all_fit(tables, &tables.base.applications),
+        all_fit(tables, &tables.course.places),
+        all_fit(tables, &tables.course.left),
+        all_fit(tables, &tables.course.draws),
+        all_fit(tables, &tables.course.imported),
         all_formed(alloc, &draws)?,
         are_in_order(tables.season(), &draws),
     ]))

@@ -132,7 +132,7 @@ fn with_draws(draws: &[Shared<Draw>]) -> DrawsSoFar
 fn all_draws(old: &Tables, alloc: Global) -> Result<Vec<Shared<Draw>>, AllocError>
     ensures { IfOk result (λ found. found.items ≡ rows.values old.now.draws) }
 {
-    old.draws.to_vec(alloc)
+    old.course.draws.to_vec(alloc)
 }
 
 /// How far the draws of a register have come. It takes memory for a pointer to each draw, and time

@@ -55,16 +55,12 @@ impl Register {
         ensures register { IfOk result (λ register. AreRowsOf rows register × WellFormed register) }
         ensures bad_row { result ≡ Err RowsFault.BadRow → (state : State) → WellFormed state → AreRowsOf rows state → ⊥ }
     {
-        match Tables::of_rows(alloc, rows)? {
-            Some(tables) => {
-                let fits = is_well_formed(alloc, &tables)?;
-                if fits {
-                    Ok(Register { tables })
-                } else {
-                    Err(RowsFault::BadRow)
-                }
-            }
-            None => Err(RowsFault::BadRow),
+        let tables = Tables::of_rows(alloc, rows)?;
+        let fits = is_well_formed(alloc, &tables)?;
+        if fits {
+            Ok(Register { tables })
+        } else {
+            Err(RowsFault::BadRow)
         }
     }
 

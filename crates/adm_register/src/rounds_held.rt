@@ -24,7 +24,7 @@ impl Tables {
     fn first_of_round(&self, number: u32) -> Option<&Draw>
         ensures { option_copied result ≡ find (λ draw. nat_eq draw.round number) (rows.values self.now.draws) }
     {
-        for piece in self.draws.pieces() {
+        for piece in self.course.draws.pieces() {
             if let Some(draw) = round_in(piece, number) {
                 return Some(draw);
             }

@@ -1,30 +1,33 @@
 // Rows put into tables, and taken out of them.
-ghost use Rattle.std.specs.Prelude.{◌≡◌, List, map, IfOk, IfSome, IfNone};
+ghost use Rattle.std.specs.Prelude.{◌≡◌, Err, List, map, IfOk};
 ghost use Rattle.std.specs.Map.{keys_of, values_of};
 ghost use Rattle.std.specs.List.{IsDistinct};
-ghost use Rattle.std.specs.List.Sorted.{IsPermutation, IsStrictlySortedBy};
+ghost use Rattle.std.specs.List.Sorted.{IsStrictlySortedBy};
 ghost use Rattle.std.specs.Ordering.{eq_by_cmp};
 ghost use Rattle.std.specs.Ordering.{nat_cmp};
 ghost use Rattle.adm_draws.specs.Draws.{AreRowsOf, AreInOrder};
 ghost use Rattle.adm_types.specs.declared.draws.Draw.{Draw as DrawValue};
+ghost use Rattle.adm_register.specs.Groups.{IsBaseOf, IsCourseOf, AreBaseRowsOf, AreCourseRowsOf, HasRows, base_part, drawn_part, course_part};
 ghost use Rattle.adm_register.specs.Rows as rows_of;
 ghost use Rattle.adm_register.specs.Rows.{rows_in_order};
 ghost use Rattle.adm_register.specs.State.{State};
 ghost use Rattle.adm_register.specs.WellFormed.{WellFormed};
 
-use crate::Rows;
+use crate::groups::{Base, Course};
+use crate::row_groups::{BaseRows, CourseRows, DrawnRows};
 use crate::tables::Tables;
+use crate::{Rows, RowsFault};
 use adm_draws::{draw_rows, lot_rows, offer_rows};
 use adm_table::{Keyed, Shared, Table};
-use adm_types::{Draw, DrawRow, Exact, LotRow, OfferRow, Seq};
+use adm_types::{Draw, Exact, Seq};
 use std::alloc::{AllocError, Global};
 
 impl Tables {
-    /// The tables of these rows; `None` where two rows of a table have one key. No other register
+    /// The tables of these rows; `BadRow` where two rows of a table have one key. No other register
     /// than that of the tables has these rows.
-    pub(crate) fn of_rows(alloc: Global, rows: Rows) -> Result<Option<Tables>, AllocError>
-        ensures made { IfOk result (λ made. IfSome made (λ tables. rows_of.AreRowsOf rows tables × ((state : State) → WellFormed state → rows_of.AreRowsOf rows state → state ≡ tables))) }
-        ensures repeated { IfOk result (λ made. IfNone made ((state : State) → WellFormed state → rows_of.AreRowsOf rows state → ⊥)) }
+    pub(crate) fn of_rows(alloc: Global, rows: Rows) -> Result<Tables, RowsFault>
+        ensures made { IfOk result (λ tables. rows_of.AreRowsOf rows tables × ((state : State) → WellFormed state → rows_of.AreRowsOf rows state → state ≡ tables)) }
+        ensures repeated { result ≡ Err RowsFault.BadRow → (state : State) → WellFormed state → rows_of.AreRowsOf rows state → ⊥ }
     {
         let Rows {
             season,
@@ -38,90 +41,174 @@ impl Tables {
             lots,
             imported,
         } = rows;
-        let Some(schools) = shared_table(alloc, schools)? else {
-            return Ok(None);
+        let others = CourseRows {
+            places,
+            left,
+            drawn: DrawnRows {
+                draws,
+                offers,
+                lots,
+            },
+            imported,
         };
-        let Some(children) = shared_table(alloc, children)? else {
-            return Ok(None);
-        };
-        let Some(applications) = shared_table(alloc, applications)? else {
-            return Ok(None);
-        };
-        let Some(places) = Table::of_rows(alloc, places.into_vec())? else {
-            return Ok(None);
-        };
-        let Some(left) = Table::of_rows(alloc, left.into_vec())? else {
-            return Ok(None);
-        };
-        let Some(draws) = draws_table(alloc, draws, offers, lots)? else {
-            return Ok(None);
-        };
-        let Some(imported) = shared_table(alloc, imported)? else {
-            return Ok(None);
-        };
-        Ok(Some(Tables {
+        let first = BaseRows {
             season,
             schools,
             children,
             applications,
-            places,
-            left,
-            draws,
-            imported,
-        }))
+        };
+        let base = base_of(alloc, first)?;
+        let course = course_of(alloc, others)?;
+        Ok(Tables { base, course })
     }
 
     /// All rows, each table's in the order of its key.
     pub(crate) fn rows(&self, alloc: Global) -> Result<Rows, AllocError>
         ensures { IfOk result (λ rows. rows ≡ rows_in_order self.now) }
     {
-        let draws = self.draws.to_vec(alloc)?;
+        let base = self.base_rows(alloc)?;
+        let course = self.course_rows(alloc)?;
         Ok(Rows {
-            season: self.season.clone()?,
-            schools: copied_rows(alloc, &self.schools)?,
-            children: copied_rows(alloc, &self.children)?,
-            applications: copied_rows(alloc, &self.applications)?,
-            places: Seq::from_vec(self.places.to_vec(alloc)?),
-            left: Seq::from_vec(self.left.to_vec(alloc)?),
+            season: base.season,
+            schools: base.schools,
+            children: base.children,
+            applications: base.applications,
+            places: course.places,
+            left: course.left,
+            draws: course.drawn.draws,
+            offers: course.drawn.offers,
+            lots: course.drawn.lots,
+            imported: course.imported,
+        })
+    }
+
+    /// The rows of the first tables.
+    fn base_rows(&self, alloc: Global) -> Result<BaseRows, AllocError>
+        ensures { IfOk result (λ rows. rows ≡ base_part (rows_in_order self.now)) }
+    {
+        Ok(BaseRows {
+            season: self.base.season.clone()?,
+            schools: copied_rows(alloc, &self.base.schools)?,
+            children: copied_rows(alloc, &self.base.children)?,
+            applications: copied_rows(alloc, &self.base.applications)?,
+        })
+    }
+
+    /// The rows of the others.
+    fn course_rows(&self, alloc: Global) -> Result<CourseRows, AllocError>
+        ensures { IfOk result (λ rows. rows ≡ course_part (rows_in_order self.now)) }
+    {
+        Ok(CourseRows {
+            places: Seq::from_vec(self.course.places.to_vec(alloc)?),
+            left: Seq::from_vec(self.course.left.to_vec(alloc)?),
+            drawn: self.drawn_rows(alloc)?,
+            imported: copied_rows(alloc, &self.course.imported)?,
+        })
+    }
+
+    /// The rows of the draws.
+    fn drawn_rows(&self, alloc: Global) -> Result<DrawnRows, AllocError>
+        ensures { IfOk result (λ rows. rows ≡ drawn_part (rows_in_order self.now)) }
+    {
+        let draws = self.course.draws.to_vec(alloc)?;
+        Ok(DrawnRows {
             draws: Seq::from_vec(draw_rows(alloc, &draws)?),
             offers: Seq::from_vec(offer_rows(alloc, &draws)?),
             lots: Seq::from_vec(lot_rows(alloc, &draws)?),
-            imported: copied_rows(alloc, &self.imported)?,
         })
     }
 }
 
-/// The table of these rows by their keys; `None` where two rows have one key.
+/// The first tables, of these rows.
+fn base_of(alloc: Global, rows: BaseRows) -> Result<Base, RowsFault>
+    ensures made { IfOk result (λ base. (s : State) → IsBaseOf base s → AreBaseRowsOf rows s) }
+    ensures only { IfOk result (λ base. (s : State) → WellFormed s → AreBaseRowsOf rows s → IsBaseOf base s) }
+    ensures repeated { result ≡ Err RowsFault.BadRow → (s : State) → WellFormed s → AreBaseRowsOf rows s → ⊥ }
+{
+    let BaseRows {
+        season,
+        schools,
+        children,
+        applications,
+    } = rows;
+    let schools = shared_table(alloc, schools)?;
+    let children = shared_table(alloc, children)?;
+    let applications = shared_table(alloc, applications)?;
+    Ok(Base {
+        season,
+        schools,
+        children,
+        applications,
+    })
+}
+
+/// The others, of these rows.
+fn course_of(alloc: Global, rows: CourseRows) -> Result<Course, RowsFault>
+    ensures made { IfOk result (λ course. (s : State) → IsCourseOf course s → AreCourseRowsOf rows s) }
+    ensures only { IfOk result (λ course. (s : State) → WellFormed s → AreCourseRowsOf rows s → IsCourseOf course s) }
+    ensures repeated { result ≡ Err RowsFault.BadRow → (s : State) → WellFormed s → AreCourseRowsOf rows s → ⊥ }
+{
+    let CourseRows {
+        places,
+        left,
+        drawn,
+        imported,
+    } = rows;
+    let places = table_of(alloc, places.into_vec())?;
+    let left = table_of(alloc, left.into_vec())?;
+    let draws = draws_table(alloc, drawn)?;
+    let imported = shared_table(alloc, imported)?;
+    Ok(Course {
+        places,
+        left,
+        draws,
+        imported,
+    })
+}
+
+/// The table of these rows by their keys; `BadRow` where two rows have one key.
+fn table_of<K: Ord + Exact, V: Keyed<K> + Exact>(
+    alloc: Global,
+    rows: Vec<V>,
+) -> Result<Table<K, V>, RowsFault>
+    ensures made { IfOk result (HasRows K.cmp V.key rows.items) }
+    ensures repeated { result ≡ Err RowsFault.BadRow → IsDistinct (eq_by_cmp K.cmp) (map V.key rows.items) → ⊥ }
+{
+    match Table::of_rows(alloc, rows)? {
+        Some(table) => Ok(table),
+        None => Err(RowsFault::BadRow),
+    }
+}
+
+/// The same, of rows that are shared from then on.
 fn shared_table<K: Ord + Exact, V: Keyed<K> + Drop>(
     alloc: Global,
     rows: Seq<V>,
-) -> Result<Option<Table<K, Shared<V>>>, AllocError>
-    ensures made { IfOk result (λ made. IfSome made (λ table. IsPermutation rows (values_of table) × (map V.key (values_of table) ≡ keys_of table) × IsStrictlySortedBy K.cmp (keys_of table))) }
-    ensures repeated { IfOk result (λ made. IfNone made (IsDistinct (eq_by_cmp K.cmp) (map V.key rows) → ⊥)) }
+) -> Result<Table<K, Shared<V>>, RowsFault>
+    ensures made { IfOk result (HasRows K.cmp V.key rows) }
+    ensures repeated { result ≡ Err RowsFault.BadRow → IsDistinct (eq_by_cmp K.cmp) (map V.key rows) → ⊥ }
 {
-    Table::of_rows(alloc, share_all(alloc, rows.into_vec())?)
+    table_of(alloc, share_all(alloc, rows.into_vec())?)
 }
 
-/// The table of the draws that have these rows; `None` where no draws have them.
-fn draws_table(
-    alloc: Global,
-    heads: Seq<DrawRow>,
-    offers: Seq<OfferRow>,
-    lots: Seq<LotRow>,
-) -> Result<Option<Table<u32, Shared<Draw>>>, AllocError>
-    ensures made { IfOk result (λ made. IfSome made (λ table. AreRowsOf heads offers lots (values_of table) × (map (λ draw. draw.number) (values_of table) ≡ keys_of table) × IsStrictlySortedBy nat_cmp (keys_of table))) }
-    ensures only { IfOk result (λ made. IfSome made (λ table. (draws : List DrawValue) → AreInOrder draws → AreRowsOf heads offers lots draws → draws ≡ values_of table)) }
-    ensures none { IfOk result (λ made. IfNone made ((draws : List DrawValue) → AreInOrder draws → AreRowsOf heads offers lots draws → ⊥)) }
+/// The table of the draws that have these rows; `BadRow` where no draws have them.
+fn draws_table(alloc: Global, rows: DrawnRows) -> Result<Table<u32, Shared<Draw>>, RowsFault>
+    ensures made { IfOk result (λ table. AreRowsOf rows.draws rows.offers rows.lots (values_of table) × (map (λ draw. draw.number) (values_of table) ≡ keys_of table) × IsStrictlySortedBy nat_cmp (keys_of table)) }
+    ensures only { IfOk result (λ table. (draws : List DrawValue) → AreInOrder draws → AreRowsOf rows.draws rows.offers rows.lots draws → draws ≡ values_of table) }
+    ensures none { result ≡ Err RowsFault.BadRow → (draws : List DrawValue) → AreInOrder draws → AreRowsOf rows.draws rows.offers rows.lots draws → ⊥ }
 {
-    let made = adm_draws::draws_of(alloc, heads.into_vec(), offers.into_vec(), lots.into_vec())?;
+    let DrawnRows {
+        draws,
+        offers,
+        lots,
+    } = rows;
+    let made = adm_draws::draws_of(alloc, draws.into_vec(), offers.into_vec(), lots.into_vec())?;
     let Some(draws) = made else {
-        return Ok(None);
+        return Err(RowsFault::BadRow);
     };
-    match shared_table(alloc, Seq::from_vec(draws))? {
-        Some(table) => Ok(Some(table)),
-        // Draws in order have distinct numbers, so this does not come.
-        None => Ok(None),
-    }
+    // Draws in order have distinct numbers, so here `BadRow` does not come.
+    let table = shared_table(alloc, Seq::from_vec(draws))?;
+    Ok(table)
 }
 
 /// The rows of a table, in the order of their keys.

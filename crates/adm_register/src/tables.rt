@@ -8,7 +8,8 @@ ghost use Rattle.adm_register.specs.Rows.{place_of, places_at, vacancies};
 ghost use Rattle.adm_register.specs.State.{only_season, is_plan};
 ghost use Rattle.adm_register.specs.WellFormed.{are_schools, held_at, is_held, has_round};
 
-use adm_table::{Keyed, Piece, Shared, Table};
+use crate::groups::{Base, Course};
+use adm_table::{Keyed, Piece};
 use adm_types::{
     Application, Child, ChildNo, Draw, ImportRow, LeftPair, Place, PlaceRow, PlaceState, School,
     SchoolCode, Season,
@@ -20,34 +21,19 @@ use std::marker::Model;
 /// memory, where nothing else is said.
 #[derive(Drop)]
 pub struct Tables {
-    pub(crate) season: Season,
-    pub(crate) schools: Table<SchoolCode, Shared<School>>,
-    pub(crate) children: Table<ChildNo, Shared<Child>>,
-    pub(crate) applications: Table<ChildNo, Shared<Application>>,
-    pub(crate) places: Table<ChildNo, PlaceRow>,
-    pub(crate) left: Table<LeftPair, LeftPair>,
-    pub(crate) draws: Table<u32, Shared<Draw>>,
-    pub(crate) imported: Table<ChildNo, Shared<ImportRow>>,
+    pub(crate) base: Base,
+    pub(crate) course: Course,
 }
 
 impl Model for Tables {
-    ghost use Rattle.std.specs.FinMap.{from_entries};
     ghost use Rattle.adm_register.specs.State.{State, coded_state};
+    ghost use Rattle.adm_register.specs.Groups.{state_of};
 
     ghost Value = { State };
 
     ghost coded = { coded_state };
 
-    ghost view = { λ r. record {
-      season = r.season;
-      schools = from_entries r.schools;
-      children = from_entries r.children;
-      applications = from_entries r.applications;
-      places = from_entries r.places;
-      left = from_entries r.left;
-      draws = from_entries r.draws;
-      imported = from_entries r.imported;
-    } };
+    ghost view = { λ r. state_of r.base r.course };
 }
 
 impl Tables {
@@ -55,14 +41,8 @@ impl Tables {
         ensures { result ≡ only_season season }
     {
         Tables {
-            season,
-            schools: Table::new(),
-            children: Table::new(),
-            applications: Table::new(),
-            places: Table::new(),
-            left: Table::new(),
-            draws: Table::new(),
-            imported: Table::new(),
+            base: Base::new(season),
+            course: Course::new(),
         }
     }
 
@@ -71,14 +51,8 @@ impl Tables {
         ensures { IfOk result (λ shared. shared ≡ self.now) }
     {
         Ok(Tables {
-            season: self.season.clone()?,
-            schools: self.schools.share()?,
-            children: self.children.share()?,
-            applications: self.applications.share()?,
-            places: self.places.share()?,
-            left: self.left.share()?,
-            draws: self.draws.share()?,
-            imported: self.imported.share()?,
+            base: self.base.share()?,
+            course: self.course.share()?,
         })
     }
 
@@ -86,41 +60,41 @@ impl Tables {
     pub fn season(&self) -> &Season
         ensures { result.now ≡ self.now.season }
     {
-        &self.season
+        &self.base.season
     }
 
     /// The school of a code.
     pub fn school(&self, code: SchoolCode) -> Option<&School>
         ensures { option_copied result ≡ map.get self.now.schools code }
     {
-        self.schools.row(&code)
+        self.base.schools.row(&code)
     }
 
     /// The child of a number.
     pub fn child(&self, number: ChildNo) -> Option<&Child>
         ensures { option_copied result ≡ map.get self.now.children number }
     {
-        self.children.row(&number)
+        self.base.children.row(&number)
     }
 
     pub(crate) fn application(&self, number: ChildNo) -> Option<&Application>
         ensures { option_copied result ≡ map.get self.now.applications number }
     {
-        self.applications.row(&number)
+        self.base.applications.row(&number)
     }
 
     /// The imported row of a child.
     pub fn imported_row(&self, child: ChildNo) -> Option<&ImportRow>
         ensures { option_copied result ≡ map.get self.now.imported child }
     {
-        self.imported.row(&child)
+        self.course.imported.row(&child)
     }
 
     /// The row of the child's place.
     pub fn place_row(&self, child: ChildNo) -> Option<&PlaceRow>
         ensures { option_copied result ≡ map.get self.now.places child }
     {
-        self.places.get(&child)
+        self.course.places.get(&child)
     }
 
     /// The child's place.
@@ -188,23 +162,23 @@ impl Tables {
     pub fn school_count(&self) -> usize
         ensures { result ≡ map.len self.now.schools }
     {
-        self.schools.len()
+        self.base.schools.len()
     }
 
     /// How many children there are.
     pub fn child_count(&self) -> usize
         ensures { result ≡ map.len self.now.children }
     {
-        self.children.len()
+        self.base.children.len()
     }
 
     /// How many places there are at the school.
     fn places_at(&self, code: SchoolCode) -> usize
         ensures { result ≡ places_at self.now code }
     {
-        let _all = self.places.len();
+        let _all = self.course.places.len();
         let mut count = 0;
-        for piece in self.places.pieces() {
+        for piece in self.course.places.pieces() {
             count += count_at(piece, code);
         }
         count
@@ -214,9 +188,9 @@ impl Tables {
     pub fn held_at(&self, code: SchoolCode) -> usize
         ensures { result ≡ held_at self.now.places code }
     {
-        let _all = self.places.len();
+        let _all = self.course.places.len();
         let mut count = 0;
-        for piece in self.places.pieces() {
+        for piece in self.course.places.pieces() {
             count += held_in(piece, code);
         }
         count
@@ -226,7 +200,7 @@ impl Tables {
     pub fn draw(&self, number: u32) -> Option<&Draw>
         ensures { option_copied result ≡ map.get self.now.draws number }
     {
-        self.draws.row(&number)
+        self.course.draws.row(&number)
     }
 
     /// Whether a round was held.

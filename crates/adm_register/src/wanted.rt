@@ -15,7 +15,7 @@ impl Tables {
     fn left_pair(&self, pair: LeftPair) -> Option<&LeftPair>
         ensures { option_copied result ≡ rows.get self.now.left pair }
     {
-        self.left.get(&pair)
+        self.course.left.get(&pair)
     }
 
     /// Whether the child left the school.
@@ -102,28 +102,28 @@ impl Tables {
     pub fn shared_child(&self, number: ChildNo) -> Option<&Shared<Child>>
         ensures { option_copied result ≡ rows.get self.now.children number }
     {
-        self.children.get(&number)
+        self.base.children.get(&number)
     }
 
     /// The applications, by their children's numbers.
     pub fn all_applications(&self, alloc: Global) -> Result<Vec<Shared<Application>>, AllocError>
         ensures { IfOk result (λ found. found.items ≡ rows.values self.now.applications) }
     {
-        self.applications.to_vec(alloc)
+        self.base.applications.to_vec(alloc)
     }
 
     /// The places, by their children's numbers.
     pub fn all_places(&self, alloc: Global) -> Result<Vec<PlaceRow>, AllocError>
         ensures { IfOk result (λ found. found.items ≡ rows.values self.now.places) }
     {
-        self.places.to_vec(alloc)
+        self.course.places.to_vec(alloc)
     }
 
     /// The schools, by their codes.
     pub fn all_schools(&self, alloc: Global) -> Result<Vec<Shared<School>>, AllocError>
         ensures { IfOk result (λ found. found.items ≡ rows.values self.now.schools) }
     {
-        self.schools.to_vec(alloc)
+        self.base.schools.to_vec(alloc)
     }
 }
 

@@ -8,5 +8,5 @@ use Rattle.adm_register.proofs.draws_so_far.all_draws.Goals as goal
 pub returns : goal.returns
 returns c =
     MatchResult-weaker c.to_vec.result c.to_vec.ensures.rows
-    (λ found rows. rows ∙ sym (values_rows nat_cmp_total c.old.inside.draws c.to_vec.ensures.ordered) ∙ ap (λ s. values s.draws) c.old.view_is)
+    (λ found rows. rows ∙ sym (values_rows nat_cmp_total c.old.inside.course.draws c.to_vec.ensures.ordered) ∙ ap (λ s. values s.draws) c.old.view_is)
     (λ e _. tt)

@@ -8,5 +8,5 @@ use Rattle.adm_register.proofs.tables.Tables.all_applications.Goals as goal
 pub returns : goal.returns
 returns c =
     MatchResult-weaker c.to_vec.result c.to_vec.ensures.rows
-    (λ found rows. rows ∙ sym (values_rows nat_cmp_total c.self.inside.applications c.to_vec.ensures.ordered) ∙ ap (λ s. values s.applications) c.self.view_is)
+    (λ found rows. rows ∙ sym (values_rows nat_cmp_total c.self.inside.base.applications c.to_vec.ensures.ordered) ∙ ap (λ s. values s.applications) c.self.view_is)
     (λ e _. tt)

@@ -8,5 +8,5 @@ use Rattle.adm_register.proofs.tables.Tables.all_schools.Goals as goal
 pub returns : goal.returns
 returns c =
     MatchResult-weaker c.to_vec.result c.to_vec.ensures.rows
-    (λ found rows. rows ∙ sym (values_rows nat_list_cmp_total c.self.inside.schools c.to_vec.ensures.ordered) ∙ ap (λ s. values s.schools) c.self.view_is)
+    (λ found rows. rows ∙ sym (values_rows nat_list_cmp_total c.self.inside.base.schools c.to_vec.ensures.ordered) ∙ ap (λ s. values s.schools) c.self.view_is)
     (λ e _. tt)

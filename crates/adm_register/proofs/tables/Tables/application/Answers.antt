@@ -5,4 +5,4 @@ use Rattle.adm_lists.proofs.Maps.{get_rows}
 use Rattle.adm_register.proofs.tables.Tables.application.Goals as goal
 
 pub returns : goal.returns
-returns c = c.row.ensures ∙ sym (get_rows nat_cmp_total c.self.inside.applications c.args.number) ∙ ap (λ s. get s.applications c.args.number) c.self.view_is
+returns c = c.row.ensures ∙ sym (get_rows nat_cmp_total c.self.inside.base.applications c.args.number) ∙ ap (λ s. get s.applications c.args.number) c.self.view_is

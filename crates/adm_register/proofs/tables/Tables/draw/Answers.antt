@@ -5,4 +5,4 @@ use Rattle.adm_lists.proofs.Maps.{get_rows}
 use Rattle.adm_register.proofs.tables.Tables.draw.Goals as goal
 
 pub returns : goal.returns
-returns c = c.row.ensures ∙ sym (get_rows nat_cmp_total c.self.inside.draws c.args.number) ∙ ap (λ s. get s.draws c.args.number) c.self.view_is
+returns c = c.row.ensures ∙ sym (get_rows nat_cmp_total c.self.inside.course.draws c.args.number) ∙ ap (λ s. get s.draws c.args.number) c.self.view_is

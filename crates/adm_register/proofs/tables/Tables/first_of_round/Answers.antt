@@ -21,7 +21,7 @@ returns-in-Some c =
     let first = find-more here place pieces c.piece-item.result within c.piece-item.is
     ∙ (λ i. option_or (c.loop-piece.invariant i) (found i)) in
     let all = sym (find-first here (place + 1) pieces c.in-Some.draw.now first) in
-    let rows = sym (values_rows nat_cmp_total c.self.inside.draws c.pieces-piece-items.ensures.ordered) ∙ ap (λ s. values s.draws) c.self.view_is in
+    let rows = sym (values_rows nat_cmp_total c.self.inside.course.draws c.pieces-piece-items.ensures.ordered) ∙ ap (λ s. values s.draws) c.self.view_is in
     all ∙ ap (λ rows. find here (values_of rows)) c.pieces-piece-items.ensures.rows ∙ ap (find here) rows
 
 pub loop-piece-preserved : goal.loop-piece-preserved
@@ -39,6 +39,6 @@ returns c =
     let pieces = c.pieces-piece-items.result.now in
     let place = c.loop-piece.piece-index in
     let whole : length pieces ≤ place = omega (arith, c.loop-piece-test.false) in
-    let rows = sym (values_rows nat_cmp_total c.self.inside.draws c.pieces-piece-items.ensures.ordered) ∙ ap (λ s. values s.draws) c.self.view_is in
+    let rows = sym (values_rows nat_cmp_total c.self.inside.course.draws c.pieces-piece-items.ensures.ordered) ∙ ap (λ s. values s.draws) c.self.view_is in
     sym c.loop-piece.invariant ∙ ap (λ ps. find here (values_of (rows_of_pieces ps))) (take_all place pieces whole)
     ∙ ap (λ rows. find here (values_of rows)) c.pieces-piece-items.ensures.rows ∙ ap (find here) rows

@@ -36,4 +36,4 @@ returns c =
     let whole : length pieces ≤ place = omega (arith, c.loop-piece-test.false) in
     c.loop-piece.invariant ∙ ap (λ ps. count_by (λ row. is_held (Some row) c.args.code) (values_of (rows_of_pieces ps))) (take_all place pieces whole)
     ∙ ap (λ rows. count_by (λ row. is_held (Some row) c.args.code) (values_of rows)) c.pieces-piece-items.ensures.rows
-    ∙ held_at_rows c.args.self.now c.self.inside.places c.args.code (ap (λ s. s.places) c.self.view_is) c.len-all.ensures.ordered
+    ∙ held_at_rows c.args.self.now c.self.inside.course.places c.args.code (ap (λ s. s.places) c.self.view_is) c.len-all.ensures.ordered

@@ -5,4 +5,4 @@ use Rattle.adm_lists.proofs.Maps.{get_rows}
 use Rattle.adm_register.proofs.tables.Tables.place_row.Goals as goal
 
 pub returns : goal.returns
-returns c = c.get.ensures ∙ sym (get_rows nat_cmp_total c.self.inside.places c.args.child) ∙ ap (λ s. get s.places c.args.child) c.self.view_is
+returns c = c.get.ensures ∙ sym (get_rows nat_cmp_total c.self.inside.course.places c.args.child) ∙ ap (λ s. get s.places c.args.child) c.self.view_is

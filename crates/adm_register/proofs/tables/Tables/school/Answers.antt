@@ -5,4 +5,4 @@ use Rattle.adm_lists.proofs.Maps.{get_rows}
 use Rattle.adm_register.proofs.tables.Tables.school.Goals as goal
 
 pub returns : goal.returns
-returns c = c.row.ensures ∙ sym (get_rows nat_list_cmp_total c.self.inside.schools c.args.code) ∙ ap (λ s. get s.schools c.args.code) c.self.view_is
+returns c = c.row.ensures ∙ sym (get_rows nat_list_cmp_total c.self.inside.base.schools c.args.code) ∙ ap (λ s. get s.schools c.args.code) c.self.view_is

@@ -5,4 +5,4 @@ use Rattle.adm_lists.proofs.Maps.{get_rows}
 use Rattle.adm_register.proofs.tables.Tables.shared_child.Goals as goal
 
 pub returns : goal.returns
-returns c = c.get.ensures ∙ sym (get_rows nat_cmp_total c.self.inside.children c.args.number) ∙ ap (λ s. get s.children c.args.number) c.self.view_is
+returns c = c.get.ensures ∙ sym (get_rows nat_cmp_total c.self.inside.base.children c.args.number) ∙ ap (λ s. get s.children c.args.number) c.self.view_is

@@ -1,0 +1,100 @@
+// The tables of a register in two groups. What makes many values, each of which may fail, lets go at each of those before it: so no function makes all tables.
+ghost use Rattle.std.specs.Prelude.{◌≡◌, [], IfOk};
+
+use adm_table::{Shared, Table};
+use adm_types::{
+    Application, Child, ChildNo, Draw, ImportRow, LeftPair, PlaceRow, School, SchoolCode, Season,
+};
+use std::alloc::AllocError;
+
+/// The season, its schools and children, and who applies.
+pub(crate) struct Base {
+    pub(crate) season: Season,
+    pub(crate) schools: Table<SchoolCode, Shared<School>>,
+    pub(crate) children: Table<ChildNo, Shared<Child>>,
+    pub(crate) applications: Table<ChildNo, Shared<Application>>,
+}
+
+/// What comes of it: places, the schools that children left, draws, and imported rows.
+pub(crate) struct Course {
+    pub(crate) places: Table<ChildNo, PlaceRow>,
+    pub(crate) left: Table<LeftPair, LeftPair>,
+    pub(crate) draws: Table<u32, Shared<Draw>>,
+    pub(crate) imported: Table<ChildNo, Shared<ImportRow>>,
+}
+
+// Written out, so that whoever lets go of a group calls this, where a derived one has the steps of
+// each table in each place that lets go of it.
+impl Drop for Base {
+    fn drop(self) {
+        let Base {
+            season: _,
+            schools: _,
+            children: _,
+            applications: _,
+        } = self;
+    }
+}
+
+impl Drop for Course {
+    fn drop(self) {
+        let Course {
+            places: _,
+            left: _,
+            draws: _,
+            imported: _,
+        } = self;
+    }
+}
+
+impl Base {
+    /// The season and no row.
+    pub(crate) fn new(season: Season) -> Base
+        ensures { result ≡ record { season = season; schools = []; children = []; applications = [] } }
+    {
+        Base {
+            season,
+            schools: Table::new(),
+            children: Table::new(),
+            applications: Table::new(),
+        }
+    }
+
+    /// The same rows again, which the two share.
+    pub(crate) fn share(&self) -> Result<Base, AllocError>
+        ensures { IfOk result (λ shared. shared ≡ self.now) }
+    {
+        Ok(Base {
+            season: self.season.clone()?,
+            schools: self.schools.share()?,
+            children: self.children.share()?,
+            applications: self.applications.share()?,
+        })
+    }
+}
+
+impl Course {
+    /// No row.
+    pub(crate) fn new() -> Course
+        ensures { result ≡ record { places = []; left = []; draws = []; imported = [] } }
+    {
+        Course {
+            places: Table::new(),
+            left: Table::new(),
+            draws: Table::new(),
+            imported: Table::new(),
+        }
+    }
+
+    /// The same rows again, which the two share.
+    pub(crate) fn share(&self) -> Result<Course, AllocError>
+        ensures { IfOk result (λ shared. shared ≡ self.now) }
+    {
+        Ok(Course {
+            places: self.places.share()?,
+            left: self.left.share()?,
+            draws: self.draws.share()?,
+            imported: self.imported.share()?,
+        })
+    }
+}
