@@ -2,10 +2,12 @@
 ghost use Rattle.std.specs.Prelude.{◌≡◌, IfOk};
 ghost use Rattle.adm_register.specs.Change.{after};
 ghost use Rattle.adm_register.specs.Difference.{differing};
-ghost use Rattle.adm_register.specs.Groups.{IsBaseOf, IsCourseOf};
+ghost use Rattle.adm_register.specs.Groups.{IsBaseOf, IsCourseOf, base_change, course_change};
+ghost use Rattle.adm_register.specs.declared.difference.Difference.{Difference as DifferenceValue};
 
 use crate::Difference;
 use crate::groups::{Base, Course};
+use crate::row_groups::{BaseChange, CourseChange};
 use crate::tables::Tables;
 use std::alloc::{AllocError, Global};
 
@@ -77,15 +79,72 @@ impl Tables {
             ended,
             vacated,
         } = change;
+        let others = CourseChange {
+            places,
+            left,
+            draws,
+            imported,
+            vacated,
+        };
+        let first = BaseChange {
+            schools,
+            children,
+            applications,
+            ended,
+        };
+        let first = self.base_differing(alloc, first)?;
+        let others = self.course_differing(alloc, others)?;
         Ok(Difference {
+            schools: first.schools,
+            children: first.children,
+            applications: first.applications,
+            places: others.places,
+            left: others.left,
+            draws: others.draws,
+            imported: others.imported,
+            ended: first.ended,
+            vacated: others.vacated,
+        })
+    }
+
+    /// What of a change of the first tables differs.
+    fn base_differing(&self, alloc: Global, change: BaseChange) -> Result<BaseChange, AllocError>
+        ensures { IfOk result (λ found. (whole : DifferenceValue) → base_change whole ≡ change → found ≡ base_change (differing self.now whole)) }
+    {
+        let BaseChange {
+            schools,
+            children,
+            applications,
+            ended,
+        } = change;
+        Ok(BaseChange {
             schools: self.base.schools.lacked(alloc, schools)?,
             children: self.base.children.lacked(alloc, children)?,
             applications: self.base.applications.lacked(alloc, applications)?,
+            ended: self.base.applications.known(alloc, ended)?,
+        })
+    }
+
+    /// What of a change of the others differs.
+    fn course_differing(
+        &self,
+        alloc: Global,
+        change: CourseChange,
+    ) -> Result<CourseChange, AllocError>
+        ensures { IfOk result (λ found. (whole : DifferenceValue) → course_change whole ≡ change → found ≡ course_change (differing self.now whole)) }
+    {
+        let CourseChange {
+            places,
+            left,
+            draws,
+            imported,
+            vacated,
+        } = change;
+        Ok(CourseChange {
             places: self.course.places.lacked(alloc, places)?,
             left: self.course.left.lacked(alloc, left)?,
             draws: self.course.draws.lacked(alloc, draws)?,
             imported: self.course.imported.lacked(alloc, imported)?,
-            ended: self.base.applications.known(alloc, ended)?,
             vacated: self.course.places.known(alloc, vacated)?,
         })
     }
