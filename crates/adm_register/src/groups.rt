@@ -1,4 +1,4 @@
-// The tables of a register in two groups. What makes many values, each of which may fail, lets go at each of those before it: so no function makes all tables.
+// The tables of a register in two groups, so that no function makes all of them: one that makes many values, each of which may fail, lets go at each of those before it.
 ghost use Rattle.std.specs.Prelude.{◌≡◌, [], IfOk};
 
 use adm_table::{Shared, Table};
@@ -23,8 +23,8 @@ pub(crate) struct Course {
     pub(crate) imported: Table<ChildNo, Shared<ImportRow>>,
 }
 
-// Written out, so that whoever lets go of a group calls this, where a derived one has the steps of
-// each table in each place that lets go of it.
+// Written by hand, and not derived: what lets go of a group then calls this, in place of going
+// through the steps of each of its tables.
 impl Drop for Base {
     fn drop(self) {
         let Base {
