@@ -99,8 +99,20 @@ fn refusal_of_row(seen: &Tables, row: &ImportRow) -> Option<Refusal>
     }
 }
 
-/// The register with a row that is new, which comes to those that were added.
+/// The register with a row that is new.
 #[tactic(auto, unfolding(crate::specs::Import::with_row))]
+fn after_row(
+    seen: &Tables,
+    alloc: Global,
+    row: Shared<ImportRow>,
+) -> Result<Shared<Tables>, AllocError>
+    ensures { IfOk result (λ next. next ≡ with_row seen.now row) }
+{
+    let change = rows_put(alloc, one(alloc, row)?)?;
+    Shared::new(alloc, seen.after(alloc, &change)?)
+}
+
+/// The register with a row that is new, which comes to those that were added.
 fn with_row(
     seen: &Tables,
     alloc: Global,
@@ -111,9 +123,9 @@ fn with_row(
     ensures added { OnOk result (added.new.items ≡ added.old.items ++ row.now ∷ []) }
 {
     let row = Shared::new(alloc, row.clone()?)?;
-    let change = rows_put(alloc, one(alloc, row.clone()?)?)?;
+    let next = after_row(seen, alloc, row.clone()?)?;
     added.push(row)?;
-    Shared::new(alloc, seen.after(alloc, &change)?)
+    Ok(next)
 }
 
 /// The rows in the order of their children's numbers.

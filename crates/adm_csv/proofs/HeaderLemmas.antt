@@ -1,5 +1,5 @@
 -- The header in the records of a file.
-use Rattle.std.proofs.Common.{◌≡◌, ◌∙◌, List, [], ◌∷◌, true, false, Result, Ok, Err, ap, refl}
+use Rattle.std.proofs.Common.{◌≡◌, ◌∙◌, ℕ, List, [], ◌∷◌, length, true, false, Result, Ok, Err, ap, refl, subst}
 use Rattle.adm_types.specs.declared.rows.ImportRow.{ImportRow}
 use Rattle.adm_csv.specs.declared.fault.Fault.{Fault}
 use Rattle.adm_csv.specs.declared.fault.Fault.TheVariants.{Header, FieldCount, BadNumber, BadDate, BadText, TooManyRows, Read, Memory}
@@ -16,25 +16,28 @@ unfolding rows_in
 no_header all is = ap rows_in is
 
 -- the rows under the header
-pub under_header : (all : List Record) (h : Record) (rest : List Record) → all ≡ h ∷ rest → is_header h ≡ true → rows_in all ≡ rows_from 1 rest
+pub under_header : (all : List Record) (h : Record) (rest : List Record) → all ≡ h ∷ rest → is_header h ≡ true → rows_in all ≡ rows_from (length h) 1 rest
 unfolding rows_in
 under_header all h rest is header = ap rows_in is ∙ rw header refl
 
 -- what was read under the header was read of the records
-pub from_header : {A : Type 0} (view : A → List ImportRow) (all rest : List Record) (h : Record) (result : Result A RowFault) → all ≡ h ∷ rest → is_header h ≡ true
-    → ReadsFrom view 1 rest result → ReadsRows ⊥ view all result
-from_header view all rest h (Ok x) is header reads = under_header all h rest is header ∙ reads
-from_header view all rest h (Err e) is header reads = faulty e.fault reads
+pub from_header : {A : Type 0} (view : A → List ImportRow) (all rest : List Record) (h : Record) (width : ℕ) (result : Result A RowFault) → all ≡ h ∷ rest → is_header h ≡ true → width ≡ length h
+    → ReadsFrom view width 1 rest result → ReadsRows ⊥ view all result
+from_header view all rest h width result is header wide reads = go result (subst (λ w. ReadsFrom view w 1 rest result) wide reads)
   where
-    faulty : (f : Fault) → FailsFrom 1 e f rest → FailsAt ⊥ e f all
-    faulty Memory fails = tt
-    faulty Read fails = fails
-    faulty Header fails = under_header all h rest is header ∙ fails
-    faulty FieldCount fails = under_header all h rest is header ∙ fails
-    faulty BadNumber fails = under_header all h rest is header ∙ fails
-    faulty BadDate fails = under_header all h rest is header ∙ fails
-    faulty BadText fails = under_header all h rest is header ∙ fails
-    faulty TooManyRows fails = under_header all h rest is header ∙ fails
+    faulty : (e : RowFault) (f : Fault) → FailsFrom (length h) 1 e f rest → FailsAt ⊥ e f all
+    faulty e Memory fails = tt
+    faulty e Read fails = fails
+    faulty e Header fails = under_header all h rest is header ∙ fails
+    faulty e FieldCount fails = under_header all h rest is header ∙ fails
+    faulty e BadNumber fails = under_header all h rest is header ∙ fails
+    faulty e BadDate fails = under_header all h rest is header ∙ fails
+    faulty e BadText fails = under_header all h rest is header ∙ fails
+    faulty e TooManyRows fails = under_header all h rest is header ∙ fails
+
+    go : (result : Result _ RowFault) → ReadsFrom view (length h) 1 rest result → ReadsRows ⊥ view all result
+    go (Ok x) reads = under_header all h rest is header ∙ reads
+    go (Err e) reads = faulty e e.fault reads
 
 -- records that say the same, where the reader may have failed
 pub same_records : {A : Type 0} (view : A → List ImportRow) (all others : List Record) (result : Result A RowFault) → rows_in all ≡ rows_in others

@@ -18,30 +18,30 @@ more_rows : (front : List ImportRow) (x : ImportRow) (rest : Result (List Import
 more_rows front x (Ok xs) = ap Ok (sym (append_assoc front (x ∷ []) xs))
 more_rows front x (Err e) = refl
 
-pub row_more : (front : List ImportRow) (k : ℕ) (left : List Record) (r : Record) (rs : List Record) (x : ImportRow) → left ≡ r ∷ rs → row_at k r ≡ Ok x
-    → with_rows (front ++ x ∷ []) (rows_from (k + 1) rs) ≡ with_rows front (rows_from k left)
-row_more front k left r rs x is row =
-    sym (more_rows front x (rows_from (k + 1) rs))
-    ∙ sym (ap (λ o. with_rows front (at_row k o >>= λ x. rows_from (k + 1) rs >>= λ xs. Ok (x ∷ xs))) row)
-    ∙ sym (ap (λ l. with_rows front (rows_from k l)) is)
+pub row_more : (width : ℕ) (front : List ImportRow) (k : ℕ) (left : List Record) (r : Record) (rs : List Record) (x : ImportRow) → left ≡ r ∷ rs → row_at width k r ≡ Ok x
+    → with_rows (front ++ x ∷ []) (rows_from width (k + 1) rs) ≡ with_rows front (rows_from width k left)
+row_more width front k left r rs x is row =
+    sym (more_rows front x (rows_from width (k + 1) rs))
+    ∙ sym (ap (λ o. with_rows front (at_row k o >>= λ x. rows_from width (k + 1) rs >>= λ xs. Ok (x ∷ xs))) row)
+    ∙ sym (ap (λ l. with_rows front (rows_from width k l)) is)
 
-fault_is : (front : List ImportRow) (k : ℕ) (left : List Record) (r : Record) (rs all : List Record) (e : Fault) → left ≡ r ∷ rs → with_rows front (rows_from k left) ≡ rows_from 1 all
-    → row_at k r ≡ Err e → rows_from 1 all ≡ Err (record { row = k; fault = e })
-fault_is front k left r rs all e is so_far row =
-    sym so_far ∙ ap (λ l. with_rows front (rows_from k l)) is ∙ ap (λ o. with_rows front (at_row k o >>= λ x. rows_from (k + 1) rs >>= λ xs. Ok (x ∷ xs))) row
+fault_is : (width : ℕ) (front : List ImportRow) (k : ℕ) (left : List Record) (r : Record) (rs all : List Record) (e : Fault) → left ≡ r ∷ rs → with_rows front (rows_from width k left) ≡ rows_from width 1 all
+    → row_at width k r ≡ Err e → rows_from width 1 all ≡ Err (record { row = k; fault = e })
+fault_is width front k left r rs all e is so_far row =
+    sym so_far ∙ ap (λ l. with_rows front (rows_from width k l)) is ∙ ap (λ o. with_rows front (at_row k o >>= λ x. rows_from width (k + 1) rs >>= λ xs. Ok (x ∷ xs))) row
 
 -- a row with a fault
-pub row_fault : (front : List ImportRow) (k : ℕ) (left : List Record) (r : Record) (rs all : List Record) (e : Fault) → left ≡ r ∷ rs → with_rows front (rows_from k left) ≡ rows_from 1 all
-    → Fails e (row_at k r) → FailsFrom 1 (record { row = k; fault = e }) e all
-row_fault front k left r rs all Memory is so_far row = tt
-row_fault front k left r rs all Header is so_far row = fault_is front k left r rs all Header is so_far row
-row_fault front k left r rs all FieldCount is so_far row = fault_is front k left r rs all FieldCount is so_far row
-row_fault front k left r rs all BadNumber is so_far row = fault_is front k left r rs all BadNumber is so_far row
-row_fault front k left r rs all BadDate is so_far row = fault_is front k left r rs all BadDate is so_far row
-row_fault front k left r rs all BadText is so_far row = fault_is front k left r rs all BadText is so_far row
-row_fault front k left r rs all TooManyRows is so_far row = fault_is front k left r rs all TooManyRows is so_far row
-row_fault front k left r rs all Read is so_far row = row
+pub row_fault : (width : ℕ) (front : List ImportRow) (k : ℕ) (left : List Record) (r : Record) (rs all : List Record) (e : Fault) → left ≡ r ∷ rs → with_rows front (rows_from width k left) ≡ rows_from width 1 all
+    → Fails e (row_at width k r) → FailsFrom width 1 (record { row = k; fault = e }) e all
+row_fault width front k left r rs all Memory is so_far row = tt
+row_fault width front k left r rs all Header is so_far row = fault_is width front k left r rs all Header is so_far row
+row_fault width front k left r rs all FieldCount is so_far row = fault_is width front k left r rs all FieldCount is so_far row
+row_fault width front k left r rs all BadNumber is so_far row = fault_is width front k left r rs all BadNumber is so_far row
+row_fault width front k left r rs all BadDate is so_far row = fault_is width front k left r rs all BadDate is so_far row
+row_fault width front k left r rs all BadText is so_far row = fault_is width front k left r rs all BadText is so_far row
+row_fault width front k left r rs all TooManyRows is so_far row = fault_is width front k left r rs all TooManyRows is so_far row
+row_fault width front k left r rs all Read is so_far row = row
 
 -- no row more
-pub rows_end : (front : List ImportRow) (k : ℕ) (left : List Record) → left ≡ [] → with_rows front (rows_from k left) ≡ Ok front
-rows_end front k left is = ap (λ l. with_rows front (rows_from k l)) is ∙ ap Ok (append-nil front)
+pub rows_end : (width : ℕ) (front : List ImportRow) (k : ℕ) (left : List Record) → left ≡ [] → with_rows front (rows_from width k left) ≡ Ok front
+rows_end width front k left is = ap (λ l. with_rows front (rows_from width k l)) is ∙ ap Ok (append-nil front)

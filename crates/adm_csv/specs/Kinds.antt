@@ -1,6 +1,7 @@
 -- The kinds of a field: what its text says, or the fault of the kind. No text is a field that is none, or no UTF-8.
 use Rattle.std.specs.Prelude.{ℕ, List, Bool, true, false, codes, Option, Some, None, option_and_then, Result, if◌then◌else◌}
 use Rattle.std.specs.Str.{bytes_eq}
+use Rattle.adm_types.specs.Code.{code_or_none_of}
 use Rattle.adm_types.specs.Numbers.{child_of}
 use Rattle.adm_types.specs.Fields.{plain_of}
 use Rattle.adm_types.specs.Flags.{flag_of}
@@ -48,6 +49,10 @@ some_flags text = some_or BadNumber (option_and_then flags_of text)
 -- codes of schools, with `;` between each two
 abbrev pub some_codes : Option Text → Result (List Text) Fault
 some_codes text = some_or BadText (option_and_then codes_of text)
+
+-- the code of a school, or the empty text for none
+abbrev pub a_code_or_none : Option Text → Result (Option Text) Fault
+a_code_or_none text = some_or BadText (option_and_then code_or_none_of text)
 
 -- a day, as YYYY-MM-DD
 abbrev pub a_day : Option Text → Result ℕ Fault

@@ -1,7 +1,7 @@
-// The header of the file.
+// The header of the file: of nine fields, or of ten.
 ghost use Rattle.std.specs.Prelude.{◌≡◌};
 ghost use Rattle.csv.specs.Records.{fields_of};
-ghost use Rattle.adm_csv.specs.Rows.{is_field, names_home, names_wishes, is_header};
+ghost use Rattle.adm_csv.specs.Rows.{is_field, names_home, names_wishes, ends_well, is_header};
 
 use csv::ByteRecord;
 
@@ -33,9 +33,16 @@ fn names_wishes(fields: &ByteRecord) -> bool
         && is_field(fields, 8, "preferences")
 }
 
-/// Whether a record is the header.
+/// Whether a record has nine fields, or the present school as the tenth.
+fn ends_well(fields: &ByteRecord) -> bool
+    ensures { result ≡ ends_well (fields_of fields.now) }
+{
+    fields.len() == 9 || (fields.len() == 10 && is_field(fields, 9, "present"))
+}
+
+/// Whether a record is a header.
 pub(crate) fn is_header(fields: &ByteRecord) -> bool
     ensures { result ≡ is_header (fields_of fields.now) }
 {
-    fields.len() == 9 && names_home(fields) && names_wishes(fields)
+    names_home(fields) && names_wishes(fields) && ends_well(fields)
 }

@@ -71,6 +71,15 @@ impl Kind for Seq<SchoolCode> {
     }
 }
 
+/// A code, or the empty text for no school.
+impl Kind for Option<SchoolCode> {
+    ghost says = { kinds.a_code_or_none };
+
+    fn read(_alloc: Global, text: Option<&str>) -> Result<Option<SchoolCode>, Fault> {
+        text.and_then(SchoolCode::or_none).ok_or(Fault::BadText)
+    }
+}
+
 impl Kind for Seq<Flag> {
     ghost says = { kinds.some_flags };
 

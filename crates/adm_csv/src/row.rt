@@ -1,14 +1,15 @@
 // One row: its fields, from left to right.
 ghost use Rattle.csv.specs.Records.{fields_of};
-ghost use Rattle.adm_csv.specs.Rows.{child_in, row_in};
+ghost use Rattle.adm_csv.specs.Rows.{child_in, present_in, row_in};
 ghost use Rattle.adm_csv.specs.Reading.{Gives};
 
 use crate::Fault;
 use crate::field::field;
-use adm_types::{Child, Flag, ImportRow, Point, Seq, flag_bits};
+use adm_types::{Child, Flag, ImportRow, Point, SchoolCode, Seq, flag_bits};
 use csv::ByteRecord;
 use std::alloc::Global;
 
+/// The child of a record, without a present school.
 #[tactic(auto, unfolding(crate::specs::Rows::child_in))]
 fn child_in(alloc: Global, fields: &ByteRecord) -> Result<Child, Fault>
     ensures { Gives result (child_in (fields_of fields.now)) }
@@ -27,20 +28,33 @@ fn child_in(alloc: Global, fields: &ByteRecord) -> Result<Child, Fault>
         looked_after,
         flags: flag_bits(flags.as_slice()),
         siblings,
+        present: None,
     })
 }
 
-/// The row that a record is.
-#[tactic(auto, unfolding(crate::specs::Rows::row_in))]
-pub(crate) fn row_in(alloc: Global, fields: &ByteRecord) -> Result<ImportRow, Fault>
-    ensures { Gives result (row_in (fields_of fields.now)) }
+/// The present school of a record under a header of so many fields.
+fn present_in(alloc: Global, width: usize, fields: &ByteRecord) -> Result<Option<SchoolCode>, Fault>
+    ensures { Gives result (present_in width (fields_of fields.now)) }
 {
-    if fields.len() != 9 {
+    if width == 10 {
+        field(alloc, fields, 9)
+    } else {
+        Ok(None)
+    }
+}
+
+/// The row that a record is, under a header of so many fields.
+#[tactic(auto, unfolding(crate::specs::Rows::row_in))]
+pub(crate) fn row_in(alloc: Global, width: usize, fields: &ByteRecord) -> Result<ImportRow, Fault>
+    ensures { Gives result (row_in width (fields_of fields.now)) }
+{
+    if fields.len() != width {
         return Err(Fault::FieldCount);
     }
-    let child = child_in(alloc, fields)?;
+    let mut child = child_in(alloc, fields)?;
     let day = field(alloc, fields, 7)?;
     let preferences = field(alloc, fields, 8)?;
+    child.present = present_in(alloc, width, fields)?;
     Ok(ImportRow {
         child,
         day,

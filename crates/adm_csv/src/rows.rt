@@ -1,5 +1,5 @@
 // The rows of a file: its header, and then its rows in order.
-ghost use Rattle.std.specs.Prelude.{◌≡◌, ◌∷◌, ◌≤◌, true, IfErr, IfSome, OnOk};
+ghost use Rattle.std.specs.Prelude.{◌≡◌, ◌∷◌, ◌≤◌, length, true, IfErr, IfOk, IfSome, OnOk};
 ghost use Rattle.csv.specs.Records.{fields_of};
 ghost use Rattle.adm_csv.specs.Left.{IsPlain, left_of};
 ghost use Rattle.adm_csv.specs.Ended.{StopsAfter};
@@ -30,16 +30,16 @@ fn source<'a>(alloc: Global, text: &'a [u8]) -> ByteRecordsIntoIter<&'a [u8]>
         .into_byte_records()
 }
 
-/// Takes the header.
-fn take_header(records: &mut ByteRecordsIntoIter<&[u8]>) -> Result<(), Fault>
+/// Takes the header: the number of its fields.
+fn take_header(records: &mut ByteRecordsIntoIter<&[u8]>) -> Result<usize, Fault>
     requires { IsPlain records.old }
-    ensures ok { OnOk result ((h : Record) × (left_of records.old ≡ h ∷ left_of records.new) × (is_header h ≡ true) × IsPlain records.new) }
+    ensures ok { IfOk result (λ width. (h : Record) × (left_of records.old ≡ h ∷ left_of records.new) × (is_header h ≡ true) × IsPlain records.new × (width ≡ length h)) }
     ensures err { IfErr result (λ e. FailsAt ⊥ (record { row = 0; fault = e }) e (left_of records.old)) }
 {
     match records.next() {
         Some(Ok(fields)) => {
             if is_header(&fields) {
-                Ok(())
+                Ok(fields.len())
             } else {
                 Err(Fault::Header)
             }
@@ -49,21 +49,25 @@ fn take_header(records: &mut ByteRecordsIntoIter<&[u8]>) -> Result<(), Fault>
     }
 }
 
-/// The row of this number.
-fn row_at(alloc: Global, number: u64, fields: &ByteRecord) -> Result<ImportRow, Fault>
-    ensures reads { Gives result (row_at number (fields_of fields.now)) }
+/// The row of this number, under a header of so many fields.
+fn row_at(alloc: Global, width: usize, number: u64, fields: &ByteRecord) -> Result<ImportRow, Fault>
+    ensures reads { Gives result (row_at width number (fields_of fields.now)) }
     ensures upper { OnOk result (number ≤ most_rows) }
 {
     if number > MOST_ROWS {
         return Err(Fault::TooManyRows);
     }
-    row_in(alloc, fields)
+    row_in(alloc, width, fields)
 }
 
-/// The rows of the records under the header.
-fn rows_from(alloc: Global, records: ByteRecordsIntoIter<&[u8]>) -> Result<Vec<ImportRow>, RowFault>
+/// The rows of the records under a header of so many fields.
+fn rows_from(
+    alloc: Global,
+    width: usize,
+    records: ByteRecordsIntoIter<&[u8]>,
+) -> Result<Vec<ImportRow>, RowFault>
     requires { IsPlain records }
-    ensures { ReadsFrom (λ v. v.items) 1 (left_of records.entry) result }
+    ensures { ReadsFrom (λ v. v.items) width 1 (left_of records.entry) result }
 {
     let mut rows = Vec::new(alloc);
     let mut number = 0;
@@ -75,7 +79,7 @@ fn rows_from(alloc: Global, records: ByteRecordsIntoIter<&[u8]>) -> Result<Vec<I
                 fault: Fault::Memory,
             });
         };
-        match row_at(alloc, number, &fields) {
+        match row_at(alloc, width, number, &fields) {
             Ok(row) => {
                 if rows.push(row).is_err() {
                     return Err(RowFault {
@@ -98,7 +102,7 @@ fn rows_of(alloc: Global, text: &[u8]) -> Result<Vec<ImportRow>, RowFault>
 {
     let mut records = source(alloc, text);
     match take_header(&mut records) {
-        Ok(()) => rows_from(alloc, records),
+        Ok(width) => rows_from(alloc, width, records),
         Err(fault) => Err(RowFault { row: 0, fault }),
     }
 }
@@ -107,8 +111,9 @@ fn rows_of(alloc: Global, text: &[u8]) -> Result<Vec<ImportRow>, RowFault>
 ///
 /// Records are as `csv` reads them with commas, double quotes and any number of fields: a byte order
 /// mark at the start and empty lines are no part of any. The first is the header, exactly
-/// `child,name,east,north,looked_after,flags,siblings,day,preferences`; each other is a row, and the
-/// fault is that of the first row with one. Read is told whatever stands before, and Memory may come
+/// `child,name,east,north,looked_after,flags,siblings,day,preferences`, or this with `,present` after
+/// it; each other is a row of as many fields, and the fault is that of the first row with one. Under
+/// the shorter header no child has a present school. Read is told whatever stands before, and Memory may come
 /// at any point: their row is the one that was being read, that is, the number of records that had
 /// ended.
 ///

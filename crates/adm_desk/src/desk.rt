@@ -149,7 +149,7 @@ impl<S: Alter> Desk<S> {
         requires schools { KeepsSchools self.old.register new }
         ensures { Keeps (state S.Store) self.old new reply result self.new }
     {
-        match changes(self.alloc, change) {
+        match changes(self.alloc, &self.register, change) {
             Err(_) => Answer::Memory,
             Ok(changes) => self.write(&changes, new, reply),
         }

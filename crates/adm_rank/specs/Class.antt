@@ -1,19 +1,23 @@
 -- The class of a child at a school (School Admissions Code 2021, section 1; the criteria are this profile's).
-use Rattle.std.specs.Prelude.{ℕ, ◌+◌, Bool, nat_le, if◌then◌else◌}
+use Rattle.std.specs.Prelude.{ℕ, ◌+◌, Bool, nat_le, nat_eq, Some, if◌then◌else◌}
 use Rattle.std.specs.List.{position_or_len}
+use Rattle.std.specs.Option.{option_eq}
+use Rattle.std.specs.Cmp.Lexicographic.{pointwise}
 use Rattle.adm_types.specs.declared.rows.Criterion.{Criterion}
-use Rattle.adm_types.specs.declared.rows.Criterion.TheVariants.{Sibling, Within, Flag}
+use Rattle.adm_types.specs.declared.rows.Criterion.TheVariants.{Sibling, Within, Flag, Feeder}
 use Rattle.adm_types.specs.declared.rows.School.{School}
 use Rattle.adm_types.specs.declared.rows.Child.{Child}
 use Rattle.adm_types.specs.Flags.{has_flag}
 use Rattle.adm_types.specs.Limits.{is_listed}
 use Rattle.adm_rank.specs.Distance.{distance_of}
 
--- whether a child meets a criterion of the school: a sibling there, a home at most so many metres away, a verified flag
+-- whether a child meets a criterion of the school: a sibling there, a home at most so many metres away, a verified flag,
+-- this present school
 abbrev pub meets : School → Child → Criterion → Bool
 meets school child Sibling = is_listed child.siblings school.code
 meets school child (Within metres) = nat_le (distance_of school.at child.home) metres
 meets school child (Flag flag) = has_flag child.flags flag
+meets school child (Feeder feeder) = option_eq (pointwise nat_eq) child.present (Some feeder)
 
 -- 0 for a child looked after now or before; else 1 plus the index, from 0, of the first criterion that it meets;
 -- else 1 plus the number of criteria

@@ -28,6 +28,7 @@ fn meets(school: &School, child: &Child, criterion: Criterion) -> bool
         Criterion::Sibling => is_listed(child.siblings.as_slice(), &school.code),
         Criterion::Within(metres) => distance(school.at, child.home) <= metres,
         Criterion::Flag(flag) => has_flag(child.flags, flag),
+        Criterion::Feeder(feeder) => child.present == Some(feeder),
     }
 }
 

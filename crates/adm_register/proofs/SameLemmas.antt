@@ -8,7 +8,7 @@ use Rattle.std.proofs.lemmas.Option.{none-some, same_Some}
 use Rattle.std.proofs.lemmas.Bool.{and_parts}
 use Rattle.adm_types.specs.declared.rows.Point.{Point}
 use Rattle.adm_types.specs.declared.rows.Criterion.{Criterion}
-use Rattle.adm_types.specs.declared.rows.Criterion.TheVariants.{Sibling, Within, Flag}
+use Rattle.adm_types.specs.declared.rows.Criterion.TheVariants.{Sibling, Within, Flag, Feeder}
 use Rattle.adm_types.specs.declared.rows.PlaceState.{PlaceState}
 use Rattle.adm_types.specs.declared.rows.PlaceState.TheVariants.{Offered, Accepted, Plan}
 use Rattle.adm_types.specs.declared.rows.School.{School}
@@ -40,18 +40,24 @@ same_nat m n = unsigned_Decides m n
 same_codes : (xs ys : List (List ℕ)) → (pointwise (pointwise nat_eq) xs ys ≡ true) ↔ (xs ≡ ys)
 same_codes = pointwise_decides bytes_decides
 
-same_day : (m n : Option ℕ) → (option_eq nat_eq m n ≡ true) ↔ (m ≡ n)
-same_day = decided (option_eq nat_eq) told itself
+same_option : {A : Type 0} (test : A → A → Bool) → ((x y : A) → (test x y ≡ true) ↔ (x ≡ y)) → (x y : Option A) → (option_eq test x y ≡ true) ↔ (x ≡ y)
+same_option test each = decided (option_eq test) told itself
   where
-    told : (m n : Option ℕ) → option_eq nat_eq m n ≡ true → m ≡ n
+    told : (x y : Option _) → option_eq test x y ≡ true → x ≡ y
     told None None e = refl
-    told None (Some n) e = not_true e
-    told (Some m) None e = not_true e
-    told (Some m) (Some n) e = ap Some ((same_nat m n).0 e)
+    told None (Some y) e = not_true e
+    told (Some x) None e = not_true e
+    told (Some x) (Some y) e = ap Some ((each x y).0 e)
 
-    itself : (m : Option ℕ) → option_eq nat_eq m m ≡ true
+    itself : (x : Option _) → option_eq test x x ≡ true
     itself None = refl
-    itself (Some m) = (same_nat m m).1 refl
+    itself (Some x) = (each x x).1 refl
+
+same_day : (m n : Option ℕ) → (option_eq nat_eq m n ≡ true) ↔ (m ≡ n)
+same_day = same_option nat_eq same_nat
+
+same_choice : (x y : Option (List ℕ)) → (option_eq (pointwise nat_eq) x y ≡ true) ↔ (x ≡ y)
+same_choice = same_option (pointwise nat_eq) bytes_decides
 
 same_point : (x y : Point) → ((nat_eq x.east y.east && nat_eq x.north y.north) ≡ true) ↔ (x ≡ y)
 same_point = decided (λ x y. nat_eq x.east y.east && nat_eq x.north y.north)
@@ -65,17 +71,25 @@ same_criterion = decided criterion_eq.it told itself
     told Sibling Sibling e = refl
     told Sibling (Within n) e = not_true e
     told Sibling (Flag n) e = not_true e
+    told Sibling (Feeder n) e = not_true e
     told (Within m) Sibling e = not_true e
     told (Within m) (Within n) e = ap Within ((same_nat m n).0 e)
     told (Within m) (Flag n) e = not_true e
+    told (Within m) (Feeder n) e = not_true e
     told (Flag m) Sibling e = not_true e
     told (Flag m) (Within n) e = not_true e
     told (Flag m) (Flag n) e = ap Flag ((same_nat m n).0 e)
+    told (Flag m) (Feeder n) e = not_true e
+    told (Feeder m) Sibling e = not_true e
+    told (Feeder m) (Within n) e = not_true e
+    told (Feeder m) (Flag n) e = not_true e
+    told (Feeder m) (Feeder n) e = ap Feeder ((bytes_decides m n).0 e)
 
     itself : (x : Criterion) → criterion_eq.it x x ≡ true
     itself Sibling = refl
     itself (Within m) = (same_nat m m).1 refl
     itself (Flag m) = (same_nat m m).1 refl
+    itself (Feeder m) = (bytes_decides m m).1 refl
 
 same_state : (x y : PlaceState) → (state_eq.it x y ≡ true) ↔ (x ≡ y)
 same_state = decided state_eq.it told itself
@@ -128,13 +142,15 @@ same_child = decided is_same_child
     let home = and_parts _ _ name.1 in
     let looked = and_parts _ _ home.1 in
     let flags = and_parts _ _ looked.1 in
+    let siblings = and_parts _ _ flags.1 in
     λ i. record {
       no = (same_nat x.no y.no).0 number.0 i;
       name = (bytes_decides x.name y.name).0 name.0 i;
       home = (same_point x.home y.home).0 home.0 i;
       looked_after = (booleans_Decides x.looked_after y.looked_after).0 looked.0 i;
       flags = (same_nat x.flags y.flags).0 flags.0 i;
-      siblings = (same_codes x.siblings y.siblings).0 flags.1 i;
+      siblings = (same_codes x.siblings y.siblings).0 siblings.0 i;
+      present = (same_choice x.present y.present).0 siblings.1 i;
     })
     (λ x i.
     (same_nat x.no x.no).1 refl i
@@ -142,7 +158,8 @@ same_child = decided is_same_child
     && ((same_point x.home x.home).1 refl i
     && ((booleans_Decides x.looked_after x.looked_after).1 refl i
     && ((same_nat x.flags x.flags).1 refl i
-    && (same_codes x.siblings x.siblings).1 refl i)))))
+    && ((same_codes x.siblings x.siblings).1 refl i
+    && (same_choice x.present x.present).1 refl i))))))
 
 pub same_application : (x y : Application) → (is_same_application x y ≡ true) ↔ (x ≡ y)
 same_application = decided is_same_application
@@ -183,19 +200,6 @@ pub same_left : (x y : LeftPair) → (is_same_left x y ≡ true) ↔ (x ≡ y)
 same_left = decided is_same_left
     (λ x y e i. let parts = and_parts _ _ e in record { child = (same_nat x.child y.child).0 parts.0 i; school = (bytes_decides x.school y.school).0 parts.1 i })
     (λ x i. (same_nat x.child x.child).1 refl i && (bytes_decides x.school x.school).1 refl i)
-
-same_choice : (x y : Option (List ℕ)) → (option_eq (pointwise nat_eq) x y ≡ true) ↔ (x ≡ y)
-same_choice = decided (option_eq (pointwise nat_eq)) told itself
-  where
-    told : (x y : Option (List ℕ)) → option_eq (pointwise nat_eq) x y ≡ true → x ≡ y
-    told None None e = refl
-    told None (Some y) e = not_true e
-    told (Some x) None e = not_true e
-    told (Some x) (Some y) e = ap Some ((bytes_decides x y).0 e)
-
-    itself : (x : Option (List ℕ)) → option_eq (pointwise nat_eq) x x ≡ true
-    itself None = refl
-    itself (Some x) = (bytes_decides x x).1 refl
 
 same_outcome : (x y : Outcome) → (outcome_eq.it x y ≡ true) ↔ (x ≡ y)
 same_outcome = decided outcome_eq.it

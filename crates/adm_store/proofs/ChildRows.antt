@@ -8,7 +8,8 @@ use Rattle.sqlite.specs.declared.types.Value.{Value}
 use Rattle.sqlite.specs.declared.types.Value.TheVariants.{Int, Text}
 use Rattle.sqlite.specs.Order.{Row, column}
 use Rattle.adm_types.specs.Joined.{codes_of}
-use Rattle.adm_types.specs.Limits.{is_on_map, is_without_repeat}
+use Rattle.adm_types.specs.Children.{bare_child, bare_import}
+use Rattle.adm_types.specs.Limits.{is_on_map, is_without_repeat, is_code_or_none}
 use Rattle.adm_types.specs.declared.rows.Child.{Child}
 use Rattle.adm_types.specs.declared.rows.Application.{Application}
 use Rattle.adm_types.specs.declared.rows.ImportRow.{ImportRow}
@@ -31,7 +32,8 @@ metres_fit n h = grind (arith, nat_tests)
 -- a home has coordinates of 32 bits
 pub home_fits : (child : Child) → IsChild child → (child.home.east < 2 ^ 32) × (child.home.north < 2 ^ 32)
 home_fits child fits =
-    let few = and_parts (is_on_map child.home && nat_le (length child.siblings) 6) (is_without_repeat child.siblings) fits.in_range in
+    let known = and_parts (is_on_map child.home && nat_le (length child.siblings) 6 && is_without_repeat child.siblings) (is_code_or_none child.present) fits.in_range in
+    let few = and_parts (is_on_map child.home && nat_le (length child.siblings) 6) (is_without_repeat child.siblings) known.0 in
     let home = and_parts (is_on_map child.home) (nat_le (length child.siblings) 6) few.0 in
     let each = and_parts (nat_le child.home.east 1500000) (nat_le child.home.north 1500000) home.0 in
     (metres_fit child.home.east each.0, metres_fit child.home.north each.1)
@@ -43,7 +45,7 @@ truth_back : (truth : Bool) → nat_eq (truth_code truth) 1 ≡ truth
 truth_back true = refl
 truth_back false = refl
 
--- a child from its row
+-- a child from its row, which does not say its present school
 abbrev pub child_from : Row → Child
 child_from cells = record {
   no = number_in (column cells 0);
@@ -52,10 +54,11 @@ child_from cells = record {
   looked_after = nat_eq (number_in (column cells 4)) 1;
   flags = number_in (column cells 5);
   siblings = unwrap_or (codes_of (text_in (column cells 6))) [];
+  present = None;
 }
 
-pub child_back : (c : Child) → AreReadAgain c.siblings → child_from (child_row c) ≡ c
-child_back c again = λ k. record { no = c.no; name = c.name; home = c.home; looked_after = truth_back c.looked_after k; flags = c.flags; siblings = unwrap_or (again k) [] }
+pub child_back : (c : Child) → AreReadAgain c.siblings → child_from (child_row c) ≡ bare_child c
+child_back c again = λ k. record { no = c.no; name = c.name; home = c.home; looked_after = truth_back c.looked_after k; flags = c.flags; siblings = unwrap_or (again k) []; present = None }
 
 -- ---- applications
 
@@ -75,7 +78,7 @@ application_back a again = λ k. record { child = a.child; day = a.day; list = u
 abbrev pub imported_from : Row → ImportRow
 imported_from cells = record { child = child_from cells; day = number_in (column cells 7); preferences = unwrap_or (codes_of (text_in (column cells 8))) [] }
 
-pub imported_back : (r : ImportRow) → IsImportReadAgain r → imported_from (imported_row r) ≡ r
+pub imported_back : (r : ImportRow) → IsImportReadAgain r → imported_from (imported_row r) ≡ bare_import r
 imported_back r again = λ k. record { child = child_back r.child again.0 k; day = r.day; preferences = unwrap_or (again.1 k) [] }
 
 pub import_again : (last : ℕ) (r : ImportRow) → IsImportRow last r → IsImportReadAgain r

@@ -67,7 +67,7 @@ one_code : (code : List ℕ) → is_code code ≡ true → code_of code ≡ Some
 unfolding code_of
 one_code code h = rw h refl
 
-code_reads : (code : List ℕ) → is_code code ≡ true → Reads code_of (λ c. c) code
+pub code_reads : (code : List ℕ) → is_code code ≡ true → Reads code_of (λ c. c) code
 code_reads code h =
     let it = and_parts (is_from 1 8 (length code)) (list_all is_code_byte code) h in
     record {

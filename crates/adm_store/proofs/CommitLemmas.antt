@@ -1,5 +1,5 @@
 -- What a transaction of the store leaves.
-use Rattle.std.proofs.Common.{◌≡◌, ◌⊎◌, ◌≤◌, ◌<◌, ◌+◌, ℕ, pos, length, inl, inr, List, [], ◌∷◌, map, refl, sym, ap, ◌∙◌, subst, IsTrue, true, false, Ok, Err, Result, OnOk, arith}
+use Rattle.std.proofs.Common.{◌≡◌, ◌⊎◌, ◌≤◌, ◌<◌, ◌+◌, ℕ, pos, length, inl, inr, List, [], ◌∷◌, ◌++◌, map, refl, sym, ap, ◌∙◌, subst, subst₂, IsTrue, true, false, Ok, Err, Result, OnOk, arith}
 use Rattle.std.proofs.lemmas.List.{length-map, map-append}
 use Rattle.std.proofs.lemmas.Simd.{map-map}
 use Rattle.std.specs.Cmp.{nat_cmp_total}
@@ -11,7 +11,7 @@ use Rattle.adm_draws.specs.Draws.{row_of, offers_of, lots_of}
 use Rattle.adm_register.specs.Draws.{no_draws, are_in_order}
 use Rattle.adm_register.specs.WellFormed.{WellFormed}
 use Rattle.std.specs.List.Sorted.{IsPermutation}
-use Rattle.std.proofs.lemmas.List.Sorted.{IsPermutation-refl, IsPermutation-trans}
+use Rattle.std.proofs.lemmas.List.Sorted.{IsPermutation-refl}
 use Rattle.std.specs.Cmp.Lexicographic.{nat_list_cmp_total}
 use Rattle.adm_types.specs.declared.rows.Child.{Child}
 use Rattle.adm_types.specs.declared.rows.Application.{Application}
@@ -42,9 +42,12 @@ use Rattle.sqlite_rules.specs.Lists.{Has}
 use Rattle.sqlite.proofs.Callers.{one_permutation}
 use Rattle.adm_schema.specs.declared.version.Version.TheVariants.{Second}
 use Rattle.adm_schema.specs.Rows.{rows_of}
-use Rattle.adm_schema.specs.Schema.{draw, register_schema}
+use Rattle.std.specs.Prelude.{fold}
+use Rattle.adm_schema.specs.Effects.{drop_of}
+use Rattle.adm_schema.specs.Schema.{draw, present, register_schema}
 use Rattle.adm_store.specs.Forms.{season_row, school_row, child_row, application_row, place_row, left_row, imported_row}
 use Rattle.adm_store.specs.DrawForms.{draw_row, offer_row, lot_row}
+use Rattle.adm_store.specs.Present.{present_columns, moved_key}
 use Rattle.adm_store.specs.StandsFor.{StandsAs, HasRows, HoldsRegister, LeavesOnly, LeavesEither, written_in, written_tables}
 use Rattle.adm_store.specs.Changes.{IsStep, written_school, written_child, written_application, written_imported, written_count, last_draw, draw_count}
 use Rattle.adm_store.specs.Writes.{Write, Sets, Leaves, Writes, changed, after, are_keyed, count_of, key_row, writes_of}
@@ -56,6 +59,7 @@ use Rattle.adm_store.proofs.AddedRows.{added_rows, keys_kept}
 use Rattle.adm_store.proofs.AddedParts.{added_parts}
 use Rattle.adm_store.proofs.DrawOrder.{counted, last_is}
 use Rattle.adm_store.proofs.TurnLemmas.{put_over, cut_and_put}
+use Rattle.adm_store.proofs.PresentWrites.{presents_written}
 
 -- outside a transaction, what a connection sees of a file that stands for a register
 pub holds_now : (s : State) (r : Register) → LeavesOnly r s → (IsTrue s.is_open → s.may_leave s.committed.trees) → (IsTrue s.is_open → s.now ≡ s.committed) → IsLive s
@@ -132,7 +136,11 @@ new_trees was now old new changes step held sound moves = let are = step.changes
                         (
                           λ had turn. added_rows nat_cmp_total nat_cmp-IsAntisymmetric (λ (r : ImportRow). r.child.no) old.imported new.imported (λ k v is. (step.formed.imported k v is).child.own_number) step.extends.imported _ differs.imported imported_row _ _ _ are.imported had
                               (turn (keyed_moved _ _ had (rows_keyed (λ (r : ImportRow). r.child.no) imported_row (λ _. refl) (values old.imported)))),
-                          (λ had turn. IsPermutation-trans _ _ _ had (turn refl), tt),
+                          (
+                            λ had turn. presents_written old.children new.children (λ k v is. (held.formed.base.children_fit k v is).own_number) (λ k v is. (step.formed.base.children_fit k v is).own_number) step.extends.children _ differs.children old.imported new.imported (λ k v is. (step.formed.imported k v is).child.own_number) step.extends.imported _ differs.imported _ _ had
+                                (subst₂ (λ keys rows. IsPermutation (fold (λ rows key. drop_of key rows) (rows_of present was) (map moved_key keys) ++ map present_columns rows) (rows_of present now)) are.moved are.present (turn refl)),
+                            tt,
+                          ),
                         ),
                       ),
                     ),
@@ -143,6 +151,7 @@ new_trees was now old new changes step held sound moves = let are = step.changes
           ),
         ),
       ) t listed (held.rows.each t listed) (moves t listed);
+      said = tt;
     };
     formed = step.formed;
   };
@@ -177,8 +186,8 @@ wrote g start begun last old new changes is stays settled live step before clean
     stands (state g begun) last old new changes step (holds early written.was_open) written
 
 -- the rows and keys of a commit, counted
-pub count_is : (c : Changes) → count_of (writes_of c) ≡ (length c.schools + length c.children + length c.applications + length c.places + length c.left + length c.imported + draw_count c) + (length c.ended + length c.vacated)
-count_is c = omega (arith, length-map c.schools written_school, length-map c.children written_child, length-map c.applications written_application, length-map c.places place_row, length-map c.left left_row, length-map c.draws draw_row, length-map c.offers offer_row, length-map c.lots lot_row, length-map c.imported written_imported, length-map (last_draw c.draws) written_count, length-map c.ended key_row, length-map c.vacated key_row)
+pub count_is : (c : Changes) → count_of (writes_of c) ≡ (length c.schools + length c.children + length c.applications + length c.places + length c.left + length c.imported + length c.present + draw_count c) + (length c.ended + length c.vacated + length c.moved)
+count_is c = omega (arith, length-map c.schools written_school, length-map c.children written_child, length-map c.applications written_application, length-map c.places place_row, length-map c.left left_row, length-map c.draws draw_row, length-map c.offers offer_row, length-map c.lots lot_row, length-map c.imported written_imported, length-map (last_draw c.draws) written_count, length-map c.ended key_row, length-map c.vacated key_row, length-map c.moved moved_key, length-map c.present present_columns)
 
 -- a file that stands for the old register stands for the new one, where nothing changed
 pub no_change : (old new : Register) (changes : Changes) → IsStep old new changes → count_of (writes_of changes) ≡ 0 → (db : Trees) → StandsAs Second db old → StandsAs Second db new

@@ -66,7 +66,7 @@ pub stands_for_new : (made last : State) (season : SeasonFacts) (row : SeasonRow
 stands_for_new made last season row it none wrote = record {
   sound = subst (λ s. IsSound s last.now.trees) (wrote.schema ∙ none.schema_is) wrote.sound;
   holds = record {
-    rows = record { each = λ t listed. subst (λ rows. HasRows t (written_in (written_tables Second rows) t) last.now.trees) (sym (only_rows season)) (table t listed) };
+    rows = record { said = tt; each = λ t listed. subst (λ rows. HasRows t (written_in (written_tables Second rows) t) last.now.trees) (sym (only_rows season)) (table t listed) };
     formed = formed_new season it.season_is;
   };
 }

@@ -13,8 +13,9 @@ use Rattle.std.proofs.lemmas.Str.Ascii.{IsAscii-nil, IsAscii-cons}
 use Rattle.adm_types.specs.Fields.{first_criterion, criterion_of, criterion_text}
 use Rattle.adm_types.specs.Limits.{is_criterion}
 use Rattle.adm_types.specs.declared.rows.Criterion.{Criterion}
-use Rattle.adm_types.specs.declared.rows.Criterion.TheVariants.{Sibling, Within, Flag}
+use Rattle.adm_types.specs.declared.rows.Criterion.TheVariants.{Sibling, Within, Flag, Feeder}
 use Rattle.adm_store.specs.Forms.{criteria_text, criteria_of}
+use Rattle.adm_store.proofs.CodeLemmas.{code_reads}
 use Rattle.adm_store.proofs.TextLemmas.{plain_decimal, small_enough, IsPiece, no_text, piece_cons, decimal_piece, Reads, items_again, ascii_joined}
 
 -- ---- one criterion
@@ -30,7 +31,8 @@ pub criterion_again : (c : Criterion) → is_criterion c ≡ true → criterion_
 unfolding criterion_of
 criterion_again Sibling h = refl
 criterion_again (Within metres) h = ap (λ o. first_criterion (option_map Within o) None) (plain_decimal metres (metres_fit metres h))
-criterion_again (Flag flag) h = ap (λ o. first_criterion None (option_map Flag o)) (plain_decimal flag (flag_fits flag h))
+criterion_again (Flag flag) h = ap (λ o. first_criterion None (first_criterion (option_map Flag o) None)) (plain_decimal flag (flag_fits flag h))
+criterion_again (Feeder school) h = ap (λ o. first_criterion None (first_criterion None (option_map Feeder o))) (code_reads school h).again
 
 fixed_piece : (front text : List ℕ) → list_all (λ b. not (b == 59)) front ≡ true → IsPiece text → IsPiece (front ++ text)
 fixed_piece [] text h piece = piece
@@ -65,6 +67,12 @@ criterion_reads (Flag flag) h = record {
   piece = fixed_piece (codes "flag:") (decimal flag) refl (decimal_piece flag (flag_fits flag h));
   some = omega arith;
   ascii = fixed_ascii (codes "flag:") (decimal flag) refl (IsAscii-decimal flag (small_enough flag (flag_fits flag h)));
+}
+criterion_reads (Feeder school) h = record {
+  again = criterion_again (Feeder school) h;
+  piece = fixed_piece (codes "feeder:") school refl (code_reads school h).piece;
+  some = omega arith;
+  ascii = fixed_ascii (codes "feeder:") school refl (code_reads school h).ascii;
 }
 
 each_criterion : (criteria : List Criterion) → list_all is_criterion criteria ≡ true → AllByRecursion (Reads criterion_of criterion_text) criteria

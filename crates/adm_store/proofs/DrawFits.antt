@@ -18,7 +18,8 @@ use Rattle.adm_register.specs.State.{State as Register}
 use Rattle.adm_register.specs.Draws.{DrawFits, no_draws, with_draw, is_round, is_due, is_numbered, is_next, are_in_order, is_choice, is_known_outcome, is_known_lot}
 use Rattle.adm_register.specs.WellFormed.{WellFormed}
 use Rattle.adm_register.specs.declared.draws_so_far.DrawsSoFar.{DrawsSoFar}
-use Rattle.adm_store.specs.DrawForms.{IsDrawRow, IsOfferRow, IsLotRow, is_number, is_code_or_none}
+use Rattle.adm_store.specs.DrawForms.{IsDrawRow, IsOfferRow, IsLotRow, is_number}
+use Rattle.adm_types.specs.Limits.{is_code_or_none}
 use Rattle.adm_store.proofs.KnownRows.{code_there, number_there}
 use Rattle.adm_store.proofs.MapRows.{each_value}
 

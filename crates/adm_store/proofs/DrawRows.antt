@@ -9,7 +9,8 @@ use Rattle.adm_types.specs.declared.draws.DrawRow.{DrawRow}
 use Rattle.adm_types.specs.declared.draws.OfferRow.{OfferRow}
 use Rattle.adm_types.specs.declared.draws.LotRow.{LotRow}
 use Rattle.adm_store.specs.Forms.{truth_code}
-use Rattle.adm_store.specs.DrawForms.{school_value, draw_row, offer_row, lot_row, is_code_or_none}
+use Rattle.adm_store.specs.DrawForms.{school_value, draw_row, offer_row, lot_row}
+use Rattle.adm_types.specs.Limits.{is_code_or_none}
 use Rattle.adm_store.proofs.CodeLemmas.{code_utf8}
 use Rattle.adm_store.proofs.RowLemmas.{number_in, text_in}
 

@@ -9,6 +9,14 @@ pub mod SameDraws
 pub mod TurnLemmas
 pub mod LoopLemmas
 pub mod LogLemmas
+pub mod PresentStatements
+pub mod PresentLists
+pub mod PresentWrites
+pub mod PresentReads
+pub mod JoinEntries
+pub mod JoinOnce
+pub mod JoinGiven
+pub mod JoinWhole
 pub mod WriteLemmas
 pub mod DrawWrites
 pub mod CommitLemmas

@@ -18,13 +18,14 @@ use Rattle.sqlite_trees.specs.View.{doubt}
 use Rattle.sqlite_rules.specs.Lists.{Has}
 use Rattle.sqlite_rules.proofs.ListLemmas.{test_has}
 use Rattle.adm_schema.specs.Rows.{columns_of, rows_of}
-use Rattle.adm_schema.specs.Effects.{Sees, SeesDatabase, GoesOn, WritesOnly, AddsRow, PutsRow, CutsRow, SetsDraws, key_of, put_in, with_draws}
+use Rattle.adm_schema.specs.Effects.{Sees, SeesDatabase, GoesOn, WritesOnly, AddsRow, PutsRow, CutsRow, DropsRow, SetsDraws, key_of, put_in, begins_with, drop_of, with_draws}
 use Rattle.adm_schema.specs.Schema.{meta, register_schema}
 use Rattle.adm_schema.proofs.Listed.{has_meta}
 use Rattle.sqlite.specs.declared.types.Value.TheVariants.{Int}
+use Rattle.sqlite_keyed.proofs.ListLemmas.{IsPermutation-filter}
 use Rattle.adm_schema.proofs.Inside.{puts_moved, cuts_moved, goes_none, survives_on}
 use Rattle.adm_store.proofs.MapLemmas.{keyed_moved}
-use Rattle.adm_store.specs.Writes.{Kind, Adds, Puts, Cuts, Sets, Write, changed, turn, after, count_of, are_keyed, Leaves, Writes, write_of, key_row}
+use Rattle.adm_store.specs.Writes.{Kind, Adds, Puts, Cuts, Drops, Sets, Write, changed, turn, after, count_of, are_keyed, Leaves, Writes, write_of, key_row}
 
 -- ---- tables by their trees
 
@@ -54,10 +55,15 @@ counts_moved : (news xs ys : List Row) → IsPermutation xs ys → IsPermutation
 counts_moved [] xs ys same = same
 counts_moved (count ∷ news) xs ys same = counts_moved news _ _ (IsPermutation-map (with_draws count) xs ys same)
 
+drops_moved : (keys xs ys : List Row) → IsPermutation xs ys → IsPermutation (fold (λ rows key. drop_of key rows) xs keys) (fold (λ rows key. drop_of key rows) ys keys)
+drops_moved [] xs ys same = same
+drops_moved (key ∷ keys) xs ys same = drops_moved keys _ _ (IsPermutation-filter (λ row. not (begins_with key row)) xs ys same)
+
 changed_moved : (kind : Kind) (news xs ys : List Row) → IsPermutation xs ys → IsPermutation (changed kind news xs) (changed kind news ys)
 changed_moved Adds news xs ys same = IsPermutation-append_left news xs ys same
 changed_moved Puts news xs ys same = puts_moved news xs ys same
 changed_moved Cuts news xs ys same = cuts_moved (map key_of news) xs ys same
+changed_moved Drops news xs ys same = drops_moved news xs ys same
 changed_moved Sets news xs ys same = counts_moved news xs ys same
 
 after_moved : (t : Table) (writes : List Write) (xs ys : List Row) → IsPermutation xs ys → IsPermutation (after t writes xs) (after t writes ys)
@@ -72,6 +78,7 @@ changed_more : (kind : Kind) (one two rows : List Row) → changed kind two (cha
 changed_more Adds one two rows = append_assoc rows one two
 changed_more Puts one two rows = sym (fold-append (λ xs r. put_in r xs) rows one two)
 changed_more Cuts one two rows = sym (ap (λ ks. without_all rows ks) (map-append key_of one two) ∙ fold-append (λ xs k. without_rowid k xs) rows (map key_of one) (map key_of two))
+changed_more Drops one two rows = sym (fold-append (λ rows key. drop_of key rows) rows one two)
 changed_more Sets one two rows = sym (fold-append (λ rows count. map (with_draws count) rows) rows one two)
 
 -- statements of one kind, run for some items and then for others
@@ -136,6 +143,7 @@ changed_none : (kind : Kind) (rows : List Row) → rows ≡ changed kind [] rows
 changed_none Adds rows = sym (append-nil rows)
 changed_none Puts rows = refl
 changed_none Cuts rows = refl
+changed_none Drops rows = refl
 changed_none Sets rows = refl
 
 module _ {X : Type 0} (kind : Kind) (table : Table) (row_of : X → Row) where
@@ -219,6 +227,16 @@ module _ (table : Table) (listed : Has register_schema.tables table) (old new : 
         λ _. one_write _ old new listed (sees early p.only.was_open) p.only (λ keyed.
             let own : IsTrue (have_rowids (rows_of table old.now.trees)) = subst (λ b. IsTrue (if b then have_rowids (rows_of table old.now.trees) else true)) has_key keyed in
             (p.rows own, subst (λ b. IsTrue (if b then have_rowids (rows_of table new.now.trees) else true)) (sym has_key) (p.keyed own))),
+      )
+
+  -- a row that is taken out of a table without such a key, by its first values
+  pub drop_one : is_some table.key ≡ false → (key : Row) → (HasCleanDisk new → Sees register_schema old → SeesDatabase old → DropsRow table key old new) → Writes (record { kind = Drops; table = table; rows = key ∷ [] } ∷ []) old new
+  drop_one no_key key drops clean sees sound =
+      let p = drops clean sees sound in
+      let early : HasCleanDisk old = omega (arith, monotone, clean) in (
+        λ _. p.only.is_open,
+        λ _. one_write _ old new listed (sees early p.only.was_open) p.only (λ _.
+            (p.rows, subst (λ b. IsTrue (if b then have_rowids (rows_of table new.now.trees) else true)) (sym no_key) refl)),
       )
 
   -- a row that is added to a table without such a key

@@ -27,6 +27,7 @@ use Rattle.adm_schema.specs.Rows.{rows_of, columns_of}
 use Rattle.adm_schema.specs.Schema.{meta, school, child, application, place, left_list, draw, offer, lot, imported, present, schema_of, register_schema}
 use Rattle.adm_schema.proofs.Listed.{meta_in, school_in, child_in, application_in, place_in, left_list_in, draw_in, offer_in, lot_in, imported_in, has_present}
 use Rattle.adm_store.specs.Forms.{season_row}
+use Rattle.adm_store.specs.Present.{present_columns}
 use Rattle.adm_store.specs.Migration.{MakesPresent, MakesSecond, IsMigrated}
 use Rattle.adm_store.specs.StandsFor.{IsStarted, StandsAs, StandsNow, StandsFor, LeavesAll, HasRows, HoldsRegister, written_in, written_tables}
 use Rattle.adm_store.proofs.FaultLemmas.{apart}
@@ -60,8 +61,8 @@ module _ (begun mid last : State) (adds : AddsTable (schema_of First) register_s
       let moved = marks.rows (subst (λ rows. IsTrue (have_rowids rows)) (sym one) keyed) in
       subst (λ rows. IsPermutation rows (rows_of meta last.now.trees)) (ap (map with_second) one ∙ ap (λ (r : Row). r ∷ []) is) moved
 
-  none_there : HasRows present [] last.now.trees
-  none_there = subst (λ xs. IsPermutation [] (map (columns_of present) xs)) (sym (after_made present has_present (λ e. absurd (omega (arith, e))) ∙ adds.none)) (IsPermutation-refl [])
+  none_there : (rows : List Row) → rows ≡ [] → HasRows present rows last.now.trees
+  none_there rows none = subst (λ xs. IsPermutation xs (rows_of present last.now.trees)) (sym none) (subst (λ xs. IsPermutation [] (map (columns_of present) xs)) (sym (after_made present has_present (λ e. absurd (omega (arith, e))) ∙ adds.none)) (IsPermutation-refl []))
 
   -- a file of the first version is one of the second then, and stands for the same register
   pub second_file : (r : Register) → HoldsRegister First begun.now.trees r → StandsAs Second last.now.trees r
@@ -87,7 +88,7 @@ module _ (begun mid last : State) (adds : AddsTable (schema_of First) register_s
                         kept offer _ (offer_in First) (offer_in Second) (λ e. absurd (omega (arith, e))) (held.rows.each offer (offer_in First)),
                         (
                           kept lot _ (lot_in First) (lot_in Second) (λ e. absurd (omega (arith, e))) (held.rows.each lot (lot_in First)),
-                          (kept imported _ (imported_in First) (imported_in Second) (λ e. absurd (omega (arith, e))) (held.rows.each imported (imported_in First)), (none_there, tt)),
+                          (kept imported _ (imported_in First) (imported_in Second) (λ e. absurd (omega (arith, e))) (held.rows.each imported (imported_in First)), (none_there _ (ap (map present_columns) held.rows.said.1), tt)),
                         ),
                       ),
                     ),
@@ -97,6 +98,7 @@ module _ (begun mid last : State) (adds : AddsTable (schema_of First) register_s
             ),
           ),
         );
+        said = tt;
       };
       formed = held.formed;
     };

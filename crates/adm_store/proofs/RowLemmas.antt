@@ -65,6 +65,18 @@ module _ {X : Type 0} (row_of : X → Row) where
       let it = has_source row_of xs row (has_contained _ _ (Contains-permutation _ _ _ (IsPermutation-sym _ _ moved) (contains_had _ _ here))) in
       (it.0, recursion_had P xs it.0 formed it.1, it.2)
 
+  -- values that are shown by their rows but for what these leave out
+  each_shown : {Y : Type 0} (back : Row → Y) (clean : X → Y) (xs : List X) → AllByRecursion (λ x. back (row_of x) ≡ clean x) xs → map back (map row_of xs) ≡ map clean xs
+  each_shown back clean [] all = refl
+  each_shown back clean (x ∷ xs) all = λ k. all.0 k ∷ each_shown back clean xs all.1 k
+
+  pub values_shown : {Y : Type 0} (back : Row → Y) (clean : X → Y) (IsRead Fits : X → Type 0) → ((x : X) → IsRead x → back (row_of x) ≡ clean x) → ((x : X) → Fits x → IsRead x) → (read values : List X) (rows : List Row)
+      → AllByRecursion IsRead read → AllByRecursion Fits values → IsPermutation (map row_of read) rows → IsPermutation (map row_of values) rows → IsPermutation (map clean read) (map clean values)
+  values_shown back clean IsRead Fits returns fits read values rows again formed one two =
+      let shown = each_shown back clean read (each_weaker IsRead (λ x. back (row_of x) ≡ clean x) returns read again) in
+      let had = each_shown back clean values (each_weaker Fits (λ x. back (row_of x) ≡ clean x) (λ x f. returns x (fits x f)) values formed) in
+      subst₂ IsPermutation shown had (IsPermutation-map back _ _ (IsPermutation-trans _ _ _ one (IsPermutation-sym _ _ two)))
+
   each_back : (back : Row → X) (xs : List X) → AllByRecursion (λ x. back (row_of x) ≡ x) xs → map back (map row_of xs) ≡ xs
   each_back back [] all = refl
   each_back back (x ∷ xs) all = λ k. all.0 k ∷ each_back back xs all.1 k

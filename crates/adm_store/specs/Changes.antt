@@ -22,6 +22,7 @@ use Rattle.adm_store.specs.declared.rows.Changes.{Changes}
 use Rattle.adm_store.specs.Forms.{phase_code, season_row, school_row, child_row, application_row, imported_row, truth_code}
 use Rattle.adm_schema.specs.declared.version.Version.TheVariants.{Second}
 use Rattle.sqlite.specs.Tree.{Trees}
+use Rattle.adm_store.specs.Present.{moved_of, arrived_of}
 use Rattle.adm_store.specs.StandsFor.{StandsAs, LeavesOnly, LeavesEither}
 
 -- the rows as they are written
@@ -74,6 +75,8 @@ pub record IsChanges (old new : Register) (changes : Changes) : Type 0 where
   pub offers : changes.offers ≡ flat_map offers_of difference.draws
   pub lots : changes.lots ≡ flat_map lots_of difference.draws
   pub imported : map written_imported changes.imported ≡ map imported_row difference.imported
+  pub moved : changes.moved ≡ moved_of old.children difference.children
+  pub present : changes.present ≡ arrived_of old.children difference.children difference.imported
   pub ended : changes.ended ≡ difference.ended
   pub vacated : changes.vacated ≡ difference.vacated
 

@@ -1,7 +1,7 @@
 -- How draws, their outcomes and their lots are written in their tables, and which of them may be a register's.
-use Rattle.std.specs.Prelude.{ℕ, pos, Bool, true, nat_lt, List, [], ◌∷◌, Option, Some, None, IsTrue}
+use Rattle.std.specs.Prelude.{ℕ, pos, Bool, nat_lt, List, [], ◌∷◌, Option, Some, None, IsTrue}
 use Rattle.adm_types.specs.Code.{is_code}
-use Rattle.adm_types.specs.Limits.{is_from, is_child_number, first_day}
+use Rattle.adm_types.specs.Limits.{is_from, is_child_number, is_code_or_none, first_day}
 use Rattle.adm_types.specs.declared.draws.DrawRow.{DrawRow}
 use Rattle.adm_types.specs.declared.draws.OfferRow.{OfferRow}
 use Rattle.adm_types.specs.declared.draws.LotRow.{LotRow}
@@ -27,10 +27,6 @@ abbrev pub lot_row : LotRow → Row
 lot_row r = Int (pos r.draw) ∷ Text r.lot.school ∷ Int (pos r.lot.child) ∷ Int (pos r.lot.lot) ∷ []
 
 -- ---- which may be a register's, each by itself
-
-abbrev pub is_code_or_none : Option (List ℕ) → Bool
-is_code_or_none None = true
-is_code_or_none (Some code) = is_code code
 
 -- the number of a draw or of a lot is less than 2^32
 abbrev pub is_number : ℕ → Bool

@@ -11,6 +11,7 @@ use Rattle.adm_types.specs.declared.rows.Child.{Child}
 use Rattle.adm_types.specs.declared.rows.Application.{Application}
 use Rattle.adm_types.specs.declared.rows.ImportRow.{ImportRow}
 use Rattle.adm_types.specs.declared.rows.PlaceRow.{PlaceRow}
+use Rattle.adm_types.specs.declared.rows.PresentRow.{PresentRow}
 use Rattle.adm_types.specs.declared.rows.LeftPair.{LeftPair}
 use Rattle.adm_types.specs.declared.rows.PlaceState.{PlaceState}
 use Rattle.adm_types.specs.declared.rows.PlaceState.TheVariants.{Offered, Accepted, Plan}
@@ -90,6 +91,11 @@ pub record IsImportRow (last : ℕ) (row : ImportRow) : Type 0 where
 -- the codes of its child's siblings are read again, and so are its preferences
 abbrev pub IsImportReadAgain : ImportRow → Type 0
 IsImportReadAgain row = AreReadAgain row.child.siblings × AreReadAgain row.preferences
+
+-- a present school with a child's number and a code
+pub record IsPresentRow (row : PresentRow) : Type 0 where
+  pub number_form : IsTrue (is_child_number row.child)
+  pub code_form : IsTrue (is_code row.school)
 
 -- a left pair with a child's number and a code
 pub record IsLeftRow (pair : LeftPair) : Type 0 where

@@ -1,4 +1,6 @@
 pub mod Forms
+pub mod Present
+pub mod Joins
 pub mod DrawForms
 pub mod StandsFor
 pub mod Reads

@@ -11,13 +11,16 @@ use Rattle.sqlite.specs.Tree.{Trees}
 use Rattle.sqlite_value.specs.declared.keys.Key.{Key}
 use Rattle.adm_schema.specs.Queries.{Asks}
 use Rattle.adm_schema.specs.Rows.{columns_of}
-use Rattle.adm_schema.specs.Schema.{meta, schema_of}
+use Rattle.adm_schema.specs.Schema.{meta, present, schema_of}
+use Rattle.adm_schema.specs.declared.version.Version.TheVariants.{First, Second}
+use Rattle.adm_types.specs.declared.rows.PresentRow.{PresentRow}
+use Rattle.adm_store.specs.Present.{present_columns}
 use Rattle.adm_store.specs.Forms.{season_row}
 use Rattle.std.specs.FinMap.{values}
 use Rattle.adm_types.specs.Seasons.{SeasonFacts}
 use Rattle.adm_register.specs.State.{State as Register}
 use Rattle.adm_store.specs.Faults.{IsReadAgain, AreReadAgain, IsImportReadAgain}
-use Rattle.adm_store.specs.StandsFor.{HasRows}
+use Rattle.adm_store.specs.StandsFor.{HasRows, written_in, written_tables}
 
 -- in a file of this version the text asks for each row of the table, column by column
 pub record AsksAll (v : Version) (table : Table) (text : List ℕ) : Type 0 where
@@ -45,6 +48,15 @@ SeesTheSame old new = (v : Version) → SeesTheSameIn v old new
 -- the table has the rows of these values, in some order, and no other row
 abbrev pub Holds : {X : Type 0} → Table → (X → Row) → List X → Trees → Type 0
 Holds table row_of items = HasRows table (map row_of items)
+
+-- these are the present schools: the rows of their table, and none in a file that has no such table
+abbrev pub HoldsPresent : Version → List PresentRow → Trees → Type 0
+HoldsPresent First all db = all ≡ []
+HoldsPresent Second all db = Holds present present_columns all db
+
+-- each table that was there from the first version on has the rows that are written in it, and no other row
+abbrev pub HoldsFirst : Version → Rows → Trees → Type 0
+HoldsFirst v rows db = AllByRecursion (λ t. HasRows t (written_in (written_tables v rows) t) db) (schema_of First).tables
 
 -- `meta` has the one row of this version and this season, with so many draws, and no other row
 abbrev pub HoldsSeason : Version → SeasonFacts → ℕ → Trees → Type 0

@@ -1,5 +1,10 @@
 -- When the trees of a file stand for a register, and what a crash may leave.
-use Rattle.std.specs.Prelude.{◌≡◌, ◌==◌, ◌⊎◌, List, [], ◌∷◌, length, map, if◌then◌else◌, IsPermutation, IsTrue}
+use Rattle.std.specs.Prelude.{◌≡◌, ◌==◌, ◌⊎◌, List, [], ◌∷◌, length, map, not, Bool, true, false, if◌then◌else◌, IsPermutation, IsTrue}
+use Rattle.std.specs.List.{list_all}
+use Rattle.adm_types.specs.Children.{presents_of}
+use Rattle.adm_types.specs.declared.rows.Criterion.{Criterion}
+use Rattle.adm_types.specs.declared.rows.Criterion.TheVariants.{Sibling, Within, Flag, Feeder}
+use Rattle.adm_types.specs.declared.rows.School.{School}
 use Rattle.adm_types.specs.Seasons.{SeasonFacts}
 use Rattle.adm_register.specs.State.{only_season}
 use Rattle.adm_register.specs.State.{State as Register}
@@ -7,7 +12,7 @@ use Rattle.adm_register.specs.Rows.{rows_in_order}
 use Rattle.adm_register.specs.WellFormed.{WellFormed}
 use Rattle.adm_register.specs.declared.register_rows.Rows.{Rows}
 use Rattle.adm_schema.specs.declared.version.Version.{Version}
-use Rattle.adm_schema.specs.declared.version.Version.TheVariants.{Second}
+use Rattle.adm_schema.specs.declared.version.Version.TheVariants.{First, Second}
 use Rattle.sqlite.specs.Table.{Table}
 use Rattle.sqlite.specs.Order.{Row}
 use Rattle.sqlite.specs.Tree.{Trees}
@@ -18,6 +23,7 @@ use Rattle.adm_schema.specs.Rows.{rows_of}
 use Rattle.adm_schema.specs.Schema.{meta, school, child, application, place, left_list, draw, offer, lot, imported, present, no_schema, schema_of}
 use Rattle.adm_store.specs.Forms.{season_row, school_row, child_row, application_row, place_row, left_row, imported_row}
 use Rattle.adm_store.specs.DrawForms.{draw_row, offer_row, lot_row}
+use Rattle.adm_store.specs.Present.{present_columns}
 
 -- as after a start: on a clean disk the connection is open
 abbrev pub IsStarted : State → Type 0
@@ -40,7 +46,7 @@ written_tables v rows =
     ∷ (offer, map offer_row rows.offers)
     ∷ (lot, map lot_row rows.lots)
     ∷ (imported, map imported_row rows.imported)
-    ∷ (present, [])
+    ∷ (present, map present_columns (presents_of rows.children rows.imported))
     ∷ []
 
 -- what is written in a table, which is nothing where it is none of these
@@ -48,9 +54,25 @@ abbrev pub written_in : List (Table × List Row) → Table → List Row
 written_in [] t = []
 written_in (it ∷ more) t = if t.tree == it.0.tree then it.1 else written_in more t
 
+-- a criterion that came with the second version
+abbrev pub is_feeder : Criterion → Bool
+is_feeder Sibling = false
+is_feeder (Within metres) = false
+is_feeder (Flag flag) = false
+is_feeder (Feeder code) = true
+
+abbrev pub names_no_feeder : School → Bool
+names_no_feeder school = list_all (λ criterion. not (is_feeder criterion)) school.criteria
+
+-- what a file of this version can say: one of the first has neither feeder schools nor present schools
+abbrev pub IsSaidIn : Version → Rows → Type 0
+IsSaidIn First rows = (list_all names_no_feeder rows.schools ≡ true) × (presents_of rows.children rows.imported ≡ [])
+IsSaidIn Second rows = Unit {0}
+
 -- each table of this version has the rows that are written in it, and no other row
 pub record HoldsRows (v : Version) (db : Trees) (rows : Rows) : Type 0 where
   pub each : (t : Table) → Has (schema_of v).tables t → HasRows t (written_in (written_tables v rows) t) db
+  pub said : IsSaidIn v rows
 
 -- the tables hold the rows of the register, and no other row
 pub record HoldsRegister (v : Version) (db : Trees) (r : Register) : Type 0 where

@@ -8,18 +8,20 @@ use Rattle.sqlite.specs.State.{State, HasCleanDisk}
 use Rattle.sqlite.specs.declared.types.Value.TheVariants.{Int}
 use Rattle.sqlite_rules.specs.Lists.{Has}
 use Rattle.adm_schema.specs.Rows.{rows_of}
-use Rattle.adm_schema.specs.Effects.{Sees, SeesDatabase, GoesOn, key_of, put_each, with_draws}
-use Rattle.adm_schema.specs.Schema.{meta, school, child, application, place, left_list, draw, offer, lot, imported, register_schema}
+use Rattle.adm_schema.specs.Effects.{Sees, SeesDatabase, GoesOn, key_of, put_each, drop_of, with_draws}
+use Rattle.adm_schema.specs.Schema.{meta, school, child, application, place, left_list, draw, offer, lot, imported, present, register_schema}
 use Rattle.adm_store.specs.declared.rows.Changes.{Changes}
 use Rattle.adm_store.specs.Changes.{written_school, written_child, written_application, written_imported, written_count, last_draw}
 use Rattle.adm_store.specs.Forms.{place_row, left_row}
 use Rattle.adm_store.specs.DrawForms.{draw_row, offer_row, lot_row}
+use Rattle.adm_store.specs.Present.{present_columns, moved_key}
 
--- rows that are more, rows in place of those of their keys, keys alone, of which no row is left, or counts of draws, each in place of the one before
+-- rows that are more, rows in place of those of their keys, keys alone, of which no row is left, the first values of rows of which none is left, or counts of draws, each in place of the one before
 pub data Kind : Type 0 where
   Adds : Kind
   Puts : Kind
   Cuts : Kind
+  Drops : Kind
   Sets : Kind
 
 -- what statements of one kind write in one table, one after another
@@ -37,6 +39,7 @@ abbrev pub changed : Kind → List Row → List Row → List Row
 changed Adds news rows = rows ++ news
 changed Puts news rows = put_each rows news
 changed Cuts news rows = without_all rows (map key_of news)
+changed Drops news rows = fold (λ rows key. drop_of key rows) rows news
 changed Sets news rows = fold (λ rows count. map (with_draws count) rows) rows news
 
 -- the rows of any table after one such, and after each of these
@@ -84,5 +87,7 @@ writes_of c =
     ∷ write_of Adds offer offer_row c.offers
     ∷ write_of Adds lot lot_row c.lots
     ∷ write_of Adds imported written_imported c.imported
+    ∷ write_of Drops present moved_key c.moved
+    ∷ write_of Adds present present_columns c.present
     ∷ write_of Sets meta written_count (last_draw c.draws)
     ∷ []

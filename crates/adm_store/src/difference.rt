@@ -1,17 +1,22 @@
 // The rows by which a new register differs from the one before, as they are written.
-ghost use Rattle.std.specs.Prelude.{◌≡◌, map, IfOk};
+ghost use Rattle.std.specs.Prelude.{◌≡◌, ◌++◌, map, IfOk, OnOk};
+ghost use Rattle.std.specs.List.{flat_map};
+ghost use Rattle.adm_types.specs.Children.{present_row, present_of_import};
 ghost use Rattle.adm_register.specs.State.{State as Facts};
 ghost use Rattle.adm_register.specs.Difference.{IsDifference};
 ghost use Rattle.adm_schema.specs.declared.version.Version.TheVariants.{Second};
 ghost use Rattle.adm_store.specs.Changes.{written_season, written_school, written_child, written_application, written_imported, IsChanges};
+ghost use Rattle.adm_store.specs.Present.{was_present, moved_from, moved_of, arrived_from, arrived_by};
 ghost use Rattle.adm_store.specs.Forms.{season_row, school_row, child_row, application_row, imported_row};
 
 use crate::lists;
 use crate::rows::{ApplicationRow, Changes, ChildRow, ImportedRow, SchoolRow, SeasonRow};
 use adm_draws::{draw_rows, lot_rows, offer_rows};
-use adm_register::Difference;
+use adm_register::{Difference, Register};
 use adm_table::Shared;
-use adm_types::{Application, Child, ImportRow, School, Season, Seq, Text};
+use adm_types::{
+    Application, Child, ChildNo, ImportRow, PresentRow, School, SchoolCode, Season, Seq, Text,
+};
 use std::alloc::{AllocError, Global};
 
 /// A value of a register, which is written as a row of a table.
@@ -133,10 +138,119 @@ fn to_rows<T: ToRow>(alloc: Global, values: &[Shared<T>]) -> Result<Vec<T::Row>,
     Ok(rows)
 }
 
-/// The rows of this difference, as they are written. What it costs grows with them.
-pub fn changes(alloc: Global, difference: Difference) -> Result<Changes, AllocError>
-    ensures { IfOk result (λ changes. (old new : Facts) → IsDifference old new difference → IsChanges old new changes) }
+/// The present school that a child of the register has.
+fn present_in(old: &Register, child: ChildNo) -> Option<SchoolCode>
+    ensures { result ≡ was_present old.now.children child }
 {
+    match old.child(child) {
+        Some(child) => child.present,
+        None => None,
+    }
+}
+
+/// Adds the child, where it had a present school, and has another or none.
+fn add_moved(
+    moved: &mut Vec<ChildNo>,
+    before: Option<SchoolCode>,
+    child: &Child,
+) -> Result<(), AllocError>
+    ensures { OnOk result (moved.new.items ≡ moved.old.items ++ moved_from before child.now) }
+{
+    match before {
+        Some(school) => {
+            if Some(school) != child.present {
+                moved.push(child.no)?;
+            }
+            Ok(())
+        }
+        None => Ok(()),
+    }
+}
+
+/// Those of these children that had a present school, and have another or none.
+fn moved(
+    alloc: Global,
+    old: &Register,
+    children: &[Shared<Child>],
+) -> Result<Vec<ChildNo>, AllocError>
+    ensures { IfOk result (λ moved. moved.items ≡ moved_of old.now.children children.now) }
+{
+    let mut moved = Vec::new(alloc);
+    'children: for row in children {
+        let child = row.as_ref();
+        add_moved(&mut moved, present_in(old, child.no), child)?;
+    }
+    Ok(moved)
+}
+
+/// Adds the present school of a child, where it is not the one before.
+fn add_arrived(
+    rows: &mut Vec<PresentRow>,
+    before: Option<SchoolCode>,
+    child: &Child,
+) -> Result<(), AllocError>
+    ensures { OnOk result (rows.new.items ≡ rows.old.items ++ arrived_from before child.now) }
+{
+    if before == child.present {
+        return Ok(());
+    }
+    add_present(rows, child, false)
+}
+
+/// The present schools that these children have, and had not.
+fn arrived(
+    alloc: Global,
+    old: &Register,
+    children: &[Shared<Child>],
+) -> Result<Vec<PresentRow>, AllocError>
+    ensures { IfOk result (λ rows. rows.items ≡ flat_map (arrived_by old.now.children) children.now) }
+{
+    let mut rows = Vec::new(alloc);
+    'children: for row in children {
+        let child = row.as_ref();
+        add_arrived(&mut rows, present_in(old, child.no), child)?;
+    }
+    Ok(rows)
+}
+
+/// Adds the present school of a child, where it has one.
+fn add_present(
+    rows: &mut Vec<PresentRow>,
+    child: &Child,
+    is_imported: bool,
+) -> Result<(), AllocError>
+    ensures { OnOk result (rows.new.items ≡ rows.old.items ++ present_row child.now.no is_imported child.now.present) }
+{
+    if let Some(school) = child.present {
+        rows.push(PresentRow {
+            child: child.no,
+            is_imported,
+            school,
+        })?;
+    }
+    Ok(())
+}
+
+/// Adds the present schools of these imported rows.
+fn add_imported(
+    rows: &mut Vec<PresentRow>,
+    imported: &[Shared<ImportRow>],
+) -> Result<(), AllocError>
+    ensures { OnOk result (rows.new.items ≡ rows.old.items ++ flat_map present_of_import imported.now) }
+{
+    'imported: for row in imported {
+        add_present(rows, &row.as_ref().child, true)?;
+    }
+    Ok(())
+}
+
+/// The rows of this difference from the old register, as they are written. What it costs grows with them.
+pub fn changes(alloc: Global, old: &Register, difference: Difference) -> Result<Changes, AllocError>
+    ensures { IfOk result (λ changes. (new : Facts) → IsDifference old.now new difference → IsChanges old.now new changes) }
+{
+    let moved = moved(alloc, old, difference.children.as_slice())?;
+    let mut present = arrived(alloc, old, difference.children.as_slice())?;
+    add_imported(&mut present, difference.imported.as_slice())?;
     let schools = to_rows(alloc, difference.schools.as_slice())?;
     let children = to_rows(alloc, difference.children.as_slice())?;
     let applications = to_rows(alloc, difference.applications.as_slice())?;
@@ -154,7 +268,9 @@ pub fn changes(alloc: Global, difference: Difference) -> Result<Changes, AllocEr
         offers: Seq::from_vec(offers),
         lots: Seq::from_vec(lots),
         imported: Seq::from_vec(imported),
+        present: Seq::from_vec(present),
         ended: difference.ended,
         vacated: difference.vacated,
+        moved: Seq::from_vec(moved),
     })
 }

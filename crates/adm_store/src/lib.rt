@@ -15,6 +15,7 @@ mod lots;
 mod migration;
 mod offers;
 mod places;
+mod present;
 mod reading;
 mod rows;
 mod schools;

@@ -3,7 +3,8 @@ ghost use Rattle.std.specs.Prelude.{◌≡◌, ◌+◌, length};
 ghost use Rattle.adm_store.specs.Changes.{last_draw, draw_count};
 
 use adm_types::{
-    ChildNo, Day, DrawRow, LeftPair, LotRow, OfferRow, Phase, PlaceRow, SchoolCode, Seq, Text,
+    ChildNo, Day, DrawRow, LeftPair, LotRow, OfferRow, Phase, PlaceRow, PresentRow, SchoolCode,
+    Seq, Text,
 };
 
 /// The number of a day, as it is written.
@@ -87,10 +88,14 @@ pub struct Changes {
     /// The lots of these draws.
     pub lots: Seq<LotRow>,
     pub imported: Seq<ImportedRow>,
+    /// The present schools that these children and imported rows have, and had not.
+    pub present: Seq<PresentRow>,
     /// The children whose applications ended.
     pub ended: Seq<ChildNo>,
     /// The children whose places ended.
     pub vacated: Seq<ChildNo>,
+    /// The children that had a present school, and have another or none.
+    pub moved: Seq<ChildNo>,
 }
 
 /// The last of these draws alone, or none where there is none.
@@ -103,7 +108,7 @@ pub(crate) fn last_draw(draws: &[DrawRow]) -> &[DrawRow]
 impl Changes {
     /// How many rows are written; where there are draws, the row that counts them is one. It takes no memory.
     pub fn put(&self) -> u64
-        ensures { result ≡ length self.now.schools + length self.now.children + length self.now.applications + length self.now.places + length self.now.left + length self.now.imported + draw_count self.now }
+        ensures { result ≡ length self.now.schools + length self.now.children + length self.now.applications + length self.now.places + length self.now.left + length self.now.imported + length self.now.present + draw_count self.now }
     {
         let schools = self.schools.as_slice();
         let children = self.children.as_slice();
@@ -114,18 +119,20 @@ impl Changes {
         let offers = self.offers.as_slice();
         let lots = self.lots.as_slice();
         let imported = self.imported.as_slice();
+        let present = self.present.as_slice();
         let count = last_draw(draws);
         let drawn = draws.len() + offers.len() + lots.len() + count.len();
         let people = children.len() + applications.len() + places.len() + left.len();
-        (schools.len() + people + imported.len()) as u64 + drawn as u64
+        (schools.len() + people + imported.len() + present.len()) as u64 + drawn as u64
     }
 
     /// How many keys are deleted. It takes no memory.
     pub fn cut(&self) -> u64
-        ensures { result ≡ length self.now.ended + length self.now.vacated }
+        ensures { result ≡ length self.now.ended + length self.now.vacated + length self.now.moved }
     {
         let ended = self.ended.as_slice();
         let vacated = self.vacated.as_slice();
-        (ended.len() + vacated.len()) as u64
+        let moved = self.moved.as_slice();
+        (ended.len() + vacated.len() + moved.len()) as u64
     }
 }

@@ -24,6 +24,7 @@ use crate::lots::AddLot;
 use crate::migration::migrate;
 use crate::offers::AddOffer;
 use crate::places::{CutPlace, PutPlace};
+use crate::present::{AddPresent, CutPresent};
 use crate::rows::{Changes, last_draw};
 use crate::schools::AddSchool;
 use crate::season::SetDraws;
@@ -201,7 +202,8 @@ impl<S: Alter> Store<S> {
     }
 }
 
-/// Writes the rows of each table, takes out the applications and the places that ended, and counts the draws.
+/// Writes the rows of each table, takes out the applications and the places that ended and the present schools that changed, and counts
+/// the draws.
 fn write_rows<S: Alter>(tx: &mut Transaction<'_, S>, changes: &Changes) -> Result<(), Error>
     ensures same_reference { tx.new.conn.ghost_name ≡ tx.old.conn.ghost_name }
     ensures writes { OnOk result (Writes (writes_of changes.now) (state S.Store tx.old.conn.now) (state S.Store tx.new.conn.now)) }
@@ -218,6 +220,8 @@ fn write_rows<S: Alter>(tx: &mut Transaction<'_, S>, changes: &Changes) -> Resul
     run_each::<AddOffer, S>(tx, changes.offers.as_slice())?;
     run_each::<AddLot, S>(tx, changes.lots.as_slice())?;
     run_each::<AddImported, S>(tx, changes.imported.as_slice())?;
+    run_each::<CutPresent, S>(tx, changes.moved.as_slice())?;
+    run_each::<AddPresent, S>(tx, changes.present.as_slice())?;
     run_each::<SetDraws, S>(tx, last_draw(changes.draws.as_slice()))?;
     Ok(())
 }

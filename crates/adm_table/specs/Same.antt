@@ -21,7 +21,7 @@ is_same_school x y =
 
 abbrev pub is_same_child : Child → Child → Bool
 is_same_child x y =
-    nat_eq x.no y.no && (pointwise nat_eq x.name y.name && ((nat_eq x.home.east y.home.east && nat_eq x.home.north y.home.north) && (beq x.looked_after y.looked_after && (nat_eq x.flags y.flags && pointwise (pointwise nat_eq) x.siblings y.siblings))))
+    nat_eq x.no y.no && (pointwise nat_eq x.name y.name && ((nat_eq x.home.east y.home.east && nat_eq x.home.north y.home.north) && (beq x.looked_after y.looked_after && (nat_eq x.flags y.flags && (pointwise (pointwise nat_eq) x.siblings y.siblings && option_eq (pointwise nat_eq) x.present y.present)))))
 
 abbrev pub is_same_application : Application → Application → Bool
 is_same_application x y = nat_eq x.child y.child && (nat_eq x.day y.day && pointwise (pointwise nat_eq) x.list y.list)

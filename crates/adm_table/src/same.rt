@@ -36,6 +36,7 @@ impl Same for Child {
             && self.looked_after == other.looked_after
             && self.flags == other.flags
             && self.siblings.as_slice() == other.siblings.as_slice()
+            && self.present == other.present
     }
 }
 

@@ -28,6 +28,7 @@ fn child(alloc: Global, home: Point, looked_after: bool, flags: u16) -> Result<C
         looked_after,
         flags,
         siblings: Seq::new(alloc),
+        present: None,
     })
 }
 

@@ -6,3 +6,4 @@ pub mod DayText
 pub mod Fields
 pub mod Joined
 pub mod Flags
+pub mod Children

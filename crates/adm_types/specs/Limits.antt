@@ -1,13 +1,14 @@
 -- The limits of names, points, schools, children and lists of schools.
-use Rattle.std.specs.Prelude.{ℕ, Bool, true, not, ◌&&◌, List, [], ◌∷◌, length, nat_le, nat_eq}
+use Rattle.std.specs.Prelude.{ℕ, Bool, true, not, ◌&&◌, List, [], ◌∷◌, length, nat_le, nat_eq, Option, Some, None}
 use Rattle.std.specs.List.{list_any, list_all}
 use Rattle.std.specs.Str.{chars}
 use Rattle.std.specs.Char.{is_control}
+use Rattle.adm_types.specs.Code.{is_code}
 pub use Rattle.adm_types.specs.Numbers.{is_from, is_child_number, first_day, last_day}
 use Rattle.std.specs.Cmp.Lexicographic.{pointwise}
 use Rattle.adm_types.specs.declared.rows.Point.{Point}
 use Rattle.adm_types.specs.declared.rows.Criterion.{Criterion}
-use Rattle.adm_types.specs.declared.rows.Criterion.TheVariants.{Sibling, Within, Flag}
+use Rattle.adm_types.specs.declared.rows.Criterion.TheVariants.{Sibling, Within, Flag, Feeder}
 use Rattle.adm_types.specs.declared.rows.School.{School}
 use Rattle.adm_types.specs.declared.rows.Child.{Child}
 
@@ -33,11 +34,12 @@ is_name text = is_from 1 80 (length text) && not (list_any is_control (chars tex
 abbrev pub is_on_map : Point → Bool
 is_on_map p = nat_le p.east 1500000 && nat_le p.north 1500000
 
--- a distance from 1 to 2,200,000 metres, a flag from 0 to 15
+-- a distance from 1 to 2,200,000 metres, a flag from 0 to 15, the code of a school
 abbrev pub is_criterion : Criterion → Bool
 is_criterion Sibling = true
 is_criterion (Within metres) = is_from 1 2200000 metres
 is_criterion (Flag flag) = nat_le flag 15
+is_criterion (Feeder school) = is_code school
 
 -- an admission number from 1 to 500, a point on the map, and at most 8 criteria, each in its range
 abbrev pub is_school_in_range : School → Bool
@@ -53,6 +55,11 @@ abbrev pub is_without_repeat : List (List ℕ) → Bool
 is_without_repeat [] = true
 is_without_repeat (code ∷ codes) = not (is_listed codes code) && is_without_repeat codes
 
--- a home on the map, and at most 6 siblings' schools without repeat
+-- no school, or the code of one
+abbrev pub is_code_or_none : Option (List ℕ) → Bool
+is_code_or_none None = true
+is_code_or_none (Some school) = is_code school
+
+-- a home on the map, at most 6 siblings' schools without repeat, and a present school that has a code, or none
 abbrev pub is_child_in_range : Child → Bool
-is_child_in_range c = is_on_map c.home && nat_le (length c.siblings) 6 && is_without_repeat c.siblings
+is_child_in_range c = is_on_map c.home && nat_le (length c.siblings) 6 && is_without_repeat c.siblings && is_code_or_none c.present

@@ -2,7 +2,7 @@
 ghost use Rattle.std.specs.Prelude.{◌≡◌};
 ghost use Rattle.std.specs.List.{list_all};
 ghost use Rattle.std.specs.Char.{is_ascii_digit};
-ghost use Rattle.adm_types.specs.Fields.{has_plain_digits, plain_of, number_after, criterion_of};
+ghost use Rattle.adm_types.specs.Fields.{has_plain_digits, plain_of, number_after, code_after, criterion_of};
 
 use crate::{ChildNo, Criterion, SchoolCode};
 use std::fmt;
@@ -34,8 +34,8 @@ fn are_digits(text: &[u8]) -> bool
 
 impl Criterion {
     /// The criterion that a text writes: `sibling`, or `within:` and a plain number of metres, or
-    /// `flag:` and a plain number. Whether the number is in the criterion's range is not asked
-    /// here. It takes no memory.
+    /// `flag:` and a plain number, or `feeder:` and the code of a school. Whether the number is in
+    /// the criterion's range is not asked here. It takes no memory.
     #[tactic(auto, unfolding(crate::specs::Fields::criterion_of))]
     pub fn read(text: &str) -> Option<Criterion>
         ensures { result ≡ criterion_of text.now }
@@ -43,9 +43,12 @@ impl Criterion {
         if text == "sibling" {
             return Some(Criterion::Sibling);
         }
-        match number_after(text, "within:") {
-            Some(metres) => Some(Criterion::Within(metres)),
-            None => number_after(text, "flag:").map(Criterion::Flag),
+        if let Some(metres) = number_after(text, "within:") {
+            return Some(Criterion::Within(metres));
+        }
+        match number_after(text, "flag:") {
+            Some(flag) => Some(Criterion::Flag(flag)),
+            None => code_after(text, "feeder:").map(Criterion::Feeder),
         }
     }
 }
@@ -56,6 +59,16 @@ fn number_after(text: &str, prefix: &str) -> Option<u32>
 {
     match text.strip_prefix(prefix) {
         Some(number) => plain(number),
+        None => None,
+    }
+}
+
+/// The code that follows a prefix, where the text begins with it.
+fn code_after(text: &str, prefix: &str) -> Option<SchoolCode>
+    ensures { result ≡ code_after prefix.now text.now }
+{
+    match text.strip_prefix(prefix) {
+        Some(code) => SchoolCode::new(code),
         None => None,
     }
 }
@@ -72,6 +85,7 @@ impl fmt::Display for Criterion {
             Criterion::Sibling => f.write_str("sibling"),
             Criterion::Within(metres) => write!(f, "within:{metres}"),
             Criterion::Flag(flag) => write!(f, "flag:{flag}"),
+            Criterion::Feeder(school) => write!(f, "feeder:{school}"),
         }
     }
 }

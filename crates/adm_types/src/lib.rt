@@ -25,7 +25,8 @@ pub use exact::Exact;
 pub use fields::plain;
 pub use flags::{Flag, flag_bits};
 pub use rows::{
-    Application, Child, Criterion, ImportRow, LeftPair, Place, PlaceRow, PlaceState, Point, School,
+    Application, Child, Criterion, ImportRow, LeftPair, Place, PlaceRow, PlaceState, Point,
+    PresentRow, School,
 };
 pub use school_code::SchoolCode;
 pub use seasons::{Phase, Season, SeasonFault};

@@ -3,7 +3,8 @@ ghost use Rattle.std.specs.Prelude.{◌≡◌};
 ghost use Rattle.std.specs.List.{list_any, list_all};
 ghost use Rattle.std.specs.Str.{chars};
 ghost use Rattle.std.specs.Char.{is_control};
-ghost use Rattle.adm_types.specs.Limits.{is_name, is_on_map, is_criterion, is_school_in_range, is_listed, is_without_repeat, is_child_in_range};
+ghost use Rattle.adm_types.specs.Code.{is_code};
+ghost use Rattle.adm_types.specs.Limits.{is_name, is_on_map, is_code_or_none, is_criterion, is_school_in_range, is_listed, is_without_repeat, is_child_in_range};
 
 use crate::{Child, Criterion, Point, School, SchoolCode, Text};
 
@@ -42,6 +43,23 @@ pub fn is_on_map(point: &Point) -> bool
     point.east <= 1_500_000 && point.north <= 1_500_000
 }
 
+/// Whether the code of a school is one, which its type keeps.
+fn is_code(code: &SchoolCode) -> bool
+    ensures { result ≡ is_code code.now }
+{
+    !code.as_str().is_empty()
+}
+
+/// Whether a present school has a code, where there is one. Its type keeps that.
+fn is_code_or_none(present: &Option<SchoolCode>) -> bool
+    ensures { result ≡ is_code_or_none present.now }
+{
+    match present {
+        Some(code) => is_code(code),
+        None => true,
+    }
+}
+
 /// Whether a criterion's number is in its range.
 pub fn is_criterion(criterion: &Criterion) -> bool
     ensures { result ≡ is_criterion criterion.now }
@@ -50,6 +68,7 @@ pub fn is_criterion(criterion: &Criterion) -> bool
         Criterion::Sibling => true,
         Criterion::Within(metres) => 1 <= *metres && *metres <= 2_200_000,
         Criterion::Flag(flag) => *flag <= 15,
+        Criterion::Feeder(school) => is_code(school),
     }
 }
 
@@ -86,10 +105,11 @@ pub fn is_without_repeat(codes: &[SchoolCode]) -> bool
     }
 }
 
-/// Whether a child's home and its siblings' schools are in their ranges.
+/// Whether a child's home, its siblings' schools and its present school are in their ranges.
 pub fn is_child_in_range(child: &Child) -> bool
     ensures { result ≡ is_child_in_range child.now }
 {
     let siblings = child.siblings.as_slice();
-    is_on_map(&child.home) && siblings.len() <= 6 && is_without_repeat(siblings)
+    let fits = is_on_map(&child.home) && siblings.len() <= 6 && is_without_repeat(siblings);
+    fits && is_code_or_none(&child.present)
 }

@@ -3,7 +3,7 @@ ghost use Rattle.std.specs.Prelude.{◌≡◌, ◌↔◌, IsTrue, IsSome, IfSome
 ghost use Rattle.std.specs.Ordering.{nat_cmp};
 ghost use Rattle.std.specs.Cmp.{on_equiv, on_total, on_po, on_per, partial_equiv_from_equiv};
 ghost use Rattle.std.specs.Cmp.Lexicographic.{pointwise, slice_cmp, nat_list_eq_equiv, nat_list_cmp_total, texts_po, texts_ties};
-ghost use Rattle.adm_types.specs.Code.{IsCode, is_code, code_of};
+ghost use Rattle.adm_types.specs.Code.{IsCode, is_code, code_of, code_or_none_of};
 
 use std::cmp::Ordering;
 use std::marker::Model;
@@ -65,6 +65,18 @@ impl SchoolCode {
             bytes,
             len: text.len() as u8,
         })
+    }
+
+    /// No school for the empty text, or the school whose code a text is. `None` for every other
+    /// text.
+    pub fn or_none(text: &str) -> Option<Option<SchoolCode>>
+        ensures { result ≡ code_or_none_of text.now }
+    {
+        if text.is_empty() {
+            Some(None)
+        } else {
+            SchoolCode::new(text).map(Some)
+        }
     }
 
     /// The bytes of the code.

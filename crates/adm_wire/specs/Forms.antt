@@ -1,13 +1,13 @@
 -- The written forms of the commands: for each its fields, in the order in which they are tested.
-use Rattle.std.specs.Prelude.{ℕ, List, [], ◌∷◌, codes, Result}
+use Rattle.std.specs.Prelude.{ℕ, List, [], ◌∷◌, codes, None, Result}
 use Rattle.serde_json.specs.Data.{Data}
 use Rattle.adm_types.specs.Flags.{bits_of}
 use Rattle.adm_types.specs.declared.rows.Application.{Application}
 use Rattle.adm_types.specs.declared.rows.Child.{Child}
 use Rattle.adm_types.specs.declared.rows.School.{School}
 use Rattle.adm_wire.specs.declared.fault.WireFault.{WireFault}
-use Rattle.adm_wire.specs.Kinds.{a_text, a_number, a_truth, a_child, a_flag, a_code, a_day, a_criterion, a_list, only}
-use Rattle.adm_wire.specs.Reading.{◌>>=◌, field_at}
+use Rattle.adm_wire.specs.Kinds.{a_text, a_number, a_truth, a_child, a_flag, a_code, a_code_or_none, a_day, a_criterion, a_list, only}
+use Rattle.adm_wire.specs.Reading.{◌>>=◌, field_at, field_or}
 
 unfoldable pub school_form : Data → Result School WireFault
 school_form d = do
@@ -20,7 +20,7 @@ school_form d = do
   only (codes "cmd" ∷ codes "school" ∷ codes "name" ∷ codes "pan" ∷ codes "east" ∷ codes "north" ∷ codes "criteria" ∷ []) d
       (record { code = c; name = nm; pan = p; at = record { east = e; north = nn }; criteria = cs })
 
--- a child, to add or to amend
+-- a child, to add or to amend; where its present school is missing it has none
 unfoldable pub child_form : Data → Result Child WireFault
 child_form d = do
   c ← field_at a_child (codes "child") d
@@ -30,8 +30,9 @@ child_form d = do
   l ← field_at a_truth (codes "looked_after") d
   fs ← field_at (a_list a_flag) (codes "flags") d
   ss ← field_at (a_list a_code) (codes "siblings") d
-  only (codes "cmd" ∷ codes "child" ∷ codes "name" ∷ codes "east" ∷ codes "north" ∷ codes "looked_after" ∷ codes "flags" ∷ codes "siblings" ∷ []) d
-      (record { no = c; name = nm; home = record { east = e; north = nn }; looked_after = l; flags = bits_of fs; siblings = ss })
+  ps ← field_or None a_code_or_none (codes "present") d
+  only (codes "cmd" ∷ codes "child" ∷ codes "name" ∷ codes "east" ∷ codes "north" ∷ codes "looked_after" ∷ codes "flags" ∷ codes "siblings" ∷ codes "present" ∷ []) d
+      (record { no = c; name = nm; home = record { east = e; north = nn }; looked_after = l; flags = bits_of fs; siblings = ss; present = ps })
 
 -- a child and a school
 unfoldable pub pair_form : Data → Result (ℕ × List ℕ) WireFault

@@ -4,7 +4,7 @@ use Rattle.std.specs.Str.{bytes_eq}
 use Rattle.std.specs.List.{list_any, list_all}
 use Rattle.serde_json.specs.Data.{Data, Items, no_items, item, Members, no_members, member}
 use Rattle.serde_json.specs.Find.{as_number, as_u64, as_bool, as_str, as_array, as_object}
-use Rattle.adm_types.specs.Code.{code_of}
+use Rattle.adm_types.specs.Code.{code_of, code_or_none_of}
 use Rattle.adm_types.specs.DayText.{day_named}
 use Rattle.adm_types.specs.Fields.{criterion_of}
 use Rattle.adm_types.specs.Flags.{flag_of}
@@ -38,6 +38,10 @@ a_text = as_str
 -- the code of a school
 abbrev pub a_code : Data → Option (List ℕ)
 a_code d = option_and_then code_of (a_text d)
+
+-- the code of a school, or the empty text for none
+abbrev pub a_code_or_none : Data → Option (Option (List ℕ))
+a_code_or_none d = option_and_then code_or_none_of (a_text d)
 
 -- a day, as YYYY-MM-DD
 abbrev pub a_day : Data → Option ℕ

@@ -20,6 +20,14 @@ some_or fault (Some x) = Ok x
 abbrev pub field_at : {A : Type 0} → (Data → Option A) → List ℕ → Data → Result A WireFault
 field_at kind key d = some_or MissingField (get key d) >>= λ v. some_or WrongKind (kind v)
 
+-- the value in a field of this kind, or the other value where there is no such field
+abbrev pub value_or : {A : Type 0} → A → (Data → Option A) → Option Data → Result A WireFault
+value_or other kind None = Ok other
+value_or other kind (Some v) = some_or WrongKind (kind v)
+
+abbrev pub field_or : {A : Type 0} → A → (Data → Option A) → List ℕ → Data → Result A WireFault
+field_or other kind key d = value_or other kind (get key d)
+
 -- A call that failed for another cause than memory failed as reading does.
 abbrev pub Fails : {A : Type 0} → WireFault → Result A WireFault → Type 0
 Fails Memory read = Unit {0}

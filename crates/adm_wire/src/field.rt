@@ -3,7 +3,7 @@ ghost use Rattle.std.specs.Prelude.{◌≡◌, Option};
 ghost use Rattle.serde_json.specs.Data.{Data};
 ghost use Rattle.serde_json.specs.View.{view, items_view};
 ghost use Rattle.adm_wire.specs.Kinds as kinds;
-ghost use Rattle.adm_wire.specs.Reading.{Gives, some_or, field_at};
+ghost use Rattle.adm_wire.specs.Reading.{Gives, some_or, field_at, field_or};
 ghost use Rattle.adm_wire.specs.declared.fault.WireFault.TheVariants.{WrongKind};
 
 use crate::WireFault;
@@ -64,6 +64,16 @@ impl Kind for SchoolCode {
     }
 }
 
+/// A code, or the empty text for no school.
+impl Kind for Option<SchoolCode> {
+    ghost kind = { kinds.a_code_or_none };
+
+    fn read(_alloc: Global, value: &Value) -> Result<Option<SchoolCode>, WireFault> {
+        let text = value.as_str().ok_or(WireFault::WrongKind)?;
+        SchoolCode::or_none(text).ok_or(WireFault::WrongKind)
+    }
+}
+
 impl Kind for Day {
     ghost kind = { kinds.a_day };
 
@@ -116,4 +126,19 @@ pub(crate) fn field<T: Kind>(alloc: Global, object: &Value, key: &str) -> Result
 {
     let value = object.get(key).ok_or(WireFault::MissingField)?;
     T::read(alloc, value)
+}
+
+/// The value of a field of an object, or the other value where the object has no such field.
+pub(crate) fn field_or<T: Kind>(
+    alloc: Global,
+    object: &Value,
+    key: &str,
+    other: T,
+) -> Result<T, WireFault>
+    ensures { Gives result (field_or other T.kind key.now (view object.now)) }
+{
+    match object.get(key) {
+        Some(value) => T::read(alloc, value),
+        None => Ok(other),
+    }
 }

@@ -7,7 +7,7 @@ ghost use Rattle.adm_wire.specs.Reading.{Gives, GivesSeen, some_or};
 ghost use Rattle.adm_wire.specs.declared.fault.WireFault.TheVariants.{NotJson};
 
 use crate::WireFault;
-use crate::field::field;
+use crate::field::{field, field_or};
 use crate::keys::only;
 use adm_types::{
     Application, Child, ChildNo, Command, Day, Flag, Point, School, SchoolCode, Seq, Text,
@@ -50,6 +50,7 @@ fn child(alloc: Global, object: &Value) -> Result<Child, WireFault>
     let looked_after = field(alloc, object, "looked_after")?;
     let flags: Seq<Flag> = field(alloc, object, "flags")?;
     let siblings = field(alloc, object, "siblings")?;
+    let present = field_or(alloc, object, "present", None)?;
     let known = [
         "cmd",
         "child",
@@ -59,6 +60,7 @@ fn child(alloc: Global, object: &Value) -> Result<Child, WireFault>
         "looked_after",
         "flags",
         "siblings",
+        "present",
     ];
     only(object, &known)?;
     Ok(Child {
@@ -68,6 +70,7 @@ fn child(alloc: Global, object: &Value) -> Result<Child, WireFault>
         looked_after,
         flags: flag_bits(flags.as_slice()),
         siblings,
+        present,
     })
 }
 

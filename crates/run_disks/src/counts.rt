@@ -15,8 +15,8 @@ pub struct Counts {
     pub cut: u64,
 }
 
-fn written(alloc: Global, difference: Difference) -> Option<Counts> {
-    match changes(alloc, difference) {
+fn written(alloc: Global, old: &Register, difference: Difference) -> Option<Counts> {
+    match changes(alloc, old, difference) {
         Ok(changes) => Some(Counts {
             put: changes.put(),
             cut: changes.cut(),
@@ -27,7 +27,7 @@ fn written(alloc: Global, difference: Difference) -> Option<Counts> {
 
 fn of_command(alloc: Global, register: &Register, command: &Command) -> Option<Counts> {
     match propose(register, alloc, command) {
-        Ok(proposal) => written(alloc, proposal.change),
+        Ok(proposal) => written(alloc, register, proposal.change),
         Err(_) => None,
     }
 }

@@ -13,7 +13,7 @@ use adm_types::{Child, Point};
 use sqlite::Row;
 use std::alloc::Global;
 
-/// The child of a row whose first seven columns are a child's.
+/// The child of a row whose first seven columns are a child's, without its present school.
 pub(super) fn child_in(alloc: Global, row: &Row) -> Result<Child, OpenFault>
     requires { 6 < length row.now }
     ensures ok { IfOk result (λ child. HasFrom row.now 0 (child_row child)) }
@@ -36,6 +36,7 @@ pub(super) fn child_in(alloc: Global, row: &Row) -> Result<Child, OpenFault>
         looked_after,
         flags,
         siblings,
+        present: None,
     })
 }
 

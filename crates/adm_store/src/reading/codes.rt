@@ -6,7 +6,8 @@ ghost use Rattle.sqlite.specs.Order.{column};
 ghost use Rattle.adm_types.specs.Code.{is_code};
 ghost use Rattle.adm_types.specs.Joined.{codes_of};
 ghost use Rattle.adm_store.specs.Forms.{codes_text};
-ghost use Rattle.adm_store.specs.DrawForms.{school_value, is_code_or_none};
+ghost use Rattle.adm_types.specs.Limits.{is_code_or_none};
+ghost use Rattle.adm_store.specs.DrawForms.{school_value};
 ghost use Rattle.adm_store.specs.Faults.{IsNoRegister, AreReadAgain};
 
 use crate::reading::columns::value_at;

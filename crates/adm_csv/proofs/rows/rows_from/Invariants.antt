@@ -8,4 +8,4 @@ abbrev pub invariant-loop-record : goal.invariant-loop-record
 invariant-loop-record l =
     IsPlain l.record-iterator
     × (l.number ≤ 2000)
-    × (with_rows l.rows.items (rows_from (l.number + 1) (left_of l.record-iterator)) ≡ rows_from 1 (left_of l.fn.records))
+    × (with_rows l.rows.items (rows_from l.fn.width (l.number + 1) (left_of l.record-iterator)) ≡ rows_from l.fn.width 1 (left_of l.fn.records))

@@ -47,7 +47,7 @@ returns-in_err-rows-clause-bad g c =
     let same = c.in_ok-first.ensures.same v in
     let season = season_back w v _ r c.in_ok-first.first.season _ one c.in_ok-first.ensures.season held in
     let count = count_back w v _ r c.in_ok-first.first.season _ one held in
-    c.in_err-rows.ensures.bad structural r (season, count) clean (still v old mid same early here) (seen_after v old mid same early here (λ db. HoldsRegister v db r) (subst (λ u. HoldsRegister u old.now.trees r) own held)))
+    c.in_err-rows.ensures.bad structural r (season, count) clean (still v old mid same early here) (seen_after v old mid same early here (λ db. HoldsSeason v c.in_ok-first.first.season c.in_ok-first.first.draws db) (c.in_ok-first.ensures.ok v early here)) (seen_after v old mid same early here (λ db. HoldsRegister v db r) (subst (λ u. HoldsRegister u old.now.trees r) own held)))
 
 -- no register has the row of one version and the tables of another
 pub returns-then-ne-clause-bad : goal.returns-then-ne-clause-bad

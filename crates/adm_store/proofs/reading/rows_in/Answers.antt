@@ -1,98 +1,46 @@
-use Rattle.std.proofs.Common.{◌≡◌, ◌∙◌, true, false, [], ◌∷◌, map, length, sym, ap, subst, rules, arith}
-use Rattle.std.specs.Prelude.{flat_map}
+use Rattle.std.proofs.Common.{arith}
 use Rattle.std.proofs.lemmas.Result.{err_from_is_err_and}
-use Rattle.std.specs.FinMap.{values}
 use Rattle.sqlite.specs.Held.{state}
-use Rattle.adm_types.specs.Seasons.{lists_end}
-use Rattle.adm_draws.specs.Draws.{row_of, offers_of, lots_of}
-use Rattle.adm_schema.specs.Schema.{meta}
-use Rattle.adm_schema.proofs.Listed.{school_in, child_in, application_in, place_in, left_list_in, draw_in, offer_in, lot_in, imported_in}
-use Rattle.adm_store.specs.Forms.{season_row}
-use Rattle.adm_store.specs.StandsFor.{HasRows, written_in, written_tables}
-use Rattle.adm_store.proofs.DrawFits.{draws_fit, offers_fit, lots_fit}
 use Rattle.sqlite.specs.State.{HasCleanDisk}
-use Rattle.std.specs.List.{AllByRecursion}
-use Rattle.adm_schema.specs.Schema.{later_tables}
+use Rattle.adm_store.specs.Reads.{HoldsFirst}
+use Rattle.adm_store.specs.StandsFor.{HoldsRegister, HoldsRows}
 use Rattle.adm_store.proofs.CauseLemmas.{failed_in}
 use Rattle.adm_store.proofs.ReadingLemmas.{still, seen_before, seen_after}
-use Rattle.adm_store.proofs.RegisterRows.{none_written, later_none, each_table, as_many, schools_fit, children_fit, applications_fit, places_fit, left_fit, imported_fit}
 use Rattle.adm_store.proofs.reading.rows_in.Goals as goal
 
--- the tables in the order of the schema, which is that of the readers
-pub returns-then-is_count_of-clause-ok : goal.returns-then-is_count_of-clause-ok
-returns-then-is_count_of-clause-ok g c clean has first =
-    let db = (state g.S.Store c.args.tx.now.conn.now).now.trees in
-    let v = c.args.first.version in
+pub returns-clause-ok : goal.returns-clause-ok
+returns-clause-ok g c clean has season =
     let old = state g.S.Store c.args.tx.now.conn.now in
-    let mid = state g.S.Store c.read_all.new.tx.conn.now in
-    let early : HasCleanDisk mid = omega (arith, c.expect_later.ensures.survives.clean, clean) in
-    let same = c.in_ok-schools.ensures.same v in
-    let it = c.in_ok-schools.ensures.ok v early has in
-    let later = seen_before v old mid same early has (λ db. AllByRecursion (λ t. HasRows t [] db) (later_tables v)) (c.in_ok-expect_later.ensures.ok clean (still v old mid same early has)) in
-    let drawn = it.1.1.1.1.1 in
-    let counted : length c.in_ok-schools.more.0 ≡ c.args.first.draws = search rules in
-    record {
-      each = each_table v (λ t. HasRows t (written_in (written_tables v (record { season = c.args.first.season; schools = c.in_ok-schools.schools; children = c.in_ok-schools.children; applications = c.in_ok-schools.applications; places = c.in_ok-schools.places; left = c.in_ok-schools.left; draws = c.in_ok-schools.more.0; offers = c.in_ok-schools.more.1.0; lots = c.in_ok-schools.more.1.1.0; imported = c.in_ok-schools.more.1.1.1.0 })) t) db) (
-        subst (λ count. HasRows meta (season_row v c.args.first.season count ∷ []) db) (sym counted) first,
-        (
-          it.0,
-          (
-            it.1.0,
-            (
-              it.1.1.0,
-              (
-                it.1.1.1.0,
-                (it.1.1.1.1.0, (drawn.0, (drawn.1.0, (drawn.1.1.0, (drawn.1.1.1.0, none_written v db _ later))))),
-              ),
-            ),
-          ),
-        ),
-      );
-    }
-
-pub returns-then-is_count_of-clause-again : goal.returns-then-is_count_of-clause-again
-returns-then-is_count_of-clause-again g c = let it = c.in_ok-schools.ensures.again in record { schools = it.0; children = it.1.0; applications = it.1.1.0; imported = it.1.1.1.1.1.1.1.1.0 }
-
-pub returns-in_err-schools-clause-bad : goal.returns-in_err-schools-clause-bad
-returns-in_err-schools-clause-bad g c =
-    let p = err_from_is_err_and c.from_residual.result c.from_residual.ensures.1 in
-    rw (p.1, p.2) (λ structural r same clean has held.
-    let each = held.rows.each in
-    let last = c.lists_end-last.ensures ∙ sym (ap lists_end same.0) in
-    c.in_err-schools.ensures.bad structural
-    (values r.schools, (values r.children, (values r.applications, (values r.places, (values r.left, (map row_of (values r.draws), (flat_map offers_of (values r.draws), (flat_map lots_of (values r.draws), (values r.imported, tt)))))))))
-    (schools_fit r held.formed, (children_fit r held.formed, (applications_fit r _ held.formed last, (places_fit r held.formed, (left_fit r held.formed, (draws_fit r _ held.formed last, (offers_fit r held.formed, (lots_fit r held.formed, (imported_fit r _ held.formed last, tt)))))))))
-    c.args.first.version clean has
-    (each _ (school_in c.args.first.version), (each _ (child_in c.args.first.version), (each _ (application_in c.args.first.version), (each _ (place_in c.args.first.version), (each _ (left_list_in c.args.first.version), (each _ (draw_in c.args.first.version), (each _ (offer_in c.args.first.version), (each _ (lot_in c.args.first.version), (each _ (imported_in c.args.first.version), tt))))))))))
-
-pub returns-in_err-schools-clause-disk : goal.returns-in_err-schools-clause-disk
-returns-in_err-schools-clause-disk g c =
-    let p = err_from_is_err_and c.from_residual.result c.from_residual.ensures.1 in
-    rw (p.1, p.2) (λ is. c.in_err-schools.ensures.disk is c.args.first.version)
-
--- the rows that were read are as many as those of the register
-pub returns-else-is_count_of-clause-bad : goal.returns-else-is_count_of-clause-bad
-returns-else-is_count_of-clause-bad g c structural r same clean has held =
-    let early : HasCleanDisk (state g.S.Store c.read_all.new.tx.conn.now) = omega (arith, c.expect_later.ensures.survives.clean, clean) in
-    let read = c.in_ok-schools.ensures.ok c.args.first.version early has in
-    let all = as_many c.args.first.version (state g.S.Store c.args.tx.now.conn.now).now.trees r c.in_ok-schools.more.0 read.1.1.1.1.1.0 held in
-    let counted : length c.as_slice.result.now ≡ c.args.first.draws = ap length c.as_slice.ensures ∙ all ∙ same.1 in
-    let wrong : true ≡ false = sym (c.is_count_of.ensures.1 counted) ∙ c.if-is_count_of.false in
-    cc
-
--- the tables that came later
-pub returns-in_err-expect_later-clause-bad : goal.returns-in_err-expect_later-clause-bad
-returns-in_err-expect_later-clause-bad g c =
-    let p = err_from_is_err_and c.from_residual-in_err-expect_later.result c.from_residual-in_err-expect_later.ensures.1 in
-    rw (p.1, p.2) (λ structural r same clean has held.
+    let mid = state g.S.Store c.first_tables.new.tx.conn.now in
     let v = c.args.first.version in
-    let old = state g.S.Store c.args.tx.now.conn.now in
-    let mid = state g.S.Store c.read_all.new.tx.conn.now in
-    let early : HasCleanDisk mid = omega (arith, c.expect_later.ensures.survives.clean, clean) in
-    let sees = c.in_ok-schools.ensures.same v in
-    c.in_err-expect_later.ensures.bad structural clean (still v old mid sees early has) (seen_after v old mid sees early has (λ db. AllByRecursion (λ t. HasRows t [] db) (later_tables v)) (later_none v old.now.trees r held)))
+    let early : HasCleanDisk mid = omega (arith, c.with_presents.ensures.survives.clean, clean) in
+    let same = c.in_ok-rows.ensures.same v in
+    let first = c.in_ok-rows.ensures.ok early has season in
+    seen_before v old mid same early has (λ db. HoldsRows v db c.in_ok-all.all) (c.in_ok-all.ensures.ok clean (still v old mid same early has) (seen_after v old mid same early has (λ db. HoldsFirst v c.in_ok-rows.rows db) first))
 
-pub returns-in_err-expect_later-clause-disk : goal.returns-in_err-expect_later-clause-disk
-returns-in_err-expect_later-clause-disk g c =
-    let p = err_from_is_err_and c.from_residual-in_err-expect_later.result c.from_residual-in_err-expect_later.ensures.1 in
-    rw (p.1, p.2) (λ is. failed_in (state g.S.Store c.args.tx.now.conn.now) (state g.S.Store c.read_all.new.tx.conn.now) (state g.S.Store c.expect_later.new.tx.conn.now) c.args.first.version c.read_all.ensures.survives c.expect_later.ensures.survives (c.in_ok-schools.ensures.same c.args.first.version) (c.in_err-expect_later.ensures.disk is))
+pub returns-in_err-rows-clause-bad : goal.returns-in_err-rows-clause-bad
+returns-in_err-rows-clause-bad g c =
+    let p = err_from_is_err_and c.from_residual.result c.from_residual.ensures.1 in
+    rw (p.1, p.2) (λ structural r same clean has season. c.in_err-rows.ensures.bad structural r same clean has)
+
+pub returns-in_err-rows-clause-disk : goal.returns-in_err-rows-clause-disk
+returns-in_err-rows-clause-disk g c =
+    let p = err_from_is_err_and c.from_residual.result c.from_residual.ensures.1 in
+    rw (p.1, p.2) (λ is. c.in_err-rows.ensures.disk is c.args.first.version)
+
+pub returns-in_err-all-clause-bad : goal.returns-in_err-all-clause-bad
+returns-in_err-all-clause-bad g c =
+    let p = err_from_is_err_and c.from_residual-in_err-all.result c.from_residual-in_err-all.ensures.1 in
+    rw (p.1, p.2) (λ structural r of_season clean has season held.
+    let old = state g.S.Store c.args.tx.now.conn.now in
+    let mid = state g.S.Store c.first_tables.new.tx.conn.now in
+    let v = c.args.first.version in
+    let early : HasCleanDisk mid = omega (arith, c.with_presents.ensures.survives.clean, clean) in
+    let same = c.in_ok-rows.ensures.same v in
+    let first = c.in_ok-rows.ensures.ok early has season in
+    c.in_err-all.ensures.bad structural c.in_ok-rows.ensures.again r clean (still v old mid same early has) (seen_after v old mid same early has (λ db. HoldsFirst v c.in_ok-rows.rows db) first) (seen_after v old mid same early has (λ db. HoldsRegister v db r) held))
+
+pub returns-in_err-all-clause-disk : goal.returns-in_err-all-clause-disk
+returns-in_err-all-clause-disk g c =
+    let p = err_from_is_err_and c.from_residual-in_err-all.result c.from_residual-in_err-all.ensures.1 in
+    rw (p.1, p.2) (λ is. failed_in (state g.S.Store c.args.tx.now.conn.now) (state g.S.Store c.first_tables.new.tx.conn.now) (state g.S.Store c.with_presents.new.tx.conn.now) c.args.first.version c.first_tables.ensures.survives c.with_presents.ensures.survives (c.in_ok-rows.ensures.same c.args.first.version) (c.in_err-all.ensures.disk is))

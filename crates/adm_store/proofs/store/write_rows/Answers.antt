@@ -14,6 +14,9 @@ returns-clause-writes g c =
     let offers : Ran _ _ _ = record { survives = c.run_each-9.ensures.survives; leaves = rw c.as_slice-9.ensures at c.in_ok-run_each-9.ensures.writes } in
     let lots : Ran _ _ _ = record { survives = c.run_each-10.ensures.survives; leaves = rw c.as_slice-10.ensures at c.in_ok-run_each-10.ensures.writes } in
     let imported : Ran _ _ _ = record { survives = c.run_each-11.ensures.survives; leaves = rw c.as_slice-11.ensures at c.in_ok-run_each-11.ensures.writes } in
-    let count : Ran _ _ _ = record { survives = c.run_each-12.ensures.survives; leaves = rw (c.last_draw.ensures, c.as_slice-12.ensures) at c.in_ok-run_each-12.ensures.writes } in
+    let moved : Ran _ _ _ = record { survives = c.run_each-12.ensures.survives; leaves = rw c.as_slice-12.ensures at c.in_ok-run_each-12.ensures.writes } in
+    let present : Ran _ _ _ = record { survives = c.run_each-13.ensures.survives; leaves = rw c.as_slice-13.ensures at c.in_ok-run_each-13.ensures.writes } in
+    let count : Ran _ _ _ = record { survives = c.run_each-14.ensures.survives; leaves = rw (c.last_draw.ensures, c.as_slice-14.ensures) at c.in_ok-run_each-14.ensures.writes } in
     let people = ran_then (ran_then (ran_then (ran_then (ran_then (ran_then schools children) ended) applications) vacated) places) left in
-    (ran_then (ran_then (ran_then (ran_then (ran_then people draws) offers) lots) imported) count).leaves
+    let drawn = ran_then (ran_then (ran_then people draws) offers) lots in
+    (ran_then (ran_then (ran_then (ran_then drawn imported) moved) present) count).leaves

@@ -1,0 +1,84 @@
+// The table `present`, whose key is two columns: a row that goes is found first, and taken out by its rowid.
+ghost use Rattle.std.specs.Prelude.{◌≡◌, IfOk, OnOk};
+ghost use Rattle.sqlite.specs.Held.{state};
+ghost use Rattle.sqlite.specs.State.{HasCleanDisk, Shown, Survives};
+ghost use Rattle.adm_schema.specs.RowTexts.{find_present};
+ghost use Rattle.adm_schema.specs.Schema.{present};
+ghost use Rattle.adm_store.specs.Present.{present_columns, moved_key, CutsFound};
+ghost use Rattle.adm_store.specs.Writes.{Adds, Drops};
+
+use crate::statement::Statement;
+use adm_types::{ChildNo, PresentRow};
+use sqlite::{Alter, Error, Row, Transaction, params};
+
+/// The rowids of the rows of a child's present school, of which there is one at the most.
+fn found<S: Alter>(tx: &mut Transaction<'_, S>, child: ChildNo) -> Result<Vec<Row>, Error>
+    ensures same_reference { tx.new.conn.ghost_name ≡ tx.old.conn.ghost_name }
+    ensures shown { HasCleanDisk (state S.Store tx.new.conn.now) → IfOk result (λ rows. Shown find_present (moved_key child) (state S.Store tx.old.conn.now) (state S.Store tx.new.conn.now) rows.items) }
+    ensures survives { Survives (state S.Store tx.old.conn.now) (state S.Store tx.new.conn.now) (λ _. ⊥) }
+{
+    let number = child.get();
+    let rows = tx.query_all(
+        "SELECT rowid FROM present WHERE child = ?1 AND imported = ?2",
+        params![number, 0],
+    )?;
+    Ok(rows)
+}
+
+/// Takes out the one row whose rowid was found.
+fn cut<S: Alter>(tx: &mut Transaction<'_, S>, row: &Row) -> Result<(), Error>
+    ensures same_reference { tx.new.conn.ghost_name ≡ tx.old.conn.ghost_name }
+    ensures runs { HasCleanDisk (state S.Store tx.new.conn.now) → OnOk result (CutsFound row.now (state S.Store tx.old.conn.now) (state S.Store tx.new.conn.now)) }
+    ensures survives { Survives (state S.Store tx.old.conn.now) (state S.Store tx.new.conn.now) (λ _. ⊥) }
+{
+    let rowid: i64 = row.get(0)?;
+    let count = tx.execute("DELETE FROM present WHERE rowid = ?1", params![rowid])?;
+    if count == 1 {
+        Ok(())
+    } else {
+        Err(Error::QueryReturnedNoRows)
+    }
+}
+
+pub(crate) struct CutPresent;
+
+impl Statement for CutPresent {
+    type Item = ChildNo;
+
+    ghost kind = { Drops };
+
+    ghost table = { present };
+
+    ghost row_of = { moved_key };
+
+    fn run<S: Alter>(tx: &mut Transaction<'_, S>, child: &ChildNo) -> Result<(), Error> {
+        let rows = found(tx, *child)?;
+        match rows.as_slice().split_first() {
+            None => Ok(()),
+            Some((row, others)) if others.is_empty() => cut(tx, row),
+            Some(_) => Err(Error::QueryReturnedNoRows),
+        }
+    }
+}
+
+pub(crate) struct AddPresent;
+
+impl Statement for AddPresent {
+    type Item = PresentRow;
+
+    ghost kind = { Adds };
+
+    ghost table = { present };
+
+    ghost row_of = { present_columns };
+
+    fn run<S: Alter>(tx: &mut Transaction<'_, S>, row: &PresentRow) -> Result<(), Error> {
+        let child = row.child.get();
+        let school = row.school.as_str();
+        tx.execute(
+            "INSERT INTO present (child, imported, school) VALUES (?1, ?2, ?3)",
+            params![child, row.is_imported, school],
+        )?;
+        Ok(())
+    }
+}

@@ -1,0 +1,12 @@
+use Rattle.std.proofs.Common.{◌∙◌}
+use Rattle.adm_types.proofs.Prefixes.{read_behind, nothing_behind}
+use Rattle.adm_types.specs.Code.{code_of}
+use Rattle.adm_types.proofs.fields.code_after.Goals as goal
+
+pub returns-in-Some : goal.returns-in-Some
+returns-in-Some c =
+    let found = c.in-Some.ensures.cases in
+    c.new.ensures.reads ∙ read_behind code_of c.args.prefix.now c.args.text.now c.in-Some.code.now found.0 found.1 found.2
+
+pub returns-in-None : goal.returns-in-None
+returns-in-None c = nothing_behind code_of c.args.prefix.now c.args.text.now c.in-None.ensures.cases
