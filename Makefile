@@ -33,6 +33,7 @@ bench: build
 	bench/round/run bin/admissions
 	bench/waiting/run bin/admissions
 	bench/imports/run bin/admissions
+	bench/versions/run bin/admissions
 	bench/http/run bin/admissions
 	bench/match/run.sh
 
