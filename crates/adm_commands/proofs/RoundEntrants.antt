@@ -22,7 +22,7 @@ use Rattle.adm_commands.specs.Round.{is_entrant, applicant_of, entrants, quota, 
 use Rattle.adm_register.specs.Wanted.{wanted_of, own_school}
 use Rattle.adm_register.specs.WellFormed.{WellFormed}
 use Rattle.adm_register.proofs.Maps.{code_cmp-IsAntisymmetric}
-use Rattle.adm_register.proofs.RoundLemmas.{listed_in, in_listed}
+use Rattle.adm_register.proofs.RoundLemmas.{listed_in}
 use Rattle.adm_register.proofs.RoundKeys.{from_values}
 
 -- an applicant is the child of an application, and has and wants what the register says
