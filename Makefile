@@ -1,5 +1,6 @@
 # How the program is built, shown, tested, measured and installed.
 #
+#   make look     the commands of an example answered within minutes, without a proof: to see what it is
 #   make build    the proved program, at bin/admissions
 #   make demo     the examples, run and compared with what they must print
 #   make cases    the cases, the same way; they take seconds once the program is built
@@ -10,7 +11,12 @@
 PREFIX ?= /usr/local
 EXAMPLES := first_path applications season
 
-.PHONY: build demo cases test wrong-bodies bench install
+LOOKED_AT := $(addprefix examples/applications/,schools.jsonl children.jsonl applications.jsonl)
+
+.PHONY: look build demo cases test wrong-bodies bench install
+
+look:
+	@cat $(LOOKED_AT) | tools/look
 
 build:
 	tools/build
