@@ -8,6 +8,7 @@ use Rattle.std.specs.Ordering.{nat_cmp, eq_by_cmp}
 use Rattle.std.specs.FinMap.{get, insert, remove, values, len, len-insert, get-insert, get-remove, contains_key, nat_cmp-IsAntisymmetric}
 use borrow.Author.Tests.{ltb-true}
 use Rattle.std.proofs.lemmas.Bool.{and_parts, not-true}
+use Rattle.std.proofs.lemmas.Option.{none-some}
 use Rattle.std.proofs.Math.Bool.{and-false}
 use Rattle.adm_lists.proofs.Options.{none_of}
 use Rattle.adm_lists.proofs.Orders.{same_key}
@@ -41,7 +42,7 @@ use Rattle.adm_register.specs.Fits.{BasePut, PlacesPut, DrawsPut, Fit}
 
 -- a change of places and of what ends asks nothing of the schools, the children and the applications
 pub base_stays : (old : State) (places : List PlaceRow) (ended : List ℕ) → BasePut old (record no_change { places = places; ended = ended })
-base_stays old places ended = record { schools = tt; new_schools = tt; few_schools = tt; children = tt; few_children = tt; applications = tt }
+base_stays old places ended = record { schools = tt; kept_schools = tt; few_schools = tt; children = tt; few_children = tt; applications = tt }
 
 -- nor one of children of the places
 pub places_stay : (old : State) (children : List Child) → WellFormed old → PlacesPut old (record no_change { children = children })
@@ -76,7 +77,7 @@ add_school-fit old school kept well passes =
     record {
       base = record {
         schools = (record { own_code = refl; code_form = kept.code_form; text = kept.text; name = pass.1.0; in_range = pass.1.1.0 }, tt);
-        new_schools = (pass.0, tt);
+        kept_schools = (λ was there. absurd (none-some was (sym (none_of _ pass.0) ∙ there)), tt);
         few_schools = len-insert_room nat_list_cmp_total old.schools school.code school most_schools (ltb-true _ _ pass.1.1.1.0);
         children = tt;
         few_children = tt;
@@ -92,7 +93,7 @@ add_school-fit old school kept well passes =
 -- a child that fits is put
 pub put_child-fit : (old : State) (child : Child) → WellFormed old → ChildFits old.schools child.no child → len (insert old.children child.no child) ≤ most_children → Fit old (put_child child)
 put_child-fit old child well fits few = record {
-  base = record { schools = tt; new_schools = tt; few_schools = tt; children = (fits, tt); few_children = few; applications = tt };
+  base = record { schools = tt; kept_schools = tt; few_schools = tt; children = (fits, tt); few_children = few; applications = tt };
   places = places_stay old (child ∷ []) well;
   left = record { left = tt; places = tt };
   draws = draws_stay old (put_child child) refl;
@@ -174,7 +175,7 @@ apply-fit old application since well passes =
     record {
       base = record {
         schools = tt;
-        new_schools = tt;
+        kept_schools = tt;
         few_schools = tt;
         children = tt;
         few_children = tt;

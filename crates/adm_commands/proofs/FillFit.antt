@@ -107,7 +107,7 @@ fill-fit old draw school day numbers row child well kept passes first =
     let held : has_round (insert old.draws draw it) ≡ true = contains_key-insert nat_cmp_total old.draws draw it 1 (was_round old draw school day numbers passes) in
     let next = fill-next old draw school day numbers passes child well.draws.in_order in
     record {
-      base = record { schools = tt; new_schools = tt; few_schools = tt; children = tt; few_children = tt; applications = tt };
+      base = record { schools = tt; kept_schools = tt; few_schools = tt; children = tt; few_children = tt; applications = tt };
       places = record {
         places = (record { own_number = refl; child = known; school = pass.0; state = kept.is_day; entitled = (λ i. held i && lists_school (applied i) school) ∙ waiting.lists }, tt);
         kept = λ other was there still. refl;

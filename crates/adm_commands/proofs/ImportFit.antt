@@ -87,7 +87,7 @@ import-fit old rows added well kept accepted permuted sorted =
     record {
       base = record {
         schools = tt;
-        new_schools = tt;
+        kept_schools = tt;
         few_schools = tt;
         children = each_map (λ (r : ImportRow). r.child) (λ (c : Child). ChildFits old.schools c.no c) added
             (each_weaker (λ (r : ImportRow). KeptByImportRow r × IsAddable old r) (λ (r : ImportRow). ChildFits old.schools r.child.no r.child) (λ r it. child_fits old r it.0 it.1) added both);

@@ -10,7 +10,7 @@ use borrow.Author.Tests.{ltb-true}
 use Rattle.std.proofs.lemmas.Bool.{not-true}
 use Rattle.adm_lists.proofs.Maps.{contains_key-insert}
 use Rattle.adm_lists.proofs.Each.{each_weaker}
-use Rattle.adm_types.specs.Limits.{is_from, is_without_repeat, is_name, is_child_in_range, most_children}
+use Rattle.adm_types.specs.Limits.{is_from, is_without_repeat, is_name, is_child_in_range, most_children, most_preferences}
 use Rattle.adm_types.specs.Seasons.{lists_end}
 use Rattle.adm_types.specs.declared.rows.ImportRow.{ImportRow}
 use Rattle.adm_types.specs.declared.commands.Refusal.{Refusal}
@@ -30,7 +30,7 @@ pub record IsAddable (s : State) (row : ImportRow) : Type 0 where
   pub in_range : is_child_in_range row.child ≡ true
   pub siblings : are_schools s.schools row.child.siblings ≡ true
   pub in_time : nat_le row.day (lists_end s.season) ≡ true
-  pub preferences : (is_from 1 6 (length row.preferences) && is_without_repeat row.preferences) ≡ true
+  pub preferences : (is_from 1 most_preferences (length row.preferences) && is_without_repeat row.preferences) ≡ true
   pub listed : are_schools s.schools row.preferences ≡ true
 
 addable : (s : State) (row : ImportRow) → first_failing (row_tests s row) ≡ None → IsAddable s row × (len s.children < most_children)

@@ -45,7 +45,7 @@ leave_list-fit old child school well passes =
     let number = (well.base.applications_fit child found.0 found.1).own_number in
     let free : is_held (get old.places child) school ≡ false = ap (λ n. is_held (get old.places n) school) (sym number) ∙ facts.no_place in
     record {
-      base = record { schools = tt; new_schools = tt; few_schools = tt; children = tt; few_children = tt; applications = tt };
+      base = record { schools = tt; kept_schools = tt; few_schools = tt; children = tt; few_children = tt; applications = tt };
       places = record { places = tt; kept = λ other row there still. refl; room = well.places.room };
       left = record { left = (record { own_key = refl; child = pass.0; school = pass.1.0; no_place = ap not free }, tt); places = tt };
       draws = draws_stay old (leave_list.change_of child school) refl;

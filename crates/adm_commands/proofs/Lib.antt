@@ -1,5 +1,6 @@
 pub mod HeldLemmas
 pub mod Posed
+pub mod NoBetterList
 pub mod RoundNext
 pub mod RoundFit
 pub mod Accepted
@@ -19,6 +20,10 @@ pub mod PutAgain
 pub mod DrawsStay
 pub mod ImportsStay
 pub mod Shows
+pub mod RaiseFit
+pub mod ShowsRows
+pub mod ShowsPlaces
+pub mod ShowsDraws
 pub mod EachCommand
 pub mod Repeats
 pub mod OneStep

@@ -107,7 +107,7 @@ unfolding decline.change_of
 give_up old child school well there here =
     let pair : LeftPair = record { child = child; school = school } in
     record {
-      base = record { schools = tt; new_schools = tt; few_schools = tt; children = tt; few_children = tt; applications = tt };
+      base = record { schools = tt; kept_schools = tt; few_schools = tt; children = tt; few_children = tt; applications = tt };
       places = record {
         places = tt;
         kept = λ number row was still. refl;

@@ -1,4 +1,4 @@
--- The problem of an accepted round is posed: its sites, its applicants and its lots fit together.
+-- The problem of a round whose lots pass their tests is posed: its sites, its applicants and its lots fit together.
 use Rattle.std.proofs.Common.{◌≡◌, ◌∙◌, ap, sym, subst, refl, ℕ, ◌≤◌, ◌<◌, Bool, true, false, not, cond, ◌||◌, length, arith, List, [], ◌∷◌, Option, Some, None, map, inl, inr, leb-true}
 use Rattle.std.specs.Prelude.{All, option_map, nat_le, bytes_eq, is_some}
 use Rattle.std.specs.List.{filter_map, cons_option, list_any, AllByRecursion}
@@ -37,8 +37,10 @@ use Rattle.adm_register.specs.State.{State}
 use Rattle.adm_commands.specs.Tests.{first_failing}
 use Rattle.adm_register.specs.WellFormed.{WellFormed}
 use Rattle.adm_register.specs.Wanted.{above, has_left, wanted_of, own_school}
-use Rattle.adm_commands.specs.Round.{is_entrant, applicant_of, entrants, quota, sites, round_pairs, round_lots, AreOutcomes}
+use Rattle.adm_commands.specs.Round.{is_entrant, applicant_of, entrants, quota, sites, round_pairs, round_lots, is_lot_count, are_lots_apart, AreOutcomes}
 use Rattle.adm_commands.specs.Round as round
+use Rattle.adm_commands.specs.Problem.{lots_fault}
+use Rattle.adm_commands.specs.declared.problems.DrawFault.TheVariants.{LotCount, LotsRepeated}
 use Rattle.adm_register.proofs.Maps.{code_cmp-IsAntisymmetric}
 use Rattle.adm_register.proofs.SameRows.{entries_at_own_keys, values_hold, rows_hold}
 use Rattle.adm_commands.proofs.Keeps.{all_pass}
@@ -159,11 +161,23 @@ each_entrant old Q each =
     let P : Application → Type 0 = λ application. (applicant : Applicant) → applicant_of old application ≡ Some applicant → Q applicant in
     All-filter_map Q (applicant_of old) (values old.applications) (recursion_from_All P (values old.applications) (values_hold nat_cmp_total nat_cmp-IsAntisymmetric P old.applications each))
 
-pub posed : (old : State) (draw day : ℕ) (numbers : List ℕ) → WellFormed old → first_failing (round.tests old draw day numbers) ≡ None → IsPosed (sites old) (entrants old) (round_lots old numbers)
+-- the lots of an accepted round have no fault
+pub lots_pass : (old : State) (draw day : ℕ) (numbers : List ℕ) → first_failing (round.tests old draw day numbers) ≡ None → lots_fault old numbers ≡ None
 unfolding round.tests
-posed old draw day numbers well passes =
+lots_pass old draw day numbers passes =
     let pass = all_pass (round.tests old draw day numbers) passes in
-    let count = (unsigned_Decides (length numbers) (length (round_pairs old))).0 pass.1.1.1.0 in
+    λ i. cond (pass.1.1.1.0 i) (cond (pass.1.1.1.1.0 i) None (Some LotsRepeated)) (Some LotCount)
+
+-- both tests of lots pass where there is no fault
+both_pass : (count apart : Bool) → cond count (cond apart None (Some LotsRepeated)) (Some LotCount) ≡ None → (count ≡ true) × (apart ≡ true)
+both_pass true true e = (refl, refl)
+both_pass true false e = cc
+both_pass false apart e = cc
+
+pub posed : (old : State) (numbers : List ℕ) → WellFormed old → lots_fault old numbers ≡ None → IsPosed (sites old) (entrants old) (round_lots old numbers)
+posed old numbers well passes =
+    let pass = both_pass (is_lot_count old numbers) (are_lots_apart old numbers) passes in
+    let count = (unsigned_Decides (length numbers) (length (round_pairs old))).0 pass.0 in
     record {
       codes_rise = codes_in_order old well;
       schools_fit = All-map (λ (site : Site). is_school_in_range site.school ≡ true) (λ (school : School). record { school = school; quota = quota old school }) (values old.schools)
@@ -172,15 +186,15 @@ posed old draw day numbers well passes =
       children_fit = each_entrant old (λ applicant. is_child_in_range applicant.child ≡ true) (λ number application there. child_fits old well application);
       lists_fit = each_entrant old (IsListFit (sites old)) (list_fits old well);
       lots_drawn = pairs_again (round_pairs old) numbers count;
-      lots_differ = some_same (round_lots old numbers) ∙ not-true _ pass.1.1.1.1.0;
+      lots_differ = some_same (round_lots old numbers) ∙ not-true _ pass.1;
     }
 
 -- and so it is by whatever names its sites, applicants and lots go
-pub posed_as : (old : State) (draw day : ℕ) (numbers : List ℕ) (found : List Site) (taking : List Applicant) (lots : List Lot) → WellFormed old → first_failing (round.tests old draw day numbers) ≡ None
+pub posed_as : (old : State) (numbers : List ℕ) (found : List Site) (taking : List Applicant) (lots : List Lot) → WellFormed old → lots_fault old numbers ≡ None
     → found ≡ sites old → taking ≡ entrants old → lots ≡ round_lots old numbers → IsPosed found taking lots
-posed_as old draw day numbers found taking lots well passes at_sites at_entrants at_lots =
+posed_as old numbers found taking lots well passes at_sites at_entrants at_lots =
     subst (λ ls. IsPosed found taking ls) (sym at_lots) (subst (λ xs. IsPosed found xs (round_lots old numbers)) (sym at_entrants)
-    (subst (λ xs. IsPosed xs (entrants old) (round_lots old numbers)) (sym at_sites) (posed old draw day numbers well passes)))
+    (subst (λ xs. IsPosed xs (entrants old) (round_lots old numbers)) (sym at_sites) (posed old numbers well passes)))
 
 -- and its best outcomes are those of the round
 pub best_as : (old : State) (numbers : List ℕ) (found : List Site) (taking : List Applicant) (lots : List Lot) (outcomes : List Outcome)

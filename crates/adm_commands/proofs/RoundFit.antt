@@ -33,7 +33,7 @@ round-fit old draw day numbers outcomes well kept passes law posed best =
     let facts : IsRound old numbers outcomes = record { well = well; posed = posed; best = best; law = law } in
     let next = draw_next facts draw day kept number pass.1.0 pass.1.1.0 ((unsigned_Decides _ _).0 pass.1.1.1.0) pass.1.1.1.1.1.0 in
     record {
-      base = record { schools = tt; new_schools = tt; few_schools = tt; children = tt; few_children = tt; applications = tt };
+      base = record { schools = tt; kept_schools = tt; few_schools = tt; children = tt; few_children = tt; applications = tt };
       places = record {
         places = offers_fit facts day (has_round (insert old.draws draw it)) kept.is_day held;
         kept = λ child row there still. refl;

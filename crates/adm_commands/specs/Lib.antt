@@ -1,6 +1,7 @@
 pub mod KeptByTypes
 pub mod Tests
 pub mod AddSchool
+pub mod RaisePan
 pub mod AddChild
 pub mod Amend
 pub mod NamePlan
@@ -13,6 +14,8 @@ pub mod Lapse
 pub mod LeaveList
 pub mod Import
 pub mod Round
+pub mod Problem
+pub mod WhatIf
 pub mod Outcome
 pub mod History
 pub mod Imports

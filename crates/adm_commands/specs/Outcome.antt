@@ -3,7 +3,7 @@ use Rattle.std.specs.Prelude.{◌≡◌, ⊤, ℕ, Bool, List, [], Option, Some,
 use Rattle.std.specs.List.{AllByRecursion}
 use Rattle.adm_types.specs.Limits.{first_day, last_day}
 use Rattle.adm_types.specs.declared.commands.Command.{Command}
-use Rattle.adm_types.specs.declared.commands.Command.TheVariants.{AddSchool, AddChild, Amend, NamePlan, Apply, Round, Accept, Decline, Remind, Lapse, LeaveList, Fill, Import}
+use Rattle.adm_types.specs.declared.commands.Command.TheVariants.{AddSchool, RaisePan, AddChild, Amend, NamePlan, Apply, Round, Accept, Decline, Remind, Lapse, LeaveList, Fill, Import}
 use Rattle.adm_types.specs.declared.commands.Refusal.{Refusal}
 use Rattle.adm_types.specs.declared.commands.Reply.{Reply}
 use Rattle.adm_types.specs.declared.commands.Reply.TheVariants.{Done, Filled}
@@ -14,6 +14,7 @@ use Rattle.adm_commands.specs.Tests.{first_failing}
 use Rattle.adm_commands.specs.KeptByTypes.{KeptBySchool, KeptByChild, KeptByRound, KeptByImportRow}
 use Rattle.adm_register.specs.WellFormed.{WellFormed}
 use Rattle.adm_commands.specs.AddSchool as add_school
+use Rattle.adm_commands.specs.RaisePan as raise_pan
 use Rattle.adm_commands.specs.AddChild as add_child
 use Rattle.adm_commands.specs.Amend as amend
 use Rattle.adm_commands.specs.NamePlan as name_plan
@@ -38,6 +39,7 @@ use Rattle.adm_commands.specs.declared.not_done.NotDone.TheVariants.{Refused, Me
 -- what the types of a command's values keep
 abbrev pub KeptByTypes : Command → Type 0
 KeptByTypes (AddSchool school) = KeptBySchool school
+KeptByTypes (RaisePan school pan) = ⊤
 KeptByTypes (AddChild child) = KeptByChild child
 KeptByTypes (Amend child) = KeptByChild child
 KeptByTypes (NamePlan child school) = ⊤
@@ -54,6 +56,7 @@ KeptByTypes (Import rows) = AllByRecursion KeptByImportRow rows
 -- the tests of a command, in their order; those of an import are its rows', below
 abbrev pub tests_of : State → Command → List (Bool × Refusal)
 tests_of old (AddSchool school) = add_school.tests old school
+tests_of old (RaisePan school pan) = raise_pan.tests old school pan
 tests_of old (AddChild child) = add_child.tests old child
 tests_of old (Amend child) = amend.tests old child
 tests_of old (NamePlan child school) = name_plan.tests old child school
@@ -96,6 +99,7 @@ IsFilled old draw school day lots change reply =
 -- what an accepted command changes, and what it answers
 abbrev pub Changes : State → Command → Difference → Reply → Type 0
 Changes old (AddSchool school) = IsDone (add_school.change_of school)
+Changes old (RaisePan school pan) = IsDone (raise_pan.change_of old school pan)
 Changes old (AddChild child) = IsDone (put_child child)
 Changes old (Amend child) = IsDone (put_child child)
 Changes old (NamePlan child school) = IsDone (name_plan.change_of child school)

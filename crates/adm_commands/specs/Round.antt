@@ -72,14 +72,23 @@ round_market s numbers = market_of (sites s) (entrants s) (round_lots s numbers)
 
 -- ---- the command
 
--- the draw is the next, the lists are open, the day is due, there is one lot for each pair and at no school two that are equal, and there is room
+-- there is one number for each pair
+abbrev pub is_lot_count : State → List ℕ → Bool
+is_lot_count s numbers = nat_eq (length numbers) (length (round_pairs s))
+
+-- at no school two of the lots are equal
+abbrev pub are_lots_apart : State → List ℕ → Bool
+are_lots_apart s numbers = not (repeats_lot (round_lots s numbers))
+
+-- the draw is the next, the lists are open, the day is due, there is one lot for each pair and at no school two that are equal, and
+-- there is room
 unfoldable pub tests : State → ℕ → ℕ → List ℕ → List (Bool × Refusal)
 tests old draw day numbers =
     (nat_eq draw ((draws_so_far old).draws + 1), WrongDraw)
     ∷ (nat_le day (lists_end old.season), ListClosed)
     ∷ (is_due old.season (draws_so_far old).day day, TooSoon)
-    ∷ (nat_eq (length numbers) (length (round_pairs old)), LotCount)
-    ∷ (not (repeats_lot (round_lots old numbers)), LotsRepeated)
+    ∷ (is_lot_count old numbers, LotCount)
+    ∷ (are_lots_apart old numbers, LotsRepeated)
     ∷ (nat_lt (draws_so_far old).draws most_draws && nat_le ((draws_so_far old).lots + length numbers) most_lots, RegisterFull)
     ∷ []
 

@@ -1,6 +1,6 @@
 // To apply.
 ghost use Rattle.std.specs.Prelude.{◌≡◌, ◌&&◌, length, IfOk};
-ghost use Rattle.adm_types.specs.Limits.{is_from, is_without_repeat};
+ghost use Rattle.adm_types.specs.Limits.{is_from, is_without_repeat, most_preferences};
 ghost use Rattle.adm_commands.specs.Tests.{first_failing};
 ghost use Rattle.adm_commands.specs.Outcome.{Comes, IsDone, without_row};
 ghost use Rattle.adm_commands.specs.Apply.{tests, further_tests, change_of};
@@ -10,7 +10,7 @@ use crate::one_row::one;
 use crate::tried::{Tried, done, refused};
 use adm_register::{Difference, Tables};
 use adm_table::Shared;
-use adm_types::limits::is_without_repeat;
+use adm_types::limits::{MOST_PREFERENCES, is_without_repeat};
 use adm_types::{Application, ChildNo, Day, Refusal, SchoolCode};
 use std::alloc::{AllocError, Global};
 
@@ -49,11 +49,11 @@ pub(crate) fn further_refusal_of(
     ])
 }
 
-/// Whether there are 1 to 6 schools without repeat.
+/// Whether there are 1 to 10 schools without repeat.
 fn is_preference_list(list: &[SchoolCode]) -> bool
-    ensures { result ≡ (is_from 1 6 (length list.now) && is_without_repeat list.now) }
+    ensures { result ≡ (is_from 1 most_preferences (length list.now) && is_without_repeat list.now) }
 {
-    let count = 1 <= list.len() && list.len() <= 6;
+    let count = 1 <= list.len() && list.len() <= MOST_PREFERENCES;
     count && is_without_repeat(list)
 }
 

@@ -7,7 +7,7 @@ use crate::child_values::kept_by_child;
 use crate::tried::Tried;
 use crate::{
     accept, add_child, add_school, amend, apply, decline, fill, import, lapse, leave_list,
-    name_plan, remind, round,
+    name_plan, raise_pan, remind, round,
 };
 use adm_register::Tables;
 use adm_types::Command;
@@ -21,6 +21,7 @@ pub(crate) fn tried(old: &Tables, alloc: Global, command: &Command) -> Result<Tr
 {
     match command {
         Command::AddSchool(school) => add_school::tried(old, alloc, school),
+        Command::RaisePan { school, pan } => raise_pan::tried(old, alloc, *school, *pan),
         Command::AddChild(child) => add_child::tried(old, alloc, child),
         Command::Amend(child) => amend::tried(old, alloc, child),
         Command::NamePlan { child, school } => name_plan::tried(old, alloc, *child, *school),
@@ -52,7 +53,8 @@ pub(crate) fn kept_by_types(command: &Command)
             let _text = school.name.as_str();
         }
         Command::AddChild(child) | Command::Amend(child) => kept_by_child(child),
-        Command::NamePlan { .. }
+        Command::RaisePan { .. }
+        | Command::NamePlan { .. }
         | Command::Accept { .. }
         | Command::Decline { .. }
         | Command::Lapse { .. }

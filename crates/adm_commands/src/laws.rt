@@ -2,7 +2,9 @@
 ghost use Rattle.adm_commands.specs.History.{DrawsKept, RoundHeld};
 ghost use Rattle.adm_commands.specs.Imports.{ImportOnce};
 ghost use Rattle.adm_commands.specs.Outcome.{OneStep, RepeatSafe};
+ghost use Rattle.adm_commands.specs.WhatIf.{NoBetterList};
 
+use adm_match::no_gain;
 use adm_round::one_allotment;
 
 /// A command that follows itself at once leaves a register as it was.
@@ -33,3 +35,11 @@ pub fn round_held()
 pub fn import_once()
     ensures { ImportOnce }
 {}
+
+/// By no other list of schools would a child have a school that it wants more than the one that it
+/// has by its own list: in the best allocation of the next round's problem, whatever the lots.
+pub fn no_better_list()
+    ensures { NoBetterList }
+{
+    no_gain();
+}

@@ -20,11 +20,16 @@ mod name_plan;
 mod not_done;
 mod offered;
 mod one_row;
+mod problems;
 mod proposals;
+mod raise_pan;
 mod remind;
 mod round;
 mod tried;
+mod what_ifs;
 
-pub use laws::{draws_kept, import_once, one_step, repeat_safe, round_held};
+pub use laws::{draws_kept, import_once, no_better_list, one_step, repeat_safe, round_held};
 pub use not_done::NotDone;
+pub use problems::{DrawFault, problem};
 pub use proposals::{Proposal, decide, propose};
+pub use what_ifs::{NotTold, what_if};

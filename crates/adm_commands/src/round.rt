@@ -6,26 +6,23 @@ ghost use Rattle.adm_commands.specs.Tests.{first_failing};
 ghost use Rattle.adm_register.specs.WellFormed.{WellFormed};
 ghost use Rattle.adm_commands.specs.KeptByTypes.{KeptByRound};
 ghost use Rattle.adm_commands.specs.Outcome.{Comes, IsHeld, without_row};
-ghost use Rattle.adm_draws.specs.Draws.{repeats_lot};
 ghost use Rattle.adm_register.specs.Draws.{IsWithin, draws_so_far};
-ghost use Rattle.adm_commands.specs.Round.{tests, round_pairs, round_lots, offer_of, offers_on};
+ghost use Rattle.adm_commands.specs.Round.{tests, is_lot_count, are_lots_apart, offer_of, offers_on};
 ghost use Rattle.adm_round.specs.Outcomes.{is_kept};
 
-use crate::entrants::{entrants, sites};
 use crate::failing::first_failing;
 use crate::one_row::one;
+use crate::problems::{Parts, parts_of};
 use crate::tried::{Tried, refused};
-use adm_draws::has_repeated_lot;
 use adm_register::draws_so_far::{DrawsSoFar, draws_so_far, is_due};
 use adm_register::{Difference, Tables};
-use adm_round::{allot, counts, drawn, wanted_pairs};
+use adm_round::{allot, counts};
 use adm_table::Shared;
 use adm_types::limits::{MOST_DRAWS, MOST_LOTS};
 use adm_types::{Day, Draw, Lot, Outcome, Place, PlaceRow, PlaceState, Refusal, Reply, Seq};
 use std::alloc::{AllocError, Global};
 
-/// Why it is refused, where so many draws were made, lots are drawn for so many pairs, and two of
-/// these lots at one school are equal or none.
+/// Why it is refused, where so many draws were made, and this is what the tests of lots say.
 #[tactic(auto, unfolding(crate::specs::Round::tests))]
 fn refusal_of(
     old: &Tables,
@@ -33,13 +30,13 @@ fn refusal_of(
     draw: u32,
     day: Day,
     lots: &Seq<u32>,
-    pairs: usize,
-    repeated: bool,
+    counted: bool,
+    apart: bool,
 ) -> Option<Refusal>
     requires draws { so_far.now ≡ draws_so_far old.now }
     requires within { IsWithin so_far.now }
-    requires pairs { pairs ≡ length (round_pairs old.now) }
-    requires repeated { repeated ≡ repeats_lot (round_lots old.now lots.now) }
+    requires counted { counted ≡ is_lot_count old.now lots.now }
+    requires apart { apart ≡ are_lots_apart old.now lots.now }
     ensures { result ≡ first_failing (tests old.now draw day lots.now) }
 {
     let room = so_far.draws < MOST_DRAWS && lots.len() <= MOST_LOTS - so_far.lots;
@@ -47,8 +44,8 @@ fn refusal_of(
         (draw == so_far.draws + 1, Refusal::WrongDraw),
         (day <= old.season().lists_end(), Refusal::ListClosed),
         (is_due(old.season(), so_far.day, day), Refusal::TooSoon),
-        (lots.len() == pairs, Refusal::LotCount),
-        (!repeated, Refusal::LotsRepeated),
+        (counted, Refusal::LotCount),
+        (apart, Refusal::LotsRepeated),
         (room, Refusal::RegisterFull),
     ])
 }
@@ -69,13 +66,14 @@ pub(crate) fn tried(
     ensures { IfOk result (λ tried. Comes (without_row (first_failing (tests old.now draw day lots.now))) (IsHeld old.now draw day lots.now) tried) }
 {
     let so_far = draws_so_far(old, alloc)?;
-    let sites = sites(old, alloc)?;
-    let applicants = entrants(old, alloc)?;
-    let pairs = wanted_pairs(alloc, &sites, &applicants)?;
-    let count = pairs.len();
-    let drawn = drawn(alloc, pairs, lots.as_slice())?;
-    let repeated = has_repeated_lot(alloc, &drawn)?;
-    let why = refusal_of(old, &so_far, draw, day, lots, count, repeated);
+    let Parts {
+        sites,
+        applicants,
+        drawn,
+        counted,
+        apart,
+    } = parts_of(old, alloc, lots.as_slice())?;
+    let why = refusal_of(old, &so_far, draw, day, lots, counted, apart);
     if let Some(refusal) = why {
         return Ok(refused(refusal));
     }

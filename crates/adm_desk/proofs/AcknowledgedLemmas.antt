@@ -11,7 +11,7 @@ use Rattle.adm_store.specs.StandsFor.{LeavesOnly}
 use Rattle.adm_desk.specs.declared.answer.Answer.{Answer}
 use Rattle.adm_desk.specs.declared.answer.Answer.TheVariants.{Done, Refused, Memory, Failed}
 use Rattle.adm_desk.specs.declared.answer.LineAnswer.{LineAnswer}
-use Rattle.adm_desk.specs.declared.answer.LineAnswer.TheVariants.{Handled, Faulty}
+use Rattle.adm_desk.specs.declared.answer.LineAnswer.TheVariants.{Handled, Faulty, Told}
 use Rattle.adm_desk.specs.Steps.{IsRun}
 use Rattle.adm_desk.specs.Lines.{AnswersLine, AnswersLines}
 use Rattle.adm_desk.specs.Standing.{Standing, Handles, InWork}
@@ -34,7 +34,7 @@ from_same : {D : Type 0} (step : D → Command → Answer → D → Type 0) (old
 from_same {D} step old mid new more same run = let P : D → Type 0 = λ h. RunsOver step h more new in subst P same run
 
 over_lines : {D : Type 0} (step : D → Command → Answer → D → Type 0) (old new : D) (lines : List (List ℕ)) (answers : List LineAnswer)
-    → AnswersLines step old lines answers new → RunsOver step old (handled lines answers) new
+    → AnswersLines (AnswersLine step) old lines answers new → RunsOver step old (handled lines answers) new
 over_lines step old new [] [] run = run
 over_lines step old new [] (a ∷ answers) run = absurd run
 over_lines step old new (l ∷ lines) [] run = absurd run
@@ -47,6 +47,7 @@ over_lines step old new (l ∷ lines) (Faulty f ∷ answers) run = from_same ste
     unchanged step old mid line fault.MissingField by = by.1
     unchanged step old mid line fault.WrongKind by = by.1
     unchanged step old mid line fault.ExtraField by = by.1
+over_lines step old new (l ∷ lines) (Told t ∷ answers) run = absurd run.1
 over_lines {D} step old new (l ∷ lines) (Handled a ∷ answers) run =
     let by = run.1 in
     let P : Result Command WireFault → Type 0 = λ read. RunsOver step old (with_command read a (handled lines answers)) new in
@@ -103,7 +104,7 @@ module _ {C : Type 0} (disk : C → Disk) where
   keeps_commands old new commands answers alive leaves run = keeps old new (zip commands answers) alive leaves (over_commands (Handles disk) old new commands answers run)
 
   pub keeps_lines : (old new : Standing C) (lines : List (List ℕ)) (answers : List LineAnswer) → old.failed ≡ false → LeavesOnly old.register (disk old.conn)
-      → AnswersLines (Handles disk) old lines answers new → KeepsAcknowledged disk old new (handled lines answers)
+      → AnswersLines (AnswersLine (Handles disk)) old lines answers new → KeepsAcknowledged disk old new (handled lines answers)
   keeps_lines old new lines answers alive leaves run = keeps old new (handled lines answers) alive leaves (over_lines (Handles disk) old new lines answers run)
 
 -- ---- which register that is

@@ -7,8 +7,6 @@ use Rattle.std.proofs.lemmas.List.Sums.{sum_by-append}
 use Rattle.std.proofs.Math.Seq.{take-append-add, drop-append-add, take-length}
 use Rattle.adm_lists.proofs.Each.{each_append}
 use Rattle.adm_lists.proofs.KnownBytes.{Appends-then}
-use Rattle.adm_types.specs.declared.commands.Command.{Command}
-use Rattle.adm_desk.specs.declared.answer.Answer.{Answer}
 use Rattle.adm_desk.specs.declared.answer.LineAnswer.{LineAnswer}
 use Rattle.adm_desk.specs.declared.run.Run.{Run}
 use Rattle.adm_desk.specs.Lines.{AnswersLines, line_text, text_of, is_done, is_refused, is_failed}
@@ -16,12 +14,12 @@ use Rattle.adm_desk.specs.Written.{Answered, Stopped, Counts, counted, IsBeginni
 use Rattle.adm_desk.proofs.Known.{Appends-nothing}
 use Rattle.adm_desk.proofs.CutLemmas.{Cuts-then, Cuts-nothing, whole-then}
 
-AnswersLines-append : {D : Type 0} (step : D → Command → Answer → D → Type 0) (old mid new : D) (ls ms : List (List ℕ)) (xs ys : List LineAnswer)
-    → AnswersLines step old ls xs mid → AnswersLines step mid ms ys new → AnswersLines step old (ls ++ ms) (xs ++ ys) new
-AnswersLines-append {D} step old mid new [] ms [] ys p q = let P : D → Type 0 = λ h. AnswersLines step h ms ys new in subst P p q
-AnswersLines-append step old mid new [] ms (x ∷ xs) ys p q = absurd p
-AnswersLines-append step old mid new (l ∷ ls) ms [] ys p q = absurd p
-AnswersLines-append step old mid new (l ∷ ls) ms (x ∷ xs) ys p q = (p.0, p.1, AnswersLines-append step p.0 mid new ls ms xs ys p.2 q)
+AnswersLines-append : {D : Type 0} (runs : D → List ℕ → LineAnswer → D → Type 0) (old mid new : D) (ls ms : List (List ℕ)) (xs ys : List LineAnswer)
+    → AnswersLines runs old ls xs mid → AnswersLines runs mid ms ys new → AnswersLines runs old (ls ++ ms) (xs ++ ys) new
+AnswersLines-append {D} runs old mid new [] ms [] ys p q = let P : D → Type 0 = λ h. AnswersLines runs h ms ys new in subst P p q
+AnswersLines-append runs old mid new [] ms (x ∷ xs) ys p q = absurd p
+AnswersLines-append runs old mid new (l ∷ ls) ms [] ys p q = absurd p
+AnswersLines-append runs old mid new (l ∷ ls) ms (x ∷ xs) ys p q = (p.0, p.1, AnswersLines-append runs p.0 mid new ls ms xs ys p.2 q)
 
 pub text_of-append : (xs ys : List LineAnswer) → text_of (xs ++ ys) ≡ text_of xs ++ text_of ys
 text_of-append xs ys = flat_map-append (λ a. line_text a ++ 10 ∷ []) xs ys
@@ -43,11 +41,11 @@ Counts-then a b c xs ys p q = record {
   failed = rw (list_any-append is_failed xs ys) (or-then a.failed b.failed c.failed _ _ p.failed q.failed);
 }
 
-pub Answered-then : {D : Type 0} (step : D → Command → Answer → D → Type 0) (old mid new : D) (u v w : Option (List ℕ)) (a b c : Run) (ls ms : List (List ℕ))
-    → Answered step old mid u v a b ls → Answered step mid new v w b c ms → Answered step old new u w a c (ls ++ ms)
-Answered-then step old mid new u v w a b c ls ms p q = record {
+pub Answered-then : {D : Type 0} (runs : D → List ℕ → LineAnswer → D → Type 0) (old mid new : D) (u v w : Option (List ℕ)) (a b c : Run) (ls ms : List (List ℕ))
+    → Answered runs old mid u v a b ls → Answered runs mid new v w b c ms → Answered runs old new u w a c (ls ++ ms)
+Answered-then runs old mid new u v w a b c ls ms p q = record {
   answers = p.answers ++ q.answers;
-  answered = AnswersLines-append step old mid new ls ms p.answers q.answers p.answered q.answered;
+  answered = AnswersLines-append runs old mid new ls ms p.answers q.answers p.answered q.answered;
   written = rw (text_of-append p.answers q.answers) (Appends-then u v w _ _ p.written q.written);
   counted = Counts-then a b c p.answers q.answers p.counted q.counted;
 }
@@ -77,18 +75,18 @@ later_beginning xs (y ∷ ys) text h =
     let same : length (xs ++ y ∷ ys) - 1 ≡ length xs + (length (y ∷ ys) - 1) = omega (arith, length-append xs (y ∷ ys)) in
     (h.0, rw same (after_front xs (y ∷ ys) (length (y ∷ ys) - 1) h.0 text h.1))
 
-pub Answered-stopped : {D : Type 0} (step : D → Command → Answer → D → Type 0) (old mid new : D) (u v w : Option (List ℕ)) (a b : Run) (ls ms : List (List ℕ))
-    → Answered step old mid u v a b ls → Stopped step mid new v w ms → Stopped step old new u w (ls ++ ms)
-Answered-stopped step old mid new u v w a b ls ms p q = record {
+pub Answered-stopped : {D : Type 0} (runs : D → List ℕ → LineAnswer → D → Type 0) (old mid new : D) (u v w : Option (List ℕ)) (a b : Run) (ls ms : List (List ℕ))
+    → Answered runs old mid u v a b ls → Stopped runs mid new v w ms → Stopped runs old new u w (ls ++ ms)
+Answered-stopped runs old mid new u v w a b ls ms p q = record {
   answers = p.answers ++ q.answers;
   text = text_of p.answers ++ q.text;
-  answered = AnswersLines-append step old mid new ls ms p.answers q.answers p.answered q.answered;
+  answered = AnswersLines-append runs old mid new ls ms p.answers q.answers p.answered q.answered;
   beginning = later_beginning p.answers q.answers q.text q.beginning;
   written = Appends-then u v w _ _ p.written q.written;
 }
 
-pub Answered-nothing : {D : Type 0} (step : D → Command → Answer → D → Type 0) (h : D) (w : Option (List ℕ)) (run : Run) → Answered step h h w w run run []
-Answered-nothing step h w run = record {
+pub Answered-nothing : {D : Type 0} (runs : D → List ℕ → LineAnswer → D → Type 0) (h : D) (w : Option (List ℕ)) (run : Run) → Answered runs h h w w run run []
+Answered-nothing runs h w run = record {
   answers = [];
   answered = refl;
   written = Appends-nothing w;
@@ -99,8 +97,8 @@ Answered-nothing step h w run = record {
     or_false true = refl
     or_false false = refl
 
-pub Stopped-nothing : {D : Type 0} (step : D → Command → Answer → D → Type 0) (h : D) (w : Option (List ℕ)) → Stopped step h h w w []
-Stopped-nothing step h w = record {
+pub Stopped-nothing : {D : Type 0} (runs : D → List ℕ → LineAnswer → D → Type 0) (h : D) (w : Option (List ℕ)) → Stopped runs h h w w []
+Stopped-nothing runs h w = record {
   answers = [];
   text = [];
   answered = refl;
@@ -108,31 +106,31 @@ Stopped-nothing step h w = record {
   written = Appends-nothing w;
 }
 
-pub Takes-nothing : {D : Type 0} (step : D → Command → Answer → D → Type 0) (h : D) (w : Option (List ℕ)) (run : Run) (pending : List ℕ) → Takes step h h w w run run pending pending []
-Takes-nothing step h w run pending = record { lines = []; cut = Cuts-nothing pending; answered = Answered-nothing step h w run }
+pub Takes-nothing : {D : Type 0} (runs : D → List ℕ → LineAnswer → D → Type 0) (h : D) (w : Option (List ℕ)) (run : Run) (pending : List ℕ) → Takes runs h h w w run run pending pending []
+Takes-nothing runs h w run pending = record { lines = []; cut = Cuts-nothing pending; answered = Answered-nothing runs h w run }
 
-pub Takes-then : {D : Type 0} (step : D → Command → Answer → D → Type 0) (old mid new : D) (u v w : Option (List ℕ)) (a b c : Run) (p q r xs ys : List ℕ)
-    → Takes step old mid u v a b p q xs → Takes step mid new v w b c q r ys → Takes step old new u w a c p r (xs ++ ys)
-Takes-then step old mid new u v w a b c p q r xs ys first next = record {
+pub Takes-then : {D : Type 0} (runs : D → List ℕ → LineAnswer → D → Type 0) (old mid new : D) (u v w : Option (List ℕ)) (a b c : Run) (p q r xs ys : List ℕ)
+    → Takes runs old mid u v a b p q xs → Takes runs mid new v w b c q r ys → Takes runs old new u w a c p r (xs ++ ys)
+Takes-then runs old mid new u v w a b c p q r xs ys first next = record {
   lines = first.lines ++ next.lines;
   cut = Cuts-then p xs q ys r first.lines next.lines first.cut next.cut;
-  answered = Answered-then step old mid new u v w a b c first.lines next.lines first.answered next.answered;
+  answered = Answered-then runs old mid new u v w a b c first.lines next.lines first.answered next.answered;
 }
 
-pub Takes-breaks : {D : Type 0} (step : D → Command → Answer → D → Type 0) (old mid new : D) (u v w : Option (List ℕ)) (a b : Run) (p q xs ys : List ℕ)
-    → Takes step old mid u v a b p q xs → Breaks step mid new v w q ys → Breaks step old new u w p (xs ++ ys)
-Takes-breaks step old mid new u v w a b p q xs ys first next = record {
+pub Takes-breaks : {D : Type 0} (runs : D → List ℕ → LineAnswer → D → Type 0) (old mid new : D) (u v w : Option (List ℕ)) (a b : Run) (p q xs ys : List ℕ)
+    → Takes runs old mid u v a b p q xs → Breaks runs mid new v w q ys → Breaks runs old new u w p (xs ++ ys)
+Takes-breaks runs old mid new u v w a b p q xs ys first next = record {
   lines = first.lines ++ next.lines;
   more = next.more;
   whole = whole-then p xs q ys next.more first.lines next.lines first.cut.whole next.whole;
   plain = λ plain. let before = first.cut.plain plain in each_append IsPlain first.lines next.lines before.0 (next.plain before.1);
-  stopped = Answered-stopped step old mid new u v w a b first.lines next.lines first.answered next.stopped;
+  stopped = Answered-stopped runs old mid new u v w a b first.lines next.lines first.answered next.stopped;
 }
 
 -- bytes that were not taken lie behind
-pub Breaks-longer : {D : Type 0} (step : D → Command → Answer → D → Type 0) (old new : D) (u v : Option (List ℕ)) (p xs ys : List ℕ)
-    → Breaks step old new u v p xs → Breaks step old new u v p (xs ++ ys)
-Breaks-longer step old new u v p xs ys b = record {
+pub Breaks-longer : {D : Type 0} (runs : D → List ℕ → LineAnswer → D → Type 0) (old new : D) (u v : Option (List ℕ)) (p xs ys : List ℕ)
+    → Breaks runs old new u v p xs → Breaks runs old new u v p (xs ++ ys)
+Breaks-longer runs old new u v p xs ys b = record {
   lines = b.lines;
   more = b.more ++ ys;
   whole = sym (append_assoc p xs ys) ∙ (ap (λ zs. zs ++ ys) b.whole ∙ append_assoc (joined b.lines) b.more ys);

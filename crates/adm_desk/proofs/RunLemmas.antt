@@ -3,8 +3,7 @@ use Rattle.std.proofs.Common.{◌≡◌, ℕ, ◌-◌, ◌^◌, ◌≤◌, ◌<�
 use Rattle.std.specs.Io.KnownBytes.{Consumes, Keeps, IsAtEnd}
 use Rattle.std.specs.List.{AllByRecursion}
 use Rattle.std.proofs.Math.Seq.{take-length}
-use Rattle.adm_types.specs.declared.commands.Command.{Command}
-use Rattle.adm_desk.specs.declared.answer.Answer.{Answer}
+use Rattle.adm_desk.specs.declared.answer.LineAnswer.{LineAnswer}
 use Rattle.adm_desk.specs.declared.run.Run.{Run}
 use Rattle.adm_desk.specs.Lines.{lines_of, ended}
 use Rattle.adm_desk.specs.Written.{Answered, Finished, AnsweredUpTo, Stopped, StoppedWithin, Takes, Breaks, joined, IsPlain, last_line}
@@ -48,11 +47,11 @@ ended_lines ls p plain rest = rw (ended-joined ls p plain rest) (first_lines ls 
 no_run : Run
 no_run = record { done = 0; refused = 0; failed = false }
 
-pub finished_from : {D : Type 0} (step : D → Command → Answer → D → Type 0) (old mid new : D) (u v w : Option (List ℕ)) (run ran : Run) (p bytes : List ℕ)
-    → Takes step old mid u v (record { done = 0; refused = 0; failed = false }) run [] p bytes → Answered step mid new v w run ran (last_line p) → Finished step old new u w ran (lines_of bytes)
-finished_from {D} step old mid new u v w run ran p bytes takes last =
+pub finished_from : {D : Type 0} (runs : D → List ℕ → LineAnswer → D → Type 0) (old mid new : D) (u v w : Option (List ℕ)) (run ran : Run) (p bytes : List ℕ)
+    → Takes runs old mid u v (record { done = 0; refused = 0; failed = false }) run [] p bytes → Answered runs mid new v w run ran (last_line p) → Finished runs old new u w ran (lines_of bytes)
+finished_from {D} runs old mid new u v w run ran p bytes takes last =
     let plain = takes.cut.plain tt in
-    let whole = Answered-then step old mid new u v w _ run ran takes.lines (last_line p) takes.answered last in
+    let whole = Answered-then runs old mid new u v w _ run ran takes.lines (last_line p) takes.answered last in
     let lines : lines_of bytes ≡ takes.lines ++ last_line p = ap lines_of takes.cut.whole ∙ all_lines takes.lines p plain.0 plain.1 in
     rw lines record {
       answers = whole.answers;
@@ -63,28 +62,28 @@ finished_from {D} step old mid new u v w run ran p bytes takes last =
       failed = whole.counted.failed;
     }
 
-pub stopped_from : {D : Type 0} (step : D → Command → Answer → D → Type 0) (old mid new : D) (u v w left : Option (List ℕ)) (run ran : Run) (p bytes : List ℕ)
-    → Takes step old mid u v run ran [] p bytes → Stopped step mid new v w (last_line p) → IsAtEnd left → StoppedWithin step old new u w bytes left
-stopped_from step old mid new u v w left run ran p bytes takes last end =
+pub stopped_from : {D : Type 0} (runs : D → List ℕ → LineAnswer → D → Type 0) (old mid new : D) (u v w left : Option (List ℕ)) (run ran : Run) (p bytes : List ℕ)
+    → Takes runs old mid u v run ran [] p bytes → Stopped runs mid new v w (last_line p) → IsAtEnd left → StoppedWithin runs old new u w bytes left
+stopped_from runs old mid new u v w left run ran p bytes takes last end =
     let plain = takes.cut.plain tt in
     let lines : lines_of bytes ≡ takes.lines ++ last_line p = ap lines_of takes.cut.whole ∙ all_lines takes.lines p plain.0 plain.1 in
     record {
       count = length (lines_of bytes);
       within = inl end;
-      stopped = rw (take-length (lines_of bytes), lines) (Answered-stopped step old mid new u v w run ran takes.lines (last_line p) takes.answered last);
+      stopped = rw (take-length (lines_of bytes), lines) (Answered-stopped runs old mid new u v w run ran takes.lines (last_line p) takes.answered last);
     }
 
-pub broken_from : {D : Type 0} (step : D → Command → Answer → D → Type 0) (old new : D) (u v left : Option (List ℕ)) (bytes : List ℕ)
-    → Breaks step old new u v [] bytes → StoppedWithin step old new u v bytes left
-broken_from step old new u v left bytes broken = record {
+pub broken_from : {D : Type 0} (runs : D → List ℕ → LineAnswer → D → Type 0) (old new : D) (u v left : Option (List ℕ)) (bytes : List ℕ)
+    → Breaks runs old new u v [] bytes → StoppedWithin runs old new u v bytes left
+broken_from runs old new u v left bytes broken = record {
   count = length broken.lines;
   within = inr (rw broken.whole (ended-more broken.lines broken.more (broken.plain tt)));
   stopped = rw (broken.whole, first_lines broken.lines broken.more (broken.plain tt)) broken.stopped;
 }
 
-pub read_failed_from : {D : Type 0} (step : D → Command → Answer → D → Type 0) (old new : D) (u v : Option (List ℕ)) (run ran : Run) (p bytes : List ℕ)
-    → Takes step old new u v run ran [] p bytes → AnsweredUpTo step old new u v bytes
-read_failed_from step old new u v run ran p bytes takes =
+pub read_failed_from : {D : Type 0} (runs : D → List ℕ → LineAnswer → D → Type 0) (old new : D) (u v : Option (List ℕ)) (run ran : Run) (p bytes : List ℕ)
+    → Takes runs old new u v run ran [] p bytes → AnsweredUpTo runs old new u v bytes
+read_failed_from runs old new u v run ran p bytes takes =
     let plain = takes.cut.plain tt in
     let lines : take (ended bytes) (lines_of bytes) ≡ takes.lines = ap (λ b. take (ended b) (lines_of b)) takes.cut.whole ∙ ended_lines takes.lines p plain.0 plain.1 in
     record {

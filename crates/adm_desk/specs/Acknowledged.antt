@@ -12,7 +12,7 @@ use Rattle.adm_store.specs.StandsFor.{LeavesOnly}
 use Rattle.adm_desk.specs.declared.answer.Answer.{Answer}
 use Rattle.adm_desk.specs.declared.answer.Answer.TheVariants.{Done, Refused, Memory, Failed}
 use Rattle.adm_desk.specs.declared.answer.LineAnswer.{LineAnswer}
-use Rattle.adm_desk.specs.declared.answer.LineAnswer.TheVariants.{Handled, Faulty}
+use Rattle.adm_desk.specs.declared.answer.LineAnswer.TheVariants.{Handled, Faulty, Told}
 use Rattle.adm_desk.specs.Standing.{Standing, InWork}
 
 -- ---- registers
@@ -54,6 +54,7 @@ handled [] answers = []
 handled (line ∷ lines) [] = []
 handled (line ∷ lines) (Handled answer ∷ answers) = with_command (command_of line) answer (handled lines answers)
 handled (line ∷ lines) (Faulty fault ∷ answers) = handled lines answers
+handled (line ∷ lines) (Told told ∷ answers) = handled lines answers
 
 -- ---- what a crash leaves, and what the next start finds
 

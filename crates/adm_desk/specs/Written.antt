@@ -2,8 +2,6 @@
 use Rattle.std.specs.Prelude.{◌≡◌, ◌≢◌, ◌⊎◌, ◌≤◌, ℕ, ◌+◌, ◌-◌, ◌^◌, ◌||◌, min, max, List, [], ◌∷◌, ◌++◌, Bool, true, Option, length, take, drop, count_by}
 use Rattle.std.specs.List.{list_any, flat_map, AllByRecursion}
 use Rattle.std.specs.Io.KnownBytes.{Appends, IsAtEnd}
-use Rattle.adm_types.specs.declared.commands.Command.{Command}
-use Rattle.adm_desk.specs.declared.answer.Answer.{Answer}
 use Rattle.adm_desk.specs.declared.answer.LineAnswer.{LineAnswer}
 use Rattle.adm_desk.specs.declared.run.Run.{Run}
 use Rattle.adm_desk.specs.declared.run.RunFault.{RunFault}
@@ -25,40 +23,40 @@ abbrev pub IsBeginning : List LineAnswer → List ℕ → Type 0
 IsBeginning answers text = (n : ℕ) × (text ≡ text_of (take (length answers - 1) answers) ++ take n (text_of (drop (length answers - 1) answers)))
 
 -- the lines were answered, each answer was written whole, and the counts are theirs
-pub record Answered {D : Type 0} (step : D → Command → Answer → D → Type 0) (old new : D) (old_text new_text : Option (List ℕ)) (old_run new_run : Run) (lines : List (List ℕ)) : Type 0 where
+pub record Answered {D : Type 0} (runs : D → List ℕ → LineAnswer → D → Type 0) (old new : D) (old_text new_text : Option (List ℕ)) (old_run new_run : Run) (lines : List (List ℕ)) : Type 0 where
   pub answers : List LineAnswer
-  pub answered : AnswersLines step old lines answers new
+  pub answered : AnswersLines runs old lines answers new
   pub written : Appends old_text new_text (text_of answers)
   pub counted : Counts old_run new_run answers
 
 -- the lines were answered, each answer was written whole, and the run counts them
-pub record Finished {D : Type 0} (step : D → Command → Answer → D → Type 0) (old new : D) (old_text new_text : Option (List ℕ)) (run : Run) (lines : List (List ℕ)) : Type 0 where
+pub record Finished {D : Type 0} (runs : D → List ℕ → LineAnswer → D → Type 0) (old new : D) (old_text new_text : Option (List ℕ)) (run : Run) (lines : List (List ℕ)) : Type 0 where
   pub answers : List LineAnswer
-  pub answered : AnswersLines step old lines answers new
+  pub answered : AnswersLines runs old lines answers new
   pub written : Appends old_text new_text (text_of answers)
   pub done : run.done ≡ min (count_by is_done answers) (2 ^ 64 - 1)
   pub refused : run.refused ≡ min (count_by is_refused answers) (2 ^ 64 - 1)
   pub failed : run.failed ≡ list_any is_failed answers
 
 -- The reader failed after these bytes: the lines that had ended were answered, and their answers written.
-pub record AnsweredUpTo {D : Type 0} (step : D → Command → Answer → D → Type 0) (old new : D) (old_text new_text : Option (List ℕ)) (bytes : List ℕ) : Type 0 where
+pub record AnsweredUpTo {D : Type 0} (runs : D → List ℕ → LineAnswer → D → Type 0) (old new : D) (old_text new_text : Option (List ℕ)) (bytes : List ℕ) : Type 0 where
   pub answers : List LineAnswer
-  pub answered : AnswersLines step old (take (ended bytes) (lines_of bytes)) answers new
+  pub answered : AnswersLines runs old (take (ended bytes) (lines_of bytes)) answers new
   pub written : Appends old_text new_text (text_of answers)
 
 -- the lines were answered, and the answers were written but for a part of the last one
-pub record Stopped {D : Type 0} (step : D → Command → Answer → D → Type 0) (old new : D) (old_text new_text : Option (List ℕ)) (lines : List (List ℕ)) : Type 0 where
+pub record Stopped {D : Type 0} (runs : D → List ℕ → LineAnswer → D → Type 0) (old new : D) (old_text new_text : Option (List ℕ)) (lines : List (List ℕ)) : Type 0 where
   pub answers : List LineAnswer
   pub text : List ℕ
-  pub answered : AnswersLines step old lines answers new
+  pub answered : AnswersLines runs old lines answers new
   pub beginning : IsBeginning answers text
   pub written : Appends old_text new_text text
 
 -- A fault of the writer or of memory, after these bytes: some first lines of them were answered, and one without LF only at the end of the input.
-pub record StoppedWithin {D : Type 0} (step : D → Command → Answer → D → Type 0) (old new : D) (old_text new_text : Option (List ℕ)) (bytes : List ℕ) (left : Option (List ℕ)) : Type 0 where
+pub record StoppedWithin {D : Type 0} (runs : D → List ℕ → LineAnswer → D → Type 0) (old new : D) (old_text new_text : Option (List ℕ)) (bytes : List ℕ) (left : Option (List ℕ)) : Type 0 where
   pub count : ℕ
   pub within : IsAtEnd left ⊎ (count ≤ ended bytes)
-  pub stopped : Stopped step old new old_text new_text (take count (lines_of bytes))
+  pub stopped : Stopped runs old new old_text new_text (take count (lines_of bytes))
 
 -- ---- for private clauses
 
@@ -80,18 +78,18 @@ pub record Cuts (old_pending bytes : List ℕ) (lines : List (List ℕ)) (pendin
   pub plain : IsPlain old_pending → AllByRecursion IsPlain lines × IsPlain pending
 
 -- the bytes were taken, and their lines answered
-pub record Takes {D : Type 0} (step : D → Command → Answer → D → Type 0) (old new : D) (old_text new_text : Option (List ℕ)) (old_run new_run : Run) (old_pending pending bytes : List ℕ) : Type 0 where
+pub record Takes {D : Type 0} (runs : D → List ℕ → LineAnswer → D → Type 0) (old new : D) (old_text new_text : Option (List ℕ)) (old_run new_run : Run) (old_pending pending bytes : List ℕ) : Type 0 where
   pub lines : List (List ℕ)
   pub cut : Cuts old_pending bytes lines pending
-  pub answered : Answered step old new old_text new_text old_run new_run lines
+  pub answered : Answered runs old new old_text new_text old_run new_run lines
 
 -- the bytes were taken up to some place, and it stopped there
-pub record Breaks {D : Type 0} (step : D → Command → Answer → D → Type 0) (old new : D) (old_text new_text : Option (List ℕ)) (old_pending bytes : List ℕ) : Type 0 where
+pub record Breaks {D : Type 0} (runs : D → List ℕ → LineAnswer → D → Type 0) (old new : D) (old_text new_text : Option (List ℕ)) (old_pending bytes : List ℕ) : Type 0 where
   pub lines : List (List ℕ)
   pub more : List ℕ
   pub whole : old_pending ++ bytes ≡ joined lines ++ more
   pub plain : IsPlain old_pending → AllByRecursion IsPlain lines
-  pub stopped : Stopped step old new old_text new_text lines
+  pub stopped : Stopped runs old new old_text new_text lines
 
 -- no fault here is of the reader's, and a fault of the writer's shows in it
 abbrev pub OfWriter : RunFault → Bool → Type 0

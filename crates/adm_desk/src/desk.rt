@@ -3,7 +3,7 @@ ghost use Rattle.std.specs.Prelude.{◌≡◌, ◌≢◌, ◌^◌, ◌<◌, ◌-
 ghost use Rattle.std.specs.Io.KnownBytes.{Consumes, IsAtEnd};
 ghost use Rattle.sqlite.specs.Held.{state};
 ghost use Rattle.sqlite.specs.State.{HasCleanDisk, Survives};
-ghost use Rattle.adm_register.specs.Extends.{Extends, KeepsSchools};
+ghost use Rattle.adm_register.specs.Extends.{Extends};
 ghost use Rattle.adm_register.specs.Difference.{IsDifference};
 ghost use Rattle.adm_register.specs.WellFormed.{WellFormed};
 ghost use Rattle.adm_store.specs.Changes.{IsChanges};
@@ -13,18 +13,21 @@ ghost use Rattle.adm_store.specs.StandsFor.{IsStarted, LeavesOnly, LeavesNone};
 ghost use Rattle.adm_store.specs.Migration.{IsMigrated};
 ghost use Rattle.adm_desk.specs.Steps.{IsRun};
 ghost use Rattle.adm_desk.specs.Standing.{Handles, Keeps, Standing};
-ghost use Rattle.adm_desk.specs.Lines.{lines_of, AnswersLines};
+ghost use Rattle.adm_desk.specs.Lines.{lines_of, AnswersLine, AnswersLines};
 ghost use Rattle.adm_desk.specs.Acknowledged.{KeepsAcknowledged, handled};
-ghost use Rattle.adm_desk.specs.declared.answer.LineAnswer.{LineAnswer};
+ghost use Rattle.adm_desk.specs.Questions.{TellsLine};
+ghost use Rattle.adm_desk.specs.declared.answer.LineAnswer.{LineAnswer as AnswerValue};
 ghost use Rattle.adm_desk.specs.Written.{Finished, AnsweredUpTo, StoppedWithin};
 
 use crate::handler::{self, Handler};
-use crate::{Answer, Run, RunFault, lines};
+use crate::lines::Liner;
+use crate::questions::Asked;
+use crate::{Answer, LineAnswer, Run, RunFault, lines};
 use adm_commands::{NotDone, Proposal, propose};
 use adm_register::{Difference, Register};
 use adm_store::{Changes, OpenFault, Store, changes};
 use adm_types::{Command, Reply};
-use adm_wire::{Input, Output};
+use adm_wire::{Input, Output, read_command};
 use sqlite::{Alter, Connection};
 use std::alloc::{AllocError, Global};
 use std::marker::Model;
@@ -146,7 +149,6 @@ impl<S: Alter> Desk<S> {
         requires alive { self.old.failed ≡ false }
         requires differs { IsDifference self.old.register new change }
         requires extends { Extends self.old.register new × WellFormed new }
-        requires schools { KeepsSchools self.old.register new }
         ensures { Keeps (state S.Store) self.old new reply result self.new }
     {
         match changes(self.alloc, &self.register, change) {
@@ -160,7 +162,6 @@ impl<S: Alter> Desk<S> {
         requires alive { self.old.failed ≡ false }
         requires changes { IsChanges self.old.register new changes.now }
         requires extends { Extends self.old.register new × WellFormed new }
-        requires schools { KeepsSchools self.old.register new }
         ensures { Keeps (state S.Store) self.old new reply result self.new }
     {
         match self.store.commit(changes) {
@@ -197,23 +198,63 @@ impl<S: Alter> Desk<S> {
         // The reader was read to its end, and each of its lines was answered, written and counted.
         ensures end { OnOk result (IsAtEnd (R.remaining reader.new)) }
         ensures ok { IfOk result (λ run. (bytes : List ℕ) × Consumes (R.remaining reader.old) (R.remaining reader.new) bytes
-            × Finished (Handles (state S.Store)) self.old self.new (W.contents writer.old) (W.contents writer.new) run (lines_of bytes)) }
+            × Finished (AnswersLine (Handles (state S.Store))) self.old self.new (W.contents writer.old) (W.contents writer.new) run (lines_of bytes)) }
 
         // A fault of the reader: it failed, and what had been read before was answered line by line.
         ensures read_failed { IsErrOf result RunFault.Read → IfSome (R.remaining reader.old) (λ input. length input < 2 ^ 64 - 1 → R.has_failed reader.new ≡ true) }
         ensures read { IsErrOf result RunFault.Read → (bytes : List ℕ) × Consumes (R.remaining reader.old) (R.remaining reader.new) bytes
-            × AnsweredUpTo (Handles (state S.Store)) self.old self.new (W.contents writer.old) (W.contents writer.new) bytes }
+            × AnsweredUpTo (AnswersLine (Handles (state S.Store))) self.old self.new (W.contents writer.old) (W.contents writer.new) bytes }
 
         // A fault of the writer, or of memory: some first lines were answered, and only of the last answer a part may be missing.
         ensures write_failed { IsErrOf result RunFault.Write → W.has_failed writer.new ≡ true }
         ensures stopped { IfErr result (λ e. e ≢ RunFault.Read → (bytes : List ℕ) × Consumes (R.remaining reader.old) (R.remaining reader.new) bytes
-            × StoppedWithin (Handles (state S.Store)) self.old self.new (W.contents writer.old) (W.contents writer.new) bytes (R.remaining reader.new)) }
+            × StoppedWithin (AnswersLine (Handles (state S.Store))) self.old self.new (W.contents writer.old) (W.contents writer.new) bytes (R.remaining reader.new)) }
 
         // Whatever lines were answered so: what their answers acknowledge is kept.
-        ensures kept { self.old.failed ≡ false → (lines : List (List ℕ)) (answers : List LineAnswer)
-            → AnswersLines (Handles (state S.Store)) self.old lines answers self.new → KeepsAcknowledged (state S.Store) self.old self.new (handled lines answers) }
+        ensures kept { self.old.failed ≡ false → (lines : List (List ℕ)) (answers : List AnswerValue)
+            → AnswersLines (AnswersLine (Handles (state S.Store))) self.old lines answers self.new → KeepsAcknowledged (state S.Store) self.old self.new (handled lines answers) }
     {
         lines::run_lines(self.alloc, self, reader, writer)
+    }
+
+    /// Answers the questions that the lines of the reader ask, to its end, and writes an answer for
+    /// each. Lines are as for `run_lines`. The desk stays as it is.
+    pub fn tell_lines<R: Input, W: Output>(
+        &self,
+        reader: &mut R,
+        writer: &mut W,
+    ) -> Result<Run, RunFault>
+        ensures end { OnOk result (IsAtEnd (R.remaining reader.new)) }
+        ensures ok { IfOk result (λ run. (bytes : List ℕ) × Consumes (R.remaining reader.old) (R.remaining reader.new) bytes
+            × Finished TellsLine self.now self.now (W.contents writer.old) (W.contents writer.new) run (lines_of bytes)) }
+        ensures read_failed { IsErrOf result RunFault.Read → IfSome (R.remaining reader.old) (λ input. length input < 2 ^ 64 - 1 → R.has_failed reader.new ≡ true) }
+        ensures read { IsErrOf result RunFault.Read → (bytes : List ℕ) × Consumes (R.remaining reader.old) (R.remaining reader.new) bytes
+            × AnsweredUpTo TellsLine self.now self.now (W.contents writer.old) (W.contents writer.new) bytes }
+        ensures write_failed { IsErrOf result RunFault.Write → W.has_failed writer.new ≡ true }
+        ensures stopped { IfErr result (λ e. e ≢ RunFault.Read → (bytes : List ℕ) × Consumes (R.remaining reader.old) (R.remaining reader.new) bytes
+            × StoppedWithin TellsLine self.now self.now (W.contents writer.old) (W.contents writer.new) bytes (R.remaining reader.new)) }
+    {
+        let mut asked = Asked(self);
+        lines::run_lines(self.alloc, &mut asked, reader, writer)
+    }
+}
+
+impl<S: Alter> Liner for Desk<S> {
+    ghost use Rattle.sqlite.specs.Held.{Held, state};
+    ghost use Rattle.adm_desk.specs.Lines.{AnswersLine};
+    ghost use Rattle.adm_desk.specs.Standing.{Handles, Standing};
+
+    ghost View = { Standing (Held S) };
+
+    ghost view = { λ d. d };
+
+    ghost runs = { AnswersLine (Handles (state S.Store)) };
+
+    fn answer(&mut self, alloc: Global, line: &[u8]) -> LineAnswer {
+        match read_command(alloc, line) {
+            Ok(command) => LineAnswer::Handled(Desk::handle(self, &command)),
+            Err(fault) => LineAnswer::Faulty(fault),
+        }
     }
 }
 

@@ -6,10 +6,11 @@ mod desk;
 mod handler;
 mod laws;
 mod lines;
+mod questions;
 mod restart;
 mod run;
 
-pub use answer::{Answer, LineAnswer};
+pub use answer::{Answer, LineAnswer, Told};
 pub use desk::Desk;
 pub use laws::{one_after, rounds_held, rounds_stay};
 pub use restart::{Restarted, run_and_reopen};

@@ -1,22 +1,28 @@
-// Lines of commands from a reader, each answered by a line to a writer.
+// Lines from a reader, each answered by a line to a writer.
 ghost use Rattle.std.specs.Prelude.{◌≡◌, ◌≢◌, ◌^◌, ◌<◌, ◌-◌, ℕ, true, length, [], ◌∷◌, ◌++◌, List, take, MatchResult, IfOk, IfErr, OnOk, IfSome, IsErrOf};
 ghost use Rattle.std.specs.Io.KnownBytes.{Appends, Consumes, IsAtEnd};
-ghost use Rattle.adm_desk.specs.Lines.{AnswersLine, lines_of, line_text};
+ghost use Rattle.adm_desk.specs.Lines.{lines_of, line_text};
 ghost use Rattle.adm_desk.specs.Written.{Answered, Finished, AnsweredUpTo, Stopped, StoppedWithin, last_line, Counts, Takes, Breaks, OfWriter};
 
-use crate::handler::Handler;
-use crate::{Answer, LineAnswer, Run, RunFault};
-use adm_wire::{Input, Output, read_command};
+use crate::{Answer, LineAnswer, Run, RunFault, Told};
+use adm_wire::{Input, Output};
 use std::alloc::Global;
 
-/// Answers one line.
-fn answer_line<H: Handler>(alloc: Global, handler: &mut H, line: &[u8]) -> LineAnswer
-    ensures { AnswersLine H.step (H.view handler.old) line.now result (H.view handler.new) }
-{
-    match read_command(alloc, line) {
-        Ok(command) => LineAnswer::Handled(handler.handle(&command)),
-        Err(fault) => LineAnswer::Faulty(fault),
-    }
+/// What answers lines.
+pub(crate) trait Liner {
+    ghost use Rattle.std.specs.Prelude.{List, ℕ};
+    ghost use Rattle.adm_desk.specs.declared.answer.LineAnswer.{LineAnswer};
+
+    // What answers, as contracts see it.
+    ghost View: { Type 0 };
+
+    ghost view: { Self → View };
+
+    // What a line may be answered, and what is there then.
+    ghost runs: { View → List ℕ → LineAnswer → View → Type 0 };
+
+    fn answer(&mut self, alloc: Global, line: &[u8]) -> LineAnswer
+        ensures { runs (view self.old) line.now result (view self.new) };
 }
 
 /// Counts an answer.
@@ -29,9 +35,13 @@ fn count(run: &mut Run, answer: &LineAnswer)
         failed: _,
     } = *run;
     match answer {
-        LineAnswer::Handled(Answer::Done(_)) => run.done = done.saturating_add(1),
-        LineAnswer::Handled(Answer::Failed) => run.failed = true,
-        LineAnswer::Handled(Answer::Refused { .. } | Answer::Memory) | LineAnswer::Faulty(_) => {
+        LineAnswer::Handled(Answer::Done(_)) | LineAnswer::Told(Told::School(_)) => {
+            run.done = done.saturating_add(1);
+        }
+        LineAnswer::Handled(Answer::Failed) | LineAnswer::Told(Told::Failed) => run.failed = true,
+        LineAnswer::Handled(Answer::Refused { .. } | Answer::Memory)
+        | LineAnswer::Faulty(_)
+        | LineAnswer::Told(Told::Untold(_)) => {
             run.refused = refused.saturating_add(1);
         }
     }
@@ -62,7 +72,7 @@ fn write_answer<W: Output>(
 }
 
 /// Answers a line and writes its answer.
-fn run_line<H: Handler, W: Output>(
+fn run_line<H: Liner, W: Output>(
     alloc: Global,
     handler: &mut H,
     writer: &mut W,
@@ -70,17 +80,17 @@ fn run_line<H: Handler, W: Output>(
     line: &[u8],
 ) -> Result<(), RunFault>
     ensures bytes { MatchResult result
-        (λ _. Answered H.step (H.view handler.old) (H.view handler.new) (W.contents writer.old) (W.contents writer.new) run.old run.new (line.now ∷ []))
-        (λ _. Stopped H.step (H.view handler.old) (H.view handler.new) (W.contents writer.old) (W.contents writer.new) (line.now ∷ [])) }
+        (λ _. Answered H.runs (H.view handler.old) (H.view handler.new) (W.contents writer.old) (W.contents writer.new) run.old run.new (line.now ∷ []))
+        (λ _. Stopped H.runs (H.view handler.old) (H.view handler.new) (W.contents writer.old) (W.contents writer.new) (line.now ∷ [])) }
     ensures fault { IfErr result (λ e. OfWriter e (W.has_failed writer.new)) }
 {
-    let answer = answer_line(alloc, handler, line);
+    let answer = handler.answer(alloc, line);
     count(run, &answer);
     write_answer(alloc, writer, &answer)
 }
 
 /// Takes one byte: at LF the pending line is answered.
-fn take_byte<H: Handler, W: Output>(
+fn take_byte<H: Liner, W: Output>(
     handler: &mut H,
     writer: &mut W,
     run: &mut Run,
@@ -88,8 +98,8 @@ fn take_byte<H: Handler, W: Output>(
     byte: u8,
 ) -> Result<(), RunFault>
     ensures bytes { MatchResult result
-        (λ _. Takes H.step (H.view handler.old) (H.view handler.new) (W.contents writer.old) (W.contents writer.new) run.old run.new pending.old.items pending.new.items (byte ∷ []))
-        (λ _. Breaks H.step (H.view handler.old) (H.view handler.new) (W.contents writer.old) (W.contents writer.new) pending.old.items (byte ∷ [])) }
+        (λ _. Takes H.runs (H.view handler.old) (H.view handler.new) (W.contents writer.old) (W.contents writer.new) run.old run.new pending.old.items pending.new.items (byte ∷ []))
+        (λ _. Breaks H.runs (H.view handler.old) (H.view handler.new) (W.contents writer.old) (W.contents writer.new) pending.old.items (byte ∷ [])) }
     ensures fault { IfErr result (λ e. OfWriter e (W.has_failed writer.new)) }
 {
     if byte == b'\n' {
@@ -109,7 +119,7 @@ fn take_byte<H: Handler, W: Output>(
 }
 
 /// Takes bytes, one after another.
-fn take_bytes<H: Handler, W: Output>(
+fn take_bytes<H: Liner, W: Output>(
     handler: &mut H,
     writer: &mut W,
     run: &mut Run,
@@ -117,8 +127,8 @@ fn take_bytes<H: Handler, W: Output>(
     bytes: &[u8],
 ) -> Result<(), RunFault>
     ensures bytes { MatchResult result
-        (λ _. Takes H.step (H.view handler.old) (H.view handler.new) (W.contents writer.old) (W.contents writer.new) run.old run.new pending.old.items pending.new.items bytes.now)
-        (λ _. Breaks H.step (H.view handler.old) (H.view handler.new) (W.contents writer.old) (W.contents writer.new) pending.old.items bytes.now) }
+        (λ _. Takes H.runs (H.view handler.old) (H.view handler.new) (W.contents writer.old) (W.contents writer.new) run.old run.new pending.old.items pending.new.items bytes.now)
+        (λ _. Breaks H.runs (H.view handler.old) (H.view handler.new) (W.contents writer.old) (W.contents writer.new) pending.old.items bytes.now) }
     ensures fault { IfErr result (λ e. OfWriter e (W.has_failed writer.new)) }
 {
     for byte in bytes {
@@ -131,7 +141,7 @@ fn take_bytes<H: Handler, W: Output>(
 }
 
 /// Answers the last line, where it has no LF.
-fn finish<H: Handler, W: Output>(
+fn finish<H: Liner, W: Output>(
     alloc: Global,
     handler: &mut H,
     writer: &mut W,
@@ -139,8 +149,8 @@ fn finish<H: Handler, W: Output>(
     pending: &[u8],
 ) -> Result<Run, RunFault>
     ensures bytes { MatchResult result
-        (λ r. Answered H.step (H.view handler.old) (H.view handler.new) (W.contents writer.old) (W.contents writer.new) run r (last_line pending.now))
-        (λ _. Stopped H.step (H.view handler.old) (H.view handler.new) (W.contents writer.old) (W.contents writer.new) (last_line pending.now)) }
+        (λ r. Answered H.runs (H.view handler.old) (H.view handler.new) (W.contents writer.old) (W.contents writer.new) run r (last_line pending.now))
+        (λ _. Stopped H.runs (H.view handler.old) (H.view handler.new) (W.contents writer.old) (W.contents writer.new) (last_line pending.now)) }
     ensures fault { IfErr result (λ e. OfWriter e (W.has_failed writer.new)) }
 {
     let mut run = run;
@@ -155,7 +165,7 @@ fn finish<H: Handler, W: Output>(
 
 /// Answers the lines that the reader gives, to its end, and writes an answer for each. A fault of the
 /// reader leaves the lines answered that ended before it.
-pub(crate) fn run_lines<H: Handler, R: Input, W: Output>(
+pub(crate) fn run_lines<H: Liner, R: Input, W: Output>(
     alloc: Global,
     handler: &mut H,
     reader: &mut R,
@@ -164,17 +174,17 @@ pub(crate) fn run_lines<H: Handler, R: Input, W: Output>(
     // The reader was read to its end, and each of its lines was answered, written and counted.
     ensures end { OnOk result (IsAtEnd (R.remaining reader.new)) }
     ensures ok { IfOk result (λ run. (bytes : List ℕ) × Consumes (R.remaining reader.old) (R.remaining reader.new) bytes
-        × Finished H.step (H.view handler.old) (H.view handler.new) (W.contents writer.old) (W.contents writer.new) run (lines_of bytes)) }
+        × Finished H.runs (H.view handler.old) (H.view handler.new) (W.contents writer.old) (W.contents writer.new) run (lines_of bytes)) }
 
     // A fault of the reader: it failed, and what had been read before was answered line by line.
     ensures read_failed { IsErrOf result RunFault.Read → IfSome (R.remaining reader.old) (λ input. length input < 2 ^ 64 - 1 → R.has_failed reader.new ≡ true) }
     ensures read { IsErrOf result RunFault.Read → (bytes : List ℕ) × Consumes (R.remaining reader.old) (R.remaining reader.new) bytes
-        × AnsweredUpTo H.step (H.view handler.old) (H.view handler.new) (W.contents writer.old) (W.contents writer.new) bytes }
+        × AnsweredUpTo H.runs (H.view handler.old) (H.view handler.new) (W.contents writer.old) (W.contents writer.new) bytes }
 
     // A fault of the writer, or of memory: some first lines were answered, and only of the last answer a part may be missing.
     ensures write_failed { IsErrOf result RunFault.Write → W.has_failed writer.new ≡ true }
     ensures stopped { IfErr result (λ e. e ≢ RunFault.Read → (bytes : List ℕ) × Consumes (R.remaining reader.old) (R.remaining reader.new) bytes
-        × StoppedWithin H.step (H.view handler.old) (H.view handler.new) (W.contents writer.old) (W.contents writer.new) bytes (R.remaining reader.new)) }
+        × StoppedWithin H.runs (H.view handler.old) (H.view handler.new) (W.contents writer.old) (W.contents writer.new) bytes (R.remaining reader.new)) }
 {
     let mut run = Run {
         done: 0,

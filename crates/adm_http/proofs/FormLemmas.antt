@@ -9,11 +9,11 @@ use Rattle.std.proofs.Math.Seq.{take-append_seam}
 use Rattle.matchit.specs.Params.{walk}
 use Rattle.matchit.specs.Seek.{has_slash, first}
 use Rattle.matchit.specs.Rows.{RowsOf}
-use Rattle.adm_http.specs.Rows.{five_routes}
+use Rattle.adm_http.specs.Rows.{six_routes}
 use Rattle.matchit.specs.Router.{RouteOf}
-use Rattle.adm_http.specs.Targets.{after, part_of, tail_of, Found, or_found, command_after, with_part, child_after, route_of}
+use Rattle.adm_http.specs.Targets.{after, part_of, tail_of, Found, or_found, at_end, with_part, child_after, route_of}
 use Rattle.adm_http.specs.declared.targets.Route.{Route}
-use Rattle.adm_http.specs.declared.targets.Route.TheVariants.{Command, Child, Letter, Waiting, Round}
+use Rattle.adm_http.specs.declared.targets.Route.TheVariants.{Command, Child, Letter, Waiting, Round, WhatIf}
 use Rattle.adm_http.proofs.RouteLemmas.{route_row, IsBytes, some_found}
 use Rattle.adm_http.proofs.RowLemmas.{text_by_test}
 use Rattle.adm_http.proofs.WalkLemmas.{walk_to_end, walk_to_suffix}
@@ -102,10 +102,10 @@ under_child t x e = by (after (codes "/child/") t) refl e
         ⊎_elim (λ l. inl (is_target Letter (codes "/child/") (codes "/letter") t rest x is l)) (λ r. inr (is_target Child (codes "/child/") [] t rest x is r))
         (found_cases (with_part Letter (codes "/letter") rest) (with_part Child [] rest) x h)
 
-under_command : (t : List ℕ) (x : Route × List ℕ) → option_and_then command_after (after (codes "/command") t) ≡ Some x → x ≡ (Command, [])
-under_command t x e = by (after (codes "/command") t) e
+under_end : (route : Route) (w t : List ℕ) (x : Route × List ℕ) → option_and_then (at_end route) (after w t) ≡ Some x → x ≡ (route, [])
+under_end route w t x e = by (after w t) e
   where
-    by : (m : Option (List ℕ)) → option_and_then command_after m ≡ Some x → x ≡ (Command, [])
+    by : (m : Option (List ℕ)) → option_and_then (at_end route) m ≡ Some x → x ≡ (route, [])
     by None h = absurd (cc h)
     by (Some []) h = cc h
     by (Some (b ∷ rest)) h = absurd (cc h)
@@ -173,27 +173,30 @@ takes_school t part text t_is flat =
       utf8_part part (codes "/waiting") rest (IsUtf8-from_ascii (codes "/waiting") (ascii_by_test (codes "/waiting") refl)),
     )
 
--- the part that a found route takes: nothing for the commands
+-- the part that a found route takes: nothing for the commands and the questions
 abbrev pub TakesPart : Route × List ℕ → List ℕ → Type 0
-TakesPart x t = ((x.0 ≡ Command) × (x.1 ≡ [])) ⊎ Takes (route_row x.0) t x.1
+TakesPart x t = (((x.0 ≡ Command) ⊎ (x.0 ≡ WhatIf)) × (x.1 ≡ [])) ⊎ Takes (route_row x.0) t x.1
 
 pub takes_part : (t : List ℕ) (x : Route × List ℕ) → IsUtf8 t → route_of t ≡ Some x → TakesPart x t
 unfolding route_of
 takes_part t x text e =
-    ⊎_elim child (λ r. ⊎_elim command (λ s. ⊎_elim round school (found_cases d f x s)) (found_cases b (or_found d f) x r))
-    (found_cases a (or_found b (or_found d f)) x e)
+    ⊎_elim child (λ r. ⊎_elim command (λ s. ⊎_elim round (λ u. ⊎_elim school question (found_cases f h x u)) (found_cases d (or_found f h) x s)) (found_cases b (or_found d (or_found f h)) x r))
+    (found_cases a (or_found b (or_found d (or_found f h))) x e)
   where
     a : Found
     a = option_and_then child_after (after (codes "/child/") t)
 
     b : Found
-    b = option_and_then command_after (after (codes "/command") t)
+    b = option_and_then (at_end Command) (after (codes "/command") t)
 
     d : Found
     d = option_and_then (with_part Round []) (after (codes "/round/") t)
 
     f : Found
     f = option_and_then (with_part Waiting (codes "/waiting")) (after (codes "/school/") t)
+
+    h : Found
+    h = option_and_then (at_end WhatIf) (after (codes "/what-if") t)
 
     back : (r : Route) → x.0 ≡ r → Takes (route_row r) t x.1 → TakesPart x t
     back r is takes = inr (subst (λ k. Takes (route_row k) t x.1) (sym is) takes)
@@ -204,7 +207,10 @@ takes_part t x text e =
         (under_child t x h)
 
     command : b ≡ Some x → TakesPart x t
-    command h = let same = under_command t x h in inl (ap (λ (y : Route × List ℕ). y.0) same, ap (λ (y : Route × List ℕ). y.1) same)
+    command is = let same = under_end Command (codes "/command") t x is in inl (inl (ap (λ (y : Route × List ℕ). y.0) same), ap (λ (y : Route × List ℕ). y.1) same)
+
+    question : h ≡ Some x → TakesPart x t
+    question is = let same = under_end WhatIf (codes "/what-if") t x is in inl (inr (ap (λ (y : Route × List ℕ). y.0) same), ap (λ (y : Route × List ℕ). y.1) same)
 
     round : d ≡ Some x → TakesPart x t
     round h = let is = under Round (codes "/round/") [] t x h in back Round is.route_is (takes_round t x.1 text is.target_is)
@@ -219,20 +225,24 @@ Gave walked part =
     ⊎ ((p : List ℕ × List ℕ) × (rest : List (List ℕ × List ℕ)) × (walked ≡ p ∷ rest) × (IsUtf8 p.1 → part ≡ p.1))
 
 pub found_part : (t : List ℕ) (rows : RowsOf (RouteOf Route)) (found : RouteOf Route) (walked : List (List ℕ × List ℕ)) (part : List ℕ)
-    → IsUtf8 t → IsBytes t → rows ≡ five_routes → first rows t ≡ Some found
+    → IsUtf8 t → IsBytes t → rows ≡ six_routes → first rows t ≡ Some found
     → walked ≡ walk found.pattern found.text t found.names 0 0 → Gave walked part → Some (found.value, part) ≡ route_of t
-found_part t rows found walked part text small five some walked_is gave =
+found_part t rows found walked part text small six some walked_is gave =
     ap (λ l. Some (found.value, l)) (⊎_elim none taken (takes_part t (found.value, is.0) text is.1)) ∙ sym is.1
   where
     is : (own : List ℕ) × (route_of t ≡ Some (found.value, own)) × (found ≡ route_row found.value)
-    is = some_found t rows found small five some
+    is = some_found t rows found small six some
 
     by_row : (r : RouteOf Route) → found ≡ r → walked ≡ walk r.pattern r.text t r.names 0 0
     by_row r e = walked_is ∙ ap (λ (x : RouteOf Route). walk x.pattern x.text t x.names 0 0) e
 
-    none : (found.value ≡ Command) × (is.0 ≡ []) → part ≡ is.0
+    unnamed : (found.value ≡ Command) ⊎ (found.value ≡ WhatIf) → walked ≡ []
+    unnamed (inl command) = by_row (route_row Command) (is.2 ∙ ap route_row command)
+    unnamed (inr question) = by_row (route_row WhatIf) (is.2 ∙ ap route_row question)
+
+    none : ((found.value ≡ Command) ⊎ (found.value ≡ WhatIf)) × (is.0 ≡ []) → part ≡ is.0
     none c =
-        let empty : walked ≡ [] = by_row (route_row Command) (is.2 ∙ ap route_row c.0) in
+        let empty = unnamed c.0 in
         ⊎_elim (λ l. l.1 ∙ sym c.1) (λ r. absurd (cc (empty, r.2))) gave
 
     taken : Takes (route_row found.value) t is.0 → part ≡ is.0

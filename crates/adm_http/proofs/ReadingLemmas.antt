@@ -133,7 +133,7 @@ pub HasBody-append : (len : ℕ) (p more : List ℕ) (v : Verdict) → HasBody (
 HasBody-append len p more (Reject status) h = tt
 HasBody-append len p more (NotAllowed verb) h = tt
 HasBody-append len p more (Show resource) h = tt
-HasBody-append len p more (Run n) h =
+HasBody-append len p more (Run purpose n) h =
     let a = length-drop len p in
     let b = length-drop len (p ++ more) in
     let c = length-append p more in

@@ -6,6 +6,7 @@ use Rattle.std.proofs.lemmas.Grind.{common_steps}
 use Rattle.adm_http.specs.Texts.{Response, response_bytes, bare}
 use Rattle.adm_http.specs.Responses.{of_answer, Carries, Answers, Responds}
 use Rattle.adm_http.specs.declared.heads.Verdict.TheVariants.{Run}
+use Rattle.adm_http.specs.declared.targets.Purpose.{Purpose}
 use Rattle.adm_http.specs.declared.targets.Resource.{Resource}
 use Rattle.adm_desk.specs.declared.answer.LineAnswer.{LineAnswer}
 use Rattle.adm_http.specs.declared.answering.Shown.{Shown}
@@ -14,22 +15,22 @@ use Rattle.adm_http.specs.declared.answering.Shown.{Shown}
 pub front_is : (xs : List ℕ) (n : ℕ) → slice_range xs 0 n ≡ take n xs
 front_is xs n = grind (arith, common_steps)
 
-module _ {S : Type 0} (runs : S → List ℕ → LineAnswer → S → Type 0) (shows : S → Resource → Shown → Type 0) where
+module _ {S : Type 0} (runs : Purpose → S → List ℕ → LineAnswer → S → Type 0) (shows : S → Resource → Shown → Type 0) where
   pub responded : (old new : S) (input : List ℕ) (response : Response) → false ≡ (length input == 0)
       → Answers runs shows old input response new → Responds runs shows old input (response_bytes response) new
   responded old new [] response some a = absurd (cc some)
   responded old new (b ∷ input) response some a = (response, a, refl)
 
   -- the body is there, and was run
-  pub ran : (old new : S) (rest body : List ℕ) (n : ℕ) (answer : LineAnswer) → n ≤ length rest → body ≡ take n rest
-      → runs old body answer new → Carries runs shows old rest (Run n) (of_answer answer) new
-  ran old new rest body n answer fits body_is ran_it =
+  pub ran : (purpose : Purpose) (old new : S) (rest body : List ℕ) (n : ℕ) (answer : LineAnswer) → n ≤ length rest → body ≡ take n rest
+      → runs purpose old body answer new → Carries runs shows old rest (Run purpose n) (of_answer answer) new
+  ran purpose old new rest body n answer fits body_is ran_it =
       let e : nat_le n (length rest) ≡ true = grind (arith, nat_tests) in
-      rw e (answer, subst (λ b. runs old b answer new) body_is ran_it, refl)
+      rw e (answer, subst (λ b. runs purpose old b answer new) body_is ran_it, refl)
 
   -- the body is not there
-  pub was_short : (old : S) (rest : List ℕ) (n : ℕ) → length rest < n
-      → Carries runs shows old rest (Run n) (bare 400) old
-  was_short old rest n short =
+  pub was_short : (purpose : Purpose) (old : S) (rest : List ℕ) (n : ℕ) → length rest < n
+      → Carries runs shows old rest (Run purpose n) (bare 400) old
+  was_short purpose old rest n short =
       let e : nat_le n (length rest) ≡ false = grind (arith, nat_tests) in
       rw e (refl, refl)

@@ -1,4 +1,4 @@
--- What the router finds over the five routes, for every target.
+-- What the router finds over the six routes, for every target.
 use Rattle.std.proofs.Common.{◌≡◌, ℕ, suc, ◌<◌, ◌==◌, ◌&&◌, List, [], ◌∷◌, ◌++◌, length, get_or, Option, Some, None, Bool, true, false, cond, nat_lt, refl, sym, ap, ◌∙◌, subst, arith, lit<, codes, bytes_eq, option_and_then, option_map}
 use Rattle.std.proofs.lemmas.Bool.Decides.{nat_tests}
 use Rattle.adm_http.proofs.RowLemmas.{seek-plain, first-union, first-after, parts_none, parts_some, flat_find, slash_none, and_false, cuts_flat, cuts_part, with_suffix_find, text_by_test}
@@ -8,10 +8,10 @@ use Rattle.matchit.specs.Level.{IsText}
 use Rattle.matchit.specs.Router.{RouteOf, map_key}
 use Rattle.matchit.proofs.SeekLemmas.{seek-empty, or_else-none}
 use Rattle.matchit.proofs.RenameLemmas.{first-rename}
-use Rattle.adm_http.specs.Rows.{five_routes, row}
-use Rattle.adm_http.specs.Targets.{after, part_of, tail_of, Found, or_found, command_after, with_part, child_after, route_of}
+use Rattle.adm_http.specs.Rows.{six_routes, row}
+use Rattle.adm_http.specs.Targets.{after, part_of, tail_of, Found, or_found, at_end, with_part, child_after, route_of}
 use Rattle.adm_http.specs.declared.targets.Route.{Route}
-use Rattle.adm_http.specs.declared.targets.Route.TheVariants.{Command, Child, Letter, Waiting, Round}
+use Rattle.adm_http.specs.declared.targets.Route.TheVariants.{Command, Child, Letter, Waiting, Round, WhatIf}
 
 -- ---- what follows /child/, /round/ and /school/
 
@@ -22,6 +22,7 @@ key Child = 1
 key Command = 2
 key Round = 3
 key Waiting = 4
+key WhatIf = 5
 
 abbrev key_of : Found → Option ℕ
 key_of found = option_map (λ r. key r.0) found
@@ -140,7 +141,8 @@ all_rows =
     prepend (codes "/child/") (prepend (param_token ∷ []) child_rows)
     ++ (prepend (codes "/command") (([], 2) ∷ [])
     ++ (prepend (codes "/round/") (prepend (param_token ∷ []) round_rows)
-    ++ prepend (codes "/school/") (prepend (param_token ∷ []) school_rows)))
+    ++ (prepend (codes "/school/") (prepend (param_token ∷ []) school_rows)
+    ++ prepend (codes "/what-if") (([], 5) ∷ []))))
 
 -- each byte is below 256
 abbrev pub IsBytes : List ℕ → Type 0
@@ -180,30 +182,33 @@ after_school None small = refl
 after_school (Some []) small = refl
 after_school (Some (b ∷ p)) small = school_find b p (small (b ∷ p) refl)
 
-after_command : (m : Option (List ℕ)) → option_and_then (first (([], 2) ∷ [])) m ≡ key_of (option_and_then command_after m)
+after_end : (route : Route) (m : Option (List ℕ)) → option_and_then (first (([], key route) ∷ [])) m ≡ key_of (option_and_then (at_end route) m)
 unfolding seek
-after_command None = refl
-after_command (Some []) = refl
-after_command (Some (y ∷ z)) = seek-plain (([], 2) ∷ []) y z refl refl ∙ seek-empty 0 z
+after_end route None = refl
+after_end route (Some []) = refl
+after_end route (Some (y ∷ z)) = seek-plain (([], key route) ∷ []) y z refl refl ∙ seek-empty 0 z
 
 all_found : (t : List ℕ) → IsBytes t → first all_rows t ≡ key_of (route_of t)
 unfolding route_of
 all_found t small =
+    let question = first-after (codes "/what-if") (([], 5) ∷ []) t (text_by_test (codes "/what-if") refl) ∙ after_end WhatIf (after (codes "/what-if") t) in
     let school = first-after (codes "/school/") (prepend (param_token ∷ []) school_rows) t (text_by_test (codes "/school/") refl)
     ∙ after_school (after (codes "/school/") t) (after_small (codes "/school/") t small) in
     let round = first-after (codes "/round/") (prepend (param_token ∷ []) round_rows) t (text_by_test (codes "/round/") refl)
     ∙ after_round (after (codes "/round/") t) (after_small (codes "/round/") t small) in
-    let command = first-after (codes "/command") (([], 2) ∷ []) t (text_by_test (codes "/command") refl) ∙ after_command (after (codes "/command") t) in
+    let command = first-after (codes "/command") (([], 2) ∷ []) t (text_by_test (codes "/command") refl) ∙ after_end Command (after (codes "/command") t) in
     let child = first-after (codes "/child/") (prepend (param_token ∷ []) child_rows) t (text_by_test (codes "/child/") refl)
     ∙ after_child (after (codes "/child/") t) (after_small (codes "/child/") t small) in
-    let f1 = first-union (codes "/round/") (prepend (param_token ∷ []) round_rows) (prepend (codes "/school/") (prepend (param_token ∷ []) school_rows)) t (lit< tt, refl, refl, refl, (lit< tt, refl, refl, refl, tt)) in
-    let f2 = first-union (codes "/command") (([], 2) ∷ []) (prepend (codes "/round/") (prepend (param_token ∷ []) round_rows) ++ prepend (codes "/school/") (prepend (param_token ∷ []) school_rows)) t (lit< tt, refl, refl, refl, (lit< tt, refl, refl, refl, tt)) in
-    let f3 = first-union (codes "/child/") (prepend (param_token ∷ []) child_rows) (prepend (codes "/command") (([], 2) ∷ []) ++ (prepend (codes "/round/") (prepend (param_token ∷ []) round_rows) ++ prepend (codes "/school/") (prepend (param_token ∷ []) school_rows))) t (lit< tt, refl, refl, refl, (lit< tt, refl, refl, refl, (lit< tt, refl, refl, refl, tt))) in
+    let f0 = first-union (codes "/school/") (prepend (param_token ∷ []) school_rows) (prepend (codes "/what-if") (([], 5) ∷ [])) t (lit< tt, refl, refl, refl, (lit< tt, refl, refl, refl, tt)) in
+    let f1 = first-union (codes "/round/") (prepend (param_token ∷ []) round_rows) (prepend (codes "/school/") (prepend (param_token ∷ []) school_rows) ++ prepend (codes "/what-if") (([], 5) ∷ [])) t (lit< tt, refl, refl, refl, (lit< tt, refl, refl, refl, tt)) in
+    let f2 = first-union (codes "/command") (([], 2) ∷ []) (prepend (codes "/round/") (prepend (param_token ∷ []) round_rows) ++ (prepend (codes "/school/") (prepend (param_token ∷ []) school_rows) ++ prepend (codes "/what-if") (([], 5) ∷ []))) t (lit< tt, refl, refl, refl, (lit< tt, refl, refl, refl, tt)) in
+    let f3 = first-union (codes "/child/") (prepend (param_token ∷ []) child_rows) (prepend (codes "/command") (([], 2) ∷ []) ++ (prepend (codes "/round/") (prepend (param_token ∷ []) round_rows) ++ (prepend (codes "/school/") (prepend (param_token ∷ []) school_rows) ++ prepend (codes "/what-if") (([], 5) ∷ [])))) t (lit< tt, refl, refl, refl, (lit< tt, refl, refl, refl, (lit< tt, refl, refl, refl, tt))) in
     let a = option_and_then child_after (after (codes "/child/") t) in
-    let b = option_and_then command_after (after (codes "/command") t) in
+    let b = option_and_then (at_end Command) (after (codes "/command") t) in
     let d = option_and_then (with_part Round []) (after (codes "/round/") t) in
     let e = option_and_then (with_part Waiting (codes "/waiting")) (after (codes "/school/") t) in
-    rw (f3, f2, f1, child, command, round, school, key_or a (or_found b (or_found d e)), key_or b (or_found d e), key_or d e) refl
+    let f = option_and_then (at_end WhatIf) (after (codes "/what-if") t) in
+    rw (f3, f2, f1, f0, child, command, round, school, question, key_or a (or_found b (or_found d (or_found e f))), key_or b (or_found d (or_found e f)), key_or d (or_found e f), key_or e f) refl
 
 -- the row of a key
 row_at : ℕ → RouteOf Route
@@ -212,7 +217,8 @@ row_at k =
     (cond (k == 1) (row (codes "/child/" ++ param_token ∷ []) (codes "/child/{no}") ((8, 10) ∷ []) Child).1
     (cond (k == 2) (row (codes "/command") (codes "/command") [] Command).1
     (cond (k == 3) (row (codes "/round/" ++ param_token ∷ []) (codes "/round/{no}") ((8, 10) ∷ []) Round).1
-    (row (codes "/school/" ++ param_token ∷ codes "/waiting") (codes "/school/{code}/waiting") ((9, 13) ∷ []) Waiting).1)))
+    (cond (k == 4) (row (codes "/school/" ++ param_token ∷ codes "/waiting") (codes "/school/{code}/waiting") ((9, 13) ∷ []) Waiting).1
+    (row (codes "/what-if") (codes "/what-if") [] WhatIf).1))))
 
 abbrev pub route_row : Route → RouteOf Route
 route_row Letter = (row (codes "/child/" ++ param_token ∷ codes "/letter") (codes "/child/{no}/letter") ((8, 10) ∷ []) Letter).1
@@ -220,22 +226,23 @@ route_row Child = (row (codes "/child/" ++ param_token ∷ []) (codes "/child/{n
 route_row Command = (row (codes "/command") (codes "/command") [] Command).1
 route_row Round = (row (codes "/round/" ++ param_token ∷ []) (codes "/round/{no}") ((8, 10) ∷ []) Round).1
 route_row Waiting = (row (codes "/school/" ++ param_token ∷ codes "/waiting") (codes "/school/{code}/waiting") ((9, 13) ∷ []) Waiting).1
+route_row WhatIf = (row (codes "/what-if") (codes "/what-if") [] WhatIf).1
 
-five_found : (t : List ℕ) → IsBytes t → first five_routes t ≡ map_key row_at (key_of (route_of t))
-unfolding five_routes row_at
-five_found t small = first-rename row_at all_rows t ∙ ap (map_key row_at) (all_found t small)
+six_found : (t : List ℕ) → IsBytes t → first six_routes t ≡ map_key row_at (key_of (route_of t))
+unfolding six_routes row_at
+six_found t small = first-rename row_at all_rows t ∙ ap (map_key row_at) (all_found t small)
 
-pub none_found : (t : List ℕ) (rows : RowsOf (RouteOf Route)) → IsBytes t → rows ≡ five_routes → first rows t ≡ None → None ≡ route_of t
-none_found t rows small five none = by (route_of t) (sym (five_found t small) ∙ ap (λ r. first r t) (sym five) ∙ none)
+pub none_found : (t : List ℕ) (rows : RowsOf (RouteOf Route)) → IsBytes t → rows ≡ six_routes → first rows t ≡ None → None ≡ route_of t
+none_found t rows small six none = by (route_of t) (sym (six_found t small) ∙ ap (λ r. first r t) (sym six) ∙ none)
   where
     by : (f : Found) → map_key row_at (key_of f) ≡ None → None ≡ f
     by None e = refl
     by (Some x) e = absurd (cc e)
 
-pub some_found : (t : List ℕ) (rows : RowsOf (RouteOf Route)) (found : RouteOf Route) → IsBytes t → rows ≡ five_routes → first rows t ≡ Some found
+pub some_found : (t : List ℕ) (rows : RowsOf (RouteOf Route)) (found : RouteOf Route) → IsBytes t → rows ≡ six_routes → first rows t ≡ Some found
     → (part : List ℕ) × (route_of t ≡ Some (found.value, part)) × (found ≡ route_row found.value)
 unfolding row_at
-some_found t rows found small five some = by (route_of t) refl (sym (five_found t small) ∙ ap (λ r. first r t) (sym five) ∙ some)
+some_found t rows found small six some = by (route_of t) refl (sym (six_found t small) ∙ ap (λ r. first r t) (sym six) ∙ some)
   where
     at : (r : Route) (part : List ℕ) → route_of t ≡ Some (r, part) → route_row r ≡ found → r ≡ (route_row r).value
         → (part : List ℕ) × (route_of t ≡ Some (found.value, part)) × (found ≡ route_row found.value)
@@ -251,3 +258,4 @@ some_found t rows found small five some = by (route_of t) refl (sym (five_found 
     by (Some (Command, part)) is e = at Command part is (cc e) refl
     by (Some (Round, part)) is e = at Round part is (cc e) refl
     by (Some (Waiting, part)) is e = at Waiting part is (cc e) refl
+    by (Some (WhatIf, part)) is e = at WhatIf part is (cc e) refl

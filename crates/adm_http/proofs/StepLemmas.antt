@@ -8,6 +8,7 @@ use Rattle.httparse.specs.Grammar.{print_request}
 use Rattle.adm_http.specs.Heads.{window, IsJudgement}
 use Rattle.adm_http.specs.Reading.{MayGoOn, GoesOnTo, IsNotFarPast}
 use Rattle.adm_http.specs.declared.heads.Verdict.TheVariants.{Run}
+use Rattle.adm_http.specs.declared.targets.Purpose.{Purpose}
 use Rattle.adm_http.specs.declared.heads.Judgement.TheVariants.{Whole, Unfinished}
 use Rattle.adm_http.proofs.ReadingLemmas.{drop_front, window_front, reads_on}
 
@@ -39,16 +40,16 @@ pub consumed_on : (a b c : Option (List ℕ)) (input more new : List ℕ) → Co
 consumed_on a b c input more new before now new_is = subst (Consumes a c) (sym new_is) (Consumes-trans a b c input more before now)
 
 -- a whole head whose body is not all there, and the number of bytes that end it
-pub body_goes_on : (input : List ℕ) (len n total : ℕ) → IsJudgement input (Whole len (Run n)) → len ≤ length input → len ≤ 8192 → n ≤ 1048576
+pub body_goes_on : (input : List ℕ) (purpose : Purpose) (len n total : ℕ) → IsJudgement input (Whole len (Run purpose n)) → len ≤ length input → len ≤ 8192 → n ≤ 1048576
     → total ≡ len + n → length input < total → GoesOnTo total input
-body_goes_on input len n total judged inside low small total_is fewer = record {
+body_goes_on input purpose len n total judged inside low small total_is fewer = record {
   fewer = fewer;
   limit = omega arith;
   on = λ more short.
       let front = window_front input more in
       let h = judged.head in
       let print_len = drop_front (print_request h) (drop (length (print_request h)) (window input) ++ front.0) (window (input ++ more)) (joined more front) in (
-        Whole len (Run n),
+        Whole len (Run purpose n),
         record {
           head = h;
           has = record { reads = (judged.has.reads.0, sym (joined more front) ∙ ap (λ x. print_request h ++ x) (sym print_len)); room = judged.has.room };

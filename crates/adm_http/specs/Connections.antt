@@ -2,12 +2,13 @@
 use Rattle.std.specs.Prelude.{◌≡◌, ℕ, zero, suc, ◌⊎◌, List, codes}
 use Rattle.adm_desk.specs.declared.answer.LineAnswer.{LineAnswer}
 use Rattle.adm_http.specs.Responses.{Responds}
+use Rattle.adm_http.specs.declared.targets.Purpose.{Purpose}
 use Rattle.adm_http.specs.declared.targets.Resource.{Resource}
 use Rattle.adm_http.specs.declared.answering.Shown.{Shown}
 use Rattle.adm_http.specs.declared.serve.ServeFault.{ServeFault}
 use Rattle.adm_http.specs.declared.serve.ServeFault.TheVariants.{Read, Write, Memory}
 
-module _ {S : Type 0} (runs : S → List ℕ → LineAnswer → S → Type 0) (shows : S → Resource → Shown → Type 0) where
+module _ {S : Type 0} (runs : Purpose → S → List ℕ → LineAnswer → S → Type 0) (shows : S → Resource → Shown → Type 0) where
   -- one request was answered, or none
   abbrev pub AnswersOne : S → S → Type 0
   AnswersOne old new = (new ≡ old) ⊎ ((input : List ℕ) × (output : List ℕ) × Responds runs shows old input output new)

@@ -6,7 +6,8 @@ use Rattle.httparse.specs.Spans.{RequestOverflows, name_and_value}
 use Rattle.adm_http.specs.Lengths.{body_length_of}
 use Rattle.adm_http.specs.Targets.{target_of}
 use Rattle.adm_http.specs.declared.targets.Target.{Target}
-use Rattle.adm_http.specs.declared.targets.Target.TheVariants.{Commands, Text}
+use Rattle.adm_http.specs.declared.targets.Target.TheVariants.{Body, Text}
+use Rattle.adm_http.specs.declared.targets.Purpose.{Purpose}
 use Rattle.adm_http.specs.declared.heads.Verb.{Verb}
 use Rattle.adm_http.specs.declared.heads.Verb.TheVariants.{Get, Post}
 use Rattle.adm_http.specs.declared.heads.Verdict.{Verdict}
@@ -41,31 +42,31 @@ verb_of method =
     if bytes_eq method (codes "GET") then Some Get else (if bytes_eq method (codes "POST") then Some Post else None)
 
 -- a body of this length: more than a mebibyte is refused
-abbrev pub by_length : Option ℕ → Verdict
-by_length None = Reject 400
-by_length (Some n) = if nat_lt 1048576 n then Reject 413 else Run n
+abbrev pub by_length : Purpose → Option ℕ → Verdict
+by_length purpose None = Reject 400
+by_length purpose (Some n) = if nat_lt 1048576 n then Reject 413 else Run purpose n
 
 -- by the values of Content-Length, of which there must be one
-abbrev pub by_lengths : List (List ℕ) → Verdict
-by_lengths [] = Reject 411
-by_lengths (value ∷ []) = by_length (body_length_of value)
-by_lengths (value ∷ (other ∷ more)) = Reject 400
+abbrev pub by_lengths : Purpose → List (List ℕ) → Verdict
+by_lengths purpose [] = Reject 411
+by_lengths purpose (value ∷ []) = by_length purpose (body_length_of value)
+by_lengths purpose (value ∷ (other ∷ more)) = Reject 400
 
 -- no transfer coding is taken
-abbrev pub by_codings : List (List ℕ) → List (List ℕ) → Verdict
-by_codings [] lengths = by_lengths lengths
-by_codings (coding ∷ more) lengths = Reject 501
+abbrev pub by_codings : Purpose → List (List ℕ) → List (List ℕ) → Verdict
+by_codings purpose [] lengths = by_lengths purpose lengths
+by_codings purpose (coding ∷ more) lengths = Reject 501
 
--- by the fields of a command
-abbrev pub command_verdict : List Pair → Verdict
-command_verdict fields =
-    by_codings (values_of (codes "Transfer-Encoding") fields) (values_of (codes "Content-Length") fields)
+-- by the fields of a request with a body
+abbrev pub body_verdict : Purpose → List Pair → Verdict
+body_verdict purpose fields =
+    by_codings purpose (values_of (codes "Transfer-Encoding") fields) (values_of (codes "Content-Length") fields)
 
 -- by what the target names, and the method that its route is for
 abbrev pub on_target : Verb → Option Target → List Pair → Verdict
 on_target verb None fields = Reject 404
-on_target Get (Some Commands) fields = NotAllowed Post
-on_target Post (Some Commands) fields = command_verdict fields
+on_target Get (Some (Body purpose)) fields = NotAllowed Post
+on_target Post (Some (Body purpose)) fields = body_verdict purpose fields
 on_target Get (Some (Text resource)) fields = Show resource
 on_target Post (Some (Text resource)) fields = NotAllowed Get
 
@@ -73,7 +74,7 @@ abbrev pub on_verb : Option Verb → Option Target → List Pair → Verdict
 on_verb None target fields = Reject 501
 on_verb (Some verb) target fields = on_target verb target fields
 
--- what a method, a target and fields decide: a refusal, a text to show, or a command's body of this length
+-- what a method, a target and fields decide: a refusal, a text to show, or a body of this length
 abbrev pub verdict_of : List ℕ → List ℕ → List Pair → Verdict
 verdict_of method target fields = on_verb (verb_of method) (target_of target) fields
 
@@ -103,7 +104,7 @@ abbrev pub IsSmall : Verdict → Type 0
 IsSmall (Reject status) = ⊤
 IsSmall (NotAllowed verb) = ⊤
 IsSmall (Show resource) = ⊤
-IsSmall (Run n) = n ≤ 1048576
+IsSmall (Run purpose n) = n ≤ 1048576
 
 -- a whole head lies in the bytes and in the limits
 abbrev pub IsInside : List ℕ → Judgement → Type 0

@@ -7,5 +7,6 @@ pub mod Texts
 pub mod Responses
 pub mod Reading
 pub mod States
+pub mod Purposes
 pub mod Shows
 pub mod Connections

@@ -7,6 +7,7 @@ use Rattle.adm_http.specs.declared.heads.Verdict.{Verdict}
 use Rattle.adm_http.specs.declared.heads.Verdict.TheVariants.{Reject, NotAllowed, Show, Run}
 use Rattle.adm_http.specs.declared.heads.Judgement.{Judgement}
 use Rattle.adm_http.specs.declared.heads.Judgement.TheVariants.{Whole, Malformed, Unfinished}
+use Rattle.adm_http.specs.declared.targets.Purpose.{Purpose}
 use Rattle.adm_http.specs.declared.targets.Resource.{Resource}
 use Rattle.adm_desk.specs.declared.answer.LineAnswer.{LineAnswer}
 use Rattle.adm_http.specs.declared.answering.Shown.{Shown}
@@ -18,7 +19,7 @@ abbrev pub HasBody : List ℕ → Verdict → Type 0
 HasBody rest (Reject status) = ⊤
 HasBody rest (NotAllowed verb) = ⊤
 HasBody rest (Show resource) = ⊤
-HasBody rest (Run n) = n ≤ length rest
+HasBody rest (Run purpose n) = n ≤ length rest
 
 -- no more bytes are needed: the head is whole and its body is there or none is needed, no head can come, or 8,192 bytes hold no whole head
 abbrev pub IsSettled : List ℕ → Judgement → Type 0
@@ -63,7 +64,7 @@ pub record HasReadSome (old new : Option (List ℕ)) (got : List ℕ) : Type 0 w
 abbrev pub WritesFront : Option (List ℕ) → Option (List ℕ) → List ℕ → Type 0
 WritesFront old new bytes = (n : ℕ) × Appends old new (take n bytes)
 
-module _ {S : Type 0} (runs : S → List ℕ → LineAnswer → S → Type 0) (shows : S → Resource → Shown → Type 0) where
+module _ {S : Type 0} (runs : Purpose → S → List ℕ → LineAnswer → S → Type 0) (shows : S → Resource → Shown → Type 0) where
   -- what serving one request leaves of the desk, the reader and the writer
   abbrev pub Served : S → S → Option (List ℕ) → Option (List ℕ) → Option (List ℕ) → Option (List ℕ) → Result ℕ ServeFault → Type 0
   -- the response to the bytes that were read was written, and this is its length

@@ -5,6 +5,7 @@ use Rattle.adm_wire.specs.Texts.{memory_text, failed_text}
 use Rattle.adm_desk.specs.Lines.{line_text}
 use Rattle.adm_http.specs.Replies.{status_of}
 use Rattle.adm_http.specs.Texts.{Response, response_bytes, json, bare, not_allowed}
+use Rattle.adm_http.specs.declared.targets.Purpose.{Purpose}
 use Rattle.adm_http.specs.declared.targets.Resource.{Resource}
 use Rattle.adm_http.specs.declared.targets.Resource.TheVariants.{ChildState, ChildLetter, WaitingList, RoundReport}
 use Rattle.adm_http.specs.declared.heads.Verdict.{Verdict}
@@ -17,7 +18,7 @@ use Rattle.adm_http.specs.declared.answering.Shown.{Shown}
 use Rattle.adm_http.specs.declared.answering.Shown.TheVariants as shown
 use Rattle.adm_desk.specs.declared.answer.LineAnswer.{LineAnswer}
 
--- the response to what running a body as a command answered: its text
+-- the response to what running a body answered: its text
 abbrev pub of_answer : LineAnswer → Response
 of_answer answer = json (status_of answer) (line_text answer)
 
@@ -35,17 +36,17 @@ of_shown resource shown.Missing = bare 404
 of_shown resource shown.Memory = json 503 memory_text
 of_shown resource shown.Failed = json 503 failed_text
 
--- `runs old body answer new`: running the body as a command may answer this, and leave `new`; `shows old resource text`: asking for a text may give this
-module _ {S : Type 0} (runs : S → List ℕ → LineAnswer → S → Type 0) (shows : S → Resource → Shown → Type 0) where
+-- `runs purpose old body answer new`: running the body as what it is for may answer this, and leave `new`; `shows old resource text`: asking for a text may give this
+module _ {S : Type 0} (runs : Purpose → S → List ℕ → LineAnswer → S → Type 0) (shows : S → Resource → Shown → Type 0) where
   -- what a verdict on a head makes of the bytes that follow the head: at most the one command is run
   abbrev pub Carries : S → List ℕ → Verdict → Response → S → Type 0
   Carries old rest (Reject status) response new = (response ≡ bare status) × (new ≡ old)
   Carries old rest (NotAllowed verb) response new = (response ≡ not_allowed verb) × (new ≡ old)
   Carries old rest (Show resource) response new =
       (text : Shown) × shows old resource text × (response ≡ of_shown resource text) × (new ≡ old)
-  Carries old rest (Run n) response new =
+  Carries old rest (Run purpose n) response new =
       MatchBool (nat_le n (length rest))
-      ((answer : LineAnswer) × runs old (take n rest) answer new × (response ≡ of_answer answer))
+      ((answer : LineAnswer) × runs purpose old (take n rest) answer new × (response ≡ of_answer answer))
       ((response ≡ bare 400) × (new ≡ old))
 
   -- by what the bytes are judged to be

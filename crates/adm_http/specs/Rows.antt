@@ -1,23 +1,24 @@
--- The five routes as the router keeps them.
+-- The six routes as the router keeps them.
 use Rattle.std.specs.Prelude.{◌≡◌, ℕ, List, [], ◌∷◌, ◌++◌, codes, None, Result, Ok, Err}
 use Rattle.matchit.specs.Rows.{RowsOf, param_token}
 use Rattle.matchit.specs.Router.{RouteOf, nearest}
 use Rattle.matchit.specs.Route.{Scan}
 use Rattle.matchit.specs.declared.error.InsertError.{InsertError}
 use Rattle.adm_http.specs.declared.targets.Route.{Route}
-use Rattle.adm_http.specs.declared.targets.Route.TheVariants.{Command, Child, Letter, Waiting, Round}
+use Rattle.adm_http.specs.declared.targets.Route.TheVariants.{Command, Child, Letter, Waiting, Round, WhatIf}
 
 abbrev pub row : List ℕ → List ℕ → List (ℕ × ℕ) → Route → List ℕ × RouteOf Route
 row pattern written names value = (pattern, record { pattern = pattern; text = written; names = names; value = value })
 
--- the five routes in the order of their patterns
-unfoldable pub five_routes : RowsOf (RouteOf Route)
-five_routes =
+-- the six routes in the order of their patterns
+unfoldable pub six_routes : RowsOf (RouteOf Route)
+six_routes =
     row (codes "/child/" ++ param_token ∷ codes "/letter") (codes "/child/{no}/letter") ((8, 10) ∷ []) Letter
     ∷ row (codes "/child/" ++ param_token ∷ []) (codes "/child/{no}") ((8, 10) ∷ []) Child
     ∷ row (codes "/command") (codes "/command") [] Command
     ∷ row (codes "/round/" ++ param_token ∷ []) (codes "/round/{no}") ((8, 10) ∷ []) Round
     ∷ row (codes "/school/" ++ param_token ∷ codes "/waiting") (codes "/school/{code}/waiting") ((9, 13) ∷ []) Waiting
+    ∷ row (codes "/what-if") (codes "/what-if") [] WhatIf
     ∷ []
 
 -- a route's text reads well, and conflicts with none of the rows

@@ -1,12 +1,13 @@
--- The targets of the five routes, and what each names.
+-- The targets of the six routes, and what each names.
 use Rattle.std.specs.Prelude.{ℕ, ◌==◌, ◌&&◌, List, [], ◌∷◌, length, nat_lt, if◌then◌else◌, Option, Some, None, option_map, option_and_then, codes, bytes_eq}
 use Rattle.adm_types.specs.Numbers.{child_of}
 use Rattle.adm_types.specs.Code.{code_of}
 use Rattle.adm_types.specs.Fields.{plain_of}
 use Rattle.adm_http.specs.declared.targets.Route.{Route}
-use Rattle.adm_http.specs.declared.targets.Route.TheVariants.{Command, Child, Letter, Waiting, Round}
+use Rattle.adm_http.specs.declared.targets.Route.TheVariants.{Command, Child, Letter, Waiting, Round, WhatIf}
 use Rattle.adm_http.specs.declared.targets.Target.{Target}
-use Rattle.adm_http.specs.declared.targets.Target.TheVariants.{Commands, Text}
+use Rattle.adm_http.specs.declared.targets.Target.TheVariants.{Body, Text}
+use Rattle.adm_http.specs.declared.targets.Purpose.TheVariants as purpose
 use Rattle.adm_http.specs.declared.targets.Resource.TheVariants.{ChildState, ChildLetter, WaitingList, RoundReport}
 
 -- what follows the text, where the bytes begin with it
@@ -35,8 +36,8 @@ or_found None other = other
 or_found (Some found) other = Some found
 
 -- nothing may follow
-abbrev pub command_after : List ℕ → Found
-command_after rest = if bytes_eq rest [] then Some (Command, []) else None
+abbrev pub at_end : Route → List ℕ → Found
+at_end route rest = if bytes_eq rest [] then Some (route, []) else None
 
 -- a part that is not empty, and then exactly this text
 abbrev pub with_part : Route → List ℕ → List ℕ → Found
@@ -47,13 +48,14 @@ with_part route text rest =
 abbrev pub child_after : List ℕ → Found
 child_after rest = or_found (with_part Letter (codes "/letter") rest) (with_part Child [] rest)
 
--- the route of a target: /child/{no}, /child/{no}/letter, /command, /round/{no} or /school/{code}/waiting
+-- the route of a target: /child/{no}, /child/{no}/letter, /command, /round/{no}, /school/{code}/waiting or /what-if
 unfoldable pub route_of : List ℕ → Found
 route_of target =
     or_found (option_and_then child_after (after (codes "/child/") target))
-    (or_found (option_and_then command_after (after (codes "/command") target))
+    (or_found (option_and_then (at_end Command) (after (codes "/command") target))
     (or_found (option_and_then (with_part Round []) (after (codes "/round/") target))
-    (option_and_then (with_part Waiting (codes "/waiting")) (after (codes "/school/") target))))
+    (or_found (option_and_then (with_part Waiting (codes "/waiting")) (after (codes "/school/") target))
+    (option_and_then (at_end WhatIf) (after (codes "/what-if") target)))))
 
 -- a plain number from 1 to 9,999,999
 abbrev pub child_number_of : List ℕ → Option ℕ
@@ -61,7 +63,8 @@ child_number_of text = option_and_then child_of (plain_of text)
 
 -- what the part of a route names, where it has the form that the route asks for
 abbrev pub named_by : Route × List ℕ → Option Target
-named_by (Command, part) = Some Commands
+named_by (Command, part) = Some (Body purpose.Command)
+named_by (WhatIf, part) = Some (Body purpose.Question)
 named_by (Child, part) = option_map (λ n. Text (ChildState n)) (child_number_of part)
 named_by (Letter, part) = option_map (λ n. Text (ChildLetter n)) (child_number_of part)
 named_by (Waiting, part) = option_map (λ code. Text (WaitingList code)) (code_of part)

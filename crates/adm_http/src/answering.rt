@@ -1,7 +1,7 @@
 // What requests are asked of.
 ghost use Rattle.std.specs.Prelude.{◌≡◌, List, ℕ};
 
-use crate::targets::Resource;
+use crate::targets::{Purpose, Resource};
 use adm_desk::LineAnswer;
 use std::alloc::Global;
 
@@ -15,9 +15,10 @@ pub enum Shown {
     Failed,
 }
 
-/// What runs commands and shows texts.
+/// What runs bodies and shows texts.
 pub(crate) trait Answering {
     ghost use Rattle.adm_desk.specs.declared.answer.LineAnswer.{LineAnswer};
+    ghost use Rattle.adm_http.specs.declared.targets.Purpose.{Purpose as Use};
     ghost use Rattle.adm_http.specs.declared.targets.Resource.{Resource};
     ghost use Rattle.adm_http.specs.declared.answering.Shown.{Shown};
 
@@ -26,15 +27,15 @@ pub(crate) trait Answering {
 
     ghost view: { Self → View };
 
-    // What running a body as a command may answer, and what is there then.
-    ghost runs: { View → List ℕ → LineAnswer → View → Type 0 };
+    // What running a body may answer, and what is there then.
+    ghost runs: { Use → View → List ℕ → LineAnswer → View → Type 0 };
 
     // What asking for a text may give.
     ghost shows: { View → Resource → Shown → Type 0 };
 
-    /// Reads the body as a command, and runs it.
-    fn run(&mut self, alloc: Global, body: &[u8]) -> LineAnswer
-        ensures { runs (view self.old) body.now result (view self.new) };
+    /// Reads the body as what it is for: runs a command, or answers a question.
+    fn run(&mut self, alloc: Global, purpose: Purpose, body: &[u8]) -> LineAnswer
+        ensures { runs purpose (view self.old) body.now result (view self.new) };
 
     /// The text that is asked for.
     fn show(&self, alloc: Global, resource: &Resource) -> Shown

@@ -1,8 +1,8 @@
 // Requests answered and served over a desk.
 ghost use Rattle.std.specs.Prelude.{◌≡◌, ◌||◌, IfOk, ℕ, List};
 ghost use Rattle.sqlite.specs.Held.{Held, state};
-ghost use Rattle.adm_desk.specs.Standing.{Handles, Standing};
-ghost use Rattle.adm_desk.specs.Lines.{AnswersLine};
+ghost use Rattle.adm_desk.specs.Standing.{Standing};
+ghost use Rattle.adm_http.specs.Purposes.{RunsBody};
 ghost use Rattle.adm_http.specs.Responses.{Responds};
 ghost use Rattle.adm_http.specs.Reading.{Served, is_read_fault, is_write_fault};
 ghost use Rattle.adm_http.specs.Shows.{Shows};
@@ -12,14 +12,15 @@ use crate::respond::respond;
 use crate::routes::Routes;
 use crate::serve::{ServeFault, serve};
 use crate::shows::show;
-use crate::targets::Resource;
+use crate::targets::{Purpose, Resource};
 use adm_desk::{Desk, LineAnswer};
 use adm_wire::{Input, Output, read_command};
 use sqlite::Alter;
 use std::alloc::{AllocError, Global};
 
 /// The bytes of the response to the request that the input is, and none to no bytes. At most one
-/// command is handled, as by `Desk::handle`.
+/// command is handled, as by `Desk::handle`; a question changes nothing, and is told as by
+/// `Desk::tell`.
 ///
 /// The `Err` is want of memory for the response: the desk is then as after a response to this
 /// request, so that its one command may have been handled, and stands.
@@ -29,7 +30,7 @@ pub fn answer<S: Alter>(
     desk: &mut Desk<S>,
     input: &[u8],
 ) -> Result<Vec<u8>, AllocError>
-    ensures { (output : List ℕ) × Responds (AnswersLine (Handles (state S.Store))) Shows desk.old input.now output desk.new
+    ensures { (output : List ℕ) × Responds (RunsBody (state S.Store)) Shows desk.old input.now output desk.new
         × IfOk result (λ bytes. bytes.items ≡ output) }
 {
     respond(alloc, routes, desk, input)
@@ -47,7 +48,7 @@ pub fn serve_one<S: Alter, R: Input, W: Output>(
     reader: &mut R,
     writer: &mut W,
 ) -> Result<usize, ServeFault>
-    ensures served { Served (AnswersLine (Handles (state S.Store))) Shows desk.old desk.new (R.remaining reader.old) (R.remaining reader.new)
+    ensures served { Served (RunsBody (state S.Store)) Shows desk.old desk.new (R.remaining reader.old) (R.remaining reader.new)
         (W.contents writer.old) (W.contents writer.new) result }
     ensures reader { R.has_failed reader.new ≡ (R.has_failed reader.old || is_read_fault result) }
     ensures writer { W.has_failed writer.new ≡ (W.has_failed writer.old || is_write_fault result) }
@@ -60,14 +61,17 @@ impl<S: Alter> Answering for Desk<S> {
 
     ghost view = { λ desk. desk };
 
-    ghost runs = { AnswersLine (Handles (state S.Store)) };
+    ghost runs = { RunsBody (state S.Store) };
 
     ghost shows = { Shows };
 
-    fn run(&mut self, alloc: Global, body: &[u8]) -> LineAnswer {
-        match read_command(alloc, body) {
-            Ok(command) => LineAnswer::Handled(self.handle(&command)),
-            Err(fault) => LineAnswer::Faulty(fault),
+    fn run(&mut self, alloc: Global, purpose: Purpose, body: &[u8]) -> LineAnswer {
+        match purpose {
+            Purpose::Command => match read_command(alloc, body) {
+                Ok(command) => LineAnswer::Handled(self.handle(&command)),
+                Err(fault) => LineAnswer::Faulty(fault),
+            },
+            Purpose::Question => self.tell(alloc, body),
         }
     }
 

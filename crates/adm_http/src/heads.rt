@@ -1,11 +1,11 @@
 // What the head of a request decides.
 ghost use Rattle.std.specs.Prelude.{◌≡◌, ◌≤◌, length, map, IsUtf8, All};
 ghost use Rattle.httparse.specs.Spans.{IsHeaderWithin, header_bytes};
-ghost use Rattle.adm_http.specs.Heads.{window, verb_of, by_length as verdict_by_length, values_of, AreCounted, is_named, command_verdict, verdict_of, IsJudgement, IsInside, IsSmall};
+ghost use Rattle.adm_http.specs.Heads.{window, verb_of, by_length as verdict_by_length, values_of, AreCounted, is_named, body_verdict, verdict_of, IsJudgement, IsInside, IsSmall};
 
 use crate::lengths::body_length;
 use crate::routes::Routes;
-use crate::targets::{Resource, Target};
+use crate::targets::{Purpose, Resource, Target};
 use http::StatusCode;
 use httparse::Status;
 use httparse::spans::{EMPTY_HEADER_SPAN, HeaderSpan, parse_request};
@@ -36,8 +36,8 @@ pub(crate) enum Verdict {
     NotAllowed(Verb),
     /// A text that is asked for.
     Show(Resource),
-    /// A command, whose body has this length.
-    Run(u64),
+    /// A command or a question, whose body has this length.
+    Run(Purpose, u64),
 }
 
 /// What the bytes of a request are so far.
@@ -98,8 +98,8 @@ fn decide(
     };
     match (verb, routes.target(target)) {
         (_, None) => Verdict::Reject(StatusCode::NOT_FOUND),
-        (Verb::Get, Some(Target::Commands)) => Verdict::NotAllowed(Verb::Post),
-        (Verb::Post, Some(Target::Commands)) => command(window, fields),
+        (Verb::Get, Some(Target::Body(_))) => Verdict::NotAllowed(Verb::Post),
+        (Verb::Post, Some(Target::Body(purpose))) => body(window, fields, purpose),
         (Verb::Get, Some(Target::Text(resource))) => Verdict::Show(resource),
         (Verb::Post, Some(Target::Text(_))) => Verdict::NotAllowed(Verb::Get),
     }
@@ -117,11 +117,11 @@ fn verb_of_method(method: &[u8]) -> Option<Verb>
     None
 }
 
-// What a command's fields decide.
-fn command(window: &[u8], fields: &[HeaderSpan]) -> Verdict
+// What the fields of a request with a body decide.
+fn body(window: &[u8], fields: &[HeaderSpan], purpose: Purpose) -> Verdict
     requires { All (IsHeaderWithin (length window.now)) fields.now }
     ensures small { IsSmall result }
-    ensures decided { result ≡ command_verdict (map (header_bytes window.now) fields.now) }
+    ensures decided { result ≡ body_verdict purpose (map (header_bytes window.now) fields.now) }
 {
     let (codings, _) = values(window, fields, "Transfer-Encoding");
     if codings > 0 {
@@ -129,20 +129,20 @@ fn command(window: &[u8], fields: &[HeaderSpan]) -> Verdict
     }
     match values(window, fields, "Content-Length") {
         (0, _) => Verdict::Reject(StatusCode::LENGTH_REQUIRED),
-        (1, value) => by_length(body_length(value)),
+        (1, value) => by_length(purpose, body_length(value)),
         _ => Verdict::Reject(StatusCode::BAD_REQUEST),
     }
 }
 
 // What the length of a body decides.
-fn by_length(length: Option<u64>) -> Verdict
+fn by_length(purpose: Purpose, length: Option<u64>) -> Verdict
     ensures small { IsSmall result }
-    ensures decided { result ≡ verdict_by_length length }
+    ensures decided { result ≡ verdict_by_length purpose length }
 {
     match length {
         None => Verdict::Reject(StatusCode::BAD_REQUEST),
         Some(length) if length > BODY_LIMIT => Verdict::Reject(StatusCode::PAYLOAD_TOO_LARGE),
-        Some(length) => Verdict::Run(length),
+        Some(length) => Verdict::Run(purpose, length),
     }
 }
 

@@ -2,7 +2,7 @@
 ghost use Rattle.std.specs.Prelude.{◌≡◌, if◌then◌else◌};
 ghost use Rattle.sqlite.specs.Held.{state};
 ghost use Rattle.adm_desk.specs.Standing.{Handles};
-ghost use Rattle.adm_desk.specs.Lines.{AnswersLine};
+ghost use Rattle.adm_http.specs.Purposes.{RunsBody};
 ghost use Rattle.adm_http.specs.Connections.{AnswersOne, AnswersUpTo, fault_line};
 ghost use Rattle.adm_http.specs.Shows.{Shows};
 
@@ -49,7 +49,7 @@ pub fn serve_on<C: Clock, S: Alter, E: Write>(
     errors: &mut E,
 ) -> u8
     ensures status { result ≡ (if desk.new.failed then 4 else 0) }
-    ensures desk { AnswersUpTo (AnswersLine (Handles (state S.Store))) Shows count desk.old desk.new }
+    ensures desk { AnswersUpTo (RunsBody (state S.Store)) Shows count desk.old desk.new }
 {
     serve_each(clock, alloc, routes, desk, listener, count, errors);
     if desk.register().is_none() { 4 } else { 0 }

@@ -1,7 +1,7 @@
 // The response to the request that some bytes are.
 ghost use Rattle.std.specs.Prelude.{◌≡◌, IfOk, ℕ, List, nat_le, ◌≤◌, drop, length, if◌then◌else◌};
 ghost use Rattle.adm_http.specs.Texts.{Response, response_bytes, json};
-ghost use Rattle.adm_http.specs.Replies.{status_of, status_of_command, status_of_fault};
+ghost use Rattle.adm_http.specs.Replies.{status_of, status_of_command, status_of_told, status_of_fault};
 ghost use Rattle.adm_http.specs.Responses.{of_answer, of_shown, media_of, Carries, Responds};
 
 use crate::answering::{Answering, Shown};
@@ -9,7 +9,8 @@ use crate::heads::{HEAD_LIMIT, Judgement, Verdict, judge};
 use crate::responses::{Media, bare, response};
 use crate::routes::Routes;
 use crate::targets::Resource;
-use adm_desk::{Answer, LineAnswer};
+use adm_commands::NotTold;
+use adm_desk::{Answer, LineAnswer, Told};
 use adm_wire::{WireFault, failed_text, memory_text};
 use http::StatusCode;
 use std::alloc::{AllocError, Global};
@@ -72,14 +73,14 @@ fn carry<A: Answering>(
             let shown = desk.show(alloc, &resource);
             shown_response(alloc, resource, shown)
         }
-        Verdict::Run(length) => match rest.get(..length as usize) {
-            Some(body) => answer_response(alloc, desk.run(alloc, body)),
+        Verdict::Run(purpose, length) => match rest.get(..length as usize) {
+            Some(body) => answer_response(alloc, desk.run(alloc, purpose, body)),
             None => bare(alloc, StatusCode::BAD_REQUEST, None),
         },
     }
 }
 
-// The response to what running a body as a command answered.
+// The response to what running a body answered.
 fn answer_response(alloc: Global, answer: LineAnswer) -> Result<Vec<u8>, AllocError>
     ensures { IfOk result (λ output. output.items ≡ response_bytes (of_answer answer)) }
 {
@@ -93,6 +94,7 @@ fn status_of(answer: LineAnswer) -> StatusCode
     match answer {
         LineAnswer::Handled(answer) => status_of_command(answer),
         LineAnswer::Faulty(fault) => status_of_fault(fault),
+        LineAnswer::Told(told) => status_of_told(told),
     }
 }
 
@@ -103,6 +105,21 @@ fn status_of_command(answer: Answer) -> StatusCode
         Answer::Done(_) => StatusCode::OK,
         Answer::Refused { .. } => StatusCode::CONFLICT,
         Answer::Memory | Answer::Failed => StatusCode::SERVICE_UNAVAILABLE,
+    }
+}
+
+fn status_of_told(told: Told) -> StatusCode
+    ensures { result ≡ status_of_told told }
+{
+    match told {
+        Told::School(_) => StatusCode::OK,
+        Told::Untold(NotTold::Memory) | Told::Failed => StatusCode::SERVICE_UNAVAILABLE,
+        Told::Untold(
+            NotTold::LotCount
+            | NotTold::LotsRepeated
+            | NotTold::UnknownChild
+            | NotTold::NotItsSchools,
+        ) => StatusCode::CONFLICT,
     }
 }
 

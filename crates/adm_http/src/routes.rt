@@ -1,25 +1,25 @@
-// The router of the five routes.
+// The router of the six routes.
 ghost use Rattle.std.specs.Prelude.{◌≡◌, IfOk, OnOk, Ok, option_map};
 ghost use Rattle.matchit.specs.Route.{parse_route};
 ghost use Rattle.matchit.specs.Router.{InsertsRead};
-ghost use Rattle.adm_http.specs.Rows.{five_routes, IsFree};
+ghost use Rattle.adm_http.specs.Rows.{six_routes, IsFree};
 ghost use Rattle.adm_http.specs.Targets.{route_of, target_of};
 
 use crate::targets::{Route, Target, named};
 use matchit::{InsertError, Router};
 use std::alloc::{AllocError, Global};
 
-/// The five routes.
+/// The six routes.
 #[derive(Drop)]
 pub struct Routes {
     router: Router<Route>,
-    ghost five: { router ≡ five_routes },
+    ghost six: { router ≡ six_routes },
 }
 
 impl Routes {
-    /// The five routes. The `Err` is want of memory, and comes for nothing else.
+    /// The six routes. The `Err` is want of memory, and comes for nothing else.
     pub fn new(alloc: Global) -> Result<Routes, AllocError> {
-        let router = five(alloc)?;
+        let router = six(alloc)?;
         Ok(Routes { router })
     }
 
@@ -46,9 +46,9 @@ impl Routes {
     }
 }
 
-// The router of the five.
-fn five(alloc: Global) -> Result<Router<Route>, AllocError>
-    ensures { IfOk result (λ router. router ≡ five_routes) }
+// The router of the six.
+fn six(alloc: Global) -> Result<Router<Route>, AllocError>
+    ensures { IfOk result (λ router. router ≡ six_routes) }
 {
     let mut router = Router::new(alloc);
     add(&mut router, "/command", Route::Command)?;
@@ -56,6 +56,7 @@ fn five(alloc: Global) -> Result<Router<Route>, AllocError>
     add(&mut router, "/child/{no}/letter", Route::Letter)?;
     add(&mut router, "/school/{code}/waiting", Route::Waiting)?;
     add(&mut router, "/round/{no}", Route::Round)?;
+    add(&mut router, "/what-if", Route::WhatIf)?;
     Ok(router)
 }
 

@@ -79,7 +79,7 @@ fn wanted(routes: &Routes, input: &[u8]) -> Option<usize>
     ensures { MatchOption result (MayStop input.now) (λ total. GoesOnTo total input.now) }
 {
     match judge(routes, input) {
-        Judgement::Whole(len, Verdict::Run(length)) => {
+        Judgement::Whole(len, Verdict::Run(_, length)) => {
             let total = len + length as usize;
             if input.len() < total {
                 Some(total)

@@ -1,4 +1,4 @@
-// What a target names: the commands, or a text of the register.
+// What a target names: what a body is read as, or a text of the register.
 ghost use Rattle.std.specs.Prelude.{◌≡◌};
 ghost use Rattle.adm_http.specs.Targets.{child_number_of, named_by};
 
@@ -12,6 +12,16 @@ pub enum Route {
     Letter,
     Waiting,
     Round,
+    WhatIf,
+}
+
+/// What a body is read as.
+#[derive(Clone, Copy)]
+pub enum Purpose {
+    /// A command, which is run.
+    Command,
+    /// A question where a child would be by another list, which changes nothing.
+    Question,
 }
 
 /// A text that can be asked for.
@@ -30,7 +40,7 @@ pub enum Resource {
 /// What a target names.
 #[derive(Clone, Copy)]
 pub enum Target {
-    Commands,
+    Body(Purpose),
     Text(Resource),
 }
 
@@ -39,7 +49,8 @@ pub(crate) fn named(route: Route, part: &str) -> Option<Target>
     ensures { result ≡ named_by (route, part.now) }
 {
     match route {
-        Route::Command => Some(Target::Commands),
+        Route::Command => Some(Target::Body(Purpose::Command)),
+        Route::WhatIf => Some(Target::Body(Purpose::Question)),
         Route::Child => Some(Target::Text(Resource::ChildState(child_number(part)?))),
         Route::Letter => Some(Target::Text(Resource::ChildLetter(child_number(part)?))),
         Route::Waiting => Some(Target::Text(Resource::WaitingList(SchoolCode::new(part)?))),

@@ -13,8 +13,11 @@ use Rattle.adm_types.specs.declared.seasons.SeasonFault.{SeasonFault}
 use Rattle.adm_types.specs.declared.seasons.SeasonFault.TheVariants as season
 use Rattle.adm_words.specs.declared.actions.Action.{Action}
 use Rattle.adm_words.specs.declared.actions.Action.TheVariants as action
+use Rattle.sqlite.specs.Files.{file_state}
 use Rattle.sqlite.specs.Held.{Held}
-use Rattle.adm_desk.specs.Standing.{Standing}
+use Rattle.adm_desk.specs.Lines.{AnswersLine}
+use Rattle.adm_desk.specs.Questions.{TellsLine}
+use Rattle.adm_desk.specs.Standing.{Handles, Standing}
 use Rattle.adm_desk.specs.declared.answer.Answer.{Answer}
 use Rattle.adm_desk.specs.declared.answer.Answer.TheVariants as answer
 use Rattle.adm_program.specs.Exits.{of_season, has_many_holidays, IsCauseIn, ExitsBy, exit_of_answer, ending_of, error_of, told_of, code_of}
@@ -22,7 +25,7 @@ use Rattle.adm_program.specs.Opened.{Stream, IsNotOpened}
 use Rattle.adm_program.specs.Imports.{ImportsAs, ImportsFile, ImportsInto}
 use Rattle.adm_program.specs.Served.{ServesAs, ServesOver}
 use Rattle.adm_program.specs.Texts.{Prints, PrintsAs, text_in}
-use Rattle.adm_program.specs.Runs.{Answers, Creates, CreatesAs, EndsAs}
+use Rattle.adm_program.specs.Runs.{Liner, Answers, Creates, CreatesAs, EndsAs}
 use Rattle.adm_program.specs.Does.{Does}
 use Rattle.adm_program.specs.declared.document.Document.{Document}
 use Rattle.adm_program.specs.declared.document.Document.TheVariants as document
@@ -101,6 +104,7 @@ print_exit (Err f) output e closed prints = inr (fault_exit e f closed prints.0)
 unmade : (a : Action) → ExitsBy (Ok a) 1
 unmade (action.Init file phase year days) = inr refl
 unmade (action.Do file) = λ e. cc
+unmade (action.WhatIf file) = λ e. cc
 unmade (action.Import file csv) = λ e. cc
 unmade (action.Serve file port count) = inr (inl refl)
 unmade (action.Letter file child) = inr refl
@@ -121,10 +125,10 @@ module _ {D : Type 0} {g : disk.Ghosts D} where
   created season found left (Err f) closed made = inr refl
   created season found left (Ok x) closed made = done_exit x closed made.0
 
-  ran : (old new : Standing (Held (FileStore D g))) (input output : Stream) (e : Result Exit Fault) (closed : Option Error) → EndsAs old new input output e
+  ran : (runs : Liner (Standing (Held (FileStore D g)))) (old new : Standing (Held (FileStore D g))) (input output : Stream) (e : Result Exit Fault) (closed : Option Error) → EndsAs runs old new input output e
       → status e closed ≢ 2
-  ran old new input output (Err f) closed ends = λ e. cc
-  ran old new input output (Ok x) closed ends =
+  ran runs old new input output (Err f) closed ends = λ e. cc
+  ran runs old new input output (Ok x) closed ends =
       subst (λ (y : Exit). status (Ok y) closed ≢ 2) (sym ends.1) (run_exit ends.0.failed (nat_lt 0 ends.0.refused) closed)
 
   imported : (old new : Standing (Held (FileStore D g))) (file output : Stream) (e : Result Exit Fault) (closed : Option Error) → ImportsAs old new file output e
@@ -137,10 +141,10 @@ module _ {D : Type 0} {g : disk.Ghosts D} where
   not_opened : (image : Image) (e : Result Exit Fault) (closed : Result (Files D) (Error × FileStore D g)) → IsNotOpened image e closed → status e (error_of closed) ≡ 1
   not_opened image e closed left = fault_exit e _ (error_of closed) left.told
 
-  do_exit : (image : Image) (input output : Stream) (e : Result Exit Fault) (closed : Result (Files D) (Error × FileStore D g)) → Answers image input output e closed
+  lines_exit : (runs : Liner (Standing (Held (FileStore D g)))) (image : Image) (input output : Stream) (e : Result Exit Fault) (closed : Result (Files D) (Error × FileStore D g)) → Answers runs image input output e closed
       → status e (error_of closed) ≢ 2
-  do_exit image input output e closed (inl left) = not_two _ (not_opened image e closed left.0)
-  do_exit image input output e closed (inr does) = ran does.0 does.2.after input output e (error_of closed) does.2.ends
+  lines_exit runs image input output e closed (inl left) = not_two _ (not_opened image e closed left.0)
+  lines_exit runs image input output e closed (inr does) = ran runs does.0 does.2.after input output e (error_of closed) does.2.ends
 
   file_exit : (desk : Standing (Held (FileStore D g))) (output : Stream) (e : Result Exit Fault) (closed : Result (Files D) (Error × FileStore D g))
       → ImportsFile desk output e closed → status e (error_of closed) ≢ 2
@@ -172,7 +176,8 @@ module _ {D : Type 0} {g : disk.Ghosts D} where
       → ExitsBy (Ok a) (status e (error_of closed))
   made image (action.Init file phase year days) input output e closed does =
       created does.2 does.6.found does.6.creates.left e (error_of closed) does.6.creates.made
-  made image (action.Do file) input output e closed does = do_exit image input output e closed does
+  made image (action.Do file) input output e closed does = lines_exit (AnswersLine (Handles file_state)) image input output e closed does
+  made image (action.WhatIf file) input output e closed does = lines_exit TellsLine image input output e closed does
   made image (action.Import file csv) input output e closed does = import_exit image output e closed does.1
   made image (action.Serve file port count) input output e closed does = serve_exit image port count output e closed does.1
   made image (action.Letter file child) input output e closed does = document_exit image (document.Letter child) output e closed does.1

@@ -8,6 +8,10 @@ use Rattle.sqlite.specs.declared.error.Error.{Error}
 use Rattle.adm_types.specs.Seasons.{SeasonFacts, IsRising}
 use Rattle.adm_words.specs.declared.actions.Action.{Action}
 use Rattle.adm_words.specs.declared.actions.Action.TheVariants as action
+use Rattle.sqlite.specs.Files.{file_state}
+use Rattle.adm_desk.specs.Lines.{AnswersLine}
+use Rattle.adm_desk.specs.Questions.{TellsLine}
+use Rattle.adm_desk.specs.Standing.{Handles}
 use Rattle.adm_program.specs.Opened.{Stream}
 use Rattle.adm_program.specs.Runs.{Answers, Creates}
 use Rattle.adm_program.specs.Imports.{ImportsInto}
@@ -17,12 +21,13 @@ use Rattle.adm_program.specs.declared.document.Document.TheVariants as document
 use Rattle.adm_program.specs.declared.exit.Exit.{Exit}
 use Rattle.adm_program.specs.declared.fault.Fault.{Fault}
 
--- `init` creates the register of the season of its values, and reads and writes nothing else; `do` answers the lines;
+-- `init` creates the register of the season of its values, and reads and writes nothing else; `do` answers the lines, and `what-if` the questions;
 -- `import` imports a file of rows; `serve` serves connections; the others print a document of the register
 abbrev pub Does : {D : Type 0} {g : disk.Ghosts D} → Image → Action → Stream → Stream → Result Exit Fault → Result (Files D) (Error × FileStore D g) → Type 0
 Does image (action.Init file phase year days) input output e closed = (input.new ≡ input.old) × (output.new ≡ output.old)
     × (season : SeasonFacts) × (season.phase ≡ phase) × (season.year ≡ year) × IsRising days season.holidays × Creates image season e closed
-Does image (action.Do file) input output e closed = Answers image input output e closed
+Does image (action.Do file) input output e closed = Answers (AnswersLine (Handles file_state)) image input output e closed
+Does image (action.WhatIf file) input output e closed = Answers TellsLine image input output e closed
 Does image (action.Import file csv) input output e closed = (input.new ≡ input.old) × ImportsInto image output e closed
 Does image (action.Serve file port count) input output e closed = (input.new ≡ input.old) × ServesOver image port count output e closed
 Does image (action.Letter file child) input output e closed = (input.new ≡ input.old) × Prints image (document.Letter child) output e closed

@@ -125,6 +125,7 @@ IsOpenFault fault = (fault ≡ Memory) ⊎ IsDisk fault
 abbrev pub has_many_holidays : Action → Bool
 has_many_holidays (action.Init file phase year days) = is_from 2000 2100 year && nat_lt 40 (length days)
 has_many_holidays (action.Do file) = false
+has_many_holidays (action.WhatIf file) = false
 has_many_holidays (action.Import file csv) = false
 has_many_holidays (action.Serve file port count) = false
 has_many_holidays (action.Letter file child) = false
@@ -136,6 +137,7 @@ abbrev pub IsCauseIn : Action → Fault → Type 0
 IsCauseIn (action.Init file phase year days) f = ((f ≡ YearRange) × (is_from 2000 2100 year ≡ false))
     ⊎ (((f ≡ TooManyHolidays) × IsTrue (has_many_holidays (action.Init file phase year days))) ⊎ IsOpenFault f)
 IsCauseIn (action.Do file) f = IsOpenFault f
+IsCauseIn (action.WhatIf file) f = IsOpenFault f
 IsCauseIn (action.Import file csv) f = IsOpenFault f
 IsCauseIn (action.Serve file port count) f = IsOpenFault f
 IsCauseIn (action.Letter file child) f = IsOpenFault f
@@ -185,10 +187,11 @@ abbrev pub error_of : {X Y : Type 0} → Result X (Error × Y) → Option Error
 error_of (Ok files) = None
 error_of (Err e) = Some e.0
 
--- what the words were read as: `init` and what prints a text end with 0 or 1, `do` and `import` never with 2, and `serve` with 0, 1 or 4; 2 where they ask for nothing
+-- what the words were read as: `init` and what prints a text end with 0 or 1, `do`, `what-if` and `import` never with 2, and `serve` with 0, 1 or 4; 2 where they ask for nothing
 abbrev pub ExitsBy : Result Action WordsFault → ℕ → Type 0
 ExitsBy (Ok (action.Init file phase year days)) status = (status ≡ 0) ⊎ (status ≡ 1)
 ExitsBy (Ok (action.Do file)) status = status ≢ 2
+ExitsBy (Ok (action.WhatIf file)) status = status ≢ 2
 ExitsBy (Ok (action.Import file csv)) status = status ≢ 2
 ExitsBy (Ok (action.Serve file port count)) status = (status ≡ 0) ⊎ ((status ≡ 1) ⊎ (status ≡ 4))
 ExitsBy (Ok (action.Letter file child)) status = (status ≡ 0) ⊎ (status ≡ 1)

@@ -14,9 +14,10 @@ use Rattle.adm_register.specs.State.{only_season}
 use Rattle.adm_store.specs.StandsFor.{LeavesOnly, LeavesOldOrNew}
 use Rattle.adm_store.specs.declared.fault.CreateFault.{CreateFault}
 use Rattle.adm_store.specs.declared.fault.CreateFault.TheVariants as create
-use Rattle.adm_desk.specs.Standing.{Handles, Standing}
+use Rattle.adm_desk.specs.Standing.{Standing}
 use Rattle.adm_desk.specs.Lines.{lines_of}
 use Rattle.adm_desk.specs.Written.{Finished, AnsweredUpTo, StoppedWithin}
+use Rattle.adm_desk.specs.declared.answer.LineAnswer.{LineAnswer}
 use Rattle.adm_desk.specs.declared.run.Run.{Run}
 use Rattle.adm_program.specs.Exits.{exit_of, of_create}
 use Rattle.adm_program.specs.Opened.{Stream, Closes, IsFound, Opens}
@@ -25,28 +26,32 @@ use Rattle.adm_program.specs.declared.exit.Exit.TheVariants as exit
 use Rattle.adm_program.specs.declared.fault.Fault.{Fault}
 use Rattle.adm_program.specs.declared.fault.Fault.TheVariants as fault
 
+-- what one line may be answered, and what is there then
+abbrev pub Liner : Type 0 → Type 1
+Liner S = S → List ℕ → LineAnswer → S → Type 0
+
 module _ {D : Type 0} {g : disk.Ghosts D} where
   -- how a run of lines ended, from the desk as it was to the desk as it is
-  abbrev pub EndsAs : Standing (Held (FileStore D g)) → Standing (Held (FileStore D g)) → Stream → Stream → Result Exit Fault → Type 0
-  EndsAs old new input output (Ok e) = (run : Run) × (e ≡ exit_of run) × IsAtEnd input.new
-      × (bytes : List ℕ) × Consumes input.old input.new bytes × Finished (Handles file_state) old new output.old output.new run (lines_of bytes)
-  EndsAs old new input output (Err fault.Read) = IfSome input.old (λ bytes. length bytes < 2 ^ 64 - 1 → input.has_failed ≡ true)
-      × (bytes : List ℕ) × Consumes input.old input.new bytes × AnsweredUpTo (Handles file_state) old new output.old output.new bytes
-  EndsAs old new input output (Err fault.Write) = (output.has_failed ≡ true)
-      × (bytes : List ℕ) × Consumes input.old input.new bytes × StoppedWithin (Handles file_state) old new output.old output.new bytes input.new
-  EndsAs old new input output (Err fault.Memory) = (bytes : List ℕ) × Consumes input.old input.new bytes
-      × StoppedWithin (Handles file_state) old new output.old output.new bytes input.new
-  EndsAs old new input output (Err _) = ⊥
+  abbrev pub EndsAs : Liner (Standing (Held (FileStore D g))) → Standing (Held (FileStore D g)) → Standing (Held (FileStore D g)) → Stream → Stream → Result Exit Fault → Type 0
+  EndsAs runs old new input output (Ok e) = (run : Run) × (e ≡ exit_of run) × IsAtEnd input.new
+      × (bytes : List ℕ) × Consumes input.old input.new bytes × Finished runs old new output.old output.new run (lines_of bytes)
+  EndsAs runs old new input output (Err fault.Read) = IfSome input.old (λ bytes. length bytes < 2 ^ 64 - 1 → input.has_failed ≡ true)
+      × (bytes : List ℕ) × Consumes input.old input.new bytes × AnsweredUpTo runs old new output.old output.new bytes
+  EndsAs runs old new input output (Err fault.Write) = (output.has_failed ≡ true)
+      × (bytes : List ℕ) × Consumes input.old input.new bytes × StoppedWithin runs old new output.old output.new bytes input.new
+  EndsAs runs old new input output (Err fault.Memory) = (bytes : List ℕ) × Consumes input.old input.new bytes
+      × StoppedWithin runs old new output.old output.new bytes input.new
+  EndsAs runs old new input output (Err _) = ⊥
 
   -- the lines are run over the desk, and then its connection is closed
-  pub record Runs (desk : Standing (Held (FileStore D g))) (input output : Stream) (e : Result Exit Fault) (closed : Result (Files D) (Error × FileStore D g)) : Type 0 where
+  pub record Runs (runs : Liner (Standing (Held (FileStore D g)))) (desk : Standing (Held (FileStore D g))) (input output : Stream) (e : Result Exit Fault) (closed : Result (Files D) (Error × FileStore D g)) : Type 0 where
     pub after : Standing (Held (FileStore D g))
-    pub ends : EndsAs desk after input output e
+    pub ends : EndsAs runs desk after input output e
     pub closes : Closes after.conn closed
 
   -- a desk has the register that the files stood for, and runs the lines
-  abbrev pub Answers : Image → Stream → Stream → Result Exit Fault → Result (Files D) (Error × FileStore D g) → Type 0
-  Answers image input output e closed = Opens image output e closed (λ desk. Runs desk input output e closed)
+  abbrev pub Answers : Liner (Standing (Held (FileStore D g))) → Image → Stream → Stream → Result Exit Fault → Result (Files D) (Error × FileStore D g) → Type 0
+  Answers runs image input output e closed = Opens image output e closed (λ desk. Runs runs desk input output e closed)
 
   -- what a create leaves
   abbrev pub CreatesAs : SeasonFacts → Held (FileStore D g) → Held (FileStore D g) → Result Exit Fault → Type 0

@@ -8,7 +8,7 @@ use Rattle.sqlite_store.specs.declared.store.FileStore.{FileStore}
 use Rattle.sqlite.specs.declared.error.Error.{Error}
 use Rattle.sqlite.specs.Held.{Held}
 use Rattle.sqlite.specs.Files.{file_state}
-use Rattle.adm_desk.specs.Lines.{AnswersLine}
+use Rattle.adm_http.specs.Purposes.{RunsBody}
 use Rattle.adm_desk.specs.Standing.{Handles, Standing}
 use Rattle.adm_http.specs.Connections.{AnswersUpTo}
 use Rattle.adm_http.specs.Shows.{Shows}
@@ -28,7 +28,7 @@ module _ {D : Type 0} {g : disk.Ghosts D} where
   -- failed makes the exit; or the port could not be taken, the line not printed or memory ran out, and no request was answered.
   abbrev pub ServesAs : Standing (Held (FileStore D g)) → Standing (Held (FileStore D g)) → ℕ → ℕ → Stream → Result Exit Fault → Type 0
   ServesAs old new port count output (Ok e) = Appends output.old output.new (serving_text port)
-      × AnswersUpTo (AnswersLine (Handles file_state)) Shows count old new × (e ≡ (if new.failed then exit.Failed else exit.Done))
+      × AnswersUpTo (RunsBody file_state) Shows count old new × (e ≡ (if new.failed then exit.Failed else exit.Done))
   ServesAs old new port count output (Err fault.Listen) = (new ≡ old) × (output.new ≡ output.old)
   ServesAs old new port count output (Err f) = (new ≡ old) × Puts {A = Exit} (serving_text port) output (Err f)
 

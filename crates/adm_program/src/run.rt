@@ -1,6 +1,10 @@
 // What each line of the command line does, over a reader and two writers.
 ghost use Rattle.std.specs.Prelude.{◌≡◌, false, map, codes, IsTrue, IfOk, IfErr, OnErr, IsErrAnd};
 ghost use Rattle.sqlite_wal.specs.Files.{image_at};
+ghost use Rattle.sqlite.specs.Files.{file_state};
+ghost use Rattle.adm_desk.specs.Lines.{AnswersLine};
+ghost use Rattle.adm_desk.specs.Questions.{TellsLine};
+ghost use Rattle.adm_desk.specs.Standing.{Handles};
 ghost use Rattle.adm_program.specs.Exits.{told_of, ending_of, error_of, has_many_holidays, IsCauseIn, IsOpenFault, RunsWords, IsDisk};
 ghost use Rattle.adm_program.specs.declared.fault.Fault.TheVariants.{TooManyHolidays};
 ghost use Rattle.adm_program.specs.Does.{Does};
@@ -81,6 +85,7 @@ fn run_action<S: Start, I: Input, O: Output, E: Write>(
             Err(fault) => Err(Fault::from(fault)),
         },
         Action::Do { file } => do_lines(rt, file, start, input, output),
+        Action::WhatIf { file } => tell_lines(rt, file, start, input, output),
         Action::Import { file, csv } => import(rt, file, csv, start, output),
         Action::Serve { file, port, count } => {
             serve(rt, file, start, port, count, output, errors)
@@ -174,7 +179,7 @@ fn do_lines<S: Start, I: Input, O: Output>(
     input: &mut I,
     output: &mut O,
 ) -> Result<Ended<FileFrom<S>>, Fault>
-    ensures ok { IfOk result (λ ended. Answers (image_at S.Start)
+    ensures ok { IfOk result (λ ended. Answers (AnswersLine (Handles file_state)) (image_at S.Start)
         (record { old = I.remaining input.old; new = I.remaining input.new; has_failed = I.has_failed input.new })
         (record { old = O.contents output.old; new = O.contents output.new; has_failed = O.has_failed output.new })
         ended.exit ended.closed) }
@@ -194,12 +199,52 @@ fn run_desk<D: Disk + Drop, I: Input, O: Output>(
     input: &mut I,
     output: &mut O,
 ) -> Ended<D>
-    ensures { Runs desk
+    ensures { Runs (AnswersLine (Handles file_state)) desk
         (record { old = I.remaining input.old; new = I.remaining input.new; has_failed = I.has_failed input.new })
         (record { old = O.contents output.old; new = O.contents output.new; has_failed = O.has_failed output.new })
         result.exit result.closed }
 {
     match desk.run_lines(input, output) {
+        Ok(run) => close(desk, Ok(Exit::of(run))),
+        Err(fault) => close(desk, Err(Fault::from(fault))),
+    }
+}
+
+/// Answers the questions of the input over the register in the file, which is there: an open makes no
+/// file here. The `Err` is why it was not opened; then nothing was read or written.
+fn tell_lines<S: Start, I: Input, O: Output>(
+    rt: &HostRuntime,
+    file: &str,
+    start: S,
+    input: &mut I,
+    output: &mut O,
+) -> Result<Ended<FileFrom<S>>, Fault>
+    ensures ok { IfOk result (λ ended. Answers TellsLine (image_at S.Start)
+        (record { old = I.remaining input.old; new = I.remaining input.new; has_failed = I.has_failed input.new })
+        (record { old = O.contents output.old; new = O.contents output.new; has_failed = O.has_failed output.new })
+        ended.exit ended.closed) }
+    ensures err { IfErr result IsOpenFault }
+    ensures memory { file.now ≡ codes ":memory:" → IsErrAnd result IsDisk }
+    ensures untouched { OnErr result ((I.remaining input.new ≡ I.remaining input.old) × (O.contents output.new ≡ O.contents output.old)) }
+{
+    match open_desk(rt, file, start)? {
+        Ok(desk) => Ok(tell_desk(desk, input, output)),
+        Err(ended) => Ok(ended),
+    }
+}
+
+/// Answers the questions of the input, and closes the connection, whatever comes.
+fn tell_desk<D: Disk + Drop, I: Input, O: Output>(
+    desk: Desk<FileStore<D>>,
+    input: &mut I,
+    output: &mut O,
+) -> Ended<D>
+    ensures { Runs TellsLine desk
+        (record { old = I.remaining input.old; new = I.remaining input.new; has_failed = I.has_failed input.new })
+        (record { old = O.contents output.old; new = O.contents output.new; has_failed = O.has_failed output.new })
+        result.exit result.closed }
+{
+    match desk.tell_lines(input, output) {
         Ok(run) => close(desk, Ok(Exit::of(run))),
         Err(fault) => close(desk, Err(Fault::from(fault))),
     }

@@ -1,5 +1,5 @@
 -- What a change of rows that fit leaves is a register.
-use Rattle.std.proofs.Common.{◌≡◌, ◌∙◌, ap, sym, subst, refl, Bool, true, false, ℕ, ◌≤◌, List, [], ◌∷◌, Some, None}
+use Rattle.std.proofs.Common.{◌≡◌, ◌∙◌, ap, sym, subst, refl, Bool, true, false, ℕ, ◌≤◌, List, [], ◌∷◌, Some, None, arith}
 use Rattle.std.specs.Prelude.{◌&&◌, ◌||◌, not, is_some, nat_eq, Option, if◌then◌else◌}
 use Rattle.std.specs.Ordering.{nat_cmp}
 use Rattle.std.specs.declared.cmp.Ordering.{Ordering}
@@ -8,6 +8,7 @@ use Rattle.std.specs.Cmp.{nat_cmp_total}
 use Rattle.std.specs.Cmp.Lexicographic.{nat_list_cmp_total, pointwise, bytes_decides}
 use Rattle.std.specs.FinMap.{FinMap, get, len, values, contains_key, nat_cmp-IsAntisymmetric}
 use Rattle.std.proofs.lemmas.Bool.{and_parts}
+use Rattle.std.proofs.lemmas.Option.{same_Some}
 use Rattle.adm_types.specs.Limits.{most_schools, most_children}
 use Rattle.adm_types.specs.Seasons.{lists_end}
 use Rattle.adm_types.specs.declared.rows.School.{School}
@@ -21,7 +22,7 @@ use Rattle.adm_register.specs.declared.difference.Difference.{Difference}
 use Rattle.adm_register.specs.State.{State, code_cmp, is_plan, application_of}
 use Rattle.adm_register.specs.Change.{put_all, cut_all, after}
 use Rattle.adm_register.specs.Fits.{FewAfter, BasePut, PlacesPut, LeftPut, DrawsPut, ImportedPut, Fit}
-use Rattle.adm_register.specs.Extends.{Extends, KeepsSchools}
+use Rattle.adm_register.specs.Extends.{Extends, IsKept, KeepsSchools}
 use Rattle.adm_register.specs.WellFormed.{WellFormed, AllRows, BaseFits, PlacesFit, LeftFits, DrawsFit, ImportedFit, has_round, is_entitled, lists_school, SchoolFits, ChildFits, ApplicationFits, PlaceFits, LeftPairFits, ImportFits, is_held}
 use Rattle.adm_register.proofs.Maps.{code_cmp-IsAntisymmetric, left_cmp-total, left_cmp-IsAntisymmetric}
 use Rattle.adm_register.specs.Draws.{DrawFits, are_in_order, no_draws}
@@ -205,6 +206,13 @@ module _ (old : State) (change : Difference) where
     imported = all_stay nat_cmp_total nat_cmp-IsAntisymmetric (λ (r : ImportRow). r.child.no) old.imported change.imported fit.imported.new_rows;
   }
 
-  -- no school is changed where those that are put are new
+  -- each school is kept where those that are put are new or keep what was
   pub after-keeps_schools : BasePut old change → KeepsSchools old new
-  after-keeps_schools base = all_stay nat_list_cmp_total code_cmp-IsAntisymmetric (λ (s : School). s.code) old.schools change.schools base.new_schools
+  after-keeps_schools base = λ code was now there here. each code now here was there
+    where
+      kept : (school : School) → IsKept school school
+      kept school = record { number = omega arith; others = refl }
+
+      each : AllRows (λ code now. (was : School) → get old.schools code ≡ Some was → IsKept was now) new.schools
+      each = AllRows-put_all nat_list_cmp_total code_cmp-IsAntisymmetric (λ (s : School). s.code) (λ code now. (was : School) → get old.schools code ≡ Some was → IsKept was now) old.schools change.schools
+          (λ code row there still was same. subst (λ it. IsKept it row) (same_Some row was (sym there ∙ same)) (kept row)) base.kept_schools

@@ -1,5 +1,5 @@
 -- What every command leaves as it was.
-use Rattle.std.specs.Prelude.{◌≡◌, ℕ, List, Some, IsTrue}
+use Rattle.std.specs.Prelude.{◌≡◌, ◌≤◌, ℕ, List, Some, IsTrue}
 use Rattle.std.specs.FinMap.{get, contains_key}
 use Rattle.adm_types.specs.declared.rows.School.{School}
 use Rattle.adm_types.specs.declared.rows.ImportRow.{ImportRow}
@@ -16,6 +16,11 @@ pub record Extends (old new : State) : Type 0 where
   pub draws : (number : ℕ) (draw : Draw) → get old.draws number ≡ Some draw → get new.draws number ≡ Some draw
   pub imported : (number : ℕ) (row : ImportRow) → get old.imported number ≡ Some row → get new.imported number ≡ Some row
 
--- each school of the old register is in the new one as it was
+-- a school then and now: its admission number is not smaller, and all else of it is as it was
+pub record IsKept (was now : School) : Type 0 where
+  pub number : was.pan ≤ now.pan
+  pub others : now ≡ record was { pan = now.pan }
+
+-- each school that both registers have is kept so
 abbrev pub KeepsSchools : State → State → Type 0
-KeepsSchools old new = (code : List ℕ) (school : School) → get old.schools code ≡ Some school → get new.schools code ≡ Some school
+KeepsSchools old new = (code : List ℕ) (was now : School) → get old.schools code ≡ Some was → get new.schools code ≡ Some now → IsKept was now

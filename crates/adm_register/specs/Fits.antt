@@ -17,6 +17,7 @@ use Rattle.adm_types.specs.declared.draws.Draw.{Draw}
 use Rattle.adm_register.specs.declared.difference.Difference.{Difference}
 use Rattle.adm_register.specs.State.{State, code_cmp, left_cmp, is_plan}
 use Rattle.adm_register.specs.Change.{after}
+use Rattle.adm_register.specs.Extends.{IsKept}
 use Rattle.adm_register.specs.Draws.{DrawFits, are_in_order, no_draws, with_draws}
 use Rattle.adm_register.specs.WellFormed.{AllRows, has_round, held_at, SchoolFits, ChildFits, ApplicationFits, PlaceFits, LeftPairFits, ImportFits}
 
@@ -25,10 +26,10 @@ abbrev pub FewAfter : {K V : Type 0} {R : K → K → Ordering} → ℕ → FinM
 FewAfter limit rows [] = ⊤
 FewAfter limit rows (row ∷ put) = len rows ≤ limit
 
--- what is put into the schools, the children and the applications fits the rows after the change; the schools are new
+-- what is put into the schools, the children and the applications fits the rows after the change; the schools are new, or what they were but for a number that is not smaller
 pub record BasePut (old : State) (change : Difference) : Type 0 where
   pub schools : AllByRecursion (λ (s : School). SchoolFits s.code s) change.schools
-  pub new_schools : AllByRecursion (λ (s : School). not (contains_key old.schools s.code) ≡ true) change.schools
+  pub kept_schools : AllByRecursion (λ (s : School). (was : School) → get old.schools s.code ≡ Some was → IsKept was s) change.schools
   pub few_schools : FewAfter most_schools (after old change).schools change.schools
   pub children : AllByRecursion (λ (c : Child). ChildFits (after old change).schools c.no c) change.children
   pub few_children : FewAfter most_children (after old change).children change.children

@@ -8,7 +8,7 @@ use Rattle.std.specs.FinMap.{FinMap, get, len, values, contains_key}
 use Rattle.std.specs.Str.{is_utf8}
 use Rattle.adm_types.specs.Code.{is_code}
 use Rattle.adm_types.specs.Seasons.{SeasonFacts, IsSeason, lists_end}
-use Rattle.adm_types.specs.Limits.{is_from, is_child_number, first_day, last_day, most_schools, most_children, is_name, is_school_in_range, is_child_in_range, is_listed, is_without_repeat}
+use Rattle.adm_types.specs.Limits.{is_from, is_child_number, first_day, last_day, most_schools, most_children, most_preferences, is_name, is_school_in_range, is_child_in_range, is_listed, is_without_repeat}
 use Rattle.adm_types.specs.declared.rows.School.{School}
 use Rattle.adm_types.specs.declared.rows.Child.{Child}
 use Rattle.adm_types.specs.declared.rows.Application.{Application}
@@ -64,19 +64,19 @@ is_child schools child =
 abbrev pub fits_child : FinMap code_cmp School → ℕ → Child → Bool
 fits_child schools number child = nat_eq child.no number && is_child schools child
 
--- 1 to 6 schools that are there, without repeat, by the last day of the lists, for a child that is there
+-- 1 to 10 schools that are there, without repeat, by the last day of the lists, for a child that is there
 pub record ApplicationFits (last_day : ℕ) (schools : FinMap code_cmp School) (children : FinMap nat_cmp Child) (number : ℕ) (application : Application) : Type 0 where
   pub own_number : application.child ≡ number
   pub child : IsTrue (contains_key children application.child)
   pub day : IsTrue (is_from first_day last_day application.day)
-  pub list_length : IsTrue (is_from 1 6 (length application.list))
+  pub list_length : IsTrue (is_from 1 most_preferences (length application.list))
   pub without_repeat : IsTrue (is_without_repeat application.list)
   pub known : IsTrue (are_schools schools application.list)
 
 -- the test of all but its key
 abbrev pub is_application : ℕ → FinMap code_cmp School → FinMap nat_cmp Child → Application → Bool
 is_application last_day schools children application =
-    contains_key children application.child && is_from first_day last_day application.day && is_from 1 6 (length application.list)
+    contains_key children application.child && is_from first_day last_day application.day && is_from 1 most_preferences (length application.list)
     && is_without_repeat application.list && are_schools schools application.list
 
 abbrev pub fits_application : ℕ → FinMap code_cmp School → FinMap nat_cmp Child → ℕ → Application → Bool

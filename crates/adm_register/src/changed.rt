@@ -68,30 +68,7 @@ impl Tables {
     ) -> Result<Difference, AllocError>
         ensures { IfOk result (λ difference. difference ≡ differing self.now change) }
     {
-        let Difference {
-            schools,
-            children,
-            applications,
-            places,
-            left,
-            draws,
-            imported,
-            ended,
-            vacated,
-        } = change;
-        let others = CourseChange {
-            places,
-            left,
-            draws,
-            imported,
-            vacated,
-        };
-        let first = BaseChange {
-            schools,
-            children,
-            applications,
-            ended,
-        };
+        let (first, others) = change.into_groups();
         let first = self.base_differing(alloc, first)?;
         let others = self.course_differing(alloc, others)?;
         Ok(Difference {

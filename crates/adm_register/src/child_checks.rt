@@ -5,7 +5,7 @@ ghost use Rattle.adm_register.specs.WellFormed.{fits_child, is_child, fits_appli
 
 use crate::checks::Checked;
 use crate::tables::Tables;
-use adm_types::limits::{is_child_in_range, is_name, is_without_repeat};
+use adm_types::limits::{MOST_PREFERENCES, is_child_in_range, is_name, is_without_repeat};
 use adm_types::{Application, Child, ChildNo, Day, ImportRow, SchoolCode};
 
 impl Checked<ChildNo> for Child {
@@ -36,13 +36,13 @@ impl Checked<ChildNo> for Application {
     }
 }
 
-/// Whether the child is there, the day is one of the lists, and there are 1 to 6 schools that are
+/// Whether the child is there, the day is one of the lists, and there are 1 to 10 schools that are
 /// there, none twice.
 fn is_application(tables: &Tables, child: ChildNo, day: Day, list: &[SchoolCode]) -> bool
     ensures { result ≡ is_application (lists_end tables.now.season) tables.now.schools tables.now.children (record { child = child; day = day; list = list.now }) }
 {
     let _day = day.number();
-    let count = 1 <= list.len() && list.len() <= 6;
+    let count = 1 <= list.len() && list.len() <= MOST_PREFERENCES;
     tables.has_child(child)
         && day <= tables.season().lists_end()
         && count

@@ -1,14 +1,15 @@
 // The rows by which one register differs from another.
 ghost use Rattle.std.specs.Prelude.{◌≡◌};
 ghost use Rattle.adm_register.specs.Change.{no_change};
+ghost use Rattle.adm_register.specs.Groups.{base_change, course_change};
 
+use crate::row_groups::{BaseChange, CourseChange};
 use adm_table::Shared;
 use adm_types::{Application, Child, ChildNo, Draw, ImportRow, LeftPair, PlaceRow, School, Seq};
 use std::alloc::Global;
 
 /// The rows of a new register that the old one has not, each table's in the order of its key, and
 /// the keys of those that ended.
-#[derive(Drop)]
 pub struct Difference {
     pub schools: Seq<Shared<School>>,
     pub children: Seq<Shared<Child>>,
@@ -21,6 +22,24 @@ pub struct Difference {
     pub ended: Seq<ChildNo>,
     /// The children that had a place and have none.
     pub vacated: Seq<ChildNo>,
+}
+
+// Written by hand, and not derived: what lets go of a difference then calls this, in place of going
+// through its nine lists.
+impl Drop for Difference {
+    fn drop(self) {
+        let Difference {
+            schools: _,
+            children: _,
+            applications: _,
+            places: _,
+            left: _,
+            draws: _,
+            imported: _,
+            ended: _,
+            vacated: _,
+        } = self;
+    }
 }
 
 impl Difference {
@@ -39,5 +58,36 @@ impl Difference {
             ended: Seq::new(alloc),
             vacated: Seq::new(alloc),
         }
+    }
+
+    /// The change of the first tables, and that of the others.
+    pub(crate) fn into_groups(self) -> (BaseChange, CourseChange)
+        ensures { result ≡ (base_change self, course_change self) }
+    {
+        let Difference {
+            schools,
+            children,
+            applications,
+            places,
+            left,
+            draws,
+            imported,
+            ended,
+            vacated,
+        } = self;
+        let first = BaseChange {
+            schools,
+            children,
+            applications,
+            ended,
+        };
+        let others = CourseChange {
+            places,
+            left,
+            draws,
+            imported,
+            vacated,
+        };
+        (first, others)
     }
 }

@@ -19,10 +19,15 @@ use std::marker::Model;
 
 /// A season and tables of rows, which need not be a register's. What is asked of them takes no
 /// memory, where nothing else is said.
-#[derive(Drop)]
 pub struct Tables {
     pub(crate) base: Base,
     pub(crate) course: Course,
+}
+
+impl Drop for Tables {
+    fn drop(self) {
+        let Tables { base: _, course: _ } = self;
+    }
 }
 
 impl Model for Tables {

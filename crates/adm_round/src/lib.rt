@@ -15,3 +15,4 @@ pub use applicants::{Applicant, Pair, Site};
 pub use laws::{allotment_fits, one_allotment};
 pub use lots::{drawn, wanted_pairs};
 pub use outcomes::{Totals, counts};
+pub use problems::problem_of;

@@ -139,8 +139,9 @@ fn all_seats(alloc: Global, sites: &[Site]) -> Result<Vec<Seats>, AllocError>
     sites.iter().map(|site| seats_of(site)).collect(alloc)
 }
 
-/// The problem of the round, which has no fault.
-pub(crate) fn problem_of(
+/// The problem of the round, which has no fault. Where it is an error, memory ran out. It takes
+/// memory for each site, list entry and lot, and the cost grows with them, times their logarithm.
+pub fn problem_of(
     alloc: Global,
     sites: &[Site],
     applicants: &[Applicant],

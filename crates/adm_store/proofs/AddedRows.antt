@@ -15,14 +15,13 @@ use Rattle.adm_register.specs.Difference.{AreNew}
 use Rattle.adm_store.proofs.Entries.{own_entry, value_at}
 use Rattle.adm_store.proofs.MapRows.{row_there}
 
-same_where : {X : Type 0} (p q : X → Bool) (xs : List X) → ((x : X) → Has xs x → p x ≡ q x) → filter p xs ≡ filter q xs
+pub same_where : {X : Type 0} (p q : X → Bool) (xs : List X) → ((x : X) → Has xs x → p x ≡ q x) → filter p xs ≡ filter q xs
 same_where p q [] same = refl
 same_where p q (x ∷ xs) same = λ i. cond (same x (inl refl) i) (x ∷ same_where p q xs (λ y h. same y (inr h)) i) (same_where p q xs (λ y h. same y (inr h)) i)
 
--- where each row stands at its own key, and each of the old ones is in the new map as it was
-module _ {K V : Type 0} {R : K → K → Ordering} (total : IsTotalOrder R) (same : IsAntisymmetric R) (key : V → K) (old new : FinMap R V)
-    (own : (k : K) (v : V) → get new k ≡ Some v → key v ≡ k) (kept : (k : K) (v : V) → get old k ≡ Some v → get new k ≡ Some v) where
-  filter_values : (p : K → Bool) (es : List (K × V)) → ((e : K × V) → Has es e → key e.1 ≡ e.0) → filter (λ v. p (key v)) (map (λ (e : K × V). e.1) es) ≡ map (λ (e : K × V). e.1) (where_key R p es)
+-- the values at the keys that pass a test, where each row stands at its own key
+module _ {K V : Type 0} (R : K → K → Ordering) (key : V → K) where
+  pub filter_values : (p : K → Bool) (es : List (K × V)) → ((e : K × V) → Has es e → key e.1 ≡ e.0) → filter (λ v. p (key v)) (map (λ (e : K × V). e.1) es) ≡ map (λ (e : K × V). e.1) (where_key R p es)
   filter_values p [] at = refl
   filter_values p (e ∷ es) at = go (p e.0) (p (key e.1)) (ap p (at e (inl refl))) (filter_values p es (λ x h. at x (inr h)))
     where
@@ -33,6 +32,9 @@ module _ {K V : Type 0} {R : K → K → Ordering} (total : IsTotalOrder R) (sam
       go false true is rest = absurd (cc)
       go false false is rest = rest
 
+-- where each row stands at its own key, and each of the old ones is in the new map as it was
+module _ {K V : Type 0} {R : K → K → Ordering} (total : IsTotalOrder R) (same : IsAntisymmetric R) (key : V → K) (old new : FinMap R V)
+    (own : (k : K) (v : V) → get new k ≡ Some v → key v ≡ k) (kept : (k : K) (v : V) → get old k ≡ Some v → get new k ≡ Some v) where
   -- the entries of the new map at the keys of the old one are the old one's
   old_entries : where_key R (contains_key old) (entries new) ≡ entries old
   old_entries =
@@ -50,7 +52,7 @@ module _ {K V : Type 0} {R : K → K → Ordering} (total : IsTotalOrder R) (sam
     old_and_new =
         let p = λ (v : V). contains_key old (key v) in
         let both = IsPermutation-sym _ _ (IsPermutation-filter_both p (λ v. not (p v)) (λ v. refl) (values new)) in
-        let was = filter_values (contains_key old) (entries new) (own_entry total same key new own) ∙ ap (map (λ (e : K × V). e.1)) old_entries in
+        let was = filter_values R key (contains_key old) (entries new) (own_entry total same key new own) ∙ ap (map (λ (e : K × V). e.1)) old_entries in
         let added : news ≡ filter (λ v. not (p v)) (values new) =
         differ.rows_are ∙ same_where differ.is_new (λ v. not (p v)) (values new) (λ v h. let there = value_at total same key new own v h in new_where v there (differ.is_new v) refl (get old (key v)) refl) in
         subst (λ xs. IsPermutation (values old ++ xs) (values new)) (sym added) (subst (λ xs. IsPermutation (xs ++ filter (λ v. not (p v)) (values new)) (values new)) was both)

@@ -44,10 +44,11 @@ use Rattle.adm_schema.specs.declared.version.Version.TheVariants.{Second}
 use Rattle.adm_schema.specs.Rows.{rows_of}
 use Rattle.std.specs.Prelude.{fold}
 use Rattle.adm_schema.specs.Effects.{drop_of}
-use Rattle.adm_schema.specs.Schema.{draw, present, register_schema}
+use Rattle.adm_schema.specs.Schema.{draw, present, school, register_schema}
 use Rattle.adm_store.specs.Forms.{season_row, school_row, child_row, application_row, place_row, left_row, imported_row}
 use Rattle.adm_store.specs.DrawForms.{draw_row, offer_row, lot_row}
 use Rattle.adm_store.specs.Present.{present_columns, moved_key}
+use Rattle.adm_store.specs.Schools.{code_row}
 use Rattle.adm_store.specs.StandsFor.{StandsAs, HasRows, HoldsRegister, LeavesOnly, LeavesEither, written_in, written_tables}
 use Rattle.adm_store.specs.Changes.{IsStep, written_school, written_child, written_application, written_imported, written_count, last_draw, draw_count}
 use Rattle.adm_store.specs.Writes.{Write, Sets, Leaves, Writes, changed, after, are_keyed, count_of, key_row, writes_of}
@@ -60,6 +61,7 @@ use Rattle.adm_store.proofs.AddedParts.{added_parts}
 use Rattle.adm_store.proofs.DrawOrder.{counted, last_is}
 use Rattle.adm_store.proofs.TurnLemmas.{put_over, cut_and_put}
 use Rattle.adm_store.proofs.PresentWrites.{presents_written}
+use Rattle.adm_store.proofs.SchoolWrites.{schools_written}
 
 -- outside a transaction, what a connection sees of a file that stands for a register
 pub holds_now : (s : State) (r : Register) → LeavesOnly r s → (IsTrue s.is_open → s.may_leave s.committed.trees) → (IsTrue s.is_open → s.now ≡ s.committed) → IsLive s
@@ -116,7 +118,8 @@ new_trees was now old new changes step held sound moves = let are = step.changes
       each = λ t listed. each_table Second (Becomes was now old new changes) (
         λ had turn. season_rows old.season new.season step.extends.season _ _ _ (draws_set old new changes step held.formed) _ _ had turn,
         (
-          λ had turn. added_rows nat_list_cmp_total same_code (λ (s : School). s.code) old.schools new.schools (λ k v is. (step.formed.base.schools_fit k v is).own_code) step.schools _ differs.schools school_row _ _ _ are.schools had (turn refl),
+          λ had turn. schools_written old.schools new.schools (λ k v is. (held.formed.base.schools_fit k v is).own_code) (λ k v is. (step.formed.base.schools_fit k v is).own_code) step.extends.schools _ differs.schools _ _ _ are.schools had
+              (subst (λ keys. IsPermutation (fold (λ rows key. drop_of key rows) (rows_of school was) (map code_row keys) ++ map written_school changes.schools) (rows_of school now)) are.replaced (turn refl)),
           (
             λ had turn. put_over (λ (c : Child). c.no) child_row (λ _. refl) (coded_stable child_code.coded) old.children new.children (λ k v is. (held.formed.base.children_fit k v is).own_number) (λ k v is. (step.formed.base.children_fit k v is).own_number) _ differs.children _ _ _ are.children had step.extends.children turn,
             (
@@ -186,8 +189,8 @@ wrote g start begun last old new changes is stays settled live step before clean
     stands (state g begun) last old new changes step (holds early written.was_open) written
 
 -- the rows and keys of a commit, counted
-pub count_is : (c : Changes) → count_of (writes_of c) ≡ (length c.schools + length c.children + length c.applications + length c.places + length c.left + length c.imported + length c.present + draw_count c) + (length c.ended + length c.vacated + length c.moved)
-count_is c = omega (arith, length-map c.schools written_school, length-map c.children written_child, length-map c.applications written_application, length-map c.places place_row, length-map c.left left_row, length-map c.draws draw_row, length-map c.offers offer_row, length-map c.lots lot_row, length-map c.imported written_imported, length-map (last_draw c.draws) written_count, length-map c.ended key_row, length-map c.vacated key_row, length-map c.moved moved_key, length-map c.present present_columns)
+pub count_is : (c : Changes) → count_of (writes_of c) ≡ length c.replaced + (length c.schools + length c.children + length c.applications + length c.places + length c.left + length c.imported + length c.present + draw_count c) + (length c.ended + length c.vacated + length c.moved)
+count_is c = omega (arith, length-map c.replaced code_row, length-map c.schools written_school, length-map c.children written_child, length-map c.applications written_application, length-map c.places place_row, length-map c.left left_row, length-map c.draws draw_row, length-map c.offers offer_row, length-map c.lots lot_row, length-map c.imported written_imported, length-map (last_draw c.draws) written_count, length-map c.ended key_row, length-map c.vacated key_row, length-map c.moved moved_key, length-map c.present present_columns)
 
 -- a file that stands for the old register stands for the new one, where nothing changed
 pub no_change : (old new : Register) (changes : Changes) → IsStep old new changes → count_of (writes_of changes) ≡ 0 → (db : Trees) → StandsAs Second db old → StandsAs Second db new

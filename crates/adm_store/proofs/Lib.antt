@@ -9,9 +9,13 @@ pub mod SameDraws
 pub mod TurnLemmas
 pub mod LoopLemmas
 pub mod LogLemmas
+pub mod FoundStatements
 pub mod PresentStatements
 pub mod PresentLists
+pub mod DroppedRows
 pub mod PresentWrites
+pub mod ReplacedRows
+pub mod SchoolWrites
 pub mod PresentReads
 pub mod JoinEntries
 pub mod JoinOnce

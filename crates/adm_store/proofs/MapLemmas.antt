@@ -88,7 +88,7 @@ module _ {V : Type 0} where
 abbrev pub Stable : Type 0 → Type 0
 Stable V = (x y : V) → ((x ≡ y → ⊥) → ⊥) → x ≡ y
 
-some_stable : {V : Type 0} → Stable V → (o : Option V) (v : V) → ((o ≡ Some v → ⊥) → ⊥) → o ≡ Some v
+pub some_stable : {V : Type 0} → Stable V → (o : Option V) (v : V) → ((o ≡ Some v → ⊥) → ⊥) → o ≡ Some v
 some_stable stable None v h = absurd (h (none-some v))
 some_stable stable (Some w) v h = ap Some (stable w v (λ differ. h (λ e. differ (same_Some w v e))))
 
@@ -127,7 +127,7 @@ coded_stable c x y h = go (same_code (c.code x) (c.code y)) refl
     go true is = c.inj x y (code_is _ _ is)
     go false is = absurd (h (λ e. let own = code_itself (c.code x) in let other : same_code (c.code x) (c.code x) ≡ false = ap (λ z. same_code (c.code x) (c.code z)) e ∙ is in let wrong = sym own ∙ other in cc))
 
-both_none : {X : Type 0} (b : Bool) → ◌≡◌ {A = Option X} (cond b None None) None
+pub both_none : {X : Type 0} (b : Bool) → ◌≡◌ {A = Option X} (cond b None None) None
 both_none true = refl
 both_none false = refl
 

@@ -32,6 +32,7 @@ use Rattle.adm_store.specs.Forms.{truth_code}
 use Rattle.adm_store.specs.Present.{present_columns, moved_key, was_present, is_same_present, moved_from, moved_by, arrived_by, moved_of, arrived_of}
 use Rattle.adm_store.proofs.Entries.{value_at}
 use Rattle.adm_store.proofs.AddedRows.{old_and_new}
+use Rattle.adm_store.proofs.DroppedRows.{left_by, drop_each, drops, drops_moved}
 use Rattle.adm_store.proofs.PresentLists.{flat_map_at, flat_map_where, filter-flat_map, from_given, is_given, middle_turned, flat_map_both, filter_twice, filter_true, given, given_then}
 
 -- ---- what a key drops
@@ -49,7 +50,7 @@ begins_key key row = λ i. same_number row.child key i && is_child row.is_import
 
 -- none of these keys drops the row
 abbrev is_left : List ℕ → PresentRow → Bool
-is_left keys row = list_all (λ key. not (begins_with (moved_key key) (present_columns row))) keys
+is_left = left_by present_columns moved_key
 
 -- the rows of an imported row stay
 left_import : (keys : List ℕ) (child : ℕ) (school : List ℕ) → is_left keys (record { child = child; is_imported = true; school = school }) ≡ true
@@ -73,23 +74,6 @@ left_child keys child school no_key =
 gone_child : (keys : List ℕ) (child : ℕ) (school : List ℕ) → Has keys child → is_left keys (record { child = child; is_imported = false; school = school }) ≡ false
 gone_child keys child school h =
     fails_from _ keys child h (ap not (begins_key child (record { child = child; is_imported = false; school = school })) ∙ ap (λ o. not (is_eq o && true)) (tied_itself nat_cmp_total child))
-
--- one key after another drops rows
-abbrev drop_each : List Row → List Row → List Row
-drop_each = fold (λ rows key. drop_of key rows)
-
--- what the keys leave of rows
-drops : (keys : List ℕ) (rows : List PresentRow) → drop_each (map present_columns rows) (map moved_key keys) ≡ map present_columns (filter (is_left keys) rows)
-drops [] rows = ap (map present_columns) (sym (filter_true rows))
-drops (key ∷ keys) rows =
-    let one = λ (row : PresentRow). not (begins_with (moved_key key) (present_columns row)) in
-    ap (λ xs. drop_each xs (map moved_key keys)) (filter-map (λ row. not (begins_with (moved_key key) row)) present_columns rows)
-    ∙ drops keys (filter one rows) ∙ ap (map present_columns) (filter_twice (is_left keys) one rows)
-
--- of rows in another order the same are left
-drops_moved : (keys xs ys : List Row) → IsPermutation xs ys → IsPermutation (drop_each xs keys) (drop_each ys keys)
-drops_moved [] xs ys moved = moved
-drops_moved (key ∷ keys) xs ys moved = drops_moved keys (drop_of key xs) (drop_of key ys) (IsPermutation-filter (λ row. not (begins_with key row)) xs ys moved)
 
 -- ---- the present school of one child
 
@@ -243,7 +227,7 @@ module _ (old new : FinMap nat_cmp Child) (own_old : (k : ℕ) (c : Child) → g
       let rows = IsPermutation-trans _ _ _ (IsPermutation-append _ _ _ _ rows_now imports) (middle_turned stays comes before more) in
       let put = subst (IsPermutation _) (map-append present_columns (stays ++ before) (comes ++ more)) (IsPermutation-map present_columns _ _ rows) in
       let left : drop_each (map present_columns (presents_of (values old) (values iold))) (map moved_key (moved_of old news)) ≡ map present_columns (stays ++ before) =
-      ap (λ ks. drop_each (map present_columns (presents_of (values old) (values iold))) (map moved_key ks)) (moved_are news differ) ∙ drops moved (presents_of (values old) (values iold)) ∙ ap (map present_columns) (left_rows (values iold)) in
+      ap (λ ks. drop_each (map present_columns (presents_of (values old) (values iold))) (map moved_key ks)) (moved_are news differ) ∙ drops present_columns moved_key moved (presents_of (values old) (values iold)) ∙ ap (map present_columns) (left_rows (values iold)) in
       let dropped = subst (λ l. IsPermutation l (drop_each was (map moved_key (moved_of old news)))) left (drops_moved (map moved_key (moved_of old news)) _ _ held) in
       let added = ap (λ l. map present_columns (l ++ more)) (arrived_are news differ) in
       let write = subst (λ l. IsPermutation (drop_each was (map moved_key (moved_of old news)) ++ l) now) added writes in

@@ -1,22 +1,28 @@
--- What the statement on the table `school` does.
+-- What the statements on the table `school` do.
 use Rattle.std.proofs.Common.{◌≡◌, ℕ, pos, List, ◌∷◌, [], ◌≤◌, arith, Ok, refl, ap}
 use Rattle.sqlite.specs.declared.types.Value.TheVariants.{Null, Int}
 use Rattle.sqlite.specs.Order.{Row}
 use Rattle.sqlite.specs.Edit.{next_rowid, with_rowid}
 use Rattle.sqlite.specs.Cast.{cast_row}
 use Rattle.sqlite.specs.Rowids.TheVariants.{Chosen}
-use Rattle.sqlite.specs.State.{State, HasCleanDisk, ExecutesInside}
+use Rattle.sqlite.specs.State.{State, HasCleanDisk, Shown, ExecutesInside}
 use Rattle.adm_schema.specs.Rows.{columns_of}
 use Rattle.sqlite_trees.specs.View.{doubt}
 use Rattle.adm_schema.specs.Schema.{school, register_schema}
+use Rattle.adm_schema.specs.RowTexts.{find_school, cut_school}
 use Rattle.adm_schema.specs.Texts.{insert_school, school_terms}
 use Rattle.adm_schema.proofs.Listed.{has_school}
 use Rattle.adm_schema.proofs.Casts.{cast_null, cast_int}
+use Rattle.adm_schema.proofs.OneFound.{drops_school}
+use Rattle.adm_schema.proofs.RowTexts.{finds_school}
 use Rattle.adm_schema.proofs.Statements.{inserted, adds}
 use Rattle.adm_schema.proofs.Texts.{inserts_school}
 use Rattle.adm_store.specs.declared.rows.SchoolRow.{SchoolRow}
 use Rattle.adm_store.specs.Changes.{written_school}
-use Rattle.adm_store.specs.Writes.{Adds, Writes, write_of}
+use Rattle.adm_store.specs.Found.{CutsFound}
+use Rattle.adm_store.specs.Schools.{code_row}
+use Rattle.adm_store.specs.Writes.{Adds, Drops, Writes, write_of}
+use Rattle.adm_store.proofs.FoundStatements.{found_and_cut}
 use Rattle.adm_store.proofs.LogLemmas.{add_one}
 
 stored_school : (it : SchoolRow) (rows : List Row) → with_rowid Chosen rows (cast_row school (Null ∷ written_school it)) ≡ Int (next_rowid rows) ∷ written_school it
@@ -28,3 +34,9 @@ adds_school old new count it later ran = add_one school has_school old new later
     let h = ran clean in
     adds register_schema school 1 refl refl refl (λ _ _. refl) old new (Null ∷ written_school it) (written_school it) (λ rows. ap (columns_of school) (stored_school it rows))
     (inserted register_schema school 1 refl refl refl (λ _ _. refl) school_terms 7 insert_school (written_school it) (Null ∷ written_school it) old new count inserts_school.0 inserts_school.1 refl (sees early h.1.was_open) h))
+
+-- the row of a school is found, and taken out
+pub drops_school_row : (old mid new : State) (code : List ℕ) (shown : Row) → doubt old.is_clean ≤ doubt mid.is_clean → doubt mid.is_clean ≤ doubt new.is_clean → (HasCleanDisk mid → Shown find_school (code_row code) old mid (shown ∷ []))
+    → (HasCleanDisk new → CutsFound cut_school shown mid new) → Writes (write_of Drops school code_row (code ∷ []) ∷ []) old new
+drops_school_row old mid new code shown first second search cuts = found_and_cut school has_school refl find_school finds_school.2 (code_row code) cut_school old mid new shown first second
+    (λ k has same number found h. drops_school code k shown old mid new has same number found h) search cuts

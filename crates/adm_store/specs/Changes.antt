@@ -7,7 +7,7 @@ use Rattle.adm_draws.specs.Draws.{row_of, offers_of, lots_of}
 use Rattle.adm_register.specs.State.{only_season}
 use Rattle.adm_register.specs.State.{State as Register}
 use Rattle.adm_register.specs.WellFormed.{WellFormed}
-use Rattle.adm_register.specs.Extends.{Extends, KeepsSchools}
+use Rattle.adm_register.specs.Extends.{Extends}
 use Rattle.adm_register.specs.Difference.{IsDifference}
 use Rattle.adm_register.specs.declared.difference.Difference.{Difference}
 use Rattle.sqlite.specs.declared.types.Value.TheVariants.{Int, Text}
@@ -23,6 +23,7 @@ use Rattle.adm_store.specs.Forms.{phase_code, season_row, school_row, child_row,
 use Rattle.adm_schema.specs.declared.version.Version.TheVariants.{Second}
 use Rattle.sqlite.specs.Tree.{Trees}
 use Rattle.adm_store.specs.Present.{moved_of, arrived_of}
+use Rattle.adm_store.specs.Schools.{replaced_of}
 use Rattle.adm_store.specs.StandsFor.{StandsAs, LeavesOnly, LeavesEither}
 
 -- the rows as they are written
@@ -67,6 +68,7 @@ pub record IsChanges (old new : Register) (changes : Changes) : Type 0 where
   pub difference : Difference
   pub differs : IsDifference old new difference
   pub schools : map written_school changes.schools ≡ map school_row difference.schools
+  pub replaced : changes.replaced ≡ replaced_of old.schools difference.schools
   pub children : map written_child changes.children ≡ map child_row difference.children
   pub applications : map written_application changes.applications ≡ map application_row difference.applications
   pub places : changes.places ≡ difference.places
@@ -80,11 +82,10 @@ pub record IsChanges (old new : Register) (changes : Changes) : Type 0 where
   pub ended : changes.ended ≡ difference.ended
   pub vacated : changes.vacated ≡ difference.vacated
 
--- the step from the old register to the new one is the change, it changes no school, and the new one is a register
+-- the step from the old register to the new one is the change, and the new one is a register
 pub record IsStep (old new : Register) (changes : Changes) : Type 0 where
   pub changes_are : IsChanges old new changes
   pub extends : Extends old new
-  pub schools : KeepsSchools old new
   pub formed : WellFormed new
 
 -- where all that a crash could leave stood for a register, this is so of each one to which these changes are the step

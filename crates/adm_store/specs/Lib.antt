@@ -1,5 +1,7 @@
 pub mod Forms
+pub mod Found
 pub mod Present
+pub mod Schools
 pub mod Joins
 pub mod DrawForms
 pub mod StandsFor

@@ -1,5 +1,5 @@
 -- The table `present`: the present schools of children and of imported rows.
-use Rattle.std.specs.Prelude.{◌≡◌, ℕ, ℤ, pos, List, [], ◌∷◌, ◌++◌, nat_eq, Bool, false, Option, Some, None, option_and_then, Ok, if◌then◌else◌}
+use Rattle.std.specs.Prelude.{ℕ, pos, List, [], ◌∷◌, ◌++◌, nat_eq, Bool, false, Option, Some, None, option_and_then, if◌then◌else◌}
 use Rattle.std.specs.List.{flat_map}
 use Rattle.std.specs.Option.{option_eq}
 use Rattle.std.specs.Ordering.{nat_cmp}
@@ -10,9 +10,7 @@ use Rattle.adm_types.specs.declared.rows.Child.{Child}
 use Rattle.adm_types.specs.declared.rows.ImportRow.{ImportRow}
 use Rattle.adm_types.specs.declared.rows.PresentRow.{PresentRow}
 use Rattle.sqlite.specs.declared.types.Value.TheVariants.{Int, Text}
-use Rattle.sqlite.specs.Order.{Row, column}
-use Rattle.sqlite.specs.State.{State, ExecutesInside}
-use Rattle.adm_schema.specs.RowTexts.{cut_present}
+use Rattle.sqlite.specs.Order.{Row}
 use Rattle.adm_store.specs.Forms.{truth_code}
 
 -- a row of it
@@ -51,7 +49,3 @@ moved_of before = flat_map (moved_by before)
 
 abbrev pub arrived_of : FinMap nat_cmp Child → List Child → List ImportRow → List PresentRow
 arrived_of before children imported = flat_map (arrived_by before) children ++ flat_map present_of_import imported
-
--- one row was taken out, whose rowid is the value in the first column
-abbrev pub CutsFound : Row → State → State → Type 0
-CutsFound shown old new = (rowid : ℤ) × (column shown 0 ≡ Int rowid) × ExecutesInside 0 cut_present (Int rowid ∷ []) old new (Ok 1)

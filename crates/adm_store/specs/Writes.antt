@@ -15,6 +15,7 @@ use Rattle.adm_store.specs.Changes.{written_school, written_child, written_appli
 use Rattle.adm_store.specs.Forms.{place_row, left_row}
 use Rattle.adm_store.specs.DrawForms.{draw_row, offer_row, lot_row}
 use Rattle.adm_store.specs.Present.{present_columns, moved_key}
+use Rattle.adm_store.specs.Schools.{code_row}
 
 -- rows that are more, rows in place of those of their keys, keys alone, of which no row is left, the first values of rows of which none is left, or counts of draws, each in place of the one before
 pub data Kind : Type 0 where
@@ -73,21 +74,41 @@ Writes writes old new = HasCleanDisk new → Sees register_schema old → SeesDa
 abbrev pub write_of : {X : Type 0} → Kind → Table → (X → Row) → List X → Write
 write_of kind table row_of items = record { kind = kind; table = table; rows = map row_of items }
 
--- the writes of a commit, in their order
-abbrev pub writes_of : Changes → List Write
-writes_of c =
-    write_of Adds school written_school c.schools
+-- the writes of a commit, in their order: of schools, children and applications
+abbrev pub base_writes : Changes → List Write
+base_writes c =
+    write_of Drops school code_row c.replaced
+    ∷ write_of Adds school written_school c.schools
     ∷ write_of Puts child written_child c.children
     ∷ write_of Cuts application key_row c.ended
     ∷ write_of Puts application written_application c.applications
-    ∷ write_of Cuts place key_row c.vacated
+    ∷ []
+
+-- of places, and of the schools that children left
+abbrev pub place_writes : Changes → List Write
+place_writes c =
+    write_of Cuts place key_row c.vacated
     ∷ write_of Puts place place_row c.places
     ∷ write_of Adds left_list left_row c.left
-    ∷ write_of Adds draw draw_row c.draws
+    ∷ []
+
+-- of draws, with their count
+abbrev pub draw_writes : Changes → List Write
+draw_writes c =
+    write_of Adds draw draw_row c.draws
     ∷ write_of Adds offer offer_row c.offers
     ∷ write_of Adds lot lot_row c.lots
-    ∷ write_of Adds imported written_imported c.imported
-    ∷ write_of Drops present moved_key c.moved
-    ∷ write_of Adds present present_columns c.present
     ∷ write_of Sets meta written_count (last_draw c.draws)
     ∷ []
+
+-- of imported rows and of present schools
+abbrev pub import_writes : Changes → List Write
+import_writes c =
+    write_of Adds imported written_imported c.imported
+    ∷ write_of Drops present moved_key c.moved
+    ∷ write_of Adds present present_columns c.present
+    ∷ []
+
+-- and all of them
+abbrev pub writes_of : Changes → List Write
+writes_of c = base_writes c ++ (place_writes c ++ (draw_writes c ++ import_writes c))

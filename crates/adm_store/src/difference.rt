@@ -1,5 +1,6 @@
 // The rows by which a new register differs from the one before, as they are written.
-ghost use Rattle.std.specs.Prelude.{◌≡◌, ◌++◌, map, IfOk, OnOk};
+ghost use Rattle.std.specs.Prelude.{◌≡◌, ◌++◌, [], ◌∷◌, if◌then◌else◌, map, IfOk, OnOk};
+ghost use Rattle.std.specs.FinMap.{contains_key};
 ghost use Rattle.std.specs.List.{flat_map};
 ghost use Rattle.adm_types.specs.Children.{present_row, present_of_import};
 ghost use Rattle.adm_register.specs.State.{State as Facts};
@@ -7,6 +8,7 @@ ghost use Rattle.adm_register.specs.Difference.{IsDifference};
 ghost use Rattle.adm_schema.specs.declared.version.Version.TheVariants.{Second};
 ghost use Rattle.adm_store.specs.Changes.{written_season, written_school, written_child, written_application, written_imported, IsChanges};
 ghost use Rattle.adm_store.specs.Present.{was_present, moved_from, moved_of, arrived_from, arrived_by};
+ghost use Rattle.adm_store.specs.Schools.{replaced_of};
 ghost use Rattle.adm_store.specs.Forms.{season_row, school_row, child_row, application_row, imported_row};
 
 use crate::lists;
@@ -18,6 +20,7 @@ use adm_types::{
     Application, Child, ChildNo, ImportRow, PresentRow, School, SchoolCode, Season, Seq, Text,
 };
 use std::alloc::{AllocError, Global};
+use std::mem;
 
 /// A value of a register, which is written as a row of a table.
 pub(crate) trait ToRow {
@@ -138,6 +141,35 @@ fn to_rows<T: ToRow>(alloc: Global, values: &[Shared<T>]) -> Result<Vec<T::Row>,
     Ok(rows)
 }
 
+/// Adds the code of the school, where the register has a school of this code.
+fn add_replaced(
+    codes: &mut Vec<SchoolCode>,
+    old: &Register,
+    code: SchoolCode,
+) -> Result<(), AllocError>
+    ensures { OnOk result (codes.new.items ≡ codes.old.items ++ (if contains_key old.now.schools code then code ∷ [] else [])) }
+{
+    if old.school(code).is_some() {
+        codes.push(code)?;
+    }
+    Ok(())
+}
+
+/// Those of these schools that the register had.
+fn replaced(
+    alloc: Global,
+    old: &Register,
+    schools: &[Shared<School>],
+) -> Result<Vec<SchoolCode>, AllocError>
+    ensures { IfOk result (λ codes. codes.items ≡ replaced_of old.now.schools schools.now) }
+{
+    let mut codes = Vec::new(alloc);
+    'schools: for row in schools {
+        add_replaced(&mut codes, old, row.as_ref().code)?;
+    }
+    Ok(codes)
+}
+
 /// The present school that a child of the register has.
 fn present_in(old: &Register, child: ChildNo) -> Option<SchoolCode>
     ensures { result ≡ was_present old.now.children child }
@@ -251,6 +283,7 @@ pub fn changes(alloc: Global, old: &Register, difference: Difference) -> Result<
     let moved = moved(alloc, old, difference.children.as_slice())?;
     let mut present = arrived(alloc, old, difference.children.as_slice())?;
     add_imported(&mut present, difference.imported.as_slice())?;
+    let replaced = replaced(alloc, old, difference.schools.as_slice())?;
     let schools = to_rows(alloc, difference.schools.as_slice())?;
     let children = to_rows(alloc, difference.children.as_slice())?;
     let applications = to_rows(alloc, difference.applications.as_slice())?;
@@ -258,19 +291,21 @@ pub fn changes(alloc: Global, old: &Register, difference: Difference) -> Result<
     let offers = offer_rows(alloc, difference.draws.as_slice())?;
     let lots = lot_rows(alloc, difference.draws.as_slice())?;
     let imported = to_rows(alloc, difference.imported.as_slice())?;
+    let mut rest = difference;
     Ok(Changes {
         schools: Seq::from_vec(schools),
+        replaced: Seq::from_vec(replaced),
         children: Seq::from_vec(children),
         applications: Seq::from_vec(applications),
-        places: difference.places,
-        left: difference.left,
+        places: mem::replace(&mut rest.places, Seq::new(alloc)),
+        left: mem::replace(&mut rest.left, Seq::new(alloc)),
         draws: Seq::from_vec(draws),
         offers: Seq::from_vec(offers),
         lots: Seq::from_vec(lots),
         imported: Seq::from_vec(imported),
         present: Seq::from_vec(present),
-        ended: difference.ended,
-        vacated: difference.vacated,
+        ended: mem::replace(&mut rest.ended, Seq::new(alloc)),
+        vacated: mem::replace(&mut rest.vacated, Seq::new(alloc)),
         moved: Seq::from_vec(moved),
     })
 }

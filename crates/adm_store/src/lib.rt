@@ -7,6 +7,7 @@ mod creation;
 mod difference;
 mod draws;
 mod fault;
+mod found;
 mod imported;
 mod laws;
 mod left_list;

@@ -1,12 +1,13 @@
 // The table `present`, whose key is two columns: a row that goes is found first, and taken out by its rowid.
-ghost use Rattle.std.specs.Prelude.{◌≡◌, IfOk, OnOk};
+ghost use Rattle.std.specs.Prelude.{◌≡◌, IfOk};
 ghost use Rattle.sqlite.specs.Held.{state};
 ghost use Rattle.sqlite.specs.State.{HasCleanDisk, Shown, Survives};
 ghost use Rattle.adm_schema.specs.RowTexts.{find_present};
 ghost use Rattle.adm_schema.specs.Schema.{present};
-ghost use Rattle.adm_store.specs.Present.{present_columns, moved_key, CutsFound};
+ghost use Rattle.adm_store.specs.Present.{present_columns, moved_key};
 ghost use Rattle.adm_store.specs.Writes.{Adds, Drops};
 
+use crate::found::cut_found;
 use crate::statement::Statement;
 use adm_types::{ChildNo, PresentRow};
 use sqlite::{Alter, Error, Row, Transaction, params};
@@ -25,21 +26,6 @@ fn found<S: Alter>(tx: &mut Transaction<'_, S>, child: ChildNo) -> Result<Vec<Ro
     Ok(rows)
 }
 
-/// Takes out the one row whose rowid was found.
-fn cut<S: Alter>(tx: &mut Transaction<'_, S>, row: &Row) -> Result<(), Error>
-    ensures same_reference { tx.new.conn.ghost_name ≡ tx.old.conn.ghost_name }
-    ensures runs { HasCleanDisk (state S.Store tx.new.conn.now) → OnOk result (CutsFound row.now (state S.Store tx.old.conn.now) (state S.Store tx.new.conn.now)) }
-    ensures survives { Survives (state S.Store tx.old.conn.now) (state S.Store tx.new.conn.now) (λ _. ⊥) }
-{
-    let rowid: i64 = row.get(0)?;
-    let count = tx.execute("DELETE FROM present WHERE rowid = ?1", params![rowid])?;
-    if count == 1 {
-        Ok(())
-    } else {
-        Err(Error::QueryReturnedNoRows)
-    }
-}
-
 pub(crate) struct CutPresent;
 
 impl Statement for CutPresent {
@@ -55,7 +41,11 @@ impl Statement for CutPresent {
         let rows = found(tx, *child)?;
         match rows.as_slice().split_first() {
             None => Ok(()),
-            Some((row, others)) if others.is_empty() => cut(tx, row),
+            Some((row, others)) if others.is_empty() => cut_found(
+                tx,
+                "DELETE FROM present WHERE rowid = ?1",
+                row,
+            ),
             Some(_) => Err(Error::QueryReturnedNoRows),
         }
     }

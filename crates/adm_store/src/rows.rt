@@ -77,6 +77,8 @@ pub struct ImportedRow {
 #[derive(Drop)]
 pub struct Changes {
     pub schools: Seq<SchoolRow>,
+    /// Those of these schools that were there: their rows are taken out before.
+    pub replaced: Seq<SchoolCode>,
     pub children: Seq<ChildRow>,
     pub applications: Seq<ApplicationRow>,
     pub places: Seq<PlaceRow>,
@@ -126,7 +128,7 @@ impl Changes {
         (schools.len() + people + imported.len() + present.len()) as u64 + drawn as u64
     }
 
-    /// How many keys are deleted. It takes no memory.
+    /// How many keys are deleted, without those whose rows are added again. It takes no memory.
     pub fn cut(&self) -> u64
         ensures { result ≡ length self.now.ended + length self.now.vacated + length self.now.moved }
     {

@@ -12,7 +12,7 @@ ghost use Rattle.adm_store.specs.Migration.{IsMigrated};
 ghost use Rattle.adm_store.specs.Faults.{IsNoRegister};
 ghost use Rattle.adm_store.specs.FirstFault.{IsFirstFault};
 ghost use Rattle.adm_store.specs.Causes.{HasDiskCause};
-ghost use Rattle.adm_store.specs.Writes.{count_of, writes_of, Writes};
+ghost use Rattle.adm_store.specs.Writes.{count_of, base_writes, place_writes, draw_writes, import_writes, writes_of, Writes};
 
 use crate::applications::{CutApplication, PutApplication};
 use crate::children::PutChild;
@@ -26,7 +26,7 @@ use crate::offers::AddOffer;
 use crate::places::{CutPlace, PutPlace};
 use crate::present::{AddPresent, CutPresent};
 use crate::rows::{Changes, last_draw};
-use crate::schools::AddSchool;
+use crate::schools::{AddSchool, CutSchool};
 use crate::season::SetDraws;
 use crate::statement::run_each;
 use crate::{CreateFault, Failed, OpenFault, creation, reading};
@@ -192,7 +192,7 @@ impl<S: Alter> Store<S> {
         ensures ok { OnOk result (Commits changes.now (state S.Store self.old) (state S.Store self.new)) }
         ensures err { OnErr result (CommitsOrNot changes.now (state S.Store self.old) (state S.Store self.new)) }
     {
-        if changes.put() == 0 && changes.cut() == 0 {
+        if changes.put() == 0 && changes.cut() == 0 && changes.replaced.len() == 0 {
             return Ok(());
         }
         let Ok(()) = write(&mut self.conn, changes) else {
@@ -202,28 +202,63 @@ impl<S: Alter> Store<S> {
     }
 }
 
-/// Writes the rows of each table, takes out the applications and the places that ended and the present schools that changed, and counts
-/// the draws.
+/// Writes the schools, the children and their applications; takes out the rows of schools that changed, and the applications that ended.
+fn write_base<S: Alter>(tx: &mut Transaction<'_, S>, changes: &Changes) -> Result<(), Error>
+    ensures same_reference { tx.new.conn.ghost_name ≡ tx.old.conn.ghost_name }
+    ensures writes { OnOk result (Writes (base_writes changes.now) (state S.Store tx.old.conn.now) (state S.Store tx.new.conn.now)) }
+    ensures survives { Survives (state S.Store tx.old.conn.now) (state S.Store tx.new.conn.now) (λ _. ⊥) }
+{
+    run_each::<CutSchool, S>(tx, changes.replaced.as_slice())?;
+    run_each::<AddSchool, S>(tx, changes.schools.as_slice())?;
+    run_each::<PutChild, S>(tx, changes.children.as_slice())?;
+    run_each::<CutApplication, S>(tx, changes.ended.as_slice())?;
+    run_each::<PutApplication, S>(tx, changes.applications.as_slice())
+}
+
+/// Writes the places and the schools that children left; takes out the places that ended.
+fn write_places<S: Alter>(tx: &mut Transaction<'_, S>, changes: &Changes) -> Result<(), Error>
+    ensures same_reference { tx.new.conn.ghost_name ≡ tx.old.conn.ghost_name }
+    ensures writes { OnOk result (Writes (place_writes changes.now) (state S.Store tx.old.conn.now) (state S.Store tx.new.conn.now)) }
+    ensures survives { Survives (state S.Store tx.old.conn.now) (state S.Store tx.new.conn.now) (λ _. ⊥) }
+{
+    run_each::<CutPlace, S>(tx, changes.vacated.as_slice())?;
+    run_each::<PutPlace, S>(tx, changes.places.as_slice())?;
+    run_each::<AddLeft, S>(tx, changes.left.as_slice())
+}
+
+/// Writes the draws with their outcomes and lots, and counts them.
+fn write_draws<S: Alter>(tx: &mut Transaction<'_, S>, changes: &Changes) -> Result<(), Error>
+    ensures same_reference { tx.new.conn.ghost_name ≡ tx.old.conn.ghost_name }
+    ensures writes { OnOk result (Writes (draw_writes changes.now) (state S.Store tx.old.conn.now) (state S.Store tx.new.conn.now)) }
+    ensures survives { Survives (state S.Store tx.old.conn.now) (state S.Store tx.new.conn.now) (λ _. ⊥) }
+{
+    run_each::<AddDraw, S>(tx, changes.draws.as_slice())?;
+    run_each::<AddOffer, S>(tx, changes.offers.as_slice())?;
+    run_each::<AddLot, S>(tx, changes.lots.as_slice())?;
+    run_each::<SetDraws, S>(tx, last_draw(changes.draws.as_slice()))
+}
+
+/// Writes the imported rows and the present schools; takes out those that changed.
+fn write_imported<S: Alter>(tx: &mut Transaction<'_, S>, changes: &Changes) -> Result<(), Error>
+    ensures same_reference { tx.new.conn.ghost_name ≡ tx.old.conn.ghost_name }
+    ensures writes { OnOk result (Writes (import_writes changes.now) (state S.Store tx.old.conn.now) (state S.Store tx.new.conn.now)) }
+    ensures survives { Survives (state S.Store tx.old.conn.now) (state S.Store tx.new.conn.now) (λ _. ⊥) }
+{
+    run_each::<AddImported, S>(tx, changes.imported.as_slice())?;
+    run_each::<CutPresent, S>(tx, changes.moved.as_slice())?;
+    run_each::<AddPresent, S>(tx, changes.present.as_slice())
+}
+
+/// Writes the rows of each table. A step makes a few of them, since one that makes many calls that may fail is dear to check.
 fn write_rows<S: Alter>(tx: &mut Transaction<'_, S>, changes: &Changes) -> Result<(), Error>
     ensures same_reference { tx.new.conn.ghost_name ≡ tx.old.conn.ghost_name }
     ensures writes { OnOk result (Writes (writes_of changes.now) (state S.Store tx.old.conn.now) (state S.Store tx.new.conn.now)) }
     ensures survives { Survives (state S.Store tx.old.conn.now) (state S.Store tx.new.conn.now) (λ _. ⊥) }
 {
-    run_each::<AddSchool, S>(tx, changes.schools.as_slice())?;
-    run_each::<PutChild, S>(tx, changes.children.as_slice())?;
-    run_each::<CutApplication, S>(tx, changes.ended.as_slice())?;
-    run_each::<PutApplication, S>(tx, changes.applications.as_slice())?;
-    run_each::<CutPlace, S>(tx, changes.vacated.as_slice())?;
-    run_each::<PutPlace, S>(tx, changes.places.as_slice())?;
-    run_each::<AddLeft, S>(tx, changes.left.as_slice())?;
-    run_each::<AddDraw, S>(tx, changes.draws.as_slice())?;
-    run_each::<AddOffer, S>(tx, changes.offers.as_slice())?;
-    run_each::<AddLot, S>(tx, changes.lots.as_slice())?;
-    run_each::<AddImported, S>(tx, changes.imported.as_slice())?;
-    run_each::<CutPresent, S>(tx, changes.moved.as_slice())?;
-    run_each::<AddPresent, S>(tx, changes.present.as_slice())?;
-    run_each::<SetDraws, S>(tx, last_draw(changes.draws.as_slice()))?;
-    Ok(())
+    write_base(tx, changes)?;
+    write_places(tx, changes)?;
+    write_draws(tx, changes)?;
+    write_imported(tx, changes)
 }
 
 fn write<S: Alter>(conn: &mut Connection<S>, changes: &Changes) -> Result<(), Error>

@@ -17,9 +17,16 @@ use std::marker::Model;
 use std::rc::Rc;
 
 /// Rows by their keys.
-#[derive(Drop)]
 pub struct Table<K: Ord, V> {
     rows: Option<Rc<Pieces<K, V>>>,
+}
+
+// Written by hand, and not derived: what lets go of a table then calls this, in place of going
+// through its steps.
+impl<K: Ord + Drop, V: Drop> Drop for Table<K, V> {
+    fn drop(self) {
+        let Table { rows: _ } = self;
+    }
 }
 
 impl<K: Ord, V> Model for Table<K, V> {

@@ -19,6 +19,10 @@ most_schools = 200
 abbrev pub most_children : ℕ
 most_children = 2000
 
+-- how many schools an application lists at the most
+abbrev pub most_preferences : ℕ
+most_preferences = 10
+
 -- how many draws, and how many lots of all draws together, it has at the most
 abbrev pub most_draws : ℕ
 most_draws = 10000
@@ -41,10 +45,14 @@ is_criterion (Within metres) = is_from 1 2200000 metres
 is_criterion (Flag flag) = nat_le flag 15
 is_criterion (Feeder school) = is_code school
 
--- an admission number from 1 to 500, a point on the map, and at most 8 criteria, each in its range
+-- an admission number from 1 to 500
+abbrev pub is_pan : ℕ → Bool
+is_pan = is_from 1 500
+
+-- its admission number is one, its point on the map, and it has at most 8 criteria, each in its range
 abbrev pub is_school_in_range : School → Bool
 is_school_in_range s =
-    is_from 1 500 s.pan && is_on_map s.at && nat_le (length s.criteria) 8 && list_all is_criterion s.criteria
+    is_pan s.pan && is_on_map s.at && nat_le (length s.criteria) 8 && list_all is_criterion s.criteria
 
 -- the code is one of the codes
 abbrev pub is_listed : List (List ℕ) → List ℕ → Bool

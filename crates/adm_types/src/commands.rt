@@ -6,6 +6,11 @@ use crate::{Application, Child, ChildNo, Day, ImportRow, School, SchoolCode, Seq
 pub enum Command {
     /// Adds a school.
     AddSchool(School),
+    /// Raises the admission number of a school, which is none of a smaller number.
+    RaisePan {
+        school: SchoolCode,
+        pan: u32,
+    },
     /// Adds a child.
     AddChild(Child),
     /// Replaces a child's data.

@@ -19,7 +19,7 @@ pub struct Lot {
 }
 
 /// A draw of lots for a round or a fill, and what that came to.
-#[derive(Clone, Drop)]
+#[derive(Clone)]
 pub struct Draw {
     /// From 1, over rounds and fills together.
     pub number: u32,
@@ -32,6 +32,19 @@ pub struct Draw {
     pub outcomes: Seq<Outcome>,
     /// By the codes of the schools, and then by the numbers of the children.
     pub lots: Seq<Lot>,
+}
+
+impl Drop for Draw {
+    fn drop(self) {
+        let Draw {
+            number: _,
+            round: _,
+            school: _,
+            day: _,
+            outcomes: _,
+            lots: _,
+        } = self;
+    }
 }
 
 /// A draw without its outcomes and lots.

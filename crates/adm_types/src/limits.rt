@@ -4,7 +4,7 @@ ghost use Rattle.std.specs.List.{list_any, list_all};
 ghost use Rattle.std.specs.Str.{chars};
 ghost use Rattle.std.specs.Char.{is_control};
 ghost use Rattle.adm_types.specs.Code.{is_code};
-ghost use Rattle.adm_types.specs.Limits.{is_name, is_on_map, is_code_or_none, is_criterion, is_school_in_range, is_listed, is_without_repeat, is_child_in_range};
+ghost use Rattle.adm_types.specs.Limits.{is_name, is_on_map, is_code_or_none, is_criterion, is_pan, is_school_in_range, is_listed, is_without_repeat, is_child_in_range};
 
 use crate::{Child, Criterion, Point, School, SchoolCode, Text};
 
@@ -19,6 +19,9 @@ pub const MOST_DRAWS: u32 = 10_000;
 
 /// How many lots the draws of a register have together at the most.
 pub const MOST_LOTS: usize = 1_000_000;
+
+/// How many schools an application lists at the most.
+pub const MOST_PREFERENCES: usize = 10;
 
 /// Whether a text has a control character.
 fn has_control(text: &str) -> bool
@@ -79,13 +82,19 @@ fn are_criteria(criteria: &[Criterion]) -> bool
     criteria.iter().all(|criterion| is_criterion(criterion))
 }
 
+/// Whether an admission number is from 1 to 500.
+pub fn is_pan(pan: u32) -> bool
+    ensures { result ≡ is_pan pan }
+{
+    1 <= pan && pan <= 500
+}
+
 /// Whether a school's admission number, point and criteria are in their ranges.
 pub fn is_school_in_range(school: &School) -> bool
     ensures { result ≡ is_school_in_range school.now }
 {
     let criteria = school.criteria.as_slice();
-    let pan = 1 <= school.pan && school.pan <= 500;
-    pan && is_on_map(&school.at) && criteria.len() <= 8 && are_criteria(criteria)
+    is_pan(school.pan) && is_on_map(&school.at) && criteria.len() <= 8 && are_criteria(criteria)
 }
 
 /// Whether a code is in a list.

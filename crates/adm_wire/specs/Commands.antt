@@ -10,7 +10,7 @@ use Rattle.adm_wire.specs.declared.fault.WireFault.{WireFault}
 use Rattle.adm_wire.specs.declared.fault.WireFault.TheVariants.{NotJson, UnknownCommand, WrongKind}
 use Rattle.adm_wire.specs.declared.read.Name.{Name}
 use Rattle.adm_wire.specs.declared.read.Name.TheVariants as n
-use Rattle.adm_wire.specs.Forms.{school_form, child_form, pair_form, notice_form, draw_form, fill_form, application_form}
+use Rattle.adm_wire.specs.Forms.{school_form, pan_form, child_form, pair_form, notice_form, draw_form, fill_form, application_form}
 use Rattle.adm_wire.specs.Kinds.{a_text}
 use Rattle.adm_wire.specs.Reading.{◌>>=◌, some_or, field_at}
 
@@ -18,6 +18,7 @@ use Rattle.adm_wire.specs.Reading.{◌>>=◌, some_or, field_at}
 unfoldable pub name_of : List ℕ → Option Name
 name_of s =
     if bytes_eq s (codes "add_school") then Some n.AddSchool else (
+    if bytes_eq s (codes "raise_pan") then Some n.RaisePan else (
     if bytes_eq s (codes "add_child") then Some n.AddChild else (
     if bytes_eq s (codes "amend") then Some n.Amend else (
     if bytes_eq s (codes "name_plan") then Some n.NamePlan else (
@@ -28,13 +29,16 @@ name_of s =
     if bytes_eq s (codes "remind") then Some n.Remind else (
     if bytes_eq s (codes "lapse") then Some n.Lapse else (
     if bytes_eq s (codes "leave_list") then Some n.LeaveList else (
-    if bytes_eq s (codes "fill") then Some n.Fill else None)))))))))))
+    if bytes_eq s (codes "fill") then Some n.Fill else None))))))))))))
 
 -- a command of this name
 unfoldable pub form_of : Name → Data → Result Command WireFault
 form_of n.AddSchool d = do
   s ← school_form d
   Ok (c.AddSchool s)
+form_of n.RaisePan d = do
+  r ← pan_form d
+  Ok (c.RaisePan r.0 r.1)
 form_of n.AddChild d = do
   x ← child_form d
   Ok (c.AddChild x)

@@ -20,6 +20,13 @@ school_form d = do
   only (codes "cmd" ∷ codes "school" ∷ codes "name" ∷ codes "pan" ∷ codes "east" ∷ codes "north" ∷ codes "criteria" ∷ []) d
       (record { code = c; name = nm; pan = p; at = record { east = e; north = nn }; criteria = cs })
 
+-- a school and its admission number
+unfoldable pub pan_form : Data → Result (List ℕ × ℕ) WireFault
+pan_form d = do
+  s ← field_at a_code (codes "school") d
+  p ← field_at a_number (codes "pan") d
+  only (codes "cmd" ∷ codes "school" ∷ codes "pan" ∷ []) d (s, p)
+
 -- a child, to add or to amend; where its present school is missing it has none
 unfoldable pub child_form : Data → Result Child WireFault
 child_form d = do

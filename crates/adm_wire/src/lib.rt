@@ -8,8 +8,10 @@ mod keys;
 mod read;
 mod streams;
 mod texts;
+mod what_if;
 
 pub use fault::WireFault;
 pub use read::read_command;
 pub use streams::{Input, Output, ReadFailed, Watched, WriteFailed};
 pub use texts::{failed_text, fault_text, memory_text, refusal_text, reply_text};
+pub use what_if::{WhatIf, read_what_if};

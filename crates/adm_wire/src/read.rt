@@ -2,7 +2,7 @@
 ghost use Rattle.std.specs.Prelude.{◌≡◌};
 ghost use Rattle.serde_json.specs.View.{view};
 ghost use Rattle.adm_wire.specs.Commands.{name_of, form_of, command_in, command_of, json_of};
-ghost use Rattle.adm_wire.specs.Forms.{school_form, child_form, pair_form, notice_form, draw_form, fill_form, application_form};
+ghost use Rattle.adm_wire.specs.Forms.{school_form, pan_form, child_form, pair_form, notice_form, draw_form, fill_form, application_form};
 ghost use Rattle.adm_wire.specs.Reading.{Gives, GivesSeen, some_or};
 ghost use Rattle.adm_wire.specs.declared.fault.WireFault.TheVariants.{NotJson};
 
@@ -37,6 +37,17 @@ fn school(alloc: Global, object: &Value) -> Result<School, WireFault>
         at: Point { east, north },
         criteria,
     })
+}
+
+/// A school and its admission number.
+#[tactic(auto, unfolding(crate::specs::Forms::pan_form))]
+fn pan(alloc: Global, object: &Value) -> Result<(SchoolCode, u32), WireFault>
+    ensures { Gives result (pan_form (view object.now)) }
+{
+    let school = field(alloc, object, "school")?;
+    let pan = field(alloc, object, "pan")?;
+    only(object, &["cmd", "school", "pan"])?;
+    Ok((school, pan))
 }
 
 #[tactic(auto, unfolding(crate::specs::Forms::child_form))]
@@ -138,6 +149,7 @@ fn application(alloc: Global, object: &Value) -> Result<Application, WireFault>
 #[derive(Clone, Copy, Debug, PartialEq, Eq)]
 enum Name {
     AddSchool,
+    RaisePan,
     AddChild,
     Amend,
     NamePlan,
@@ -158,6 +170,7 @@ fn read_name(text: &str) -> Option<Name>
 {
     match text {
         "add_school" => Some(Name::AddSchool),
+        "raise_pan" => Some(Name::RaisePan),
         "add_child" => Some(Name::AddChild),
         "amend" => Some(Name::Amend),
         "name_plan" => Some(Name::NamePlan),
@@ -180,6 +193,9 @@ fn command(alloc: Global, name: Name, object: &Value) -> Result<Command, WireFau
 {
     match name {
         Name::AddSchool => Ok(Command::AddSchool(school(alloc, object)?)),
+        Name::RaisePan => {
+            pan(alloc, object).map(|(school, pan)| Command::RaisePan { school, pan })
+        }
         Name::AddChild => Ok(Command::AddChild(child(alloc, object)?)),
         Name::Amend => Ok(Command::Amend(child(alloc, object)?)),
         Name::NamePlan => {
@@ -225,7 +241,8 @@ fn command_in(alloc: Global, value: &Value) -> Result<Command, WireFault>
     command(alloc, name, value)
 }
 
-fn json(alloc: Global, bytes: &[u8]) -> Result<Value, WireFault>
+/// The JSON value that bytes are.
+pub(crate) fn json(alloc: Global, bytes: &[u8]) -> Result<Value, WireFault>
     ensures { GivesSeen view result (some_or NotJson (json_of bytes.now)) }
 {
     match Value::from_slice(alloc, bytes) {

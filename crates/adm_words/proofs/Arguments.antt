@@ -78,8 +78,11 @@ tail_shapes (s ∷ ss) = ss
 abbrev pub subs_of : ValueParser → List Shape
 subs_of phases = (built (program_app phases)).subs
 
+abbrev pub taking_shapes : ValueParser → List Shape
+taking_shapes phases = tail_shapes (tail_shapes (tail_shapes (subs_of phases)))
+
 abbrev pub reading_shapes : ValueParser → List Shape
-reading_shapes phases = tail_shapes (tail_shapes (tail_shapes (tail_shapes (subs_of phases))))
+reading_shapes phases = tail_shapes (tail_shapes (taking_shapes phases))
 
 abbrev pub init_shape : ValueParser → Shape
 init_shape phases = head_shape (subs_of phases)
@@ -87,11 +90,14 @@ init_shape phases = head_shape (subs_of phases)
 abbrev pub do_shape : ValueParser → Shape
 do_shape phases = head_shape (tail_shapes (subs_of phases))
 
+abbrev pub what_if_shape : ValueParser → Shape
+what_if_shape phases = head_shape (tail_shapes (tail_shapes (subs_of phases)))
+
 abbrev pub import_shape : ValueParser → Shape
-import_shape phases = head_shape (tail_shapes (tail_shapes (subs_of phases)))
+import_shape phases = head_shape (taking_shapes phases)
 
 abbrev pub serve_shape : ValueParser → Shape
-serve_shape phases = head_shape (tail_shapes (tail_shapes (tail_shapes (subs_of phases))))
+serve_shape phases = head_shape (tail_shapes (taking_shapes phases))
 
 abbrev pub letter_shape : ValueParser → Shape
 letter_shape phases = head_shape (reading_shapes phases)

@@ -12,7 +12,7 @@ use Rattle.adm_words.specs.declared.actions.Action.{Action}
 use Rattle.adm_words.specs.declared.faults.WordsFault.{WordsFault}
 use Rattle.adm_words.specs.declared.faults.WordsFault.TheVariants.{Words, BadDate, BadWord, Memory}
 use Rattle.adm_words.specs.Program.{IsPhases, program_app}
-use Rattle.adm_words.specs.Lines.{Line, init_line, do_line, import_line, serve_line, letter_line, list_line, report_line, Reads, ReadsLine, ReadsWords, line_in}
+use Rattle.adm_words.specs.Lines.{Line, init_line, do_line, what_if_line, import_line, serve_line, letter_line, list_line, report_line, Reads, ReadsLine, ReadsWords, line_in}
 
 pub is_free : (phases : ValueParser) → IsPhases phases → is_simple_and_free (program_app phases) ≡ true
 unfolding clap_on_literals
@@ -44,6 +44,7 @@ refuses app phases words e h is f other =
 no_words : (line : Line) (e : Error) → Reads line (Err (Words e)) → ⊥
 no_words (init_line file phase year texts) e h = h
 no_words (do_line file) e h = h
+no_words (what_if_line file) e h = h
 no_words (import_line file csv) e h = h
 no_words (serve_line file port count) e h = h
 no_words (letter_line file word) e h = h

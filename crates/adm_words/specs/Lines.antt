@@ -24,6 +24,7 @@ use Rattle.adm_words.specs.declared.faults.WordsFault.TheVariants.{Words, BadDat
 pub data Line : Type 0 where
   init_line : Text → Phase → ℕ → List Text → Line
   do_line : Text → Line
+  what_if_line : Text → Line
   import_line : Text → Text → Line
   serve_line : Text → ℕ → ℕ → Line
   letter_line : Text → Text → Line
@@ -101,6 +102,9 @@ init_in rows = init_of (file_in rows) (phase_in rows) (year_in rows) (holidays_i
 abbrev pub do_in : List Row → Option Line
 do_in rows = option_map do_line (file_in rows)
 
+abbrev pub what_if_in : List Row → Option Line
+what_if_in rows = option_map what_if_line (file_in rows)
+
 abbrev pub serve_of : Option Text → Option ℕ → Option ℕ → Option Line
 serve_of (Some file) (Some port) (Some count) = Some (serve_line file port count)
 serve_of file port count = None
@@ -135,7 +139,8 @@ reading_in name rows =
 abbrev pub line_in : Text → List Row → Option Line
 line_in name rows =
     if bytes_eq name (codes "init") then init_in rows else (if bytes_eq name (codes "do") then do_in rows else (
-    if bytes_eq name (codes "import") then import_in rows else (if bytes_eq name (codes "serve") then serve_in rows else reading_in name rows)))
+    if bytes_eq name (codes "what-if") then what_if_in rows else (if bytes_eq name (codes "import") then import_in rows else (
+    if bytes_eq name (codes "serve") then serve_in rows else reading_in name rows))))
 
 -- ---- what a line asks for
 
@@ -168,6 +173,7 @@ ReadsWord read (Err fault) = ⊥
 abbrev pub Reads : Line → Result Action WordsFault → Type 0
 Reads (init_line file phase year texts) (Ok (action.Init f p y days)) = (f.now ≡ file) × (p ≡ phase) × (y ≡ year) × AreDays texts days
 Reads (do_line file) (Ok (action.Do f)) = f.now ≡ file
+Reads (what_if_line file) (Ok (action.WhatIf f)) = f.now ≡ file
 Reads (import_line file csv) (Ok (action.Import f c)) = (f.now ≡ file) × (c.now ≡ csv)
 Reads (serve_line file port count) (Ok (action.Serve f p n)) = (f.now ≡ file) × (p ≡ port) × (n ≡ count)
 Reads (letter_line file word) (Ok (action.Letter f child)) = (f.now ≡ file) × (child_named word ≡ Some child)

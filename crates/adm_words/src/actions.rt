@@ -16,6 +16,11 @@ pub enum Action<'a> {
     Do {
         file: &'a str,
     },
+    /// Answer the questions of the standard input, what a child would be allotted by another list,
+    /// over the register in this file. Nothing is changed.
+    WhatIf {
+        file: &'a str,
+    },
     /// Import the rows of a CSV file into the register in this file.
     Import {
         file: &'a str,

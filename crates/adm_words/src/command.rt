@@ -4,7 +4,7 @@ ghost use Rattle.clap.specs.Words.{App, Rule, app_of, new_app, with_rule, with_s
 ghost use Rattle.clap.specs.declared.builder.command.Command.TheViews.{out-Command as fields_of};
 ghost use Rattle.clap.specs.declared.builder.value_parser.ValueParser.{ValueParser};
 ghost use Rattle.adm_words.specs.Building.{IsArg, IsCommand, Builds};
-ghost use Rattle.adm_words.specs.Program.{IsPhases, required_rule, file_rule, phase_rule, holiday_rule, year_rule, port_rule, count_rule, pair_app, init_app, do_app, serve_app, top_app, with_writers, with_readers, program_app};
+ghost use Rattle.adm_words.specs.Program.{IsPhases, required_rule, file_rule, phase_rule, holiday_rule, year_rule, port_rule, count_rule, pair_app, init_app, do_app, what_if_app, serve_app, top_app, with_answerers, with_takers, with_readers, program_app};
 
 use clap::{Arg, ArgAction, Command, value_parser};
 use std::alloc::{AllocError, Global};
@@ -201,6 +201,13 @@ fn do_command<'a>(alloc: Global) -> Result<Command<'a>, AllocError>
     file_command(alloc, "do", about, REGISTER)
 }
 
+fn what_if_command<'a>(alloc: Global) -> Result<Command<'a>, AllocError>
+    ensures { Builds what_if_app result }
+{
+    let about = "Tells where a child would be by another list, line by line";
+    file_command(alloc, "what-if", about, REGISTER)
+}
+
 fn init_command<'a>(alloc: Global) -> Result<Command<'a>, AllocError>
     ensures { (phases : ValueParser) × IsPhases phases × Builds (init_app phases) result }
 {
@@ -218,20 +225,31 @@ fn serve_command<'a>(alloc: Global) -> Result<Command<'a>, AllocError>
     with_arg(serve, count(alloc))
 }
 
-/// The program with the subcommands that write to the register.
-fn with_writers<'a>(
+/// The program with the subcommand that makes the register, and with those that answer the standard
+/// input over it, line by line.
+fn with_answerers<'a>(
     alloc: Global,
     program: Result<Command<'a>, AllocError>,
 ) -> Result<Command<'a>, AllocError>
-    ensures { (app : App) → Builds app program.entry → (phases : ValueParser) × IsPhases phases × Builds (with_writers phases app) result }
+    ensures { (app : App) → Builds app program.entry → (phases : ValueParser) × IsPhases phases × Builds (with_answerers phases app) result }
 {
     let program = with(program, init_command(alloc));
     let program = with(program, do_command(alloc));
+    with(program, what_if_command(alloc))
+}
+
+/// The program with the subcommands that take in the rows of a file, or requests.
+fn with_takers<'a>(
+    alloc: Global,
+    program: Result<Command<'a>, AllocError>,
+) -> Result<Command<'a>, AllocError>
+    ensures { (app : App) → Builds app program.entry → Builds (with_takers app) result }
+{
     let program = with(program, pair_command(alloc, &IMPORT));
     with(program, serve_command(alloc))
 }
 
-/// The program with the subcommands that only read it.
+/// The program with the subcommands that print what the register holds.
 fn with_readers<'a>(
     alloc: Global,
     program: Result<Command<'a>, AllocError>,
@@ -259,5 +277,6 @@ pub(crate) fn program<'a>(alloc: Global) -> Result<Command<'a>, AllocError>
     ensures local { IfOk result (λ c. (fields_of c).has_globals ≡ false) }
     ensures required { IfOk result (λ c. (fields_of c).subcommand_required ≡ true) }
 {
-    with_readers(alloc, with_writers(alloc, Ok(top(alloc))))
+    let program = with_answerers(alloc, Ok(top(alloc)));
+    with_readers(alloc, with_takers(alloc, program))
 }

@@ -9,7 +9,7 @@ use Rattle.adm_desk.proofs.lines.run_lines.Goals as goal
 pub loop-turn-init : goal.loop-turn-init
 loop-turn-init g c =
     rw c.new-pending.ensures.items
-    ([], Consumes-nothing _, Takes-nothing g.H.Handler.step _ _ _ [], omega arith)
+    ([], Consumes-nothing _, Takes-nothing g.H.Liner.runs _ _ _ [], omega arith)
 
 grows : (xs buffer : List ℕ) (turn n : ℕ) → turn ≤ length xs → (n ≡ 0 → ⊥) → n ≤ length buffer → turn + 1 ≤ length (xs ++ take n buffer)
 grows xs buffer turn n bound some within = omega (arith, length-append xs (take n buffer), length-take-le n buffer within)
@@ -19,21 +19,21 @@ loop-turn-preserved g c =
     let i = c.loop-turn.invariant in (
       i.0 ++ take c.in-Ok.count c.read_some.new.buffer,
       Consumes-then _ _ _ i.0 _ i.1 c.in-Ok.ensures.bytes.0,
-      Takes-then g.H.Handler.step _ _ _ _ _ _ _ _ _ _ _ _ i.0 _ i.2 c.in-Ok-take_bytes.ensures.bytes,
+      Takes-then g.H.Liner.runs _ _ _ _ _ _ _ _ _ _ _ _ i.0 _ i.2 c.in-Ok-take_bytes.ensures.bytes,
       grows i.0 c.read_some.new.buffer c.loop-turn._turn c.in-Ok.count i.3 c.if-count-eq0.false c.in-Ok.ensures.bound,
     )
 
 pub returns-in-Err-clause-read : goal.returns-in-Err-clause-read
 returns-in-Err-clause-read g c = λ _.
     let i = c.loop-turn.invariant in
-    (i.0, Consumes-kept _ _ _ i.0 i.1 c.in-Err.ensures.bytes, read_failed_from g.H.Handler.step _ _ _ _ _ _ _ i.0 i.2)
+    (i.0, Consumes-kept _ _ _ i.0 i.1 c.in-Err.ensures.bytes, read_failed_from g.H.Liner.runs _ _ _ _ _ _ _ i.0 i.2)
 
 pub returns-then-count-eq0-clause-ok : goal.returns-then-count-eq0-clause-ok
 returns-then-count-eq0-clause-ok g c =
     let i = c.loop-turn.invariant in
     let reads = rw c.if-count-eq0.true at c.in-Ok.ensures.bytes in
     MatchResult-weaker c.finish.result (rw c.as_slice.ensures.value at c.finish.ensures.bytes)
-    (λ ran last. (i.0, Consumes-end _ _ _ i.0 i.1 reads.0, finished_from g.H.Handler.step _ _ _ _ _ _ _ ran _ i.0 i.2 last))
+    (λ ran last. (i.0, Consumes-end _ _ _ i.0 i.1 reads.0, finished_from g.H.Liner.runs _ _ _ _ _ _ _ ran _ i.0 i.2 last))
     (λ _ _. tt)
 
 pub returns-then-count-eq0-clause-stopped : goal.returns-then-count-eq0-clause-stopped
@@ -42,7 +42,7 @@ returns-then-count-eq0-clause-stopped g c =
     let reads = rw c.if-count-eq0.true at c.in-Ok.ensures.bytes in
     MatchResult-weaker c.finish.result (rw c.as_slice.ensures.value at c.finish.ensures.bytes)
     (λ _ _. tt)
-    (λ fault last _. (i.0, Consumes-end _ _ _ i.0 i.1 reads.0, stopped_from g.H.Handler.step _ _ _ _ _ _ _ _ _ _ i.0 i.2 last (reads.1 (search rules) (search rules))))
+    (λ fault last _. (i.0, Consumes-end _ _ _ i.0 i.1 reads.0, stopped_from g.H.Liner.runs _ _ _ _ _ _ _ _ _ _ i.0 i.2 last (reads.1 (search rules) (search rules))))
 
 pub returns-in-Err-take_bytes-clause-stopped : goal.returns-in-Err-take_bytes-clause-stopped
 returns-in-Err-take_bytes-clause-stopped g c = λ _.
@@ -50,7 +50,7 @@ returns-in-Err-take_bytes-clause-stopped g c = λ _.
     let bytes = i.0 ++ take c.in-Ok.count c.read_some.new.buffer in (
       bytes,
       Consumes-then _ _ _ i.0 _ i.1 c.in-Ok.ensures.bytes.0,
-      broken_from g.H.Handler.step _ _ _ _ _ bytes (Takes-breaks g.H.Handler.step _ _ _ _ _ _ _ _ _ _ i.0 _ i.2 c.in-Err-take_bytes.ensures.bytes),
+      broken_from g.H.Liner.runs _ _ _ _ _ bytes (Takes-breaks g.H.Liner.runs _ _ _ _ _ _ _ _ _ _ i.0 _ i.2 c.in-Err-take_bytes.ensures.bytes),
     )
 
 pub returns-clause-read_failed : goal.returns-clause-read_failed
@@ -60,4 +60,4 @@ returns-clause-read_failed g c = λ _.
 pub returns-clause-read : goal.returns-clause-read
 returns-clause-read g c = λ _.
     let i = c.loop-turn.invariant in
-    (i.0, i.1, read_failed_from g.H.Handler.step _ _ _ _ _ _ _ i.0 i.2)
+    (i.0, i.1, read_failed_from g.H.Liner.runs _ _ _ _ _ _ _ i.0 i.2)

@@ -5,5 +5,5 @@ use Rattle.adm_desk.proofs.lines.run_lines.Given as goal
 
 abbrev pub invariant-loop-turn : goal.invariant-loop-turn
 invariant-loop-turn g l = (read : List ℕ) × Consumes (g.R.Input.remaining l.fn.reader) (g.R.Input.remaining l.reader) read
-    × Takes g.H.Handler.step (g.H.Handler.view l.fn.handler) (g.H.Handler.view l.handler) (g.W.Output.contents l.fn.writer) (g.W.Output.contents l.writer)
+    × Takes g.H.Liner.runs (g.H.Liner.view l.fn.handler) (g.H.Liner.view l.handler) (g.W.Output.contents l.fn.writer) (g.W.Output.contents l.writer)
     (record { done = 0; refused = 0; failed = false }) l.run [] l.pending.items read × (l._turn ≤ length read)

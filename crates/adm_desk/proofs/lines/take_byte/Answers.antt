@@ -9,7 +9,7 @@ returns-then-is_ok-clause-bytes g c =
     rw items record {
       lines = [];
       cut = Cuts-byte c.args.pending.now.items c.args.byte c.if-byte-eq10.false;
-      answered = Answered-nothing g.H.Handler.step _ _ _;
+      answered = Answered-nothing g.H.Liner.runs _ _ _;
     }
 
 pub returns-else-is_ok-clause-bytes : goal.returns-else-is_ok-clause-bytes
@@ -18,5 +18,5 @@ returns-else-is_ok-clause-bytes g c = record {
   more = c.args.pending.now.items ++ c.args.byte ∷ [];
   whole = refl;
   plain = λ _. tt;
-  stopped = Stopped-nothing g.H.Handler.step _ _;
+  stopped = Stopped-nothing g.H.Liner.runs _ _;
 }

@@ -4,5 +4,5 @@ use Rattle.adm_desk.proofs.lines.take_bytes.Given as goal
 
 abbrev pub invariant-loop-byte : goal.invariant-loop-byte
 invariant-loop-byte g l =
-    Takes g.H.Handler.step (g.H.Handler.view l.fn.handler) (g.H.Handler.view l.handler) (g.W.Output.contents l.fn.writer) (g.W.Output.contents l.writer)
+    Takes g.H.Liner.runs (g.H.Liner.view l.fn.handler) (g.H.Liner.view l.handler) (g.W.Output.contents l.fn.writer) (g.W.Output.contents l.writer)
     l.fn.run l.run l.fn.pending.items l.pending.items (take l.byte-index l.bytes)

@@ -1,10 +1,11 @@
-use Rattle.std.proofs.Common.{refl}
+use Rattle.std.proofs.Common.{ap, sym}
 use Rattle.adm_register.proofs.tables.Tables.differing.Goals as goal
 
 pub returns : goal.returns
 returns c =
-    let first = c.in_ok-first.ensures c.args.change refl in
-    let others = c.in_ok-others.ensures c.args.change refl in
+    let parts = c.into_groups-first.ensures in
+    let first = c.in_ok-first.ensures c.args.change (sym (ap (λ p. p.0) parts)) in
+    let others = c.in_ok-others.ensures c.args.change (sym (ap (λ p. p.1) parts)) in
     λ i. record {
       schools = (first i).schools;
       children = (first i).children;

@@ -16,5 +16,6 @@ returns-in_default-clause-err g c old new step before =
     let early = subst (λ h. LeavesOnly old (state g.S.Store h)) (sym c.self.view_is) before in
     either (state g.S.Store c.self.inside.conn) (state g.S.Store c.write.new.conn) old new (c.write.ensures.survives old new step early) early
 
-pub returns-then-cut-eq0-clause-ok : goal.returns-then-cut-eq0-clause-ok
-returns-then-cut-eq0-clause-ok g c old new step before clean db may = no_change old new c.args.changes.now step (omega (arith, count_is c.args.changes.now, c.put.ensures, c.if-put-eq0.true, c.cut.ensures, c.if-cut-eq0.true)) db (before clean db may)
+pub returns-then-len-eq0-clause-ok : goal.returns-then-len-eq0-clause-ok
+returns-then-len-eq0-clause-ok g c old new step before clean db may =
+    no_change old new c.args.changes.now step (omega (arith, count_is c.args.changes.now, c.put.ensures, c.if-put-eq0.true, c.cut.ensures, c.if-cut-eq0.true, c.len.ensures, c.if-len-eq0.true)) db (before clean db may)

@@ -1,7 +1,7 @@
 use Rattle.std.proofs.Common.{refl}
 use Rattle.matchit.proofs.OnLiterals.{matchit_on_literals}
-use Rattle.adm_http.specs.Rows.{five_routes}
-use Rattle.adm_http.proofs.routes.five.Goals as goal
+use Rattle.adm_http.specs.Rows.{six_routes}
+use Rattle.adm_http.proofs.routes.six.Goals as goal
 
 pub add-requires : goal.add-requires
 unfolding matchit_on_literals
@@ -35,12 +35,23 @@ add-requires-5 c =
     let e = c.in_ok-add-4.ensures in
     rw (e.1, d.1, b.1, a.1, c.new-router.ensures) refl
 
-pub returns : goal.returns
-unfolding matchit_on_literals five_routes
-returns c =
+pub add-requires-6 : goal.add-requires-6
+unfolding matchit_on_literals
+add-requires-6 c =
     let a = c.in_ok-add.ensures in
     let b = c.in_ok-add-2.ensures in
     let d = c.in_ok-add-3.ensures in
     let e = c.in_ok-add-4.ensures in
     let f = c.in_ok-add-5.ensures in
     rw (f.1, e.1, d.1, b.1, a.1, c.new-router.ensures) refl
+
+pub returns : goal.returns
+unfolding matchit_on_literals six_routes
+returns c =
+    let a = c.in_ok-add.ensures in
+    let b = c.in_ok-add-2.ensures in
+    let d = c.in_ok-add-3.ensures in
+    let e = c.in_ok-add-4.ensures in
+    let f = c.in_ok-add-5.ensures in
+    let h = c.in_ok-add-6.ensures in
+    rw (h.1, f.1, e.1, d.1, b.1, a.1, c.new-router.ensures) refl

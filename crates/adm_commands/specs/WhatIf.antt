@@ -1,0 +1,45 @@
+-- What a child would have by another list of its wanted schools, in the next round on a register (this profile).
+use Rattle.std.specs.Prelude.{◌≡◌, ℕ, List, Option, None, Some, option_map}
+use Rattle.adm_match.specs.Market.{Code}
+use Rattle.adm_match.specs.Relisting.{what_if_fault, IsWhatIf, IsNoGain}
+use Rattle.adm_match.specs.declared.what_ifs.WhatIfFault.{WhatIfFault}
+use Rattle.adm_match.specs.declared.what_ifs.WhatIfFault.TheVariants as list
+use Rattle.adm_register.specs.State.{State}
+use Rattle.adm_register.specs.WellFormed.{WellFormed}
+use Rattle.adm_commands.specs.Problem.{lots_fault}
+use Rattle.adm_commands.specs.Round.{round_market}
+use Rattle.adm_commands.specs.declared.problems.DrawFault.{DrawFault}
+use Rattle.adm_commands.specs.declared.problems.DrawFault.TheVariants as draw
+use Rattle.adm_commands.specs.declared.what_ifs.NotTold.{NotTold}
+use Rattle.adm_commands.specs.declared.what_ifs.NotTold.TheVariants.{LotCount, LotsRepeated, UnknownChild, NotItsSchools, Memory}
+
+-- why it isn't told, where the lots pose no problem
+abbrev pub by_lots : DrawFault → NotTold
+by_lots draw.LotCount = LotCount
+by_lots draw.LotsRepeated = LotsRepeated
+by_lots draw.Memory = Memory
+
+-- why it isn't told, where the child may not list the schools
+abbrev pub by_list : WhatIfFault → NotTold
+by_list list.UnknownChild = UnknownChild
+by_list list.NotItsSchools = NotItsSchools
+by_list list.Memory = Memory
+
+-- the lots are tested before the list
+abbrev pub first_told : Option DrawFault → Option WhatIfFault → Option NotTold
+first_told None fault = option_map by_list fault
+first_told (Some fault) later = Some (by_lots fault)
+
+-- The first of these tests that fails: there is one lot for each pair; at no school two lots are equal; the child is an entrant of
+-- the problem; and it wants each of the schools, none of which comes twice. A tenant does not want its own school.
+abbrev pub told_fault : State → ℕ → List ℕ → List Code → Option NotTold
+told_fault s child numbers schools = first_told (lots_fault s numbers) (what_if_fault (round_market s numbers) child schools)
+
+-- By no other list does a child get a better school. Take any register, lots that pass both tests, any child, and any schools that it
+-- lists in place of its own list; those that its own list has not are dropped. What the best allocation of the problem then gives the
+-- child never stands, on its own list, before what the best allocation gives it by that own list. To have none comes after every school.
+abbrev pub NoBetterList : Type 0
+NoBetterList =
+    (s : State) (numbers : List ℕ) (child : ℕ) (schools : List Code) (school : Option Code)
+    → WellFormed s → lots_fault s numbers ≡ None → IsWhatIf (round_market s numbers) child schools school
+    → IsNoGain (round_market s numbers) child school

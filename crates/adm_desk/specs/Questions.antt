@@ -1,0 +1,37 @@
+-- What a desk tells: where a child would be by another list.
+use Rattle.std.specs.Prelude.{◌≡◌, ⊤, ℕ, List, Bool, true, false, Option, Some, None, Ok, Err}
+use Rattle.adm_wire.specs.WhatIfs.{what_if_of}
+use Rattle.adm_wire.specs.declared.fault.WireFault.TheVariants as fault
+use Rattle.adm_wire.specs.declared.what_if.WhatIf.{WhatIf}
+use Rattle.adm_match.specs.Relisting.{IsWhatIf, IsNoGain}
+use Rattle.adm_register.specs.State.{State as Register}
+use Rattle.adm_commands.specs.Round.{round_market}
+use Rattle.adm_commands.specs.WhatIf.{told_fault}
+use Rattle.adm_commands.specs.declared.what_ifs.NotTold.TheVariants as untold
+use Rattle.adm_desk.specs.Standing.{Standing}
+use Rattle.adm_desk.specs.declared.answer.LineAnswer.{LineAnswer}
+use Rattle.adm_desk.specs.declared.answer.LineAnswer.TheVariants.{Handled, Faulty, Told}
+use Rattle.adm_desk.specs.declared.answer.Told.{Told as ToldAnswer}
+use Rattle.adm_desk.specs.declared.answer.Told.TheVariants.{School, Untold, Failed}
+
+-- What a question is told of a register. A school, or none: no test fails, the child has it in the best allocation of the next round's problem in which it lists these schools, and by its own list
+-- it does no worse. Else the first test that fails, or want of memory.
+abbrev pub Answered : Register → WhatIf → ToldAnswer → Type 0
+Answered s asked (School school) =
+    (told_fault s asked.child asked.lots asked.preferences ≡ None)
+    × IsWhatIf (round_market s asked.lots) asked.child asked.preferences school × IsNoGain (round_market s asked.lots) asked.child school
+Answered s asked (Untold untold.Memory) = ⊤
+Answered s asked (Untold why) = told_fault s asked.child asked.lots asked.preferences ≡ Some why
+Answered s asked Failed = ⊥
+
+-- What bytes are told by a desk: their fault where they ask nothing, that it has failed, or what the question is told of its register. Any may meet want of memory. The desk stays as it is.
+abbrev pub Tells : {C : Type 0} → Standing C → List ℕ → LineAnswer → Type 0
+Tells desk bytes (Faulty fault.Memory) = ⊤
+Tells desk bytes (Faulty f) = what_if_of bytes ≡ Err f
+Tells desk bytes (Told Failed) = (desk.failed ≡ true) × ((asked : WhatIf) × (what_if_of bytes ≡ Ok asked))
+Tells desk bytes (Told told) = (desk.failed ≡ false) × ((asked : WhatIf) × (what_if_of bytes ≡ Ok asked) × Answered desk.register asked told)
+Tells desk bytes (Handled answer) = ⊥
+
+-- the same of lines, one after another
+abbrev pub TellsLine : {C : Type 0} → Standing C → List ℕ → LineAnswer → Standing C → Type 0
+TellsLine old line answer new = Tells old line answer × (new ≡ old)
