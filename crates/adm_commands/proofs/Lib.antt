@@ -19,6 +19,7 @@ pub mod Keeps
 pub mod PutAgain
 pub mod DrawsStay
 pub mod ImportsStay
+pub mod Sorted
 pub mod Shows
 pub mod RaiseFit
 pub mod ShowsRows
@@ -27,6 +28,7 @@ pub mod ShowsDraws
 pub mod EachCommand
 pub mod Repeats
 pub mod OneStep
+pub mod SomeStep
 pub mod History
 pub mod Imports
 pub mod RoundEntrants

@@ -46,7 +46,7 @@ use Rattle.adm_register.proofs.SameRows.{entries_at_own_keys, values_hold, rows_
 use Rattle.adm_commands.proofs.Keeps.{all_pass}
 use Rattle.adm_register.proofs.ListsKept.{once-filter, above_once, above_all, own_apart, own_known}
 
-some_of : {A : Type 0} (o : Option A) → is_some o ≡ true → (x : A) × (o ≡ Some x)
+pub some_of : {A : Type 0} (o : Option A) → is_some o ≡ true → (x : A) × (o ≡ Some x)
 some_of None e = cc
 some_of (Some x) e = (x, refl)
 

@@ -4,7 +4,10 @@ use Rattle.std.specs.Prelude.{Option}
 use Rattle.adm_types.specs.declared.commands.Command.{Command}
 use Rattle.adm_types.specs.declared.commands.Refusal.{Refusal}
 use Rattle.adm_types.specs.declared.commands.Reply.{Reply}
-use Rattle.adm_round.specs.Outcomes.{AllotmentFits, OneAllotment}
+use Rattle.adm_types.specs.declared.commands.Reply.TheVariants.{Done}
+use Rattle.adm_match.specs.Relisting.{OneBest}
+use Rattle.adm_waiting.specs.Waiting.{OneIsFirst}
+use Rattle.adm_round.specs.Outcomes.{AllotmentFits, OneAllotment, PosedWithoutFault}
 use Rattle.adm_register.specs.declared.difference.Difference.{Difference}
 use Rattle.adm_register.specs.State.{State}
 use Rattle.adm_register.specs.Change.{after}
@@ -21,7 +24,15 @@ pub no_row : (o : Option Refusal) → without_row o ≡ None → o ≡ None
 no_row None none = refl
 no_row (Some refusal) none = cc
 
+-- what says that rounds and fills come to something
+pub record Laws : Type 0 where
+  pub some_best : OneBest
+  pub faultless : PosedWithoutFault
+  pub some_first : OneIsFirst
+
 pub record Shows (command : Command) : Type 0 where
+  -- where it is not refused, it changes something, or nothing, and answers
+  pub some : Laws → (old : State) → WellFormed old → refused old command ≡ None → (change : Difference) × (reply : Reply) × Changes old command change reply
   -- what it changes fits
   pub fits : (old : State) → KeptByTypes command → WellFormed old → AllotmentFits → refused old command ≡ None → (change : Difference) (reply : Reply) → Changes old command change reply → Fit old change
   -- where it is not refused when it follows itself, it changes nothing more
@@ -38,6 +49,7 @@ pub record Shows (command : Command) : Type 0 where
 
 -- what a command must show that changes just this, and neither draws nor imported rows
 pub record ShowsOnly (command : Command) (only : State → Difference) : Type 0 where
+  pub done : (old : State) → Changes old command (only old) Done
   pub is : (old : State) (change : Difference) (reply : Reply) → Changes old command change reply → change ≡ only old
   pub fits : (old : State) → KeptByTypes command → WellFormed old → refused old command ≡ None → Fit old (only old)
   pub again : (old : State) → WellFormed old → refused old command ≡ None → refused (after old (only old)) command ≡ None → after (after old (only old)) (only (after old (only old))) ≡ after old (only old)
@@ -46,6 +58,7 @@ pub record ShowsOnly (command : Command) (only : State → Difference) : Type 0 
 
 pub shows_only : (command : Command) (only : State → Difference) → ShowsOnly command only → Shows command
 shows_only command only it = record {
+  some = λ laws old well accepted. (only old, Done, it.done old);
   fits = λ old kept well law accepted change reply done. subst (Fit old) (sym (it.is old change reply done)) (it.fits old kept well accepted);
   again = λ old new change reply well first done is passes more second next.
       let now : new ≡ after old (only old) = is ∙ ap (after old) (it.is old change reply done) in

@@ -1,16 +1,18 @@
 -- What rounds, fills and imports show.
-use Rattle.std.proofs.Common.{◌≡◌, ◌∙◌, ap, sym, subst, ℕ, ◌+◌, List, [], ◌∷◌, None, arith}
+use Rattle.std.proofs.Common.{◌≡◌, ◌∙◌, ap, sym, subst, refl, ℕ, ◌+◌, ◌-◌, length, List, [], ◌∷◌, None, arith}
 use Rattle.std.specs.List.{AllByRecursion}
 use Rattle.std.specs.Cmp.{nat_cmp_total, unsigned_Decides}
-use Rattle.std.specs.FinMap.{values}
+use Rattle.std.specs.FinMap.{get, values}
 use Rattle.std.proofs.lemmas.List.Sorted.{IsPermutation-sym, IsPermutation-trans}
 use Rattle.std.proofs.lemmas.Option.{same_Some}
 use Rattle.adm_lists.proofs.Rising.{one_order}
 use Rattle.adm_types.specs.declared.commands.Command.TheVariants.{Round, Fill, Import}
+use Rattle.adm_types.specs.declared.commands.Reply.TheVariants.{Filled, Imported}
 use Rattle.adm_types.specs.declared.draws.Draw.{Draw}
 use Rattle.adm_types.specs.declared.draws.Outcome.{Outcome}
 use Rattle.adm_types.specs.declared.rows.Child.{Child}
 use Rattle.adm_types.specs.declared.rows.ImportRow.{ImportRow}
+use Rattle.adm_round.specs.Outcomes.{outcomes_of}
 use Rattle.adm_waiting.specs.Waiting.{first_by_lot}
 use Rattle.adm_register.specs.declared.difference.Difference.{Difference}
 use Rattle.adm_register.specs.declared.draws_so_far.DrawsSoFar.{DrawsSoFar}
@@ -22,7 +24,7 @@ use Rattle.adm_register.specs.Waits.{waiting_at}
 use Rattle.adm_register.specs.WellFormed.{WellFormed}
 use Rattle.adm_commands.specs.Tests.{first_failing}
 use Rattle.adm_commands.specs.Round as round
-use Rattle.adm_commands.specs.Round.{round_lots}
+use Rattle.adm_commands.specs.Round.{sites, entrants, round_lots, round_market}
 use Rattle.adm_commands.specs.Fill as fill
 use Rattle.adm_commands.specs.Import as import
 use Rattle.adm_commands.specs.History.{drawn_on}
@@ -30,15 +32,17 @@ use Rattle.adm_register.proofs.DrawLemmas.{values_put, with_draws-append}
 use Rattle.adm_register.proofs.Puts.{there_each}
 use Rattle.adm_commands.proofs.DrawsStay.{unchanged, one_more}
 use Rattle.adm_commands.proofs.FillDraw.{fill-next}
-use Rattle.adm_commands.proofs.FillFit.{fill-fit, fill_again}
+use Rattle.adm_commands.proofs.FillFit.{fill-fit, fill_again, school_there, each_has_lot}
 use Rattle.adm_commands.proofs.ImportAgain.{IsKept, imports_known, each_new, rows_kept, none_added}
 use Rattle.adm_commands.proofs.ImportFit.{import-fit}
+use Rattle.adm_commands.proofs.ImportWalk.{new_rows-addable}
 use Rattle.adm_commands.proofs.ImportsStay.{stay_beside, stay_alone}
 use Rattle.adm_commands.proofs.Keeps.{all_pass}
-use Rattle.adm_commands.proofs.Posed.{posed, lots_pass}
+use Rattle.adm_commands.proofs.Posed.{some_of, posed, lots_pass}
 use Rattle.adm_commands.proofs.RoundFit.{round-fit}
 use Rattle.adm_commands.proofs.RoundNext.{round-next}
 use Rattle.adm_commands.proofs.Shows.{Shows, no_row}
+use Rattle.adm_commands.proofs.Sorted.{sorted}
 
 -- a draw's number does not come again
 round_again : (old new : State) (draw day : ℕ) (numbers : List ℕ) (outcomes : List Outcome) → WellFormed old → first_failing (round.tests old draw day numbers) ≡ None
@@ -63,6 +67,14 @@ round_again old new draw day numbers outcomes well first is passes =
 pub round_shows : (draw day : ℕ) (lots : List ℕ) → Shows (Round draw day lots)
 unfolding round.change_of
 round_shows draw day lots = record {
+  some = λ laws old well accepted.
+      let posed = posed old lots well (lots_pass old draw day lots (no_row _ accepted)) in
+      let best = laws.some_best (round_market old lots) (laws.faultless (sites old) (entrants old) (round_lots old lots) posed) in
+      let outcomes = outcomes_of best.0 (entrants old) in (
+        round.change_of old draw day lots outcomes,
+        round.reply_of old outcomes,
+        (outcomes, record { allocation = best.0; best = best.1; given = refl }, refl, refl),
+      );
   fits = λ old kept well law accepted change reply held.
       let passes = no_row (first_failing (round.tests old draw day lots)) accepted in
       subst (Fit old) (sym held.2) (round-fit old draw day lots held.0 well kept passes law (posed old lots well (lots_pass old draw day lots passes)) held.1);
@@ -78,6 +90,12 @@ round_shows draw day lots = record {
 pub fill_shows : (draw : ℕ) (school : List ℕ) (day : ℕ) (lots : List ℕ) → Shows (Fill draw school day lots)
 unfolding fill.change_of
 fill_shows draw school day lots = record {
+  some = λ laws old well accepted.
+      let passes = no_row _ accepted in
+      let row = some_of (get old.schools school) (school_there old draw school day lots passes) in
+      let each = each_has_lot old draw school day lots passes (waiting_at old school) lots refl refl in
+      let child = some_of (first_by_lot row.0 (waiting_at old school) lots) (laws.some_first row.0 (waiting_at old school) lots each.0 each.1 each.2) in
+      (fill.change_of old draw school day lots child.0, Filled child.0, (row.0, row.1, child.0, child.1, refl, refl));
   fits = λ old kept well law accepted change reply filled.
       subst (Fit old) (sym filled.4) (fill-fit old draw school day lots filled.0 filled.2 well kept (no_row _ accepted) filled.3);
   again = λ old new change reply well first filled is passes more second next.
@@ -94,6 +112,9 @@ fill_shows draw school day lots = record {
 pub import_shows : (rows : List ImportRow) → Shows (Import rows)
 unfolding import.change_of
 import_shows rows = record {
+  some = λ laws old well accepted.
+      let added = sorted (λ (r : ImportRow). r.child.no) (import.new_rows old rows) (new_rows-addable old 1 rows accepted).apart in
+      (import.change_of added.0, Imported (length added.0) (length rows - length added.0), (added.0, added.1, added.2, refl, refl));
   fits = λ old kept well law accepted change reply done. subst (Fit old) (sym done.3) (import-fit old rows done.0 well kept accepted done.1 done.2);
   again = λ old new change reply well first done is passes more second next.
       let now = is ∙ ap (after old) done.3 in

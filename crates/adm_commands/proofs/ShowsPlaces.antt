@@ -33,6 +33,7 @@ has_put old child place = get-insert_same nat_cmp_total old.places child (record
 pub name_plan_shows : (child : ℕ) (school : List ℕ) → Shows (NamePlan child school)
 unfolding name_plan.tests name_plan.change_of
 name_plan_shows child school = shows_only (NamePlan child school) (λ old. name_plan.change_of child school) (record {
+  done = λ old. (refl, refl);
   is = λ old change reply done. done.0;
   fits = λ old kept well accepted. name_plan-fit old child school well (no_row _ accepted);
   again = λ old well first passes.
@@ -45,6 +46,7 @@ name_plan_shows child school = shows_only (NamePlan child school) (λ old. name_
 pub accept_shows : (child : ℕ) (school : List ℕ) → Shows (Accept child school)
 unfolding accept.tests accept.change_of
 accept_shows child school = shows_only (Accept child school) (λ old. accept.change_of child school) (record {
+  done = λ old. (refl, refl);
   is = λ old change reply done. done.0;
   fits = λ old kept well accepted. accept-fit old child school well (no_row _ accepted);
   again = λ old well first passes.
@@ -62,6 +64,7 @@ accept_shows child school = shows_only (Accept child school) (λ old. accept.cha
 pub decline_shows : (child : ℕ) (school : List ℕ) → Shows (Decline child school)
 unfolding decline.tests decline.change_of
 decline_shows child school = shows_only (Decline child school) (λ old. decline.change_of child school) (record {
+  done = λ old. (refl, refl);
   is = λ old change reply done. done.0;
   fits = λ old kept well accepted. decline-fit old child school well (no_row _ accepted);
   again = λ old well first passes.
@@ -74,6 +77,7 @@ decline_shows child school = shows_only (Decline child school) (λ old. decline.
 pub lapse_shows : (child : ℕ) (school : List ℕ) (day : ℕ) → Shows (Lapse child school day)
 unfolding lapse.tests decline.change_of
 lapse_shows child school day = shows_only (Lapse child school day) (λ old. decline.change_of child school) (record {
+  done = λ old. (refl, refl);
   is = λ old change reply done. done.0;
   fits = λ old kept well accepted. lapse-fit old child school day well (no_row _ accepted);
   again = λ old well first passes.
@@ -86,6 +90,7 @@ lapse_shows child school day = shows_only (Lapse child school day) (λ old. decl
 pub leave_list_shows : (child : ℕ) (school : List ℕ) → Shows (LeaveList child school)
 unfolding leave_list.change_of
 leave_list_shows child school = shows_only (LeaveList child school) (λ old. leave_list.change_of child school) (record {
+  done = λ old. (refl, refl);
   is = λ old change reply done. done.0;
   fits = λ old kept well accepted. leave_list-fit old child school well (no_row _ accepted);
   again = λ old well first passes. absurd (leave_again old (after old (leave_list.change_of child school)) child school well (no_row _ first) refl (no_row _ passes));
@@ -120,6 +125,7 @@ no_import child school day (Some (offered, before)) = refl
 pub remind_shows : (child : ℕ) (school : List ℕ) (day : ℕ) → Shows (Remind child school day)
 unfolding remind.change_of
 remind_shows child school day = shows_only (Remind child school day) (λ old. remind.change_of old child school day) (record {
+  done = λ old. (refl, refl);
   is = λ old change reply done. done.0;
   fits = λ old kept well accepted. remind-fit old child school day kept well (no_row _ accepted);
   again = λ old well first passes. absurd (remind_again old (after old (remind.change_of old child school day)) child school day (no_row _ first) refl (no_row _ passes));

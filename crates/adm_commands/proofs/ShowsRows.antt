@@ -21,6 +21,7 @@ use Rattle.adm_commands.proofs.Shows.{Shows, shows_only, no_row}
 pub add_school_shows : (school : School) → Shows (AddSchool school)
 unfolding add_school.tests add_school.change_of
 add_school_shows school = shows_only (AddSchool school) (λ old. add_school.change_of school) (record {
+  done = λ old. (refl, refl);
   is = λ old change reply done. done.0;
   fits = λ old kept well accepted. add_school-fit old school kept well (no_row _ accepted);
   again = λ old well first passes. absurd (not_again nat_list_cmp_total old.schools school.code school (all_pass (add_school.tests (after old (add_school.change_of school)) school) (no_row _ passes)).0);
@@ -31,6 +32,7 @@ add_school_shows school = shows_only (AddSchool school) (λ old. add_school.chan
 pub add_child_shows : (child : Child) → Shows (AddChild child)
 unfolding add_child.tests
 add_child_shows child = shows_only (AddChild child) (λ old. put_child child) (record {
+  done = λ old. (refl, refl);
   is = λ old change reply done. done.0;
   fits = λ old kept well accepted. add_child-fit old child kept well (no_row _ accepted);
   again = λ old well first passes. absurd (not_again nat_cmp_total old.children child.no child (all_pass (add_child.tests (after old (put_child child)) child) (no_row _ passes)).0);
@@ -40,6 +42,7 @@ add_child_shows child = shows_only (AddChild child) (λ old. put_child child) (r
 
 pub amend_shows : (child : Child) → Shows (Amend child)
 amend_shows child = shows_only (Amend child) (λ old. put_child child) (record {
+  done = λ old. (refl, refl);
   is = λ old change reply done. done.0;
   fits = λ old kept well accepted. amend-fit old child kept well (no_row _ accepted);
   again = λ old well first passes. (λ i. record old { children = insert_again nat_cmp_total nat_cmp-IsAntisymmetric old.children child.no child i });
@@ -50,6 +53,7 @@ amend_shows child = shows_only (Amend child) (λ old. put_child child) (record {
 pub apply_shows : (application : Application) → Shows (Apply application)
 unfolding apply.tests apply.change_of
 apply_shows application = shows_only (Apply application) (λ old. apply.change_of application) (record {
+  done = λ old. (refl, refl);
   is = λ old change reply done. done.0;
   fits = λ old kept well accepted. apply-fit old application kept well (no_row _ accepted);
   again = λ old well first passes. absurd (not_again nat_cmp_total old.applications application.child application (all_pass (apply.tests (after old (apply.change_of application)) application) (no_row _ passes)).1.1.0);
@@ -60,6 +64,7 @@ apply_shows application = shows_only (Apply application) (λ old. apply.change_o
 pub raise_pan_shows : (school : List ℕ) (pan : ℕ) → Shows (RaisePan school pan)
 unfolding raise_pan.change_of
 raise_pan_shows school pan = shows_only (RaisePan school pan) (λ old. raise_pan.change_of old school pan) (record {
+  done = λ old. (refl, refl);
   is = λ old change reply done. done.0;
   fits = λ old kept well accepted. raise_pan-fit old school pan well (no_row _ accepted);
   again = λ old well first passes. raise_pan-again old school pan well (no_row _ first);

@@ -151,3 +151,9 @@ RepeatSafe =
 -- an accepted command leaves one register
 abbrev pub OneStep : Type 0
 OneStep = (old a b : State) (command : Command) → Accepts old command a → Accepts old command b → a ≡ b
+
+-- From each well-formed register each command comes to something: where no test fails, there is an answer and a register that it leaves.
+abbrev pub SomeStep : Type 0
+SomeStep =
+    (old : State) (command : Command) → WellFormed old
+    → (answer : Result Reply (Refusal × ℕ)) × (new : State) × Step old command answer new

@@ -1,15 +1,32 @@
 // Laws of the steps of a register.
 ghost use Rattle.adm_commands.specs.History.{DrawsKept, RoundHeld};
 ghost use Rattle.adm_commands.specs.Imports.{ImportOnce};
-ghost use Rattle.adm_commands.specs.Outcome.{OneStep, RepeatSafe};
+ghost use Rattle.adm_commands.specs.Outcome.{OneStep, RepeatSafe, SomeStep};
+ghost use Rattle.adm_commands.specs.Problem.{RoundIsPosed};
 ghost use Rattle.adm_commands.specs.WhatIf.{NoBetterList};
 
-use adm_match::no_gain;
-use adm_round::one_allotment;
+use adm_match::{no_gain, one_best};
+use adm_round::{one_allotment, posed_without_fault};
+use adm_waiting::one_is_first;
 
 /// A command that follows itself at once leaves a register as it was.
 pub fn repeat_safe()
     ensures { RepeatSafe }
+{}
+
+/// Each command comes to something on each well-formed register: a refusal, or a reply and the
+/// register that it leaves.
+pub fn some_step()
+    ensures { SomeStep }
+{
+    one_best();
+    posed_without_fault();
+    one_is_first();
+}
+
+/// Lots that pass their two tests pose a round on each well-formed register.
+pub fn round_is_posed()
+    ensures { RoundIsPosed }
 {}
 
 /// An accepted command leaves one register.
@@ -41,5 +58,6 @@ pub fn import_once()
 pub fn no_better_list()
     ensures { NoBetterList }
 {
+    posed_without_fault();
     no_gain();
 }

@@ -28,7 +28,10 @@ mod round;
 mod tried;
 mod what_ifs;
 
-pub use laws::{draws_kept, import_once, no_better_list, one_step, repeat_safe, round_held};
+pub use laws::{
+    draws_kept, import_once, no_better_list, one_step, repeat_safe, round_held, round_is_posed,
+    some_step,
+};
 pub use not_done::NotDone;
 pub use problems::{DrawFault, problem};
 pub use proposals::{Proposal, decide, propose};

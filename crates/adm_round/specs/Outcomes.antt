@@ -5,7 +5,7 @@ use Rattle.std.specs.List.{list_any, AllZip}
 use Rattle.adm_types.specs.declared.draws.Lot.{Lot}
 use Rattle.adm_types.specs.declared.draws.Outcome.{Outcome}
 use Rattle.adm_types.specs.Limits.{is_listed}
-use Rattle.adm_match.specs.Market.{Code, Market, has}
+use Rattle.adm_match.specs.Market.{Code, Market, has, first_fault}
 use Rattle.adm_match.specs.Stability.{Allocation, IsBest}
 use Rattle.adm_round.specs.declared.applicants.Applicant.{Applicant}
 use Rattle.adm_round.specs.declared.applicants.Site.{Site}
@@ -55,7 +55,13 @@ HasRoom outcomes site = has_fresh (code_of site) outcomes ≡ true → count_at 
 abbrev pub is_kept : Outcome → Bool
 is_kept outcome = is_some outcome.school && not outcome.fresh
 
--- A round has one list of best outcomes.
+-- The problem that a round poses has no fault.
+abbrev pub PosedWithoutFault : Type 0
+PosedWithoutFault =
+    (sites : List Site) (applicants : List Applicant) (lots : List Lot)
+    → IsPosed sites applicants lots → first_fault (market_of sites applicants lots) ≡ None
+
+-- A round has at most one list of best outcomes.
 abbrev pub OneAllotment : Type 0
 OneAllotment =
     (sites : List Site) (applicants : List Applicant) (lots : List Lot) (one other : List Outcome)

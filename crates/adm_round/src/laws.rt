@@ -1,7 +1,13 @@
 // The laws of rounds.
-ghost use Rattle.adm_round.specs.Outcomes.{AllotmentFits, OneAllotment};
+ghost use Rattle.adm_round.specs.Outcomes.{AllotmentFits, OneAllotment, PosedWithoutFault};
 
-/// A round has one list of best outcomes.
+/// The problem that a round poses has no fault: no child and no school of a list comes twice, each
+/// school is there, a tenant's own school is the last of its list, and no two rank equally.
+pub fn posed_without_fault()
+    ensures { PosedWithoutFault }
+{}
+
+/// A round has at most one list of best outcomes.
 pub fn one_allotment()
     ensures { OneAllotment }
 {}

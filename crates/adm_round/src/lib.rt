@@ -12,7 +12,7 @@ mod wanting;
 
 pub use allotting::allot;
 pub use applicants::{Applicant, Pair, Site};
-pub use laws::{allotment_fits, one_allotment};
+pub use laws::{allotment_fits, one_allotment, posed_without_fault};
 pub use lots::{drawn, wanted_pairs};
 pub use outcomes::{Totals, counts};
 pub use problems::problem_of;

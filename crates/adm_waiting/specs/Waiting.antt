@@ -1,6 +1,6 @@
 -- The waiting list of a school, and who of it comes first by lot (School Admissions Code 2021, section 2; positions and lots
 -- are this profile's).
-use Rattle.std.specs.Prelude.{ℕ, ◌+◌, ◌≤◌, Bool, false, ◌&&◌, ◌||◌, ◌==◌, nat_lt, nat_eq, if◌then◌else◌, List, [], ◌∷◌, map, length, find, count_by, Contains, Option, option_map}
+use Rattle.std.specs.Prelude.{◌≡◌, ℕ, ◌+◌, ◌<◌, ◌≤◌, Bool, true, false, ◌&&◌, ◌||◌, ◌==◌, nat_lt, nat_eq, if◌then◌else◌, List, [], ◌∷◌, map, length, find, count_by, Contains, Option, option_map, is_some}
 use Rattle.std.specs.List.{zip, list_all, list_any}
 use Rattle.adm_types.specs.declared.rows.School.{School}
 use Rattle.adm_types.specs.declared.rows.Child.{Child}
@@ -69,3 +69,9 @@ first_by_lot school waiting lots = option_map (λ one. one.0.no) (find (is_first
 abbrev pub repeats : List ℕ → Bool
 repeats [] = false
 repeats (number ∷ numbers) = list_any (nat_eq number) numbers || repeats numbers
+
+-- Where somebody waits, as many lots are drawn as children wait, and no two of them are equal, one ranks before all others.
+abbrev pub OneIsFirst : Type 0
+OneIsFirst =
+    (school : School) (waiting : List Child) (lots : List ℕ) → 0 < length waiting → length lots ≡ length waiting → repeats lots ≡ false
+    → is_some (first_by_lot school waiting lots) ≡ true

@@ -1,9 +1,11 @@
 // The waiting list of a school, and which of the children comes first by lot.
 #![tactic(auto)]
 
+mod laws;
 mod lists;
 mod ranks;
 mod vacancies;
 
+pub use laws::one_is_first;
 pub use lists::{Waiting, position, waiting_list};
 pub use vacancies::first_by_lot;
