@@ -6,6 +6,7 @@
 #   make cases    the cases, the same way; they take seconds once the program is built
 #   make test     every proof, wrong bodies, tests, examples and cases; its last line is 'N passed, M failed'
 #   make wrong-bodies  those that the gate leaves to the hand, each of which must be refused
+#   make sweep    each request of the built program for memory refused, in turn: what is answered and left then; some minutes
 #   make bench    what commands cost, beside a baseline in the same run
 #   make install  the program, admissions-backup and admissions-restore; PREFIX=/usr/local by default
 PREFIX ?= /usr/local
@@ -13,7 +14,7 @@ EXAMPLES := first_path applications season
 
 LOOKED_AT := $(addprefix examples/applications/,schools.jsonl children.jsonl applications.jsonl)
 
-.PHONY: look build demo cases test wrong-bodies bench install
+.PHONY: look build demo cases test wrong-bodies sweep bench install
 
 look:
 	@cat $(LOOKED_AT) | tools/look
@@ -32,6 +33,9 @@ test:
 
 wrong-bodies:
 	tools/wrong-bodies
+
+sweep: build
+	tools/sweep bin/admissions
 
 bench: build
 	bench/first_path/run bin/admissions
