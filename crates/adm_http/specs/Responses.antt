@@ -1,6 +1,6 @@
 -- The response to a request.
-use Rattle.std.specs.Prelude.{◌≡◌, ℕ, List, [], ◌∷◌, length, take, drop, nat_le, if◌then◌else◌, MatchBool, string_bytes}
-use Rattle.adm_http.specs.Heads.{IsJudgement}
+use Rattle.std.specs.Prelude.{◌≡◌, ℕ, List, [], ◌∷◌, length, take, drop, nat_le, MatchBool, string_bytes}
+use Rattle.adm_http.specs.Heads.{IsJudgement, verdict_at_end}
 use Rattle.adm_wire.specs.Texts.{memory_text, failed_text}
 use Rattle.adm_desk.specs.Lines.{line_text}
 use Rattle.adm_http.specs.Replies.{status_of}
@@ -52,9 +52,8 @@ module _ {S : Type 0} (runs : Purpose → S → List ℕ → LineAnswer → S �
   -- by what the bytes are judged to be
   abbrev pub OnJudgement : S → List ℕ → Judgement → Response → S → Type 0
   OnJudgement old input (Whole len verdict) response new = Carries old (drop len input) verdict response new
-  OnJudgement old input Malformed response new = (response ≡ bare 400) × (new ≡ old)
-  OnJudgement old input Unfinished response new =
-      (response ≡ bare (if nat_le 8192 (length input) then 431 else 400)) × (new ≡ old)
+  OnJudgement old input Malformed response new = Carries old input (verdict_at_end input Malformed) response new
+  OnJudgement old input Unfinished response new = Carries old input (verdict_at_end input Unfinished) response new
 
   -- the request that the bytes are may be answered by this response, and leave that desk
   abbrev pub Answers : S → List ℕ → Response → S → Type 0

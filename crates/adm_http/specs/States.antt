@@ -34,7 +34,7 @@ wait_json wait = codes "{\"position\":" ++ (decimal wait.position ++ (codes ",\"
 
 -- at the school, if the child waits there
 abbrev pub wait_at : State → ℕ → List ℕ → Option Wait
-wait_at s child code = option_map (λ standing. record { school = code; position = standing.position }) (standing_of s child code)
+wait_at s child code = option_map (λ standing. record { school = code; position = standing.entry.position }) (standing_of s child code)
 
 -- where the child waits, in the order of its own list
 abbrev pub waits_of : State → ℕ → List Wait

@@ -92,7 +92,7 @@ fn waits_at(
     let mut waits = Vec::new(alloc);
     for school in schools {
         if let Some(standing) = register.standing(alloc, child, *school)? {
-            waits.push(wait_text(alloc, school.as_str(), standing.position)?)?;
+            waits.push(wait_text(alloc, school.as_str(), standing.entry.position)?)?;
         }
     }
     Ok(waits)

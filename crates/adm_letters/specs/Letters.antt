@@ -40,7 +40,7 @@ lines_of_place s (Some place) = place_lines place.school (name_of s place.school
 
 -- where the child waits, or that it waits nowhere
 abbrev pub wait_line : State → Wait → List ℕ
-wait_line s wait = waiting_line wait.school (name_of s wait.school) wait.entry wait.waiting
+wait_line s wait = waiting_line wait.school (name_of s wait.school) wait.standing.entry wait.standing.many
 
 abbrev pub lines_of_waits : State → List Wait → List (List ℕ)
 lines_of_waits s [] = waits_nowhere ∷ []

@@ -20,9 +20,9 @@ use adm_types::{Child, ChildNo, Day, PlaceState, SchoolCode, Season};
 use std::alloc::{AllocError, Global};
 
 /// The letter to the child of this number: its place, and where it waits at which position. It takes
-/// memory for the text and, for each school that the child wants, for that school's waiting list;
-/// what it costs grows with the schools that the child wants, times the applications and what each
-/// list costs to sort.
+/// memory for the text and, for each school that the child wants, for a pointer to each application
+/// and for each child that waits there; what it costs grows with the schools that the child wants,
+/// times the applications.
 ///
 /// Where it is an error, there is no such child (`UnknownChild`), or memory ran out.
 pub fn letter(alloc: Global, register: &Register, child: ChildNo) -> Result<String, LetterFault>
@@ -148,7 +148,7 @@ fn put_wait(text: &mut String, register: &Register, wait: &Wait) -> Result<(), A
         text,
         school.as_str(),
         name_of(register, school),
-        wait.entry,
-        wait.waiting,
+        wait.standing.entry,
+        wait.standing.many,
     )
 }

@@ -1,33 +1,17 @@
 // Where a child waits, and at which position.
 ghost use Rattle.std.specs.Prelude.{◌≡◌, IfOk};
 ghost use Rattle.std.specs.List.{filter_map};
-ghost use Rattle.adm_letters.specs.Waits.{wait_on, wait_at, waits_of};
+ghost use Rattle.adm_letters.specs.Waits.{wait_at, waits_of};
 
-use adm_register::{ListFault, Register};
+use adm_register::{Register, Standing};
 use adm_types::{ChildNo, SchoolCode};
-use adm_waiting::Waiting;
 use std::alloc::{AllocError, Global};
 
-/// A child's entry on the waiting list of a school, and how many are on that list.
+/// A school at which a child waits, and where it stands on the waiting list there.
 #[derive(Clone, Copy)]
 pub(crate) struct Wait {
     pub(crate) school: SchoolCode,
-    pub(crate) entry: Waiting,
-    pub(crate) waiting: usize,
-}
-
-/// The child's entry on the school's list, if it waits there.
-fn wait_on(school: SchoolCode, child: ChildNo, list: &[Waiting]) -> Option<Wait>
-    ensures { result ≡ wait_on school child list.now }
-{
-    match list.iter().find(|entry| entry.child == child) {
-        Some(entry) => Some(Wait {
-            school,
-            entry: *entry,
-            waiting: list.len(),
-        }),
-        None => None,
-    }
+    pub(crate) standing: Standing,
 }
 
 fn wait_at(
@@ -38,10 +22,9 @@ fn wait_at(
 ) -> Result<Option<Wait>, AllocError>
     ensures { IfOk result (λ wait. wait ≡ wait_at register.now child school) }
 {
-    match register.waiting(alloc, school) {
-        Ok(list) => Ok(wait_on(school, child, &list)),
-        Err(ListFault::UnknownSchool) => Ok(None),
-        Err(ListFault::Memory) => Err(AllocError),
+    match register.standing(alloc, child, school)? {
+        Some(standing) => Ok(Some(Wait { school, standing })),
+        None => Ok(None),
     }
 }
 

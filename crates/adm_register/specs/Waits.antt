@@ -8,7 +8,7 @@ use Rattle.adm_types.specs.declared.rows.Child.{Child}
 use Rattle.adm_types.specs.declared.rows.Application.{Application}
 use Rattle.adm_types.specs.declared.rows.School.{School}
 use Rattle.adm_waiting.specs.declared.lists.Waiting.{Waiting}
-use Rattle.adm_waiting.specs.Waiting.{position, waiting_list}
+use Rattle.adm_waiting.specs.Waiting.{entry_of, waiting_list}
 use Rattle.adm_register.specs.declared.standings.Standing.{Standing}
 use Rattle.adm_register.specs.State.{State}
 use Rattle.adm_register.specs.WellFormed.{has_round}
@@ -38,11 +38,11 @@ waiting_at s code = filter_map (waiting_child s code) (values s.applications)
 abbrev pub list_of : State → School → List Waiting
 list_of s school = waiting_list school (waiting_at s school.code)
 
--- where a child stands on the waiting list of a school, if it waits there: its position, and how many wait
+-- where a child stands on the waiting list of a school, if it waits there: its entry, and how many wait
 abbrev pub standing_of : State → ℕ → List ℕ → Option Standing
 standing_of s child code = if is_waiting s child code then among (get s.schools code) (get s.children child) else None
   where
     among : Option School → Option Child → Option Standing
     among None child = None
     among (Some school) None = None
-    among (Some school) (Some child) = Some (record { position = position school (waiting_at s code) child; many = length (waiting_at s code) })
+    among (Some school) (Some child) = Some (record { entry = entry_of school (waiting_at s code) child; many = length (waiting_at s code) })

@@ -5,14 +5,14 @@ ghost use Rattle.adm_register.specs.Waits.{standing_of};
 
 use crate::tables::Tables;
 use adm_types::{ChildNo, SchoolCode};
-use adm_waiting::position;
+use adm_waiting::{Waiting, entry};
 use std::alloc::{AllocError, Global};
 
 /// Where a child stands on the waiting list of a school.
 #[derive(Clone, Copy, PartialEq, Eq, Debug)]
 pub struct Standing {
-    /// From 1. Children that only a lot would separate have the same one.
-    pub position: usize,
+    /// Its entry on that list.
+    pub entry: Waiting,
     /// How many children wait at the school.
     pub many: usize,
 }
@@ -39,7 +39,7 @@ impl Tables {
         };
         let waiting = self.waiting_at(alloc, school)?;
         Ok(Some(Standing {
-            position: position(row, &waiting, one),
+            entry: entry(row, &waiting, one),
             many: waiting.len(),
         }))
     }

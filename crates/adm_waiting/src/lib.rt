@@ -7,5 +7,5 @@ mod ranks;
 mod vacancies;
 
 pub use laws::one_is_first;
-pub use lists::{Waiting, position, waiting_list};
+pub use lists::{Waiting, entry, waiting_list};
 pub use vacancies::first_by_lot;

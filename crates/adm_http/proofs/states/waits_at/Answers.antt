@@ -14,8 +14,8 @@ loop-school-preserved c =
     let school = c.school-item.result in
     elim c.match-branch-2.branch [
       | in-Some+in_ok-wait_text+in_ok-push w ↦
-          let position = w.in-Some.standing.position in
-          let found = ap (option_map (λ standing. record { school = school; position = standing.position })) (sym c.in_ok-standing.ensures ∙ w.in-Some.is) in
+          let position = w.in-Some.standing.entry.position in
+          let found = ap (option_map (λ standing. record { school = school; position = standing.entry.position })) (sym c.in_ok-standing.ensures ∙ w.in-Some.is) in
           let text = w.in_ok-wait_text.ensures ∙ ap (λ code. wait_json (record { school = code; position = position })) w.as_str.ensures.value in
           ap (λ waits. map string_bytes waits.items) w.waits-is ∙ ap (map string_bytes) w.in_ok-push.ensures.items
           ∙ map-append string_bytes c.loop-school.waits.items (w.in_ok-wait_text.field-0 ∷ [])
@@ -25,5 +25,5 @@ loop-school-preserved c =
       | in_default w ↦
           ap (λ waits. map string_bytes waits.items) w.waits-is ∙ c.loop-school.invariant
           ∙ sym (next_not_found find wait_json schools c.loop-school.school-index school c.school-item.is c.loop-school-test.true
-          (ap (option_map (λ standing. record { school = school; position = standing.position })) (sym c.in_ok-standing.ensures ∙ w.in_default.is)))
+          (ap (option_map (λ standing. record { school = school; position = standing.entry.position })) (sym c.in_ok-standing.ensures ∙ w.in_default.is)))
     ]
