@@ -1,10 +1,11 @@
 -- The header in the records of a file.
-use Rattle.std.proofs.Common.{◌≡◌, ◌∙◌, ℕ, List, [], ◌∷◌, length, true, false, Result, Ok, Err, ap, refl, subst}
+use Rattle.std.proofs.Common.{◌≡◌, ◌∙◌, ℕ, List, [], ◌∷◌, length, take, true, false, Result, Ok, Err, IfErr, ap, refl, sym, subst, arith}
+use Rattle.std.specs.Result.{is_ok}
 use Rattle.adm_types.specs.declared.rows.ImportRow.{ImportRow}
 use Rattle.adm_csv.specs.declared.fault.Fault.{Fault}
 use Rattle.adm_csv.specs.declared.fault.Fault.TheVariants.{Header, FieldCount, BadNumber, BadDate, BadText, TooManyRows, Read, Memory}
 use Rattle.adm_csv.specs.declared.fault.RowFault.{RowFault}
-use Rattle.adm_csv.specs.Rows.{Record, FailsAt, FailsFrom, ReadsRows, ReadsFrom, rows_in, rows_from, is_header}
+use Rattle.adm_csv.specs.Rows.{Record, FailsAt, FailsFrom, ReadsRows, ReadsFrom, IsReached, IsReachedUnder, is_read, is_read_fault, rows_in, rows_from, is_header}
 
 -- a first record that is no header, or none
 pub other_header : (all : List Record) (h : Record) (rest : List Record) → all ≡ h ∷ rest → is_header h ≡ false → rows_in all ≡ Err (record { row = 0; fault = Header })
@@ -54,3 +55,32 @@ same_records view all others (Err e) same reads = faulty e.fault reads
     faulty BadDate fails = same ∙ fails
     faulty BadText fails = same ∙ fails
     faulty TooManyRows fails = same ∙ fails
+
+-- a row that is reached under the header
+reached_below : (all rest : List Record) (h : Record) (width k : ℕ) → all ≡ h ∷ rest → is_header h ≡ true → width ≡ length h → IsReachedUnder width k rest → IsReached k all
+reached_below all rest h width k is header wide reached =
+    let n = reached.0 in
+    let same = ap length is in
+    let begin : take k all ≡ h ∷ take n rest = ap (take k) is ∙ ap (λ i. take i (h ∷ rest)) reached.1 in
+    let reads : rows_in (take k all) ≡ rows_from width 1 (take n rest) = under_header (take k all) h (take n rest) begin header ∙ ap (λ w. rows_from w 1 (take n rest)) (sym wide) in
+    (omega (arith, same, reached.1, reached.2), λ some. ap is_ok reads ∙ reached.3)
+
+pub below_header : {A : Type 0} (all rest : List Record) (h : Record) (width : ℕ) (result : Result A RowFault) → all ≡ h ∷ rest → is_header h ≡ true → width ≡ length h
+    → IfErr result (λ e. e.fault ≡ Memory → IsReachedUnder width e.row rest) → IfErr result (λ e. e.fault ≡ Memory → IsReached e.row all)
+below_header all rest h width (Ok x) is header wide reached = tt
+below_header all rest h width (Err e) is header wide reached = λ m. reached_below all rest h width e.row is header wide (reached m)
+
+-- no fault is the reader's
+pub no_read_fault : {A : Type 0} (view : A → List ImportRow) (all : List Record) (result : Result A RowFault) → ReadsRows ⊥ view all result → is_read_fault result ≡ false
+no_read_fault view all (Ok x) reads = refl
+no_read_fault view all (Err e) reads = by e.fault reads
+  where
+    by : (f : Fault) → FailsAt ⊥ e f all → is_read f ≡ false
+    by Memory fails = refl
+    by Read fails = absurd fails
+    by Header fails = refl
+    by FieldCount fails = refl
+    by BadNumber fails = refl
+    by BadDate fails = refl
+    by BadText fails = refl
+    by TooManyRows fails = refl

@@ -1,5 +1,6 @@
 -- The first bytes of a file, where enough of its records end in them.
-use Rattle.std.proofs.Common.{◌≡◌, ◌∙◌, ◌+◌, ◌≤◌, ◌⊎◌, inl, inr, ◌++◌, ℕ, zero, suc, Bool, true, false, cond, List, [], ◌∷◌, take, length, Option, Some, None, IfSome, Result, Ok, Err, refl, sym, ap, arith}
+use Rattle.std.proofs.Common.{◌≡◌, ◌∙◌, ◌+◌, ◌≤◌, ◌⊎◌, inl, inr, ◌++◌, ℕ, zero, suc, Bool, true, false, cond, List, [], ◌∷◌, take, length, Option, Some, None, IfSome, IfErr, Result, Ok, Err, refl, sym, ap, subst, arith}
+use Rattle.std.specs.Io.KnownBytes.{Consumes}
 use Rattle.std.specs.Prelude.{nat_lt}
 use Rattle.std.proofs.lemmas.Bool.Decides.{nat_tests}
 use Rattle.std.proofs.lemmas.List.{append-nil}
@@ -8,13 +9,13 @@ use Rattle.csv.specs.Reading.{default_config, strip_bom, is_bom, records, record
 use Rattle.csv.specs.declared.parser.State.{State}
 use Rattle.csv.specs.declared.parser.State.TheVariants as st
 use Rattle.adm_types.specs.declared.rows.ImportRow.{ImportRow}
-use Rattle.adm_csv.specs.declared.fault.Fault.TheVariants.{Header}
+use Rattle.adm_csv.specs.declared.fault.Fault.TheVariants.{Header, Memory}
 use Rattle.adm_csv.specs.declared.fault.RowFault.{RowFault}
 use Rattle.adm_csv.specs.Kinds.{Text}
-use Rattle.adm_csv.specs.Rows.{Record, ReadsRows, records_of, rows_in, rows_from, row_at, at_row, is_header}
+use Rattle.adm_csv.specs.Rows.{Record, ReadsRows, IsReached, records_of, rows_in, rows_from, row_at, at_row, is_header}
 use Rattle.adm_csv.specs.Reading.{◌>>=◌}
 use Rattle.adm_csv.specs.Left.{records_left}
-use Rattle.adm_csv.specs.Ended.{IsEnoughOf, ended_by, ended_from, ended_in, enough}
+use Rattle.adm_csv.specs.Ended.{IsEnoughOf, RunsOutAt, ended_by, ended_from, ended_in, enough}
 use Rattle.adm_csv.proofs.HeaderLemmas.{same_records}
 use Rattle.adm_csv.proofs.RecordLemmas.{left_more}
 
@@ -126,3 +127,9 @@ pub whole : {A : Type 0} (view : A → List ImportRow) (known : Option Text) (te
 whole view None text slice result has is reads = tt
 whole view (Some input) text slice result has is reads =
     same_records view (records_of input) (records_of slice) result (rows_same input text has ∙ ap (λ t. rows_in (records_of t)) (sym is)) reads
+
+-- memory ran out over what was read
+pub ran_out : {A : Type 0} (known left : Option Text) (text slice : Text) (result : Result A RowFault) → Consumes known left text → IfSome known (λ input. IsEnoughOf input text) → slice ≡ text
+    → IfErr result (λ e. e.fault ≡ Memory → IsReached e.row (records_of slice)) → IfErr result (λ e. e.fault ≡ Memory → RunsOutAt known left e.row)
+ran_out known left text slice (Ok x) consumed has is reached = tt
+ran_out known left text slice (Err e) consumed has is reached = λ m. inr (text, consumed, has, subst (λ t. IsReached e.row (records_of t)) is (reached m))

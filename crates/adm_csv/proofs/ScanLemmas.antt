@@ -1,5 +1,8 @@
 -- A scan of bytes, one byte after another.
-use Rattle.std.proofs.Common.{◌≡◌, ◌∙◌, ◌+◌, ◌++◌, ℕ, Bool, true, false, cond, [], ◌∷◌, length, refl, sym, ap, arith, true≢false}
+use Rattle.std.proofs.Common.{◌≡◌, ◌∙◌, ◌+◌, ◌<◌, ◌≤◌, ◌++◌, ℕ, Bool, true, false, cond, [], ◌∷◌, length, take, drop, Option, refl, sym, ap, subst, arith, true≢false, append_assoc, append-nil, length-drop}
+use Rattle.std.specs.Io.KnownBytes.{Consumes}
+use Rattle.std.proofs.KnownBytes.{Consumes-trans}
+use Rattle.std.proofs.lemmas.List.{take-append-drop}
 use Rattle.std.specs.Prelude.{◌&&◌, nat_eq}
 use Rattle.std.specs.Cmp.Lexicographic.{pointwise}
 use Rattle.csv.specs.Machine.{step}
@@ -8,7 +11,7 @@ use Rattle.csv.specs.declared.parser.State.{State}
 use Rattle.csv.specs.declared.parser.State.TheVariants as st
 use Rattle.std.proofs.Math.Bool.{and-false}
 use Rattle.adm_csv.specs.Kinds.{Text}
-use Rattle.adm_csv.specs.Ended.{ended_by, ended_from, ended_in, state_from}
+use Rattle.adm_csv.specs.Ended.{IsNeeded, StopsWithin, ended_by, ended_from, ended_in, enough, state_from}
 
 abbrev pub the_mark : Text
 the_mark = 239 ∷ 187 ∷ 191 ∷ []
@@ -81,3 +84,20 @@ scan_other text x s is at =
 pub grown : (text : Text) (x : ℕ) → length (text ++ x ∷ []) ≡ length text + 1
 grown [] x = refl
 grown (y ∷ text) x = let more = grown text x in omega (arith, more)
+
+-- a piece after what was not enough
+pub needed_more : (text piece : Text) → ended_in text < enough → length piece ≤ 4096 → IsNeeded (text ++ piece)
+needed_more text piece few short = (text, piece, refl, short, few)
+
+-- a part of a piece was taken
+pub taken_within : (old mid new : Option Text) (text piece : Text) (n ended : ℕ) → Consumes old mid text → Consumes mid new piece → length piece ≤ 4096 → ended ≡ ended_in (text ++ take n piece)
+    → StopsWithin old new ended
+taken_within old mid new text piece n ended before taken short is =
+    let whole : text ++ piece ≡ (text ++ take n piece) ++ drop n piece =
+    ap (λ t. text ++ t) (sym (take-append-drop n piece)) ∙ sym (append_assoc text (take n piece) (drop n piece)) in
+    let long = length-drop n piece in
+    (text ++ take n piece, drop n piece, subst (Consumes old new) whole (Consumes-trans old mid new text piece before taken), omega (arith, long, short), is)
+
+-- a whole piece was taken
+pub taken_whole : (old new : Option Text) (text : Text) (ended : ℕ) → Consumes old new text → ended ≡ ended_in text → StopsWithin old new ended
+taken_whole old new text ended taken is = (text, [], subst (Consumes old new) (sym (append-nil text)) taken, omega arith, is)

@@ -1,5 +1,5 @@
 -- How many records end in the bytes with which a file begins.
-use Rattle.std.specs.Prelude.{◌≡◌, ◌≤◌, ◌⊎◌, ℕ, ◌+◌, [], ◌∷◌, ◌++◌, length, Option, if◌then◌else◌}
+use Rattle.std.specs.Prelude.{◌≡◌, ◌<◌, ◌≤◌, ◌⊎◌, ℕ, ◌+◌, [], ◌∷◌, ◌++◌, length, Option, IfSome, if◌then◌else◌}
 use Rattle.std.specs.Io.KnownBytes.{Consumes}
 use Rattle.csv.specs.Machine.{step, is_end}
 use Rattle.csv.specs.Reading.{default_config, strip_bom}
@@ -9,6 +9,7 @@ use Rattle.adm_csv.specs.declared.scan.At.{At}
 use Rattle.adm_csv.specs.declared.scan.At.TheVariants as at
 use Rattle.adm_csv.specs.declared.scan.Scan.{Scan}
 use Rattle.adm_csv.specs.Kinds.{Text}
+use Rattle.adm_csv.specs.Rows.{IsReached, records_of}
 
 -- one for a byte that ends a record
 abbrev pub ended_by : State → ℕ → ℕ
@@ -34,6 +35,24 @@ IsEnoughOf input text = (rest : Text) × (input ≡ text ++ rest) × ((rest ≡ 
 -- what was read of known bytes, of which so many records ended
 abbrev pub StopsAfter : Option Text → Option Text → ℕ → Type 0
 StopsAfter old new ended = (text : Text) × Consumes old new text × (ended ≡ ended_in text)
+
+-- All of a text was needed: it was not yet enough before its last piece, of 4,096 bytes at most.
+abbrev pub IsNeeded : Text → Type 0
+IsNeeded text = (front : Text) × (piece : Text) × (text ≡ front ++ piece) × (length piece ≤ 4096) × (ended_in front < enough)
+
+-- no more was read of known bytes than was needed
+abbrev pub ReadsNeeded : Option Text → Option Text → Type 0
+ReadsNeeded old new = (text : Text) × Consumes old new text × IsNeeded text
+
+-- memory ran out while the last piece was taken: so many records ended in the bytes before it and those that were taken of it
+abbrev pub StopsWithin : Option Text → Option Text → ℕ → Type 0
+StopsWithin old new ended = (text : Text) × (rest : Text) × Consumes old new (text ++ rest) × (length rest ≤ 4096) × (ended ≡ ended_in text)
+
+-- memory ran out at this row: while a piece was taken; or when all, or enough, was read, and the records before the row had no fault
+abbrev pub RunsOutAt : Option Text → Option Text → ℕ → Type 0
+RunsOutAt old new row =
+    StopsWithin old new row
+    ⊎ ((text : Text) × Consumes old new text × IfSome old (λ input. IsEnoughOf input text) × IsReached row (records_of text))
 
 -- ---- for private clauses: what the scan keeps of bytes
 

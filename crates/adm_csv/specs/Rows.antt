@@ -1,6 +1,7 @@
 -- The rows of an import, over the records of its file.
-use Rattle.std.specs.Prelude.{◌≡◌, ℕ, ◌+◌, ◌==◌, ◌&&◌, ◌||◌, List, [], ◌∷◌, length, Bool, false, codes, nat_lt, Option, Some, None, option_and_then, Result, Ok, Err, if◌then◌else◌}
+use Rattle.std.specs.Prelude.{◌≡◌, ℕ, suc, ◌+◌, ◌<◌, ◌≤◌, ◌==◌, ◌&&◌, ◌||◌, List, [], ◌∷◌, length, take, Bool, true, false, codes, nat_lt, Option, Some, None, option_and_then, Result, Ok, Err, if◌then◌else◌}
 use Rattle.std.specs.Option.{option_map_or}
+use Rattle.std.specs.Result.{IsOk}
 use Rattle.std.specs.Str.{bytes_eq, is_utf8}
 use Rattle.csv.specs.Reading.{records, default_config, strip_bom}
 use Rattle.csv.specs.Records.{field_at}
@@ -104,12 +105,29 @@ FailsAt failed e Memory records = Unit {0}
 FailsAt failed e Read records = failed
 FailsAt failed e fault records = rows_in records ≡ Err e
 
+-- the fault is the reader's
+abbrev pub is_read : Fault → Bool
+is_read Read = true
+is_read fault = false
+
+abbrev pub is_read_fault : {A : Type 0} → Result A RowFault → Bool
+is_read_fault (Ok x) = false
+is_read_fault (Err e) = is_read e.fault
+
 -- the rows of the records or the first fault, unless memory ran out, or the reader failed
 abbrev pub ReadsRows : {A : Type 0} → Type 0 → (A → List ImportRow) → List Record → Result A RowFault → Type 0
 ReadsRows failed view records (Ok x) = rows_in records ≡ Ok (view x)
 ReadsRows failed view records (Err e) = FailsAt failed e e.fault records
 
--- the same of the records under the header, for a private clause
+-- There are so many records before this one, and they have no fault: a header, and rows.
+abbrev pub IsReached : ℕ → List Record → Type 0
+IsReached k records = (k ≤ length records) × (0 < k → IsOk (rows_in (take k records)))
+
+-- the same of the records under the header, for private clauses
+abbrev pub IsReachedUnder : ℕ → ℕ → List Record → Type 0
+IsReachedUnder width k records = (n : ℕ) × (k ≡ suc n) × (n ≤ length records) × IsOk (rows_from width 1 (take n records))
+
+-- what a call returned of the records under the header, for private clauses
 abbrev pub FailsFrom : ℕ → ℕ → RowFault → Fault → List Record → Type 0
 FailsFrom width k e Memory records = Unit {0}
 FailsFrom width k e Read records = ⊥

@@ -1,6 +1,8 @@
 // The bytes of a file, as many as are needed.
-ghost use Rattle.std.specs.Prelude.{◌≡◌, ◌⊎◌, true, IfOk, IfErr, IfSome};
-ghost use Rattle.adm_csv.specs.Ended.{IsEnoughOf, StopsAfter};
+ghost use Rattle.std.specs.Prelude.{◌≡◌, ◌⊎◌, ◌||◌, IfOk, IfErr, IfSome};
+ghost use Rattle.std.specs.Io.KnownBytes.{Consumes};
+ghost use Rattle.adm_csv.specs.Ended.{IsEnoughOf, ReadsNeeded, StopsAfter, StopsWithin};
+ghost use Rattle.adm_csv.specs.Rows.{is_read_fault};
 
 use crate::scan::Scan;
 use crate::{Fault, RowFault};
@@ -14,7 +16,10 @@ const ENOUGH: u64 = 2_002;
 pub(crate) fn read_text<R: Input>(alloc: Global, reader: &mut R) -> Result<Vec<u8>, RowFault>
     ensures text { IfOk result (λ v. IfSome (R.remaining reader.old) (λ input. IsEnoughOf input v.items)) }
     ensures kinds { IfErr result (λ e. (e.fault ≡ Fault.Read) ⊎ (e.fault ≡ Fault.Memory)) }
-    ensures read { IfErr result (λ e. e.fault ≡ Fault.Read → R.has_failed reader.new ≡ true) }
+    ensures consumed { IfOk result (λ v. Consumes (R.remaining reader.old) (R.remaining reader.new) v.items) }
+    ensures needed { ReadsNeeded (R.remaining reader.old) (R.remaining reader.new) }
+    ensures reader { R.has_failed reader.new ≡ (R.has_failed reader.old || is_read_fault result) }
+    ensures memory { IfErr result (λ e. e.fault ≡ Fault.Memory → StopsWithin (R.remaining reader.old) (R.remaining reader.new) e.row) }
     ensures row { IfErr result (λ e. e.fault ≡ Fault.Read → StopsAfter (R.remaining reader.old) (R.remaining reader.new) e.row) }
 {
     let mut scan = Scan::new(alloc);

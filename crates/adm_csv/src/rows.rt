@@ -1,10 +1,10 @@
 // The rows of a file: its header, and then its rows in order.
-ghost use Rattle.std.specs.Prelude.{◌≡◌, ◌∷◌, ◌≤◌, length, true, IfErr, IfOk, IfSome, OnOk};
+ghost use Rattle.std.specs.Prelude.{◌≡◌, ◌∷◌, ◌≤◌, ◌||◌, length, true, IfErr, IfOk, IfSome, OnOk};
 ghost use Rattle.csv.specs.Records.{fields_of};
 ghost use Rattle.adm_csv.specs.Left.{IsPlain, left_of};
-ghost use Rattle.adm_csv.specs.Ended.{StopsAfter};
+ghost use Rattle.adm_csv.specs.Ended.{ReadsNeeded, RunsOutAt, StopsAfter};
 ghost use Rattle.adm_csv.specs.Reading.{Gives};
-ghost use Rattle.adm_csv.specs.Rows.{FailsAt, Record, ReadsRows, ReadsFrom, is_header, most_rows, records_of, row_at};
+ghost use Rattle.adm_csv.specs.Rows.{FailsAt, IsReached, IsReachedUnder, Record, ReadsRows, ReadsFrom, is_header, is_read_fault, most_rows, records_of, row_at};
 
 use crate::header::is_header;
 use crate::input::read_text;
@@ -67,7 +67,8 @@ fn rows_from(
     records: ByteRecordsIntoIter<&[u8]>,
 ) -> Result<Vec<ImportRow>, RowFault>
     requires { IsPlain records }
-    ensures { ReadsFrom (λ v. v.items) width 1 (left_of records.entry) result }
+    ensures reads { ReadsFrom (λ v. v.items) width 1 (left_of records.entry) result }
+    ensures memory { IfErr result (λ e. e.fault ≡ Fault.Memory → IsReachedUnder width e.row (left_of records.entry)) }
 {
     let mut rows = Vec::new(alloc);
     let mut number = 0;
@@ -98,7 +99,8 @@ fn rows_from(
 
 /// The rows of a text.
 fn rows_of(alloc: Global, text: &[u8]) -> Result<Vec<ImportRow>, RowFault>
-    ensures { ReadsRows ⊥ (λ v. v.items) (records_of text.now) result }
+    ensures reads { ReadsRows ⊥ (λ v. v.items) (records_of text.now) result }
+    ensures memory { IfErr result (λ e. e.fault ≡ Fault.Memory → IsReached e.row (records_of text.now)) }
 {
     let mut records = source(alloc, text);
     match take_header(&mut records) {
@@ -113,13 +115,14 @@ fn rows_of(alloc: Global, text: &[u8]) -> Result<Vec<ImportRow>, RowFault>
 /// mark at the start and empty lines are no part of any. The first is the header, exactly
 /// `child,name,east,north,looked_after,flags,siblings,day,preferences`, or this with `,present` after
 /// it; each other is a row of as many fields, and the fault is that of the first row with one. Under
-/// the shorter header no child has a present school. Read is told whatever stands before, and Memory may come
-/// at any point: their row is the one that was being read, that is, the number of records that had
-/// ended.
+/// the shorter header no child has a present school. Read is told whatever stands before, and Memory
+/// may come at any point: their row is the one that was being read, that is, the number of records
+/// that had ended. Where Memory comes after the bytes were read, the records before its row have no
+/// fault.
 ///
-/// It reads to the end, or to the piece in which the 2,002nd record ends, since the file is known to
-/// have too many rows then; the rest is neither read nor kept. Memory grows with what is read (a
-/// single record may be as long as the file), and time with its bytes.
+/// It reads in pieces of up to 4,096 bytes, to the end or to the piece in which the 2,002nd record
+/// ends, since the file is known to have too many rows then; the rest is neither read nor kept. Memory
+/// grows with what is read (a single record may be as long as the file), and time with its bytes.
 pub fn read_rows<R: Input>(alloc: Global, reader: &mut R) -> Result<Vec<ImportRow>, RowFault>
     // The rows, or the first fault, are those that the file says.
     ensures rows { IfSome (R.remaining reader.old) (λ input. ReadsRows (Unit {0}) (λ v. v.items) (records_of input) result) }
@@ -129,6 +132,15 @@ pub fn read_rows<R: Input>(alloc: Global, reader: &mut R) -> Result<Vec<ImportRo
 
     // Its row is the number of the records that ended in what was read before.
     ensures row { IfErr result (λ e. e.fault ≡ Fault.Read → StopsAfter (R.remaining reader.old) (R.remaining reader.new) e.row) }
+
+    // So is that of Memory, short of a part of the last piece; or the records before its row have no fault.
+    ensures memory { IfErr result (λ e. e.fault ≡ Fault.Memory → RunsOutAt (R.remaining reader.old) (R.remaining reader.new) e.row) }
+
+    // A read failed exactly where Read is told.
+    ensures reader { R.has_failed reader.new ≡ (R.has_failed reader.old || is_read_fault result) }
+
+    // No more was read than was needed, whatever came of it.
+    ensures needed { ReadsNeeded (R.remaining reader.old) (R.remaining reader.new) }
 {
     match read_text(alloc, reader) {
         Ok(text) => rows_of(alloc, text.as_slice()),

@@ -1,5 +1,5 @@
 // How far the bytes of a file go: how many of its records have ended.
-ghost use Rattle.std.specs.Prelude.{◌≡◌, [], ◌∷◌, ◌++◌, OnOk};
+ghost use Rattle.std.specs.Prelude.{◌≡◌, ℕ, [], ◌∷◌, ◌++◌, take, MatchResult};
 ghost use Rattle.csv.specs.Machine.{step, is_end, in_field, start_field, start_record};
 ghost use Rattle.csv.specs.Reading.{default_config};
 ghost use Rattle.adm_csv.specs.Ended.{IsScanOf, state_of};
@@ -97,10 +97,12 @@ impl Scan {
         }
     }
 
-    /// One byte more.
+    /// One byte more, unless memory runs out.
     fn take(&mut self, byte: u8) -> Result<(), AllocError>
         requires { IsScanOf self.old.text.items self.old }
-        ensures { OnOk result (IsScanOf (self.old.text.items ++ byte ∷ []) self.new) }
+        ensures { MatchResult result
+            (λ _. IsScanOf (self.old.text.items ++ byte ∷ []) self.new)
+            (λ _. IsScanOf self.old.text.items self.new) }
     {
         self.text.push(byte)?;
         if self.text.as_slice() == MARK.as_slice() {
@@ -116,10 +118,12 @@ impl Scan {
         Ok(())
     }
 
-    /// Some bytes more.
+    /// Some bytes more. Where memory runs out it has a beginning of them.
     pub(crate) fn take_all(&mut self, bytes: &[u8]) -> Result<(), AllocError>
         requires { IsScanOf self.old.text.items self.old }
-        ensures { OnOk result (IsScanOf (self.old.text.items ++ bytes.now) self.new) }
+        ensures { MatchResult result
+            (λ _. IsScanOf (self.old.text.items ++ bytes.now) self.new)
+            (λ _. (n : ℕ) × IsScanOf (self.old.text.items ++ take n bytes.now) self.new) }
     {
         for byte in bytes {
             self.take(*byte)?;

@@ -1,7 +1,8 @@
 -- What the head of a request decides.
-use Rattle.std.specs.Prelude.{◌≡◌, ℕ, ◌≤◌, ◌<◌, ◌-◌, ◌++◌, ◌⊎◌, get_or, Bool, List, [], ◌∷◌, length, take, drop, map, filter, nat_lt, if◌then◌else◌, Option, Some, None, codes, bytes_eq, ⊤}
+use Rattle.std.specs.Prelude.{◌≡◌, ℕ, ◌≤◌, ◌<◌, ◌-◌, ◌++◌, ◌⊎◌, get_or, Bool, List, [], ◌∷◌, length, take, drop, map, filter, nat_lt, nat_le, if◌then◌else◌, Option, Some, None, codes, bytes_eq, IsUtf8, ⊤}
 use Rattle.std.specs.Char.{to_ascii_lowercase}
-use Rattle.httparse.specs.Grammar.{RequestHead, print_request, ReadsRequest, HasNoRequest, MayBecomeRequest, EndsInTarget}
+use Rattle.httparse.specs.Ascii.{space}
+use Rattle.httparse.specs.Grammar.{LineEnd, RequestHead, print_blank, print_request, is_uri_byte, AllPass, IsToken, ReadsRequest, HasNoRequest, MayBecomeRequest}
 use Rattle.httparse.specs.Spans.{RequestOverflows, name_and_value}
 use Rattle.adm_http.specs.Lengths.{body_length_of}
 use Rattle.adm_http.specs.Targets.{target_of}
@@ -112,13 +113,32 @@ IsInside bytes (Whole len verdict) = (len ≤ length bytes) × (len ≤ 8192) ×
 IsInside bytes Malformed = ⊤
 IsInside bytes Unfinished = ⊤
 
--- the window ends within a target, or a head with more than 64 fields may still come: the reader of heads may then refuse the bytes or ask for more
-abbrev pub IsOpen : List ℕ → Type 0
-IsOpen bytes =
-    EndsInTarget (window bytes)
-    ⊎ ((more : List ℕ) × (h : RequestHead) × ReadsRequest (window bytes ++ more) h [] × (64 < length h.fields))
+-- what judged bytes decide where no more of them come: without a whole head they are refused, by 431 where the window is full
+abbrev pub verdict_at_end : List ℕ → Judgement → Verdict
+verdict_at_end bytes (Whole len verdict) = verdict
+verdict_at_end bytes Malformed = Reject 400
+verdict_at_end bytes Unfinished = Reject (if nat_le 8192 (length bytes) then 431 else 400)
 
--- elsewhere the same bytes are judged in one way
+-- the bytes end within a target that is no UTF-8, whatever bytes of a target follow
+abbrev pub EndsInBrokenTarget : List ℕ → Type 0
+EndsInBrokenTarget bytes =
+    (blank : List LineEnd) × (method : List ℕ) × (target : List ℕ)
+    × IsToken method × AllPass is_uri_byte target × (bytes ≡ print_blank blank ++ method ++ space ∷ target)
+    × ((more : List ℕ) → AllPass is_uri_byte more → ¬ (IsUtf8 (target ++ more)))
+
+-- a head with more than 64 fields may still come, and no other
+abbrev pub AwaitsMoreFields : List ℕ → Type 0
+AwaitsMoreFields bytes =
+    HasNoRequest bytes × RequestOverflows 64 bytes
+    × ((more : List ℕ) × (h : RequestHead) × ReadsRequest (bytes ++ more) h [] × (64 < length h.fields))
+
+-- No head of at most 64 fields can come, which the reader of heads may see at once or later: a target that breaks UTF-8 has not ended, or the 64 fields are passed and the head has not ended.
+-- Malformed and Unfinished are then both right.
+abbrev pub IsAmbiguous : List ℕ → Type 0
+IsAmbiguous bytes = EndsInBrokenTarget (window bytes) ⊎ AwaitsMoreFields (window bytes)
+
+-- The same bytes are judged in one way, save where they are ambiguous; and these decide the same at their end, save where the window is full: 400 or 431.
 abbrev pub JudgedInOneWay : Type 0
 JudgedInOneWay =
-    (bytes : List ℕ) (j k : Judgement) → IsJudgement bytes j → IsJudgement bytes k → (j ≡ k) ⊎ IsOpen bytes
+    (bytes : List ℕ) (j k : Judgement) → IsJudgement bytes j → IsJudgement bytes k
+    → (j ≡ k) ⊎ (IsAmbiguous bytes × ((verdict_at_end bytes j ≡ verdict_at_end bytes k) ⊎ (8192 ≤ length bytes)))

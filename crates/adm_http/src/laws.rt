@@ -1,8 +1,10 @@
 // Laws of the definitions.
 ghost use Rattle.adm_http.specs.Heads.{JudgedInOneWay};
 
-/// The same bytes are judged in one way, save where 8,192 bytes end within a target or have more
-/// than 64 fields.
+/// The same bytes are judged in one way, save where their first 8,192, or all where there are fewer,
+/// end within a target that breaks UTF-8, or hold no head and only one of more than 64 fields may
+/// still come: these may be refused at once, or more be asked for. At their end they come to 400 all
+/// the same where there are fewer than 8,192, and else to 400 or 431, which are both right.
 pub fn judged_in_one_way()
     ensures { JudgedInOneWay }
 {}
