@@ -9,7 +9,7 @@ use mathlib.Core.Logic.{⊎_elim}
 use Rattle.std.proofs.lemmas.Bool.{le-ltb, lt-ltb, cases_lt}
 use Rattle.std.proofs.lemmas.Bool.Decides.{nat_tests}
 use Rattle.jiff_core.specs.Calendar.{weekday_number}
-use Rattle.adm_types.specs.Seasons.{is_working_day, has_working_day}
+use Rattle.adm_types.specs.Seasons.{SeasonFacts, IsOfferDay, is_working_day, has_working_day}
 
 weekday_number-pos : (day : ℕ) → weekday_number (pos day) ≡ (day + 3) % 7
 unfolding weekday_number
@@ -86,3 +86,16 @@ not_before a b first since =
     ⊎_elim (λ less. ap is_le (sym (nat_cmp_is a b Less less)) ∙ sym (lt-ltb a (first + (b + 1 - first)) (omega (arith, since, less))))
     (λ le. ⊎_elim (λ past. ap is_le (sym (nat_cmp_is a b Greater past)) ∙ sym (le-ltb a (first + (b + 1 - first)) (omega (arith, since, past))))
     (λ most. let same : a ≡ b = omega (arith, le, most) in ap is_le (sym (nat_cmp_is a b Equal same)) ∙ sym (lt-ltb a (first + (b + 1 - first)) (omega (arith, since, same)))) (cases_lt b a)) (cases_lt a b)
+
+past : (a b : ℕ) → nat_lt a (a + (b + 1 - a)) ≡ nat_le a b
+past a b = grind (arith, nat_tests)
+
+-- a day is not before another where it is less or the same
+pub reached : (a b : ℕ) → is_le (nat_cmp a b) ≡ nat_le a b
+reached a b = not_before a b a (omega arith) ∙ past a b
+
+-- there is one offer day
+pub one_offer_day : (season : SeasonFacts) (a b : ℕ) → IsOfferDay season a → IsOfferDay season b → a ≡ b
+one_offer_day season a b one other =
+    ⊎_elim (λ less. absurd (let rests = other.first a one.not_before less in let works = one.working in cc))
+    (λ le. ⊎_elim (λ less. absurd (let rests = one.first b other.not_before less in let works = other.working in cc)) (λ most. omega (arith, le, most)) (cases_lt b a)) (cases_lt a b)

@@ -3,7 +3,7 @@ ghost use Rattle.std.specs.Prelude.{◌≡◌, ◌≤◌, ◌+◌, ◌*◌, ◌<
 ghost use Rattle.adm_types.specs.Seasons.{closing, lists_end, day_number};
 ghost use Rattle.std.specs.Ordering.{nat_cmp};
 ghost use Rattle.std.specs.BTreeSet.{IsOrdered};
-ghost use Rattle.std.specs.Prelude.{pos, ◌==◌, ◌&&◌, nat_lt, length, All, false, Err};
+ghost use Rattle.std.specs.Prelude.{ℕ, pos, ◌≡◌, ◌==◌, ◌&&◌, nat_lt, nat_le, length, All, false, Err};
 ghost use Rattle.adm_types.specs.Limits.{is_from};
 ghost use Rattle.adm_types.specs.Seasons.{IsRising, IsSeason, IsDay};
 ghost use Rattle.std.specs.List.{list_any};
@@ -173,7 +173,8 @@ impl Season {
 
     /// Whether the day is the offer day or a later one.
     pub fn reaches_offer_day(&self, day: Day) -> bool
-        ensures { result ≡ reaches_offer_day self.now day }
+        ensures value { result ≡ reaches_offer_day self.now day }
+        ensures offer { (offer : ℕ) → IsOfferDay self.now offer → result ≡ nat_le offer day }
     {
         self.offer_day() <= day
     }
