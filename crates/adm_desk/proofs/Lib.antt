@@ -7,3 +7,4 @@ pub mod RunLemmas
 pub mod Runs
 pub mod StandingLemmas
 pub mod RoundLemmas
+pub mod StopLemmas

@@ -1,13 +1,28 @@
 -- The rounds of a run.
-use Rattle.std.proofs.Common.{refl, sym, subst, ℕ, List, [], ◌∷◌, ◌++◌}
-use Rattle.std.specs.Prelude.{Option, Some, None}
+use Rattle.std.proofs.Common.{◌≡◌, ◌∙◌, refl, ap, sym, subst, ℕ, ◌+◌, ◌≤◌, Bool, true, false, List, [], ◌∷◌, ◌++◌, arith}
+use Rattle.std.specs.Prelude.{Option, Some, None, ◌&&◌, nat_eq}
+use Rattle.std.specs.Cmp.{nat_cmp_total, unsigned_Decides}
+use Rattle.std.specs.FinMap.{get, values, nat_cmp-IsAntisymmetric}
+use Rattle.std.proofs.lemmas.Bool.{and_parts}
+use Rattle.std.proofs.lemmas.Option.{none-some, same_Some}
 use mathlib.Core.Logic.{inl, inr}
+use Rattle.adm_lists.proofs.Members.{In}
+use Rattle.adm_lists.proofs.Maps.{in_values}
+use Rattle.adm_types.specs.Seasons.{SeasonFacts}
+use Rattle.adm_types.specs.declared.commands.Refusal.{Refusal}
+use Rattle.adm_types.specs.declared.draws.Draw.{Draw}
 use Rattle.adm_types.specs.declared.commands.Command.{Command}
 use Rattle.adm_types.specs.declared.commands.Command.TheVariants.{Round}
 use Rattle.adm_register.specs.State.{State as Register}
+use Rattle.adm_register.specs.Draws.{no_draws, with_draw, with_draws, draws_so_far, is_next, are_in_order}
+use Rattle.adm_register.specs.declared.draws_so_far.DrawsSoFar.{DrawsSoFar}
+use Rattle.adm_commands.specs.Outcome.{Accepts, without_row}
+use Rattle.adm_commands.specs.Tests.{first_failing}
+use Rattle.adm_commands.specs.Round as round
 use Rattle.adm_commands.specs.History.{DrawsInOrder, DrawsStay, DrawsKept, RoundHeld, HoldsRound}
-use Rattle.adm_desk.specs.Acknowledged.{After, FindsAgain}
-use Rattle.adm_desk.specs.Rounds.{EachRoundHeld, RoundsHeld, RoundsStay}
+use Rattle.sqlite.specs.State.{State as Disk}
+use Rattle.adm_desk.specs.Acknowledged.{After, FindsAgain, LeavesAcknowledged}
+use Rattle.adm_desk.specs.Rounds.{EachRoundHeld, RoundHeldOrNot, RoundsHeld, RoundsStay}
 
 -- draws stay over accepted commands
 stay : DrawsKept → (commands : List Command) (old new : Register) → DrawsInOrder old → After old commands new → DrawsInOrder new × DrawsStay old new
@@ -51,4 +66,71 @@ found_rounds law more old kept found commands (Some command) ordered run finds =
     elim finds [
       | inl same ↦ subst (EachRoundHeld old commands) (sym same) first.0
       | inr step ↦ more old kept found commands command first.1 first.0 step
+    ]
+
+-- ---- the round in work
+
+-- the next draw has the next number
+next_number : (season : SeasonFacts) (before : DrawsSoFar) (draw : Draw) → is_next season before draw ≡ true → draw.number ≡ before.draws + 1
+next_number season before draw next =
+    let a = and_parts _ _ next in
+    let b = and_parts _ _ a.0 in
+    let d = and_parts _ _ b.0 in
+    let e = and_parts _ _ d.0 in
+    let f = and_parts _ _ e.0 in
+    (unsigned_Decides draw.number (before.draws + 1)).0 f.0
+
+more_draws : (before : DrawsSoFar) (draws : List Draw) → before.draws ≤ (with_draws before draws).draws
+more_draws before [] = omega arith
+more_draws before (draw ∷ draws) = let rest = more_draws (with_draw before draw) draws in omega (arith, rest)
+
+-- draws in their order are numbered up to their count
+number_within : (season : SeasonFacts) (before : DrawsSoFar) (draws : List Draw) (draw : Draw) → are_in_order season before draws ≡ true → In draw draws → draw.number ≤ (with_draws before draws).draws
+number_within season before [] draw in_order at = absurd at
+number_within season before (first ∷ draws) draw in_order at =
+    let both = and_parts (is_next season before first) _ in_order in
+    elim at [
+      | inl same ↦
+          let number = ap (λ (d : Draw). d.number) (sym same) ∙ next_number season before first both.0 in
+          let more = more_draws (with_draw before first) draws in
+          omega (arith, number, more)
+      | inr later ↦ number_within season (with_draw before first) draws draw both.1 later
+    ]
+
+-- so the next number is free
+next_is_free : (s : Register) (number : ℕ) → DrawsInOrder s → number ≡ (draws_so_far s).draws + 1 → get s.draws number ≡ None
+next_is_free s number ordered next =
+    elim (get s.draws number) as (λ o. get s.draws number ≡ o → o ≡ None) [
+      | None ↦ λ none. refl
+      | Some draw ↦ λ there.
+          let within = number_within s.season no_draws (values s.draws) draw ordered.in_order (in_values nat_cmp_total nat_cmp-IsAntisymmetric s.draws number draw there) in
+          let own = ordered.own number draw there in
+          absurd (omega (arith, within, own, next))
+    ] refl
+
+abbrev FirstPasses : List (Bool × Refusal) → Type 0
+FirstPasses [] = Unit {0}
+FirstPasses (test ∷ tests) = test.0 ≡ true
+
+first_passes : (tests : List (Bool × Refusal)) → without_row (first_failing tests) ≡ None → FirstPasses tests
+first_passes [] passes = tt
+first_passes ((true, refusal) ∷ tests) passes = refl
+first_passes ((false, refusal) ∷ tests) passes = cc
+
+-- an accepted round has the next number
+round_number : (old new : Register) (draw day : ℕ) (numbers : List ℕ) → Accepts old (Round draw day numbers) new → draw ≡ (draws_so_far old).draws + 1
+unfolding round.tests
+round_number old new draw day numbers step = (unsigned_Decides draw ((draws_so_far old).draws + 1)).0 (first_passes (round.tests old draw day numbers) step.1.0)
+
+-- with the round in work the register has no draw of its number, or the whole round
+pub held_or_not : RoundHeld → (kept found : Register) (work : Option Command) (disk : Disk) → DrawsInOrder kept → LeavesAcknowledged kept work disk → FindsAgain kept work found
+    → RoundHeldOrNot kept work found
+held_or_not law kept found None disk ordered left finds draw day numbers is = absurd (none-some _ is)
+held_or_not law kept found (Some command) disk ordered left finds draw day numbers is =
+    let same = same_Some command (Round draw day numbers) is in
+    elim finds [
+      | inl stays ↦
+          let number = round_number kept left.next draw day numbers (subst (λ (c : Command). Accepts kept c left.next) same left.accepted) in
+          inl (stays, ap (λ (s : Register). get s.draws draw) stays ∙ next_is_free kept draw ordered number)
+      | inr step ↦ inr (law kept found draw day numbers (subst (λ (c : Command). Accepts kept c found) same step))
     ]

@@ -1,12 +1,14 @@
 -- From the pieces that were read to the whole input.
-use Rattle.std.proofs.Common.{◌≡◌, ℕ, ◌-◌, ◌^◌, ◌≤◌, ◌<◌, List, [], ◌∷◌, ◌++◌, length, take, Option, Some, None, IfSome, false, inl, inr, refl, sym, ap, ◌∙◌, arith, length-append}
+use Rattle.std.proofs.Common.{◌≡◌, ℕ, ◌-◌, ◌^◌, ◌≤◌, ◌<◌, Bool, List, [], ◌∷◌, ◌++◌, length, take, Option, Some, None, IfSome, Result, Ok, Err, false, inl, inr, refl, sym, ap, ◌∙◌, arith, length-append}
 use Rattle.std.specs.Io.KnownBytes.{Consumes, Keeps, IsAtEnd}
 use Rattle.std.specs.List.{AllByRecursion}
 use Rattle.std.proofs.Math.Seq.{take-length}
 use Rattle.adm_desk.specs.declared.answer.LineAnswer.{LineAnswer}
 use Rattle.adm_desk.specs.declared.run.Run.{Run}
+use Rattle.adm_desk.specs.declared.run.RunFault.{RunFault}
+use Rattle.adm_desk.specs.declared.run.RunFault.TheVariants.{Read, Write, Memory}
 use Rattle.adm_desk.specs.Lines.{lines_of, ended}
-use Rattle.adm_desk.specs.Written.{Answered, Finished, AnsweredUpTo, Stopped, StoppedWithin, Takes, Breaks, joined, IsPlain, last_line}
+use Rattle.adm_desk.specs.Written.{Answered, Finished, AnsweredUpTo, Stopped, StoppedWithin, LeavesReader, LeavesWriter, Takes, Breaks, joined, IsPlain, last_line}
 use Rattle.adm_desk.proofs.CutLemmas.{lines_of-joined, lines_of-piece, ended-joined, ended-more, first_lines}
 use Rattle.adm_desk.proofs.AnswerLemmas.{Answered-then, Answered-stopped}
 
@@ -29,6 +31,21 @@ pub too_long : (a b : Option (List ℕ)) (xs : List ℕ) (turn : ℕ) (F : Type 
 too_long None b xs turn F p bound end = tt
 too_long (Some start) None xs turn F p bound end = absurd p
 too_long (Some start) (Some bs) xs turn F p bound end = λ short. absurd (omega (arith, ap length p, length-append xs bs))
+
+-- ---- what failed
+
+-- nothing failed before
+pub writer_left : {A : Type 0} (r : Result A RunFault) (old mid new : Bool) → mid ≡ old → LeavesWriter r mid new → LeavesWriter r old new
+writer_left (Ok x) old mid new same left = left ∙ same
+writer_left (Err Read) old mid new same left = left ∙ same
+writer_left (Err Write) old mid new same left = left
+writer_left (Err Memory) old mid new same left = left ∙ same
+
+pub reader_left : {A : Type 0} (r : Result A RunFault) (old new : Bool) → new ≡ old → LeavesReader r old new
+reader_left (Ok x) old new same = same
+reader_left (Err Read) old new same = tt
+reader_left (Err Write) old new same = same
+reader_left (Err Memory) old new same = same
 
 -- ---- whole lines
 

@@ -1,5 +1,5 @@
 -- What a run promises over a crash: the register after the acknowledged commands, or also the one after the command in work.
-use Rattle.std.specs.Prelude.{◌≡◌, ◌≤◌, ◌⊎◌, ℕ, List, [], ◌∷◌, Option, Some, None, is_some, Result, Ok, Err}
+use Rattle.std.specs.Prelude.{◌≡◌, ◌≤◌, ◌⊎◌, ℕ, List, [], ◌∷◌, Option, Some, None, is_some, zip, Result, Ok, Err}
 use Rattle.sqlite.specs.State.{State as Disk, HasCleanDisk}
 use Rattle.sqlite.specs.View.{doubt}
 use Rattle.sqlite.specs.Tree.{Trees}
@@ -67,6 +67,16 @@ LeavesAcknowledged register (Some command) disk = InWork register command disk
 abbrev pub FindsAgain : Register → Option Command → Register → Type 0
 FindsAgain register None found = found ≡ register
 FindsAgain register (Some command) found = (found ≡ register) ⊎ Accepts register command found
+
+-- ---- by the commands and their answers
+
+-- the register is one after the acknowledged commands, or one that the command in work leaves after these
+abbrev pub FindsAfter : Register → List Command → List Answer → Register → Type 0
+FindsAfter r commands answers found = (kept : Register) × After r (acknowledged (zip commands answers)) kept × FindsAgain kept (in_work (zip commands answers)) found
+
+-- all that a crash may leave stands for such a register
+abbrev pub LeavesAfter : Register → List Command → List Answer → Disk → Type 0
+LeavesAfter r commands answers disk = (kept : Register) × After r (acknowledged (zip commands answers)) kept × LeavesAcknowledged kept (in_work (zip commands answers)) disk
 
 -- The desk has a register after the acknowledged commands, in their order, each of which was accepted. It has failed just where a command is
 -- in work. All that a crash may leave stands for that register, or also for one that the command in work leaves.

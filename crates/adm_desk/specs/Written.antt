@@ -1,5 +1,5 @@
 -- What a call over a reader and a writer did.
-use Rattle.std.specs.Prelude.{◌≡◌, ◌≢◌, ◌⊎◌, ◌≤◌, ℕ, ◌+◌, ◌-◌, ◌^◌, ◌||◌, min, max, List, [], ◌∷◌, ◌++◌, Bool, true, Option, length, take, drop, count_by}
+use Rattle.std.specs.Prelude.{◌≡◌, ◌≢◌, ◌⊎◌, ◌≤◌, ℕ, ◌+◌, ◌-◌, ◌^◌, ◌||◌, min, max, List, [], ◌∷◌, ◌++◌, Bool, true, Option, Result, Ok, Err, length, take, drop, count_by}
 use Rattle.std.specs.List.{list_any, flat_map, AllByRecursion}
 use Rattle.std.specs.Io.KnownBytes.{Appends, IsAtEnd}
 use Rattle.adm_desk.specs.declared.answer.LineAnswer.{LineAnswer}
@@ -58,6 +58,20 @@ pub record StoppedWithin {D : Type 0} (runs : D → List ℕ → LineAnswer → 
   pub within : IsAtEnd left ⊎ (count ≤ ended bytes)
   pub stopped : Stopped runs old new old_text new_text (take count (lines_of bytes))
 
+-- a writer has failed since exactly with Write
+abbrev pub LeavesWriter : {A : Type 0} → Result A RunFault → Bool → Bool → Type 0
+LeavesWriter (Ok x) old new = new ≡ old
+LeavesWriter (Err Read) old new = new ≡ old
+LeavesWriter (Err Write) old new = new ≡ true
+LeavesWriter (Err Memory) old new = new ≡ old
+
+-- and a reader with Read alone
+abbrev pub LeavesReader : {A : Type 0} → Result A RunFault → Bool → Bool → Type 0
+LeavesReader (Ok x) old new = new ≡ old
+LeavesReader (Err Read) old new = Unit {0}
+LeavesReader (Err Write) old new = new ≡ old
+LeavesReader (Err Memory) old new = new ≡ old
+
 -- ---- for private clauses
 
 abbrev pub IsPlain : List ℕ → Type 0
@@ -91,8 +105,8 @@ pub record Breaks {D : Type 0} (runs : D → List ℕ → LineAnswer → D → T
   pub plain : IsPlain old_pending → AllByRecursion IsPlain lines
   pub stopped : Stopped runs old new old_text new_text lines
 
--- no fault here is of the reader's, and a fault of the writer's shows in it
-abbrev pub OfWriter : RunFault → Bool → Type 0
-OfWriter Read failed = ⊥
-OfWriter Write failed = failed ≡ true
-OfWriter Memory failed = Unit {0}
+-- no fault of a reader
+abbrev pub OfWriter : RunFault → Type 0
+OfWriter Read = ⊥
+OfWriter Write = Unit {0}
+OfWriter Memory = Unit {0}

@@ -17,7 +17,7 @@ ghost use Rattle.adm_desk.specs.Lines.{lines_of, AnswersLine, AnswersLines};
 ghost use Rattle.adm_desk.specs.Acknowledged.{KeepsAcknowledged, handled};
 ghost use Rattle.adm_desk.specs.Questions.{TellsLine};
 ghost use Rattle.adm_desk.specs.declared.answer.LineAnswer.{LineAnswer as AnswerValue};
-ghost use Rattle.adm_desk.specs.Written.{Finished, AnsweredUpTo, StoppedWithin};
+ghost use Rattle.adm_desk.specs.Written.{Finished, AnsweredUpTo, StoppedWithin, LeavesReader, LeavesWriter};
 
 use crate::handler::{self, Handler};
 use crate::lines::Liner;
@@ -210,6 +210,10 @@ impl<S: Alter> Desk<S> {
         ensures stopped { IfErr result (λ e. e ≢ RunFault.Read → (bytes : List ℕ) × Consumes (R.remaining reader.old) (R.remaining reader.new) bytes
             × StoppedWithin (AnswersLine (Handles (state S.Store))) self.old self.new (W.contents writer.old) (W.contents writer.new) bytes (R.remaining reader.new)) }
 
+        // The writer has failed since exactly with Write, and the reader with Read alone.
+        ensures writer { LeavesWriter result (W.has_failed writer.old) (W.has_failed writer.new) }
+        ensures reader { LeavesReader result (R.has_failed reader.old) (R.has_failed reader.new) }
+
         // Whatever lines were answered so: what their answers acknowledge is kept.
         ensures kept { self.old.failed ≡ false → (lines : List (List ℕ)) (answers : List AnswerValue)
             → AnswersLines (AnswersLine (Handles (state S.Store))) self.old lines answers self.new → KeepsAcknowledged (state S.Store) self.old self.new (handled lines answers) }
@@ -233,6 +237,8 @@ impl<S: Alter> Desk<S> {
         ensures write_failed { IsErrOf result RunFault.Write → W.has_failed writer.new ≡ true }
         ensures stopped { IfErr result (λ e. e ≢ RunFault.Read → (bytes : List ℕ) × Consumes (R.remaining reader.old) (R.remaining reader.new) bytes
             × StoppedWithin TellsLine self.now self.now (W.contents writer.old) (W.contents writer.new) bytes (R.remaining reader.new)) }
+        ensures writer { LeavesWriter result (W.has_failed writer.old) (W.has_failed writer.new) }
+        ensures reader { LeavesReader result (R.has_failed reader.old) (R.has_failed reader.new) }
     {
         let mut asked = Asked(self);
         lines::run_lines(self.alloc, &mut asked, reader, writer)

@@ -2,7 +2,7 @@
 ghost use Rattle.std.specs.Prelude.{◌≡◌, ◌≢◌, ◌^◌, ◌<◌, ◌-◌, ℕ, true, length, [], ◌∷◌, ◌++◌, List, take, MatchResult, IfOk, IfErr, OnOk, IfSome, IsErrOf};
 ghost use Rattle.std.specs.Io.KnownBytes.{Appends, Consumes, IsAtEnd};
 ghost use Rattle.adm_desk.specs.Lines.{lines_of, line_text};
-ghost use Rattle.adm_desk.specs.Written.{Answered, Finished, AnsweredUpTo, Stopped, StoppedWithin, last_line, Counts, Takes, Breaks, OfWriter};
+ghost use Rattle.adm_desk.specs.Written.{Answered, Finished, AnsweredUpTo, Stopped, StoppedWithin, last_line, Counts, Takes, Breaks, OfWriter, LeavesReader, LeavesWriter};
 
 use crate::{Answer, LineAnswer, Run, RunFault, Told};
 use adm_wire::{Input, Output};
@@ -57,7 +57,8 @@ fn write_answer<W: Output>(
         (λ _. Appends (W.contents writer.old) (W.contents writer.new) (line_text answer.now ++ 10 ∷ []))
         (λ _. (n : ℕ) × Appends (W.contents writer.old) (W.contents writer.new)
         (take n (line_text answer.now ++ 10 ∷ []))) }
-    ensures fault { IfErr result (λ e. OfWriter e (W.has_failed writer.new)) }
+    ensures fault { IfErr result OfWriter }
+    ensures writer { LeavesWriter result (W.has_failed writer.old) (W.has_failed writer.new) }
 {
     let Ok(mut text) = answer.text(alloc) else {
         return Err(RunFault::Memory);
@@ -82,7 +83,8 @@ fn run_line<H: Liner, W: Output>(
     ensures bytes { MatchResult result
         (λ _. Answered H.runs (H.view handler.old) (H.view handler.new) (W.contents writer.old) (W.contents writer.new) run.old run.new (line.now ∷ []))
         (λ _. Stopped H.runs (H.view handler.old) (H.view handler.new) (W.contents writer.old) (W.contents writer.new) (line.now ∷ [])) }
-    ensures fault { IfErr result (λ e. OfWriter e (W.has_failed writer.new)) }
+    ensures fault { IfErr result OfWriter }
+    ensures writer { LeavesWriter result (W.has_failed writer.old) (W.has_failed writer.new) }
 {
     let answer = handler.answer(alloc, line);
     count(run, &answer);
@@ -100,7 +102,8 @@ fn take_byte<H: Liner, W: Output>(
     ensures bytes { MatchResult result
         (λ _. Takes H.runs (H.view handler.old) (H.view handler.new) (W.contents writer.old) (W.contents writer.new) run.old run.new pending.old.items pending.new.items (byte ∷ []))
         (λ _. Breaks H.runs (H.view handler.old) (H.view handler.new) (W.contents writer.old) (W.contents writer.new) pending.old.items (byte ∷ [])) }
-    ensures fault { IfErr result (λ e. OfWriter e (W.has_failed writer.new)) }
+    ensures fault { IfErr result OfWriter }
+    ensures writer { LeavesWriter result (W.has_failed writer.old) (W.has_failed writer.new) }
 {
     if byte == b'\n' {
         let alloc = *pending.allocator();
@@ -129,7 +132,8 @@ fn take_bytes<H: Liner, W: Output>(
     ensures bytes { MatchResult result
         (λ _. Takes H.runs (H.view handler.old) (H.view handler.new) (W.contents writer.old) (W.contents writer.new) run.old run.new pending.old.items pending.new.items bytes.now)
         (λ _. Breaks H.runs (H.view handler.old) (H.view handler.new) (W.contents writer.old) (W.contents writer.new) pending.old.items bytes.now) }
-    ensures fault { IfErr result (λ e. OfWriter e (W.has_failed writer.new)) }
+    ensures fault { IfErr result OfWriter }
+    ensures writer { LeavesWriter result (W.has_failed writer.old) (W.has_failed writer.new) }
 {
     for byte in bytes {
         match take_byte(handler, writer, run, pending, *byte) {
@@ -151,7 +155,8 @@ fn finish<H: Liner, W: Output>(
     ensures bytes { MatchResult result
         (λ r. Answered H.runs (H.view handler.old) (H.view handler.new) (W.contents writer.old) (W.contents writer.new) run r (last_line pending.now))
         (λ _. Stopped H.runs (H.view handler.old) (H.view handler.new) (W.contents writer.old) (W.contents writer.new) (last_line pending.now)) }
-    ensures fault { IfErr result (λ e. OfWriter e (W.has_failed writer.new)) }
+    ensures fault { IfErr result OfWriter }
+    ensures writer { LeavesWriter result (W.has_failed writer.old) (W.has_failed writer.new) }
 {
     let mut run = run;
     if pending.is_empty() {
@@ -185,6 +190,10 @@ pub(crate) fn run_lines<H: Liner, R: Input, W: Output>(
     ensures write_failed { IsErrOf result RunFault.Write → W.has_failed writer.new ≡ true }
     ensures stopped { IfErr result (λ e. e ≢ RunFault.Read → (bytes : List ℕ) × Consumes (R.remaining reader.old) (R.remaining reader.new) bytes
         × StoppedWithin H.runs (H.view handler.old) (H.view handler.new) (W.contents writer.old) (W.contents writer.new) bytes (R.remaining reader.new)) }
+
+    // The writer has failed since exactly with Write, and the reader with Read alone.
+    ensures writer { LeavesWriter result (W.has_failed writer.old) (W.has_failed writer.new) }
+    ensures reader { LeavesReader result (R.has_failed reader.old) (R.has_failed reader.new) }
 {
     let mut run = Run {
         done: 0,

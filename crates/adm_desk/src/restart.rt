@@ -1,5 +1,5 @@
 // A run of commands, a crash, and the start after it.
-ghost use Rattle.std.specs.Prelude.{◌≡◌, ◌⊎◌, false, zip, Option, IfOk, IfErr, OnOk, IfSome, MatchOption};
+ghost use Rattle.std.specs.Prelude.{◌≡◌, ◌⊎◌, false, [], Option, IfOk, IfErr, IfSome, MatchOption};
 ghost use Rattle.sqlite.specs.Held.{Held, state};
 ghost use Rattle.sqlite.specs.State.{HasCleanDisk};
 ghost use Rattle.adm_store.specs.Faults.{IsNoRegister};
@@ -9,10 +9,11 @@ ghost use Rattle.adm_desk.specs.Standing.{Handles, Standing};
 ghost use Rattle.adm_commands.specs.History.{DrawsInOrder};
 ghost use Rattle.adm_register.specs.State.{State as Register};
 ghost use Rattle.adm_types.specs.declared.commands.Command.{Command as Asked};
-ghost use Rattle.adm_desk.specs.Rounds.{EachRoundHeld};
-ghost use Rattle.adm_desk.specs.Acknowledged.{After, acknowledged, in_work, FindsAgain, LeavesAcknowledged, Reopens};
+ghost use Rattle.adm_desk.specs.Rounds.{HoldsRounds, HoldsRoundInWork};
+ghost use Rattle.adm_desk.specs.Acknowledged.{FindsAgain, FindsAfter, LeavesAcknowledged, LeavesAfter, Reopens};
 
 use crate::{Answer, Desk, rounds_held, rounds_stay};
+use adm_commands::round_held;
 use adm_store::{OpenFault, one_register};
 use adm_types::Command;
 use sqlite::{Alter, Connection, Error, ErrorCode};
@@ -45,7 +46,7 @@ fn fault_of(error: StoreError) -> OpenFault
     }
 }
 
-fn fault_at(error: Error) -> OpenFault
+pub(crate) fn fault_at(error: Error) -> OpenFault
     ensures { (result ≡ OpenFault.Disk) ⊎ (result ≡ OpenFault.Memory) }
 {
     match error {
@@ -123,17 +124,22 @@ pub fn run_and_reopen<S: Alter + Reopen + Drop>(
 ) -> Restarted<S>
     // The register is one after the acknowledged commands, or one that the command in work leaves after these.
     ensures register { desk.failed ≡ false → IfOk result.opened (λ new. HasCleanDisk (state S.Store new.conn)
-        → (kept : Register) × After desk.register (acknowledged (zip commands.now result.answers.items)) kept × FindsAgain kept (in_work (zip commands.now result.answers.items)) new.register) }
+        → FindsAfter desk.register commands.now result.answers.items new.register) }
     // It holds each round among the acknowledged commands, with the child-optimal stable allocation of the problem on the register in which it began.
     ensures rounds { desk.failed ≡ false → IfOk result.opened (λ new. HasCleanDisk (state S.Store new.conn)
-        → EachRoundHeld desk.register (acknowledged (zip commands.now result.answers.items)) new.register) }
+        → HoldsRounds desk.register commands.now result.answers.items new.register) }
+    // A round in work is there whole, with the child-optimal stable allocation of the problem on the register in which it began, or not at all.
+    ensures round { desk.failed ≡ false → IfOk result.opened (λ new. HasCleanDisk (state S.Store new.conn)
+        → HoldsRoundInWork desk.register commands.now result.answers.items new.register) }
     ensures alive { IfOk result.opened (λ new. (new.failed ≡ false) × LeavesOnly new.register (state S.Store new.conn)) }
-    ensures run { OnOk result.opened ((mid : Standing (Held S)) × IsRun (Handles (state S.Store)) desk commands.now result.answers.items mid) }
+
+    // Whether it was opened again or not, the answers are a run of the commands. Where there was no room for them, none was handled, and the connection is the desk's as it was.
+    ensures run { ((mid : Standing (Held S)) × IsRun (Handles (state S.Store)) desk commands.now result.answers.items mid)
+        ⊎ ((result.answers.items ≡ []) × (result.opened ≡ Err (OpenFault.Memory, Some desk.conn))) }
 
     // What was started stands for such a register also where it was not opened, so no NotOurs, Version or BadRow comes.
     ensures kept { desk.failed ≡ false → IfErr result.opened (λ e. IfSome e.1 (λ conn.
-        (kept : Register) × After desk.register (acknowledged (zip commands.now result.answers.items)) kept
-        × LeavesAcknowledged kept (in_work (zip commands.now result.answers.items)) (state S.Store conn))) }
+        LeavesAfter desk.register commands.now result.answers.items (state S.Store conn))) }
     ensures never { desk.failed ≡ false → IfErr result.opened (λ e. MatchOption e.1 (¬ IsNoRegister e.0) (λ conn. HasCleanDisk (state S.Store conn) → ¬ IsNoRegister e.0)) }
 {
     // that a crash leaves its register, and that its draws are in order, calls say
@@ -142,6 +148,7 @@ pub fn run_and_reopen<S: Alter + Reopen + Drop>(
     // what rounds leave, calls of the laws say
     rounds_held();
     rounds_stay();
+    round_held();
     let answers = match desk.handle_all(commands) {
         Ok(answers) => answers,
         Err(_) => {

@@ -1,51 +1,16 @@
-// A run of commands, a crash of both disks, and what the start after it finds.
+// A run of commands over disks that stop, a crash of both, and what the start after it finds.
 
-use crate::desks::opened;
-use adm_desk::{Answer, Desk, Restarted, run_and_reopen};
+use adm_desk::{Answer, Restarted, run_until_stopped};
 use adm_register::{Register, Rows};
+use adm_store::OpenFault;
 use adm_types::Command;
 use adm_wire::read_command;
-use run_disks::{Disks, Restart};
+use run_disks::{Disks, calls_until};
 use run_steps::{Which, print_register};
-use sqlite::{Alter, Connection};
-use sqlite_trees::store::Reopen;
+use sqlite::{FileStore, Files, Leftover};
+use sqlite_disk::{Fuse, Memory};
 use std::alloc::Global;
 use std::{io, str};
-
-/// Commands that a desk answers before a crash.
-#[derive(Drop)]
-struct Restarting<'a> {
-    commands: &'a [Command],
-}
-
-/// The answers, and the rows of the register that was found after the crash.
-type Came = (Vec<Answer>, Option<Rows>);
-
-fn rows_of<S: Alter>(alloc: Global, desk: &Desk<S>) -> Option<Rows> {
-    match desk.register() {
-        Some(register) => register.rows(alloc).ok(),
-        None => None,
-    }
-}
-
-fn came_of<S: Alter>(alloc: Global, restarted: &Restarted<S>) -> Came {
-    let answers = restarted.answers.clone().unwrap_or(Vec::new(alloc));
-    match &restarted.opened {
-        Ok(desk) => (answers, rows_of(alloc, desk)),
-        Err(_) => (answers, None),
-    }
-}
-
-impl<'a> Restart for Restarting<'a> {
-    type Came = Came;
-
-    fn over<S: Alter + Reopen + Drop>(&self, alloc: Global, conn: Connection<S>) -> Came {
-        match opened(alloc, conn) {
-            Err(_) => (Vec::new(alloc), None),
-            Ok(desk) => came_of(alloc, &run_and_reopen(alloc, desk, self.commands)),
-        }
-    }
-}
 
 /// The commands of an input. `None` where a line is none.
 fn commands_of(alloc: Global, input: &[u8]) -> io::Result<Option<Vec<Command>>> {
@@ -62,6 +27,34 @@ fn commands_of(alloc: Global, input: &[u8]) -> io::Result<Option<Vec<Command>>> 
     Ok(Some(commands))
 }
 
+/// The answers, and what the start after the crash finds; or why the first start failed, and what it left.
+type Ran = Result<Restarted<FileStore<Fuse<Memory>>>, (OpenFault, Leftover<Fuse<Memory>>)>;
+
+/// Runs the commands over files that hold what the disks hold, and stop after so many calls. `None`: such files cannot be used.
+fn run(
+    alloc: Global,
+    files: Files<Memory>,
+    (log_calls, db_calls): (u64, u64),
+    commands: &[Command],
+) -> Option<Ran> {
+    if files.may_be_used() {
+        Some(run_until_stopped(alloc, files, log_calls, db_calls, commands))
+    } else {
+        None
+    }
+}
+
+/// The rows of the register that was found.
+fn rows_of(alloc: Global, restarted: &Restarted<FileStore<Fuse<Memory>>>) -> Option<Rows> {
+    match &restarted.opened {
+        Ok(desk) => match desk.register() {
+            Some(register) => register.rows(alloc).ok(),
+            None => None,
+        },
+        Err(_) => None,
+    }
+}
+
 fn print_found(rt: &impl Print, alloc: Global, rows: Option<Rows>) -> io::Result<()> {
     let Some(rows) = rows else {
         return println!(rt; "  PROBLEM: no register was found");
@@ -72,14 +65,30 @@ fn print_found(rt: &impl Print, alloc: Global, rows: Option<Rows>) -> io::Result
     }
 }
 
-fn print_came(rt: &impl Print, alloc: Global, came: Option<Came>) -> io::Result<()> {
-    let Some((answers, rows)) = came else {
-        return println!(rt; "  NoDatabase");
-    };
-    for answer in &answers {
+/// Prints why the first start failed, and the register that the files stand for still, as a loss of power leaves them.
+fn print_left(
+    rt: &impl Print,
+    alloc: Global,
+    fault: OpenFault,
+    files: Files<Fuse<Memory>>,
+) -> io::Result<()> {
+    println!(rt; "  not started: {fault:?}")?;
+    match Disks::after_loss(alloc, files)?.register(alloc)? {
+        Ok(register) => print_register(rt, alloc, &register),
+        Err(fault) => println!(rt; "  PROBLEM: {fault:?}"),
+    }
+}
+
+fn print_came(
+    rt: &impl Print,
+    alloc: Global,
+    restarted: &Restarted<FileStore<Fuse<Memory>>>,
+) -> io::Result<()> {
+    for answer in &restarted.answers {
+        let answer: &Answer = answer;
         println!(rt; "  {answer:?}")?;
     }
-    print_found(rt, alloc, rows)
+    print_found(rt, alloc, rows_of(alloc, restarted))
 }
 
 /// Has a desk answer the commands of an input over disks of which one stops, lets both crash, and prints the answers and the
@@ -91,13 +100,17 @@ pub(crate) fn crash(
     input: &[u8],
     stop: (Which, u64),
 ) -> io::Result<()> {
-    match commands_of(alloc, input)? {
-        None => println!(rt; "  NOT A COMMAND"),
-        Some(commands) => {
-            let work = Restarting {
-                commands: &commands,
-            };
-            print_came(rt, alloc, disks.restarted(alloc, Some(stop), &work)?)
-        }
+    let Some(commands) = commands_of(alloc, input)? else {
+        return println!(rt; "  NOT A COMMAND");
+    };
+    match run(
+        alloc,
+        disks.files(alloc)?,
+        calls_until(Some(stop)),
+        &commands,
+    ) {
+        None => println!(rt; "  PROBLEM: the disks cannot be used"),
+        Some(Ok(restarted)) => print_came(rt, alloc, &restarted),
+        Some(Err((fault, left))) => print_left(rt, alloc, fault, left.into_files()),
     }
 }

@@ -3,9 +3,9 @@ ghost use Rattle.std.specs.Prelude.{◌≡◌, false, IfOk};
 ghost use Rattle.sqlite.specs.Files.{file_state};
 ghost use Rattle.adm_store.specs.StandsFor.{IsStarted};
 
-use crate::work::{Restart, Work};
+use crate::work::Work;
 use sqlite::{Connection, FileStore, Files, Options};
-use sqlite_disk::{Crash, Disk};
+use sqlite_disk::Disk;
 use std::alloc::Global;
 
 /// The number from which a log's salts are made.
@@ -45,17 +45,5 @@ pub(crate) fn done<D: Disk + Drop, W: Work>(
             let (came, conn) = work.over(alloc, conn);
             (Some(came), closed(conn))
         }
-    }
-}
-
-/// Opens the database and does a work with it that crashes. `None`: it was not opened.
-pub(crate) fn restarted<D: Crash + Drop, W: Restart>(
-    alloc: Global,
-    files: Files<D>,
-    work: &W,
-) -> Option<W::Came> {
-    match connected(alloc, files) {
-        Err(_) => None,
-        Ok(conn) => Some(work.over(alloc, conn)),
     }
 }

@@ -1,7 +1,7 @@
 // Two disks in memory, a database's and its log's. Between steps they are kept as bytes.
-use crate::database::{done, restarted};
+use crate::database::done;
 use crate::found::{NotFound, found};
-use crate::work::{Opening, Restart, Tables, Text, Work};
+use crate::work::{Opening, Tables, Text, Work};
 use adm_register::Register;
 use adm_schema::Version;
 use run_steps::Which;
@@ -20,8 +20,8 @@ pub struct Disks {
     db: Vec<u8>,
 }
 
-/// A disk that holds these bytes and passes so many calls.
-fn disk(alloc: Global, bytes: &[u8], calls: u64) -> io::Result<Fused> {
+/// A disk that holds these bytes.
+fn disk(alloc: Global, bytes: &[u8]) -> io::Result<Memory> {
     let mut memory = Memory::new(alloc);
     if !bytes.is_empty() {
         memory.write_at(0, bytes)?;
@@ -29,7 +29,16 @@ fn disk(alloc: Global, bytes: &[u8], calls: u64) -> io::Result<Fused> {
             memory.sync()?;
         }
     }
-    Ok(Fuse::new(memory, calls))
+    Ok(memory)
+}
+
+/// How many calls the log's disk passes, and how many the database's, where one may stop after so many.
+pub fn calls_until(stop: Option<(Which, u64)>) -> (u64, u64) {
+    match stop {
+        None => (u64::MAX, u64::MAX),
+        Some((Which::Log, calls)) => (calls, u64::MAX),
+        Some((Which::Database, calls)) => (u64::MAX, calls),
+    }
 }
 
 impl Disks {
@@ -62,7 +71,7 @@ impl Disks {
     }
 
     /// What these files hold after a loss of power, which leaves what was synced.
-    fn after_loss(alloc: Global, mut files: Files<Fused>) -> Result<Disks, AllocError> {
+    pub fn after_loss(alloc: Global, mut files: Files<Fused>) -> Result<Disks, AllocError> {
         files.log.crash();
         files.db.crash();
         Disks::of(alloc, files)
@@ -86,16 +95,20 @@ impl Disks {
         })
     }
 
-    /// Files that hold the same, of which one may stop after so many calls.
-    fn files(&self, alloc: Global, stop: Option<(Which, u64)>) -> io::Result<Files<Fused>> {
-        let (log, db) = match stop {
-            None => (u64::MAX, u64::MAX),
-            Some((Which::Log, calls)) => (calls, u64::MAX),
-            Some((Which::Database, calls)) => (u64::MAX, calls),
-        };
+    /// Files that hold the same.
+    pub fn files(&self, alloc: Global) -> io::Result<Files<Memory>> {
         Ok(Files {
-            log: disk(alloc, &self.log, log)?,
-            db: disk(alloc, &self.db, db)?,
+            log: disk(alloc, &self.log)?,
+            db: disk(alloc, &self.db)?,
+        })
+    }
+
+    /// Files that hold the same, of which one may stop after so many calls.
+    fn stopping(&self, alloc: Global, stop: Option<(Which, u64)>) -> io::Result<Files<Fused>> {
+        let (log, db) = calls_until(stop);
+        Ok(Files {
+            log: Fuse::new(disk(alloc, &self.log)?, log),
+            db: Fuse::new(disk(alloc, &self.db)?, db),
         })
     }
 
@@ -107,7 +120,7 @@ impl Disks {
         stop: Option<(Which, u64)>,
         work: &W,
     ) -> io::Result<(Option<W::Came>, Disks)> {
-        let (came, files) = done(alloc, self.files(alloc, stop)?, work);
+        let (came, files) = done(alloc, self.stopping(alloc, stop)?, work);
         let disks = Disks::of(alloc, files)?;
         Ok((came, disks))
     }
@@ -119,20 +132,9 @@ impl Disks {
         stop: (Which, u64),
         work: &W,
     ) -> io::Result<(Option<W::Came>, Disks, Disks)> {
-        let (came, files) = done(alloc, self.files(alloc, Some(stop))?, work);
+        let (came, files) = done(alloc, self.stopping(alloc, Some(stop))?, work);
         let (written, synced) = Disks::with_and_without_loss(alloc, files)?;
         Ok((came, written, synced))
-    }
-
-    /// Does a work that crashes with the database on files that hold the same, of which one may stop after so many calls
-    /// up to the crash. `None`: it was not opened.
-    pub fn restarted<W: Restart>(
-        &self,
-        alloc: Global,
-        stop: Option<(Which, u64)>,
-        work: &W,
-    ) -> io::Result<Option<W::Came>> {
-        Ok(restarted(alloc, self.files(alloc, stop)?, work))
     }
 
     /// What comes of a text that is run on the database, if it was opened, and the disks after it.

@@ -11,8 +11,8 @@ mod migration;
 mod work;
 
 pub use counts::Counts;
-pub use disks::Disks;
+pub use disks::{Disks, calls_until};
 pub use ends::{Ends, Left};
 pub use found::NotFound;
 pub use migration::{Kept, Migration};
-pub use work::{Restart, Work, created};
+pub use work::{Work, created};

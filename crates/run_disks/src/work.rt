@@ -8,7 +8,6 @@ use adm_schema::{Version, version_of};
 use adm_store::{CreateFault, OpenFault, Store, create, open};
 use adm_types::Season;
 use sqlite::{Alter, Connection, Error};
-use sqlite_trees::store::Reopen;
 use std::alloc::Global;
 
 /// What is done with a database that was opened.
@@ -18,17 +17,6 @@ pub trait Work {
 
     /// Does it.
     fn over<S: Alter>(&self, alloc: Global, conn: Connection<S>) -> (Self::Came, Connection<S>)
-        requires ended { conn.in_transaction ≡ false }
-        requires started { IsStarted (state S.Store conn) };
-}
-
-/// What is done with a database whose store crashes and starts again.
-pub trait Restart {
-    /// What it comes to.
-    type Came: Drop;
-
-    /// Does it.
-    fn over<S: Alter + Reopen + Drop>(&self, alloc: Global, conn: Connection<S>) -> Self::Came
         requires ended { conn.in_transaction ≡ false }
         requires started { IsStarted (state S.Store conn) };
 }

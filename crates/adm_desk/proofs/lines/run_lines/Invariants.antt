@@ -1,4 +1,4 @@
-use Rattle.std.proofs.Common.{◌≤◌, ℕ, List, [], length, false}
+use Rattle.std.proofs.Common.{◌≡◌, ◌≤◌, ℕ, List, [], length, false}
 use Rattle.std.specs.Io.KnownBytes.{Consumes}
 use Rattle.adm_desk.specs.Written.{Takes}
 use Rattle.adm_desk.proofs.lines.run_lines.Given as goal
@@ -7,3 +7,4 @@ abbrev pub invariant-loop-turn : goal.invariant-loop-turn
 invariant-loop-turn g l = (read : List ℕ) × Consumes (g.R.Input.remaining l.fn.reader) (g.R.Input.remaining l.reader) read
     × Takes g.H.Liner.runs (g.H.Liner.view l.fn.handler) (g.H.Liner.view l.handler) (g.W.Output.contents l.fn.writer) (g.W.Output.contents l.writer)
     (record { done = 0; refused = 0; failed = false }) l.run [] l.pending.items read × (l._turn ≤ length read)
+    × (g.W.Output.has_failed l.writer ≡ g.W.Output.has_failed l.fn.writer) × (g.R.Input.has_failed l.reader ≡ g.R.Input.has_failed l.fn.reader)

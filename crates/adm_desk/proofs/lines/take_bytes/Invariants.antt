@@ -1,4 +1,4 @@
-use Rattle.std.proofs.Common.{take}
+use Rattle.std.proofs.Common.{◌≡◌, take}
 use Rattle.adm_desk.specs.Written.{Takes}
 use Rattle.adm_desk.proofs.lines.take_bytes.Given as goal
 
@@ -6,3 +6,4 @@ abbrev pub invariant-loop-byte : goal.invariant-loop-byte
 invariant-loop-byte g l =
     Takes g.H.Liner.runs (g.H.Liner.view l.fn.handler) (g.H.Liner.view l.handler) (g.W.Output.contents l.fn.writer) (g.W.Output.contents l.writer)
     l.fn.run l.run l.fn.pending.items l.pending.items (take l.byte-index l.bytes)
+    × (g.W.Output.has_failed l.writer ≡ g.W.Output.has_failed l.fn.writer)

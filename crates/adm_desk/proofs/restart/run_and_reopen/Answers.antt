@@ -1,10 +1,11 @@
-use Rattle.std.proofs.Common.{◌∙◌, ap, sym, subst}
+use Rattle.std.proofs.Common.{◌∙◌, ap, sym, subst, inl, inr, Some, Err}
 use Rattle.std.proofs.lemmas.Option.{IfSome_then}
 use Rattle.sqlite.specs.Held.{Held, state}
 use Rattle.adm_store.specs.StandsFor.{LeavesOnly}
 use Rattle.adm_desk.specs.Standing.{Standing}
 use Rattle.adm_desk.proofs.RestartLemmas.{none_answered}
-use Rattle.adm_desk.proofs.RoundLemmas.{found_rounds}
+use Rattle.adm_desk.proofs.RoundLemmas.{found_rounds, held_or_not}
+use Rattle.adm_store.specs.declared.fault.OpenFault.TheVariants.{Memory}
 use Rattle.adm_desk.proofs.restart.run_and_reopen.Goals as goal
 
 pub returns-in-Err-clause-kept : goal.returns-in-Err-clause-kept
@@ -28,3 +29,21 @@ returns-in-Ok-reopen-clause-rounds g c = λ alive clean.
     let keeps = c.in-Ok.ensures.kept alive in
     found_rounds c.rounds_held.ensures c.rounds_stay.ensures c.args.desk.register c.handle_all.new.self.register c.in-Ok-reopen.desk.register _ _
     (c.has_draws_in_order.ensures alive) keeps.run (c.in-Ok-reopen.ensures.finds clean _ _ keeps.leaves)
+
+pub returns-in-Ok-reopen-clause-round : goal.returns-in-Ok-reopen-clause-round
+returns-in-Ok-reopen-clause-round g c = λ alive clean.
+    let keeps = c.in-Ok.ensures.kept alive in
+    let kept = c.handle_all.new.self.register in
+    let ordered = (c.rounds_held.ensures c.args.desk.register kept _ (c.has_draws_in_order.ensures alive) keeps.run).1 in
+    (kept, keeps.run, held_or_not c.round_held.ensures kept c.in-Ok-reopen.desk.register _ _ ordered keeps.leaves (c.in-Ok-reopen.ensures.finds clean _ _ keeps.leaves))
+
+pub returns-in-Err-clause-run : goal.returns-in-Err-clause-run
+returns-in-Err-clause-run g c =
+    let same = c.into_connection.ensures.same ∙ ap (λ (s : Standing _). s.conn) c.in-Err.ensures.err in
+    inr (c.new.ensures.items, ap (λ (h : Held _). Err (Memory, Some h)) same)
+
+pub returns-in-Ok-reopen-clause-run : goal.returns-in-Ok-reopen-clause-run
+returns-in-Ok-reopen-clause-run g c = inl (c.handle_all.new.self, c.in-Ok.ensures.run)
+
+pub returns-in-Err-reopen-clause-run : goal.returns-in-Err-reopen-clause-run
+returns-in-Err-reopen-clause-run g c = inl (c.handle_all.new.self, c.in-Ok.ensures.run)
