@@ -1,4 +1,5 @@
 pub mod Closing
 pub mod Doing
 pub mod Importing
+pub mod NextRunLemmas
 pub mod Served

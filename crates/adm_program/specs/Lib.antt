@@ -5,3 +5,4 @@ pub mod Imports
 pub mod Runs
 pub mod Served
 pub mod Does
+pub mod NextRun

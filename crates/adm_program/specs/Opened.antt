@@ -1,5 +1,5 @@
 -- What the open of a register in a file comes to, and what a close leaves.
-use Rattle.std.specs.Prelude.{◌≡◌, ◌⊎◌, ℕ, Bool, false, List, Option, Result, Ok, Err, MatchResult}
+use Rattle.std.specs.Prelude.{◌≡◌, ◌⊎◌, ℕ, Bool, false, IsTrue, List, Option, Result, Ok, Err, MatchResult}
 use Rattle.sqlite_disk.specs.declared.Disk as disk
 use Rattle.sqlite_disk.specs.declared.Files.{Files}
 use Rattle.sqlite_wal.specs.Recovery.{Image}
@@ -33,9 +33,9 @@ module _ {D : Type 0} {g : disk.Ghosts D} where
   abbrev pub Closes : Held (FileStore D g) → Result (Files D) (Error × FileStore D g) → Type 0
   Closes c closed = MatchResult closed (λ files. AreClean g files.log files.db → IsCopied c files) (λ e. IsClosed c e.1)
 
-  -- a connection to files that held this
+  -- a connection to files that held this, which is open
   abbrev pub IsFound : Image → Held (FileStore D g) → Type 0
-  IsFound image c = HasCleanDisk (file_state c) → FindsIn image (file_state c)
+  IsFound image c = HasCleanDisk (file_state c) → IsTrue (file_state c).is_open × FindsIn image (file_state c)
 
   -- the files stand for no register, or could not be read, and stay as they were, or stand for the same register in the second version; the first fault that fits is told
   pub record IsNotOpened (image : Image) (e : Result Exit Fault) (closed : Result (Files D) (Error × FileStore D g)) : Type 0 where

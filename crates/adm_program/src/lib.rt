@@ -7,9 +7,11 @@ mod ended;
 mod exit;
 mod fault;
 mod import;
+mod laws;
 mod opening;
 mod print;
 mod run;
 mod serving;
 
+pub use laws::next_run;
 pub use run::run_words;
