@@ -108,5 +108,8 @@ list_shape phases = head_shape (tail_shapes (reading_shapes phases))
 abbrev pub report_shape : ValueParser → Shape
 report_shape phases = head_shape (tail_shapes (tail_shapes (reading_shapes phases)))
 
+abbrev pub pairs_shape : ValueParser → Shape
+pairs_shape phases = head_shape (tail_shapes (tail_shapes (tail_shapes (reading_shapes phases))))
+
 abbrev pub help_of : ValueParser → Shape
-help_of phases = head_shape (tail_shapes (tail_shapes (tail_shapes (reading_shapes phases))))
+help_of phases = head_shape (tail_shapes (tail_shapes (tail_shapes (tail_shapes (reading_shapes phases)))))

@@ -1,13 +1,13 @@
--- In words that clap takes, a line of a file and one more word has both.
+-- In words that clap takes, a line of a file and one more word has both, and where that may be left out the file.
 use Rattle.std.proofs.Common.{◌≡◌, ◌∙◌, false, refl, ap, List, [], Option, Some, inl, inr}
-use Rattle.std.specs.Prelude.{codes, not}
+use Rattle.std.specs.Prelude.{codes, not, option_map}
 use Rattle.clap.specs.Faults.{level_fault}
-use Rattle.clap.specs.Walk.{Text, rows_after, nothing_held}
+use Rattle.clap.specs.Walk.{Text, first_of, rows_after, nothing_held}
 use Rattle.clap.specs.Takes.{is_given}
 use Rattle.clap.specs.declared.builder.value_parser.ValueParser.{ValueParser}
 use Rattle.clap.specs.declared.builder.value_parser.ValueParser.TheVariants as parser
-use Rattle.adm_words.specs.Lines.{Line, IsLine, import_line, letter_line, list_line, report_line, pair_of, import_in, letter_in, list_in, report_in}
-use Rattle.adm_words.proofs.Arguments.{taken, taken_uses, wanted, given_if, import_shape, letter_shape, list_shape, report_shape}
+use Rattle.adm_words.specs.Lines.{Line, IsLine, import_line, letter_line, list_line, report_line, pairs_line, pair_of, import_in, letter_in, list_in, report_in, pairs_in}
+use Rattle.adm_words.proofs.Arguments.{taken, taken_uses, wanted, given_if, import_shape, letter_shape, list_shape, report_shape, pairs_shape}
 use Rattle.adm_words.proofs.FoundRows.{either_false}
 use Rattle.adm_words.proofs.Faultless.{level_good, given_first}
 
@@ -69,3 +69,14 @@ report_there phases words none =
     let a = given_first file_rule rows file.0 (given_if _ first.0) in
     let b = given_first word_rule rows word.0 (given_if _ second.0) in
     paired report_line _ _ a.0 b.0 a.1 b.1
+
+pub pairs_there : (phases : ValueParser) (words : List Text) → level_fault (pairs_shape phases) [] nothing_held words false [] ≡ []
+    → IsLine (pairs_in (rows_after (pairs_shape phases).rules [] words))
+pairs_there phases words none =
+    let rows = rows_after (pairs_shape phases).rules [] words in
+    let file_rule = taken (codes "file") 1 parser.String in
+    let file = level_good (pairs_shape phases) file_rule (inl refl, (inr refl, (inr refl, tt))) (taken_uses (codes "file") 1 parser.String refl) (refl, (refl, (refl, tt))) [] words false [] none in
+    let missing = either_false (not (is_given (codes "file") rows)) _ (wanted _ file.1) in
+    let value = given_first file_rule rows file.0 (given_if _ missing.0) in
+    let line : Text → Line = λ f. pairs_line f (first_of (codes "school") rows) in
+    (line value.0, ap (option_map line) value.1)

@@ -30,6 +30,7 @@ pub data Line : Type 0 where
   letter_line : Text → Text → Line
   list_line : Text → Text → Line
   report_line : Text → Text → Line
+  pairs_line : Text → Option Text → Line
 
 -- ---- the values of arguments
 
@@ -68,6 +69,11 @@ count_of text = number_from 1 1000000 text
 -- the child number that a text writes, as a plain number
 abbrev pub child_named : Text → Option ℕ
 child_named text = option_and_then child_of (plain_of text)
+
+-- the school of a code, if a code is written
+abbrev pub school_named : Option Text → Option (Option Text)
+school_named None = Some None
+school_named (Some word) = option_map Some (code_of word)
 
 -- ---- the lines
 
@@ -129,11 +135,15 @@ list_in rows = pair_of list_line (file_in rows) (first_of (codes "school") rows)
 abbrev pub report_in : List Row → Option Line
 report_in rows = pair_of report_line (file_in rows) (first_of (codes "round") rows)
 
+-- a file, and a school or none
+abbrev pub pairs_in : List Row → Option Line
+pairs_in rows = option_map (λ file. pairs_line file (first_of (codes "school") rows)) (file_in rows)
+
 -- the lines that read a register, by the name of the subcommand and its entries
 abbrev pub reading_in : Text → List Row → Option Line
 reading_in name rows =
     if bytes_eq name (codes "letter") then letter_in rows else (if bytes_eq name (codes "list") then list_in rows else (
-    if bytes_eq name (codes "round-report") then report_in rows else None))
+    if bytes_eq name (codes "round-report") then report_in rows else (if bytes_eq name (codes "pairs") then pairs_in rows else None)))
 
 -- each line; no other name is that of one
 abbrev pub line_in : Text → List Row → Option Line
@@ -179,10 +189,12 @@ Reads (serve_line file port count) (Ok (action.Serve f p n)) = (f.now ≡ file) 
 Reads (letter_line file word) (Ok (action.Letter f child)) = (f.now ≡ file) × (child_named word ≡ Some child)
 Reads (list_line file word) (Ok (action.List f school)) = (f.now ≡ file) × (code_of word ≡ Some school)
 Reads (report_line file word) (Ok (action.RoundReport f round)) = (f.now ≡ file) × (plain_of word ≡ Some round)
+Reads (pairs_line file word) (Ok (action.Pairs f school)) = (f.now ≡ file) × (school_named word ≡ Some school)
 Reads (init_line file phase year texts) (Err BadDate) = HasNoDay texts
 Reads (letter_line file word) (Err BadWord) = child_named word ≡ None
 Reads (list_line file word) (Err BadWord) = code_of word ≡ None
 Reads (report_line file word) (Err BadWord) = plain_of word ≡ None
+Reads (pairs_line file word) (Err BadWord) = school_named word ≡ None
 Reads line (Err Memory) = Unit {0}
 Reads line result = ⊥
 

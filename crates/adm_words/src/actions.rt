@@ -48,4 +48,9 @@ pub enum Action<'a> {
         file: &'a str,
         round: u32,
     },
+    /// Print for whom lots are drawn: for the next round, or for a fill at the school.
+    Pairs {
+        file: &'a str,
+        school: Option<SchoolCode>,
+    },
 }

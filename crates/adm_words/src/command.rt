@@ -4,7 +4,7 @@ ghost use Rattle.clap.specs.Words.{App, Rule, app_of, new_app, with_rule, with_s
 ghost use Rattle.clap.specs.declared.builder.command.Command.TheViews.{out-Command as fields_of};
 ghost use Rattle.clap.specs.declared.builder.value_parser.ValueParser.{ValueParser};
 ghost use Rattle.adm_words.specs.Building.{IsArg, IsCommand, Builds};
-ghost use Rattle.adm_words.specs.Program.{IsPhases, required_rule, file_rule, phase_rule, holiday_rule, year_rule, port_rule, count_rule, pair_app, init_app, do_app, what_if_app, serve_app, top_app, with_answerers, with_takers, with_readers, program_app};
+ghost use Rattle.adm_words.specs.Program.{IsPhases, required_rule, file_rule, phase_rule, holiday_rule, year_rule, port_rule, count_rule, pair_app, init_app, do_app, what_if_app, serve_app, top_app, with_answerers, with_takers, with_readers, program_app, school_rule, pairs_app};
 
 use clap::{Arg, ArgAction, Command, value_parser};
 use std::alloc::{AllocError, Global};
@@ -118,6 +118,16 @@ fn count<'a>(alloc: Global) -> Arg<'a>
 }
 
 #[tactic(auto, unfolding(crate::specs::Building::IsArg))]
+fn school<'a>(alloc: Global) -> Arg<'a>
+    ensures { IsArg school_rule result }
+{
+    Arg::new(alloc, "school")
+        .value_name("SCHOOL")
+        .help("The code of the school of a fill; the next round if left out")
+        .action(ArgAction::Set)
+}
+
+#[tactic(auto, unfolding(crate::specs::Building::IsArg))]
 fn holiday<'a>(alloc: Global) -> Arg<'a>
     ensures { IsArg holiday_rule result }
 {
@@ -225,6 +235,13 @@ fn serve_command<'a>(alloc: Global) -> Result<Command<'a>, AllocError>
     with_arg(serve, count(alloc))
 }
 
+fn pairs_command<'a>(alloc: Global) -> Result<Command<'a>, AllocError>
+    ensures { Builds pairs_app result }
+{
+    let about = "Prints for whom lots are drawn, in their order";
+    with_arg(file_command(alloc, "pairs", about, REGISTER), school(alloc))
+}
+
 /// The program with the subcommand that makes the register, and with those that answer the standard
 /// input over it, line by line.
 fn with_answerers<'a>(
@@ -258,7 +275,8 @@ fn with_readers<'a>(
 {
     let program = with(program, pair_command(alloc, &LETTER));
     let program = with(program, pair_command(alloc, &LIST));
-    with(program, pair_command(alloc, &ROUND_REPORT))
+    let program = with(program, pair_command(alloc, &ROUND_REPORT));
+    with(program, pairs_command(alloc))
 }
 
 /// The program without its subcommands.

@@ -1,7 +1,7 @@
-// Lines of a file and one more word, read from the values that clap found.
-ghost use Rattle.std.specs.Prelude.{◌≡◌, IfOk};
+// Lines of a file and one more word, or none, read from the values that clap found.
+ghost use Rattle.std.specs.Prelude.{◌≡◌, IfOk, option_map};
 ghost use Rattle.clap.specs.Words.{found_of, rows_of};
-ghost use Rattle.adm_words.specs.Lines.{IsLine, ReadsLine, ReadsWord, IsInRange, child_named, import_in, letter_in, list_in, report_in, reading_in};
+ghost use Rattle.adm_words.specs.Lines.{IsLine, ReadsLine, ReadsWord, IsInRange, child_named, school_named, import_in, letter_in, list_in, report_in, pairs_in, reading_in};
 
 use crate::lines::text_of;
 use crate::{Action, WordsFault};
@@ -91,6 +91,34 @@ fn report<'a>(found: &ArgMatches<'a>) -> Result<Action<'a>, WordsFault>
     }
 }
 
+/// The school of a code, if a code is written.
+fn read_school(word: Option<&str>) -> Option<Option<SchoolCode>>
+    ensures { result ≡ school_named (option_map (λ s. s.now) word.entry) }
+{
+    match word {
+        None => Some(None),
+        Some(word) => match SchoolCode::new(word) {
+            Some(school) => Some(Some(school)),
+            None => None,
+        },
+    }
+}
+
+/// The line `pairs`, whose file is there.
+fn pairs<'a>(found: &ArgMatches<'a>) -> Result<Action<'a>, WordsFault>
+    requires { IsLine (pairs_in (rows_of (found_of found.now))) }
+    ensures reads { ReadsLine (pairs_in (rows_of (found_of found.now))) result }
+    ensures in_range { IfOk result IsInRange }
+{
+    let Some(file) = text_of(found, "file") else {
+        unreachable!()
+    };
+    match value(read_school(text_of(found, "school"))) {
+        Ok(school) => Ok(Action::Pairs { file, school }),
+        Err(fault) => Err(fault),
+    }
+}
+
 /// A line that reads a register, by its name.
 pub(crate) fn reading<'a>(name: &str, found: &ArgMatches<'a>) -> Result<Action<'a>, WordsFault>
     requires { IsLine (reading_in name.now (rows_of (found_of found.now))) }
@@ -103,6 +131,8 @@ pub(crate) fn reading<'a>(name: &str, found: &ArgMatches<'a>) -> Result<Action<'
         list(found)
     } else if name == "round-report" {
         report(found)
+    } else if name == "pairs" {
+        pairs(found)
     } else {
         unreachable!()
     }

@@ -13,11 +13,11 @@ use std::alloc::Global;
 /// The words are those of a line `init FILE PHASE YEAR [HOLIDAY...]`, with PHASE `primary` or
 /// `secondary` and YEAR from 2000 to 2100, of a line `serve FILE PORT [--count N]`, with PORT from 1
 /// to 65535 and N from 1 to 1,000,000, or 1,000,000 where it is left out, or of a line `do FILE`,
-/// `what-if FILE`, `import FILE CSV`, `letter FILE CHILD`, `list FILE SCHOOL` or
-/// `round-report FILE ROUND`, as `clap` reads words. Words comes where `clap` refuses them, a request
-/// for help included; BadDate where a HOLIDAY is no day YYYY-MM-DD from 1990-01-01 to 2110-12-31;
-/// BadWord where CHILD is no plain number from 1 to 9,999,999, ROUND no plain number or SCHOOL no
-/// code. It costs what the length of the words costs.
+/// `what-if FILE`, `import FILE CSV`, `letter FILE CHILD`, `list FILE SCHOOL`,
+/// `round-report FILE ROUND` or `pairs FILE [SCHOOL]`, as `clap` reads words. Words comes where
+/// `clap` refuses them, a request for help included; BadDate where a HOLIDAY is no day YYYY-MM-DD
+/// from 1990-01-01 to 2110-12-31; BadWord where CHILD is no plain number from 1 to 9,999,999, ROUND
+/// no plain number or SCHOOL no code. It costs what the length of the words costs.
 pub fn action<'a>(alloc: Global, words: &'a [&'a str]) -> Result<Action<'a>, WordsFault>
     ensures reads { ReadsWords (map (λ w. w.now) words.entry.now) result }
     ensures in_range { IfOk result IsInRange }
