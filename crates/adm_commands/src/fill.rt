@@ -14,11 +14,12 @@ ghost use Rattle.adm_commands.specs.Fill.{tests, is_vacant, fill_lots, draw_of_f
 
 use crate::failing::first_failing;
 use crate::one_row::{one, one_place};
+use crate::pairs::pairs_for;
 use crate::tried::{Tried, refused};
 use adm_draws::has_repeated_lot;
 use adm_register::draws_so_far::{DrawsSoFar, draws_so_far, is_due};
 use adm_register::{Difference, Tables};
-use adm_round::{Pair, drawn};
+use adm_round::drawn;
 use adm_table::Shared;
 use adm_types::limits::{MOST_DRAWS, MOST_LOTS};
 use adm_types::{
@@ -132,23 +133,6 @@ fn lots_for(
 {
     let pairs = pairs_for(alloc, school, children)?;
     drawn(alloc, pairs, numbers)
-}
-
-/// The school with each of the children.
-fn pairs_for(
-    alloc: Global,
-    school: SchoolCode,
-    children: &[Shared<Child>],
-) -> Result<Vec<Pair>, AllocError>
-    ensures { IfOk result (λ pairs. pairs.items ≡ map (λ child. record { school = school; child = child.no }) children.now) }
-{
-    children
-        .iter()
-        .map(|child| Pair {
-            school,
-            child: child.as_ref().no,
-        })
-        .collect(alloc)
 }
 
 /// The draw by which the child was moved to the school, as the one row that is put.

@@ -20,6 +20,7 @@ mod name_plan;
 mod not_done;
 mod offered;
 mod one_row;
+mod pairs;
 mod problems;
 mod proposals;
 mod raise_pan;
@@ -33,6 +34,7 @@ pub use laws::{
     some_step,
 };
 pub use not_done::NotDone;
+pub use pairs::{fill_pairs, round_pairs};
 pub use problems::{DrawFault, problem};
 pub use proposals::{Proposal, decide, propose};
 pub use what_ifs::{NotTold, what_if};

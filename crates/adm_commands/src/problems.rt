@@ -4,11 +4,11 @@ ghost use Rattle.adm_commands.specs.Round.{entrants, sites, round_lots, round_ma
 ghost use Rattle.adm_commands.specs.Problem.{lots_fault};
 ghost use Rattle.adm_commands.specs.declared.problems.DrawFault.TheVariants.{Memory};
 
-use crate::entrants::{entrants, sites};
+use crate::pairs::{Wants, wants_of};
 use adm_draws::has_repeated_lot;
 use adm_match::Problem;
 use adm_register::{Register, Tables};
-use adm_round::{Applicant, Site, drawn, problem_of, wanted_pairs};
+use adm_round::{Applicant, Site, drawn, problem_of};
 use adm_types::Lot;
 use std::alloc::{AllocError, Global};
 
@@ -55,9 +55,11 @@ pub(crate) fn parts_of(old: &Tables, alloc: Global, lots: &[u32]) -> Result<Part
     ensures counted { IfOk result (λ parts. parts.counted ≡ is_lot_count old.now lots.now) }
     ensures apart { IfOk result (λ parts. parts.apart ≡ are_lots_apart old.now lots.now) }
 {
-    let sites = sites(old, alloc)?;
-    let applicants = entrants(old, alloc)?;
-    let pairs = wanted_pairs(alloc, &sites, &applicants)?;
+    let Wants {
+        sites,
+        applicants,
+        pairs,
+    } = wants_of(old, alloc)?;
     let counted = lots.len() == pairs.len();
     let drawn = drawn(alloc, pairs, lots)?;
     let apart = !has_repeated_lot(alloc, &drawn)?;

@@ -1,0 +1,84 @@
+// For whom lots are drawn, in their order.
+ghost use Rattle.std.specs.Prelude.{◌≡◌, IfOk, map};
+ghost use Rattle.adm_commands.specs.Round.{entrants, sites, round_pairs};
+ghost use Rattle.adm_commands.specs.Fill.{fill_pairs};
+
+use crate::entrants::{entrants, sites};
+use adm_register::{Register, Tables};
+use adm_round::{Applicant, Pair, Site, wanted_pairs};
+use adm_table::Shared;
+use adm_types::{Child, SchoolCode};
+use std::alloc::{AllocError, Global};
+
+/// The schools of the next round, who takes part in it, and for whom its lots are drawn.
+#[derive(Drop)]
+pub(crate) struct Wants {
+    pub(crate) sites: Vec<Site>,
+    pub(crate) applicants: Vec<Applicant>,
+    pub(crate) pairs: Vec<Pair>,
+}
+
+/// They are worked out by the same steps whether a round is held or its pairs are asked for.
+pub(crate) fn wants_of(old: &Tables, alloc: Global) -> Result<Wants, AllocError>
+    ensures sites { IfOk result (λ wants. wants.sites.items ≡ sites old.now) }
+    ensures applicants { IfOk result (λ wants. wants.applicants.items ≡ entrants old.now) }
+    ensures pairs { IfOk result (λ wants. wants.pairs.items ≡ round_pairs old.now) }
+{
+    let sites = sites(old, alloc)?;
+    let applicants = entrants(old, alloc)?;
+    let pairs = wanted_pairs(alloc, &sites, &applicants)?;
+    Ok(Wants {
+        sites,
+        applicants,
+        pairs,
+    })
+}
+
+/// For whom lots are drawn in the next round on the register: each school with each child that takes
+/// part and wants it, by the schools' codes and then by the children's numbers. A round counts its
+/// lots by these pairs, and its first lot is the first pair's. The register stays as it is.
+///
+/// It takes memory for each site, list entry and pair, and while they are made for each application
+/// and place. What it costs grows with the list entries of those who take part, times their
+/// logarithm, with the applications and the places, and with the schools times the places of plans.
+pub fn round_pairs(register: &Register, alloc: Global) -> Result<Vec<Pair>, AllocError>
+    ensures { IfOk result (λ pairs. pairs.items ≡ round_pairs register.now) }
+{
+    let wants = wants_of(register.tables(), alloc)?;
+    Ok(wants.pairs)
+}
+
+/// The school with each of the children.
+pub(crate) fn pairs_for(
+    alloc: Global,
+    school: SchoolCode,
+    children: &[Shared<Child>],
+) -> Result<Vec<Pair>, AllocError>
+    ensures { IfOk result (λ pairs. pairs.items ≡ map (λ child. record { school = school; child = child.no }) children.now) }
+{
+    children
+        .iter()
+        .map(|child| Pair {
+            school,
+            child: child.as_ref().no,
+        })
+        .collect(alloc)
+}
+
+/// For whom lots are drawn in a fill at the school: the school with each child that waits there, by
+/// the children's numbers; none where there is no such school. A fill counts its lots by these pairs,
+/// and its first lot is the first pair's. They are the same whether or not a fill would be refused
+/// now. The register stays as it is.
+///
+/// It takes memory for each pair, and while they are made for a pointer to each application; time for
+/// each application.
+pub fn fill_pairs(
+    register: &Register,
+    alloc: Global,
+    school: SchoolCode,
+) -> Result<Vec<Pair>, AllocError>
+    ensures { IfOk result (λ pairs. pairs.items ≡ fill_pairs register.now school) }
+{
+    let waiting = register.tables().waiting_at(alloc, school)?;
+    pairs_for(alloc, school, &waiting)
+}
