@@ -1,12 +1,10 @@
 -- Each command comes to something on each well-formed register.
 use Rattle.std.proofs.Common.{◌≡◌, refl, ℕ, Option, None, Some, Ok, Err}
 use Rattle.std.specs.Prelude.{Result}
-use Rattle.adm_types.specs.declared.commands.Command.{Command}
 use Rattle.adm_types.specs.declared.commands.Refusal.{Refusal}
 use Rattle.adm_types.specs.declared.commands.Reply.{Reply}
 use Rattle.adm_register.specs.State.{State}
 use Rattle.adm_register.specs.Change.{after}
-use Rattle.adm_register.specs.WellFormed.{WellFormed}
 use Rattle.adm_commands.specs.Outcome.{SomeStep, Step, refused}
 use Rattle.adm_commands.proofs.EachCommand.{shows}
 use Rattle.adm_commands.proofs.Shows.{Laws}
