@@ -5,4 +5,5 @@ pub mod LetterLines
 pub mod Letters
 pub mod Waits
 pub mod Lists
+pub mod Pairs
 pub mod Reports
