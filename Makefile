@@ -8,7 +8,7 @@
 #   make wrong-bodies  those that the gate leaves to the hand, each of which must be refused
 #   make sweep    each request of the built program for memory refused, in turn: what is answered and left then; some minutes
 #   make bench    what commands cost, beside a baseline in the same run
-#   make install  the program, admissions-backup and admissions-restore; PREFIX=/usr/local by default
+#   make install  the program and the office's tools beside it (docs/OPERATIONS.md lists them); PREFIX=/usr/local by default
 PREFIX ?= /usr/local
 EXAMPLES := first_path applications season
 
@@ -51,3 +51,4 @@ install: build
 	install -D -m 755 bin/admissions $(DESTDIR)$(PREFIX)/bin/admissions
 	install -D -m 755 tools/backup $(DESTDIR)$(PREFIX)/bin/admissions-backup
 	install -D -m 755 tools/restore $(DESTDIR)$(PREFIX)/bin/admissions-restore
+	install -D -m 755 tools/lots $(DESTDIR)$(PREFIX)/bin/admissions-lots
