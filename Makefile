@@ -51,4 +51,6 @@ install: build
 	install -D -m 755 bin/admissions $(DESTDIR)$(PREFIX)/bin/admissions
 	install -D -m 755 tools/backup $(DESTDIR)$(PREFIX)/bin/admissions-backup
 	install -D -m 755 tools/restore $(DESTDIR)$(PREFIX)/bin/admissions-restore
-	install -D -m 755 tools/lots $(DESTDIR)$(PREFIX)/bin/admissions-lots
+	for tool in lots query letters audit; do install -D -m 755 tools/$$tool $(DESTDIR)$(PREFIX)/bin/admissions-$$tool || exit 1; done
+	install -d $(DESTDIR)$(PREFIX)/share/admissions/queries
+	install -m 644 queries/*.sql $(DESTDIR)$(PREFIX)/share/admissions/queries
