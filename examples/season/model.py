@@ -3,11 +3,12 @@
 
 It makes up a town of 20 schools and 600 children, their applications and lots (from a fixed seed), and allots the places by deferred acceptance as
 Gale and Shapley told it in 1962: each child asks the schools of its list in turn, and each school keeps those that rank first. It counts positions
-on waiting lists, fills vacancies from them, and writes letters, a list and a report. From that it writes the files of the season, and `expected`:
-what the program must print. It shares no code with the program.
+on waiting lists, fills vacancies from them, and writes letters, a list and a report; it counts worklists and figures, and whom a school turned away.
+From that it writes the files of the season, and `expected`: what the program and the tools beside it must print. It shares no code with them.
 """
 import csv
 import datetime
+import io
 import json
 import math
 import os
@@ -21,6 +22,16 @@ WIDTHS = (5, 9, 4, 9)
 
 def number(day):
     return (datetime.date.fromisoformat(day) - EPOCH).days
+
+
+def later(day, days):
+    return (datetime.date.fromisoformat(day) + datetime.timedelta(days=days)).isoformat()
+
+
+def csv_lines(*rows):
+    out = io.StringIO()
+    csv.writer(out, lineterminator="\n").writerows(rows)
+    return out.getvalue().splitlines()
 
 
 def metres(a, b):
@@ -50,6 +61,8 @@ class Season:
     def __init__(self):
         self.schools, self.children, self.lists = {}, {}, {}
         self.places, self.left, self.rounds, self.draws = {}, set(), [], []
+        # of each draw the lots by school and child, what each child has after it, and who did not have that before
+        self.drawn = []
 
     def wanted(self, child):
         held = self.places.get(child)
@@ -93,6 +106,9 @@ class Season:
         for child in fresh:
             self.place(child, has[child], "offered", day)
         self.draws.append((len(self.draws) + 1, len(self.rounds) + 1, "", day))
+        self.drawn.append((lot, {child: has.get(child) for child in asks}, set(fresh)))
+        quotas = {school: max(0, self.schools[school]["pan"] - plans.count(school)) for school in self.schools}
+        self.asked = (asks, own, quotas)
         counts = (len(fresh), len(has) - len(fresh), len(self.lists) - len(has))
         self.rounds.append((len(self.draws), day, {child: has.get(child) for child in sorted(self.lists)}, counts))
         return {"done": True, "kept": counts[1], "offers": counts[0], "round": len(self.rounds), "unplaced": counts[2]}
@@ -112,6 +128,7 @@ class Season:
         first = min(there, key=lambda it: (*standing(self.schools[school], self.children[it]), lot[it]))
         self.place(first, school, "offered", day)
         self.draws.append((len(self.draws) + 1, 0, school, day))
+        self.drawn.append(({(school, child): it for child, it in lot.items()}, {first: school}, {first}))
         return {"child": first, "done": True}
 
     def give_up(self, child):
@@ -152,6 +169,101 @@ class Season:
         return [f"Round {at}, draw {draw}, {day}", *rows, f"Offers {offers}, kept {kept}, unplaced {unplaced}"]
 
 
+    def key(self, school, child, lots):
+        return (*standing(self.schools[school], self.children[child]), lots[school, child])
+
+    def audit_lines(self, school):
+        """What an audit of the last round tells of a school."""
+        draw, at, _, day = self.draws[-1]
+        (lots, has, fresh), (asks, own, quotas) = self.drawn[-1], self.asked
+        told = lambda child: "class {}, {} metres, lot {}".format(*self.key(school, child, lots))
+        there = [child for child in has if has[child] == school]
+        last = max((child for child in there if own.get(child) != school), key=lambda it: self.key(school, it, lots))
+        rather = lambda child: school in asks[child] and (has[child] is None or asks[child].index(school) < asks[child].index(has[child]))
+        lines = [f"Round {at}, draw {draw}, {day}: {len(has)} children, {len(self.schools)} schools, {len(lots)} lots"]
+        lines += [self.report(at)[-1], f"School {school}: places {quotas[school]}, children {len(there)}, the last child {last}, {told(last)}"]
+        for child in sorted(filter(rather, has), key=lambda it: self.key(school, it, lots)):
+            mine, its = self.key(school, child, lots), self.key(school, last, lots)
+            by = "class" if mine[0] != its[0] else "distance" if mine[1] != its[1] else "lot"
+            lines.append(f"  turned away child {child}, {told(child)}: by {by}")
+        return lines + ["The outcomes are stable, and the best for each child of all that are stable"]
+
+    def lots_decided(self, draw):
+        """At which schools in a draw, and for whom, the lot alone decided: who was offered a place or refused one, with the last one's class and distance."""
+        lots, has, fresh = self.drawn[draw - 1]
+        found = []
+        for school in sorted(self.schools):
+            new = [child for child in fresh if has[child] == school]
+            if new:
+                limit = max(self.key(school, it, lots)[:2] for it in new)
+                equal = [child for code, child in lots if code == school and self.key(school, child, lots)[:2] == limit]
+                better = lambda it: has.get(it) and self.children[it]["preferences"].index(has[it]) < self.children[it]["preferences"].index(school)
+                came = {it: "offered" if it in new else "refused" for it in equal if it in new or not better(it)}
+                if "refused" in came.values():
+                    found += [(draw, school, it, *self.key(school, it, lots), came[it]) for it in sorted(came, key=lambda it: lots[school, it])]
+        return found
+
+    def last_offers(self, draw):
+        lots, has, fresh = self.drawn[draw - 1]
+        offers = {school: [child for child in fresh if has[child] == school] for school in sorted(self.schools)}
+        last = {school: max(them, key=lambda it: self.key(school, it, lots)) for school, them in offers.items() if them}
+        return [(draw, self.draws[draw - 1][3], school, len(offers[school]), it, *self.key(school, it, lots)) for school, it in last.items()]
+
+    def shares(self):
+        """How many children each round left with which of their preferences, and in tenths of a percent how many of all that is, rounded half up."""
+        rows = []
+        for at, (draw, day, outcomes, _) in enumerate(self.rounds, 1):
+            places = [str(1 + self.children[child]["preferences"].index(school)) if school else "none" for child, school in outcomes.items()]
+            for place in sorted(set(places)):
+                tenths = (2000 * places.count(place) + len(places)) // (2 * len(places))
+                rows.append((at, day, place, places.count(place), f"{tenths // 10}.{tenths % 10}"))
+        return csv_lines(("round", "day", "preference", "children", "percent"), *rows)
+
+    def offers_open(self):
+        return sorted(((it["day"], child, it) for child, it in self.places.items() if it["kind"] == "offered"), key=lambda it: it[:2])
+
+    def no_answer(self):
+        rows = [(child, self.children[child]["name"], it["school"], day, it["reminded"]) for day, child, it in self.offers_open()]
+        return csv_lines(("child", "name", "school", "offered", "reminded"), *rows)
+
+    def remind_due(self, today):
+        rows = [(child, self.children[child]["name"], it["school"], day, later(day, 14)) for day, child, it in self.offers_open() if not it["reminded"] and later(day, 14) <= today]
+        return csv_lines(("child", "name", "school", "offered", "due"), *rows)
+
+    def lapse_due(self, today):
+        rows = [(child, self.children[child]["name"], it["school"], it["reminded"], later(it["reminded"], 14)) for _, child, it in self.offers_open() if it["reminded"] and later(it["reminded"], 14) <= today]
+        return csv_lines(("child", "name", "school", "reminded", "due"), *rows)
+
+    def unplaced(self):
+        without = [(child, self.children[child]) for child in sorted(self.children) if child not in self.places]
+        rows = [(child, it["name"], it["day"], ";".join(it["preferences"]), ";".join(self.wanted(child))) for child, it in without]
+        return csv_lines(("child", "name", "applied", "preferences", "waiting"), *rows)
+
+    def places_of_schools(self):
+        kinds = {school: [it["kind"] for it in self.places.values() if it["school"] == school] for school in self.schools}
+        counts = lambda school: (*(kinds[school].count(it) for it in ("offered", "accepted", "plan")), self.vacancies(school), len(self.waiting(school)))
+        rows = [(it["school"], it["name"], it["pan"], *counts(it["school"])) for _, it in sorted(self.schools.items())]
+        return csv_lines(("school", "name", "pan", "offered", "accepted", "plans", "vacancies", "waiting"), *rows)
+
+    def child_lines(self, child):
+        it, place, rows = self.children[child], self.places.get(child), []
+        for at, school in enumerate(it["preferences"], 1):
+            came, days = "below its place", (None, None)
+            if place and place["school"] == school:
+                came, days = place["kind"], (place["day"], place["reminded"])
+            elif (child, school) in self.left:
+                came = "left"
+            elif school in self.wanted(child):
+                came = "waiting"
+            rows.append((child, it["name"], it["day"], at, school, *standing(self.schools[school], it), came, *days))
+        return csv_lines(("child", "name", "applied", "preference", "school", "class", "metres", "came", "offered", "reminded"), *rows)
+
+    def lot_lines(self, draw):
+        lots, has, _ = self.drawn[draw - 1]
+        rows = sorted((school, lot, child, self.children[child]["name"], has.get(child)) for (school, child), lot in lots.items())
+        return csv_lines(("school", "lot", "child", "name", "allotted"), *rows)
+
+
 NAMES = ["Ada", "Ben", "Chi", "Dai", "Eva", "Fay", "Gus", "Hal", "Ida", "Jan", "Kit", "Leo", "Mia", "Noé", "Oli", "Zoë"]
 SURNAMES = ["Abbot", "Bell, jr.", "Cole", "Dean", "Ewart", "Frost", 'Gray "Gee"', "Hill", "Ibbs", "Jones", "O'Neil"]
 PLACES = ["Ash", "Birch", "Cedar", "Dale", "Elm", "Fern", "Glen", "Heath", "Ivy", "Juniper"]
@@ -188,7 +300,8 @@ def main():
 
     def show(step, lines):
         steps.append(step)
-        shown.extend([f"$ admissions {step}" if step.split()[0] not in ("sqlite3", "serving") else f"$ {step}", *lines, "status 0"])
+        is_other = step.split()[0] in ("sqlite3", "serving") or step.startswith("admissions-")
+        shown.extend([f"$ {step}" if is_other else f"$ admissions {step}", *lines, "status 0"])
 
     def write(name, lines):
         with open(os.path.join(folder, name), "w", encoding="utf-8") as file:
@@ -224,8 +337,17 @@ def main():
         chance.shuffle(lots)
         return lots
 
-    lots = drawn(len(season.pairs()))
-    do("first_round.jsonl", [{"cmd": "round", "draw": 1, "day": FIRST, "lots": lots}], [season.round(FIRST, lots)])
+    def round(name, day):
+        """A backup, the round, and an audit that tells of the school that turned away fewest of those at which a lot decided, or else at all."""
+        at = len(season.rounds) + 1
+        show(f"admissions-backup reg.db before-{at}.db", [f"reg.db is backed up as before-{at}.db"])
+        lots = drawn(len(season.pairs()))
+        do(name, [{"cmd": "round", "draw": len(season.draws) + 1, "day": day, "lots": lots}], [season.round(day, lots)])
+        audits = {school: season.audit_lines(school) for school in sorted({it for it in season.drawn[-1][1].values() if it})}
+        school = min(audits, key=lambda it: (not any(line.endswith("by lot") for line in audits[it]), len(audits[it]) == 4, len(audits[it])))
+        show(f"admissions-audit before-{at}.db reg.db --school {school}", audits[school])
+
+    round("first_round.jsonl", FIRST)
 
     # most accept, some decline, and one is reminded
     offered = sorted(child for child, it in season.places.items() if it["kind"] == "offered")
@@ -244,6 +366,9 @@ def main():
             season.places[child].update(kind="accepted", day=None)
     do("answers.jsonl", answers, [done] * len(answers))
     show(f"letter reg.db {silent}", season.letter(silent))
+    show("admissions-query reg.db no-answer", season.no_answer())
+    for day in ("2025-03-30", "2025-03-31"):
+        show(f"admissions-query reg.db lapse-due --day {day}", season.lapse_due(day))
 
     # the silent child's offer lapses; some leave a list; two vacancies are filled
     summer, said = [{"cmd": "lapse", "child": silent, "school": season.places[silent]["school"], "day": "2025-03-31"}], [done]
@@ -253,14 +378,23 @@ def main():
         summer.append({"cmd": "leave_list", "child": child, "school": school})
         season.left.add((child, school))
         said.append(done)
+    fills = []
     for day in ["2025-04-01", "2025-04-02"]:
         school = max(sorted(season.schools), key=lambda it: (season.vacancies(it) > 0) * len(season.waiting(it)))
         lots = drawn(len(season.waiting(school)))
+        if not fills:
+            # the supervisor hands the drawn lots back in another order, as a spreadsheet writes them
+            there = sorted(it[1] for it in season.waiting(school))
+            rows = [f"{school};{child};{lot}\r" for child, lot in zip(there, lots)]
+            random.Random(1).shuffle(rows)
+            write("fill.pairs", [f"{school} {child}" for child in there])
+            write("fill.csv", ["\ufeffSchool;Child;Lot\r", *rows])
+            fills.append(f"admissions-lots fill.pairs fill.csv --number {len(season.draws) + 1} --day {day} --school {school}")
         summer.append({"cmd": "fill", "draw": len(season.draws) + 1, "school": school, "day": day, "lots": lots})
         said.append(season.fill(school, day, lots))
+    show(fills[0], [compact(summer[-2])])
     do("summer.jsonl", summer, said)
-    lots = drawn(len(season.pairs()))
-    do("second_round.jsonl", [{"cmd": "round", "draw": 4, "day": SECOND, "lots": lots}], [season.round(SECOND, lots)])
+    round("second_round.jsonl", SECOND)
 
     # what the office sends and hangs out
     unplaced = next(it for it in sorted(season.lists) if it not in season.places and len(season.wanted(it)) > 2)
@@ -269,6 +403,20 @@ def main():
     longest = max(sorted(season.schools), key=lambda it: len(season.waiting(it)))
     show(f"list reg.db {longest}", season.list_lines(longest))
     show("round-report reg.db 2", season.report(2))
+
+    # worklists and figures of the office
+    show("admissions-query reg.db no-answer", season.no_answer())
+    show("admissions-query reg.db remind-due --day 2025-05-25", season.remind_due("2025-05-25"))
+    show("admissions-query reg.db unplaced", season.unplaced())
+    show("admissions-query reg.db vacancies", season.places_of_schools())
+    show("admissions-query reg.db preferences", season.shares())
+    draws = range(1, 1 + len(season.draws))
+    show("admissions-query reg.db last-offered", csv_lines(("draw", "day", "school", "offers", "child", "class", "metres", "lot"), *(it for draw in draws for it in season.last_offers(draw))))
+    decided = [it for draw in draws for it in season.lots_decided(draw)]
+    show("admissions-query reg.db equal-at-limit", csv_lines(("draw", "school", "child", "class", "metres", "lot", "came"), *decided))
+    for child in (unplaced, said[-1]["child"], 1):
+        show(f"admissions-query reg.db child --child {child}", season.child_lines(child))
+    show("admissions-query reg.db lots --draw 2", season.lot_lines(2))
     kinds = {"offered": 1, "accepted": 2, "plan": 3}
     lines = [f"{child}|{it['school']}|{kinds[it['kind']]}|{number(it['day']) if it['day'] else ''}" for child, it in sorted(season.places.items()) if child % 10 == 1]
     lines += [f"{child}|{school}" for child, school in sorted(season.left)]
@@ -293,7 +441,7 @@ def main():
     show("serving reg.db 7 bash asks", said_to)
     write("steps", steps)
     # (the log beside the file, which holds no page, stays as the last program left it)
-    write("expected", [*shown, "files: reg.db reg.db-wal"])
+    write("expected", [*shown, "files: before-1.db before-2.db reg.db reg.db-wal"])
 
 
 main()
