@@ -223,16 +223,16 @@ class Season:
         return sorted(((it["day"], child, it) for child, it in self.places.items() if it["kind"] == "offered"), key=lambda it: it[:2])
 
     def no_answer(self):
-        rows = [(child, self.children[child]["name"], it["school"], day, it["reminded"]) for day, child, it in self.offers_open()]
-        return csv_lines(("child", "name", "school", "offered", "reminded"), *rows)
+        rows = [(child, it["school"], day, it["reminded"], self.children[child]["name"]) for day, child, it in self.offers_open()]
+        return csv_lines(("child", "school", "offered", "reminded", "name"), *rows)
 
     def remind_due(self, today):
-        rows = [(child, self.children[child]["name"], it["school"], day, later(day, 14)) for day, child, it in self.offers_open() if not it["reminded"] and later(day, 14) <= today]
-        return csv_lines(("child", "name", "school", "offered", "due"), *rows)
+        rows = [(child, it["school"], day, later(day, 14), self.children[child]["name"]) for day, child, it in self.offers_open() if not it["reminded"] and later(day, 14) <= today]
+        return csv_lines(("child", "school", "offered", "due", "name"), *rows)
 
     def lapse_due(self, today):
-        rows = [(child, self.children[child]["name"], it["school"], it["reminded"], later(it["reminded"], 14)) for _, child, it in self.offers_open() if it["reminded"] and later(it["reminded"], 14) <= today]
-        return csv_lines(("child", "name", "school", "reminded", "due"), *rows)
+        rows = [(child, it["school"], it["reminded"], later(it["reminded"], 14), self.children[child]["name"]) for _, child, it in self.offers_open() if it["reminded"] and later(it["reminded"], 14) <= today]
+        return csv_lines(("child", "school", "reminded", "due", "name"), *rows)
 
     def unplaced(self):
         without = [(child, self.children[child]) for child in sorted(self.children) if child not in self.places]
