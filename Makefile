@@ -7,6 +7,7 @@
 #   make test     every proof, wrong bodies, tests, examples and cases; its last line is 'N passed, M failed'
 #   make wrong-bodies  those that the gate leaves to the hand, each of which must be refused
 #   make sweep    each request of the built program for memory refused, in turn: what is answered and left then; some minutes
+#   make audits   admissions-audit on the rounds of 200 random registers, on files that were changed by hand, and on all allocations of small ones
 #   make bench    what commands cost, beside a baseline in the same run
 #   make install  the program and the office's tools beside it (docs/OPERATIONS.md lists them); PREFIX=/usr/local by default
 PREFIX ?= /usr/local
@@ -14,7 +15,7 @@ EXAMPLES := first_path applications season
 
 LOOKED_AT := $(addprefix examples/applications/,schools.jsonl children.jsonl applications.jsonl)
 
-.PHONY: look build demo cases test wrong-bodies sweep bench install
+.PHONY: look build demo cases test wrong-bodies sweep audits bench install
 
 look:
 	@cat $(LOOKED_AT) | tools/look
@@ -36,6 +37,9 @@ wrong-bodies:
 
 sweep: build
 	tools/sweep bin/admissions
+
+audits: build
+	bench/audit/run bin/admissions tools/audit
 
 bench: build
 	bench/first_path/run bin/admissions
