@@ -9,13 +9,14 @@
 #   make sweep    each request of the built program for memory refused, in turn: what is answered and left then; some minutes
 #   make audits   admissions-audit on the rounds of 200 random registers, on files that were changed by hand, and on all allocations of small ones
 #   make bench    what commands cost, beside a baseline in the same run
+#   make deploy-check  what is deployed (site, desk in its own network, page), on this machine alone; needs nginx, openssl, curl and chromium, no part of test
 #   make install  the program and the office's tools beside it (docs/OPERATIONS.md lists them); PREFIX=/usr/local by default
 PREFIX ?= /usr/local
 EXAMPLES := first_path applications season
 
 LOOKED_AT := $(addprefix examples/applications/,schools.jsonl children.jsonl applications.jsonl)
 
-.PHONY: look build demo cases test wrong-bodies sweep audits bench install
+.PHONY: look build demo cases test wrong-bodies sweep audits bench deploy-check install
 
 look:
 	@cat $(LOOKED_AT) | tools/look
@@ -50,6 +51,11 @@ bench: build
 	bench/versions/run bin/admissions
 	bench/http/run bin/admissions
 	bench/match/run.sh
+
+# With the program that is there, or another: make deploy-check PROGRAM=..
+PROGRAM ?= bin/admissions
+deploy-check:
+	deploy/check $(PROGRAM)
 
 install: build
 	install -D -m 755 bin/admissions $(DESTDIR)$(PREFIX)/bin/admissions
