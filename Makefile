@@ -52,8 +52,7 @@ bench: build
 	bench/http/run bin/admissions
 	bench/match/run.sh
 
-# With the program that is there, or another: make deploy-check PROGRAM=..
-PROGRAM ?= bin/admissions
+# With bin/admissions as it is there, or another: make deploy-check PROGRAM=..
 deploy-check:
 	deploy/check $(PROGRAM)
 

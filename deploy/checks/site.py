@@ -5,7 +5,7 @@ import ssl
 from checks.world import NAME
 
 ACCEPT = '{"cmd":"accept","child":1,"school":"A"}'
-QUESTION = '{"child":3,"lots":[1,2],"preferences":["B"]}'
+QUESTION = '{"child":3,"lots":[1,2,3],"preferences":["B"]}'
 
 
 def check(world, see):

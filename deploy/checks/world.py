@@ -14,21 +14,26 @@ NAME = "admissions.example"
 PEOPLE = {"jane": "office;", "alpha": "school-A;", "smith": None}
 
 REGISTER = r"""
-{"cmd":"add_school","school":"A","name":"Alpha, position 1 of 1","pan":2,"east":0,"north":0,"criteria":[]}
+{"cmd":"add_school","school":"A","name":"Alpha","pan":2,"east":0,"north":0,"criteria":[]}
 {"cmd":"add_school","school":"B","name":"Beta","pan":1,"east":1000,"north":0,"criteria":[]}
 {"cmd":"add_school","school":"C","name":"<img src=x onerror=\"document.title='hit'\">","pan":1,"east":0,"north":5000,"criteria":[]}
+{"cmd":"add_school","school":"D","name":"Delta, position 9 of 9, class 0, 1 metres","pan":1,"east":0,"north":9000,"criteria":[]}
 {"cmd":"add_child","child":1,"name":"Ada Abel","east":0,"north":100,"looked_after":false,"flags":[],"siblings":[]}
 {"cmd":"add_child","child":2,"name":"Ben Bell","east":0,"north":200,"looked_after":false,"flags":[],"siblings":[]}
 {"cmd":"add_child","child":3,"name":"Cyd Cole","east":1000,"north":2000,"looked_after":false,"flags":[],"siblings":[]}
 {"cmd":"add_child","child":4,"name":"<script>document.title='hit'</script>","east":0,"north":5000,"looked_after":false,"flags":[],"siblings":[]}
 {"cmd":"add_child","child":5,"name":"Eve Eden","east":0,"north":300,"looked_after":false,"flags":[],"siblings":[]}
 {"cmd":"add_child","child":6,"name":"Fay Ford","east":0,"north":300,"looked_after":false,"flags":[],"siblings":[]}
+{"cmd":"add_child","child":11,"name":"Gus Gale, accepted","east":0,"north":9000,"looked_after":false,"flags":[],"siblings":[]}
+{"cmd":"add_child","child":12,"name":"Hal Hill","east":0,"north":9001,"looked_after":false,"flags":[],"siblings":[]}
 {"cmd":"name_plan","child":5,"school":"A"}
 {"cmd":"apply","child":1,"day":"2024-10-31","preferences":["A"]}
 {"cmd":"apply","child":2,"day":"2024-10-31","preferences":["A","B"]}
 {"cmd":"apply","child":3,"day":"2024-10-31","preferences":["B"]}
 {"cmd":"apply","child":4,"day":"2024-10-31","preferences":["C"]}
-{"cmd":"round","draw":1,"day":"2025-03-03","lots":[10,20,10,20,10]}
+{"cmd":"apply","child":11,"day":"2024-10-31","preferences":["D"]}
+{"cmd":"apply","child":12,"day":"2024-10-31","preferences":["D"]}
+{"cmd":"round","draw":1,"day":"2025-03-03","lots":[10,20,10,20,10,10,20]}
 """
 
 
