@@ -12,12 +12,24 @@ ROUTES = ("/child/1", "/child/2/letter", "/school/A/waiting", "/round/1")
 
 
 def check(world, see):
+    units(world, see)
     reach(world, see)
     many(world, see)
     too_many(world, see)
     slow(world, see)
     leaves(world, see)
     gone(world, see)
+
+
+def units(world, see):
+    """The units as systemd reads them, with the folders of the room."""
+    folder = world.root / "usr/local/lib/systemd/system"
+    (world.root / "usr/local/bin").mkdir()
+    (world.root / "usr/local/bin/admissions").symlink_to(world.program)
+    for unit in folder.iterdir():
+        unit.write_text(unit.read_text().replace("=/usr/local/", f"={world.root}/usr/local/"))
+    said = world.run("systemd-analyze", "verify", *sorted(folder.iterdir()))
+    see("systemd takes the units, and has nothing to say of them", (said.returncode, said.stdout + said.stderr), (0, ""))
 
 
 def reach(world, see):
