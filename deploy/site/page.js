@@ -194,7 +194,8 @@ function isSure(question, yes) {
   dialog.returnValue = "no";
   dialog.showModal();
   at("sure-no").focus();
-  return new Promise((resolve) => { dialog.onclose = () => resolve(dialog.returnValue === "yes"); });
+  // The news of an earlier close may come when the dialog is open again: then it is not the answer to this question
+  return new Promise((resolve) => { dialog.onclose = () => dialog.open || resolve(dialog.returnValue === "yes"); });
 }
 
 // Sends a command, tells its answer in words, and shows the child as it is then
