@@ -33,7 +33,7 @@ def check(world, see, picture=None):
 
 
 def strangers(world, see):
-    for who in ("", "alpha", "smith"):
+    for who in ("", "alpha"):
         page = Browser(world, who)
         page.open("/")
         see(f"the page is not shown to {who or 'who is not signed in'}", page.value("document.getElementById('child-form') === null"))

@@ -23,6 +23,9 @@ def check(world, see):
     see("a command of the office is done", (lambda it: (it.status, it.body))(world.ask("/command", "jane", ACCEPT)), (200, '{"done":true}'))
     see("and refused when it comes again", (lambda it: (it.status, it.body))(world.ask("/command", "jane", ACCEPT)), (409, '{"name":"NotOffered","refused":15}'))
     see("a body in chunks is passed on whole", world.ask("/command", "jane", ACCEPT, options=("--header", "Transfer-Encoding: chunked")).body, '{"name":"NotOffered","refused":15}')
+    passwords = world.root / "etc/admissions/passwords"
+    passwords.write_text("".join(line for line in passwords.read_text().splitlines(True) if not line.startswith("smith:")))
+    see("whose password is taken out is signed in no more", world.ask("/child/1", "smith").status, 401)
     log = world.logged()
     see("the log has who sent which command, and what it came to", '"who":"jane"' in log and r'"status":"200","desk":"200"' in log and ACCEPT.replace('"', r'\"') in log)
     see("no password is in the log", any(word in log for word in world.passwords.values()), False)
