@@ -8,7 +8,7 @@ use Rattle.sqlite_wal.specs.Reads.{AreClean}
 use Rattle.sqlite_store.specs.declared.store.FileStore.{FileStore}
 use Rattle.sqlite.specs.declared.error.Error.{Error}
 use Rattle.sqlite.specs.Held.{Held}
-use Rattle.sqlite.specs.Files.{file_state, IsClosed}
+use Rattle.sqlite.specs.Files.{IsClosed}
 use Rattle.sqlite.specs.Closing.{IsCopied}
 use Rattle.adm_desk.specs.Standing.{Standing}
 use Rattle.adm_desk.specs.Written.{AnsweredUpTo, StoppedWithin}

@@ -1,6 +1,6 @@
 -- What an action comes to, from the clauses of what it calls.
 use Rattle.std.proofs.Common.{◌≡◌, ◌≢◌, ◌⊎◌, ℕ, Bool, true, false, if◌then◌else◌, nat_lt, refl, List, Option, None, Some, Result, Ok, Err, inl, inr, Bor, sym, subst}
-use Rattle.std.specs.Prelude.{IfOk, IfErr, IsTrue}
+use Rattle.std.specs.Prelude.{IfOk, IsTrue}
 use Rattle.sqlite_disk.specs.declared.Disk as disk
 use Rattle.sqlite_disk.specs.declared.Files.{Files}
 use Rattle.sqlite_wal.specs.Recovery.{Image}
@@ -13,6 +13,8 @@ use Rattle.adm_types.specs.declared.seasons.SeasonFault.{SeasonFault}
 use Rattle.adm_types.specs.declared.seasons.SeasonFault.TheVariants as season
 use Rattle.adm_words.specs.declared.actions.Action.{Action}
 use Rattle.adm_words.specs.declared.actions.Action.TheVariants as action
+use Rattle.adm_words.specs.declared.faults.WordsFault.{WordsFault}
+use Rattle.adm_words.specs.declared.faults.WordsFault.TheVariants as words
 use Rattle.sqlite.specs.Files.{file_state}
 use Rattle.sqlite.specs.Held.{Held}
 use Rattle.adm_desk.specs.Lines.{AnswersLine}
@@ -20,7 +22,7 @@ use Rattle.adm_desk.specs.Questions.{TellsLine}
 use Rattle.adm_desk.specs.Standing.{Handles, Standing}
 use Rattle.adm_desk.specs.declared.answer.Answer.{Answer}
 use Rattle.adm_desk.specs.declared.answer.Answer.TheVariants as answer
-use Rattle.adm_program.specs.Exits.{of_season, has_many_holidays, IsCauseIn, ExitsBy, exit_of_answer, ending_of, error_of, told_of, code_of}
+use Rattle.adm_program.specs.Exits.{of_season, has_many_holidays, IsCauseIn, ExitsBy, exit_of_answer, ending_of, error_of, told_of, outcome_of, exit_of_words, code_of}
 use Rattle.adm_program.specs.Opened.{Stream, IsNotOpened}
 use Rattle.adm_program.specs.Imports.{ImportsAs, ImportsFile, ImportsInto}
 use Rattle.adm_program.specs.Served.{ServesAs, ServesOver}
@@ -111,14 +113,21 @@ unmade (action.Letter file child) = inr refl
 unmade (action.List file school) = inr refl
 unmade (action.RoundReport file round) = inr refl
 
+-- words that ask for nothing
+pub refused : (fault : WordsFault) → ExitsBy (Err fault) (code_of (exit_of_words fault))
+refused (words.Words e) = refl
+refused words.BadDate = refl
+refused words.BadWord = refl
+refused words.Memory = refl
+
 module _ {D : Type 0} {g : disk.Ghosts D} where
-  pub season_made : (image : Image) (a : Action) (file : Bor (List ℕ)) (phase : Phase) (year : ℕ) (days given : List ℕ) (input output : Stream)
+  pub season_made : (image : Image) (a : Action) (file : Bor (List ℕ)) (phase : Phase) (year : ℕ) (days given : List ℕ) (rows : List ℕ → Stream) (input output : Stream)
       (e : Result Exit Fault) (closed : Result (Files D) (Error × FileStore D g)) (s : SeasonFacts) → a ≡ action.Init file phase year days → given ≡ days
       → input.new ≡ input.old → output.new ≡ output.old → (s.phase ≡ phase) × (s.year ≡ year) × IsRising given s.holidays
-      → Creates image s e closed → Does image a input output e closed
-  season_made image a file phase year days given input output e closed s is same read written facts made =
+      → Creates image s e closed → Does image a rows input output e closed
+  season_made image a file phase year days given rows input output e closed s is same read written facts made =
       let rising = subst (λ (l : List ℕ). IsRising l s.holidays) same facts.2 in
-      subst (λ (x : Action). Does image x input output e closed) (sym is) (read, written, s, facts.0, facts.1, rising, made)
+      subst (λ (x : Action). Does image x rows input output e closed) (sym is) (read, written, s, facts.0, facts.1, rising, made)
 
   created : (season : SeasonFacts) (found left : Held (FileStore D g)) (e : Result Exit Fault) (closed : Option Error) → CreatesAs season found left e
       → (status e closed ≡ 0) ⊎ (status e closed ≡ 1)
@@ -146,15 +155,15 @@ module _ {D : Type 0} {g : disk.Ghosts D} where
   lines_exit runs image input output e closed (inl left) = not_two _ (not_opened image e closed left.0)
   lines_exit runs image input output e closed (inr does) = ran runs does.0 does.2.after input output e (error_of closed) does.2.ends
 
-  file_exit : (desk : Standing (Held (FileStore D g))) (output : Stream) (e : Result Exit Fault) (closed : Result (Files D) (Error × FileStore D g))
-      → ImportsFile desk output e closed → status e (error_of closed) ≢ 2
-  file_exit desk output e closed (inl left) = not_two _ (fault_exit e _ (error_of closed) left.0)
-  file_exit desk output e closed (inr does) = imported desk does.1.after does.0 output e (error_of closed) does.1.ends
+  file_exit : (desk : Standing (Held (FileStore D g))) (file output : Stream) (e : Result Exit Fault) (closed : Result (Files D) (Error × FileStore D g))
+      → ImportsFile desk file output e closed → status e (error_of closed) ≢ 2
+  file_exit desk file output e closed (inl left) = not_two _ (fault_exit e _ (error_of closed) left.0)
+  file_exit desk file output e closed (inr does) = imported desk does.after file output e (error_of closed) does.ends
 
-  import_exit : (image : Image) (output : Stream) (e : Result Exit Fault) (closed : Result (Files D) (Error × FileStore D g)) → ImportsInto image output e closed
+  import_exit : (image : Image) (file output : Stream) (e : Result Exit Fault) (closed : Result (Files D) (Error × FileStore D g)) → ImportsInto image file output e closed
       → status e (error_of closed) ≢ 2
-  import_exit image output e closed (inl left) = not_two _ (not_opened image e closed left.0)
-  import_exit image output e closed (inr does) = file_exit does.0 output e closed does.2
+  import_exit image file output e closed (inl left) = not_two _ (not_opened image e closed left.0)
+  import_exit image file output e closed (inr does) = file_exit does.0 file output e closed does.2
 
   document_exit : (image : Image) (wanted : Document) (output : Stream) (e : Result Exit Fault) (closed : Result (Files D) (Error × FileStore D g))
       → Prints image wanted output e closed → (status e (error_of closed) ≡ 0) ⊎ (status e (error_of closed) ≡ 1)
@@ -172,21 +181,20 @@ module _ {D : Type 0} {g : disk.Ghosts D} where
   serve_exit image port count output e closed (inr does) = served does.0 does.2.after port count output e (error_of closed) does.2.ends
 
   -- what an action that was taken up did
-  made : (image : Image) (a : Action) (input output : Stream) (e : Result Exit Fault) (closed : Result (Files D) (Error × FileStore D g)) → Does image a input output e closed
+  made : (image : Image) (a : Action) (rows : List ℕ → Stream) (input output : Stream) (e : Result Exit Fault) (closed : Result (Files D) (Error × FileStore D g)) → Does image a rows input output e closed
       → ExitsBy (Ok a) (status e (error_of closed))
-  made image (action.Init file phase year days) input output e closed does =
+  made image (action.Init file phase year days) rows input output e closed does =
       created does.2 does.6.found does.6.creates.left e (error_of closed) does.6.creates.made
-  made image (action.Do file) input output e closed does = lines_exit (AnswersLine (Handles file_state)) image input output e closed does
-  made image (action.WhatIf file) input output e closed does = lines_exit TellsLine image input output e closed does
-  made image (action.Import file csv) input output e closed does = import_exit image output e closed does.1
-  made image (action.Serve file port count) input output e closed does = serve_exit image port count output e closed does.1
-  made image (action.Letter file child) input output e closed does = document_exit image (document.Letter child) output e closed does.1
-  made image (action.List file school) input output e closed does = document_exit image (document.List school) output e closed does.1
-  made image (action.RoundReport file round) input output e closed does = document_exit image (document.Report round) output e closed does.1
+  made image (action.Do file) rows input output e closed does = lines_exit (AnswersLine (Handles file_state)) image input output e closed does
+  made image (action.WhatIf file) rows input output e closed does = lines_exit TellsLine image input output e closed does
+  made image (action.Import file csv) rows input output e closed does = import_exit image (rows csv.now) output e closed does.1
+  made image (action.Serve file port count) rows input output e closed does = serve_exit image port count output e closed does.1
+  made image (action.Letter file child) rows input output e closed does = document_exit image (document.Letter child) output e closed does.1
+  made image (action.List file school) rows input output e closed does = document_exit image (document.List school) output e closed does.1
+  made image (action.RoundReport file round) rows input output e closed does = document_exit image (document.Report round) output e closed does.1
 
   -- the status of an action
-  pub exits : (image : Image) (a : Action) (input output : Stream) (r : Result (Ended D g) Fault) (x : Exit)
-      → IfOk r (λ ended. Does image a input output ended.exit ended.closed) → IfOk r (λ ended. x ≡ told_of (ending_of ended.exit (error_of ended.closed)))
-      → IfErr r (λ _. x ≡ exit.Fault) → ExitsBy (Ok a) (code_of x)
-  exits image a input output (Ok ended) x does told none = subst (λ (y : Exit). ExitsBy (Ok a) (code_of y)) (sym told) (made image a input output ended.exit ended.closed does)
-  exits image a input output (Err f) x does told none = subst (λ (y : Exit). ExitsBy (Ok a) (code_of y)) (sym none) (unmade a)
+  pub exits : (image : Image) (a : Action) (rows : List ℕ → Stream) (input output : Stream) (r : Result (Ended D g) Fault) (x : Exit)
+      → IfOk r (λ ended. Does image a rows input output ended.exit ended.closed) → x ≡ told_of (outcome_of r) → ExitsBy (Ok a) (code_of x)
+  exits image a rows input output (Ok ended) x does told = subst (λ (y : Exit). ExitsBy (Ok a) (code_of y)) (sym told) (made image a rows input output ended.exit ended.closed does)
+  exits image a rows input output (Err f) x does told = subst (λ (y : Exit). ExitsBy (Ok a) (code_of y)) (sym told) (unmade a)

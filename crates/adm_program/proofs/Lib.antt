@@ -3,3 +3,4 @@ pub mod Doing
 pub mod Importing
 pub mod NextRunLemmas
 pub mod Served
+pub mod Wording

@@ -1,5 +1,5 @@
 -- What each line of the command line does.
-use Rattle.std.specs.Prelude.{◌≡◌, Result}
+use Rattle.std.specs.Prelude.{◌≡◌, ℕ, List, Result}
 use Rattle.sqlite_disk.specs.declared.Disk as disk
 use Rattle.sqlite_disk.specs.declared.Files.{Files}
 use Rattle.sqlite_wal.specs.Recovery.{Image}
@@ -22,14 +22,14 @@ use Rattle.adm_program.specs.declared.exit.Exit.{Exit}
 use Rattle.adm_program.specs.declared.fault.Fault.{Fault}
 
 -- `init` creates the register of the season of its values, and reads and writes nothing else; `do` answers the lines, and `what-if` the questions;
--- `import` imports a file of rows; `serve` serves connections; the others print a document of the register
-abbrev pub Does : {D : Type 0} {g : disk.Ghosts D} → Image → Action → Stream → Stream → Result Exit Fault → Result (Files D) (Error × FileStore D g) → Type 0
-Does image (action.Init file phase year days) input output e closed = (input.new ≡ input.old) × (output.new ≡ output.old)
+-- `import` imports the rows of the file at its path; `serve` serves connections; the others print a document of the register
+abbrev pub Does : {D : Type 0} {g : disk.Ghosts D} → Image → Action → (List ℕ → Stream) → Stream → Stream → Result Exit Fault → Result (Files D) (Error × FileStore D g) → Type 0
+Does image (action.Init file phase year days) rows input output e closed = (input.new ≡ input.old) × (output.new ≡ output.old)
     × (season : SeasonFacts) × (season.phase ≡ phase) × (season.year ≡ year) × IsRising days season.holidays × Creates image season e closed
-Does image (action.Do file) input output e closed = Answers (AnswersLine (Handles file_state)) image input output e closed
-Does image (action.WhatIf file) input output e closed = Answers TellsLine image input output e closed
-Does image (action.Import file csv) input output e closed = (input.new ≡ input.old) × ImportsInto image output e closed
-Does image (action.Serve file port count) input output e closed = (input.new ≡ input.old) × ServesOver image port count output e closed
-Does image (action.Letter file child) input output e closed = (input.new ≡ input.old) × Prints image (document.Letter child) output e closed
-Does image (action.List file school) input output e closed = (input.new ≡ input.old) × Prints image (document.List school) output e closed
-Does image (action.RoundReport file round) input output e closed = (input.new ≡ input.old) × Prints image (document.Report round) output e closed
+Does image (action.Do file) rows input output e closed = Answers (AnswersLine (Handles file_state)) image input output e closed
+Does image (action.WhatIf file) rows input output e closed = Answers TellsLine image input output e closed
+Does image (action.Import file csv) rows input output e closed = (input.new ≡ input.old) × ImportsInto image (rows csv.now) output e closed
+Does image (action.Serve file port count) rows input output e closed = (input.new ≡ input.old) × ServesOver image port count output e closed
+Does image (action.Letter file child) rows input output e closed = (input.new ≡ input.old) × Prints image (document.Letter child) output e closed
+Does image (action.List file school) rows input output e closed = (input.new ≡ input.old) × Prints image (document.List school) output e closed
+Does image (action.RoundReport file round) rows input output e closed = (input.new ≡ input.old) × Prints image (document.Report round) output e closed

@@ -21,30 +21,32 @@ use Rattle.adm_desk.specs.declared.answer.Answer.TheVariants as answer
 use Rattle.adm_desk.specs.declared.run.Run.{Run}
 use Rattle.adm_desk.specs.declared.run.RunFault.{RunFault}
 use Rattle.adm_desk.specs.declared.run.RunFault.TheVariants as run
+use Rattle.sqlite_disk.specs.declared.Disk as disk
 use Rattle.sqlite.specs.declared.error.Error.{Error}
 use Rattle.sqlite.specs.declared.error.Error.TheVariants as error
 use Rattle.sqlite.specs.declared.error.ErrorCode.TheVariants as code
 use Rattle.adm_program.specs.declared.cause.Cause.{Cause}
 use Rattle.adm_program.specs.declared.cause.Cause.TheVariants as cause
+use Rattle.adm_program.specs.declared.ended.Ended.{Ended}
 use Rattle.adm_program.specs.declared.fault.Fault.{Fault}
 use Rattle.adm_program.specs.declared.fault.Fault.TheVariants.{TooManyHolidays, YearRange, InUse, NotOurs, Version, BadRow, Disk, Memory, Read, Write, UnknownChild, UnknownSchool, NoRound, Listen, Row}
 use Rattle.adm_program.specs.declared.exit.Exit.{Exit}
 use Rattle.adm_program.specs.declared.exit.Exit.TheVariants as exit
 
--- the name of a fault in the file of an import
-abbrev pub row_fault_name : CsvFault → List ℕ
-row_fault_name csv.Header = codes "Header"
-row_fault_name csv.FieldCount = codes "FieldCount"
-row_fault_name csv.BadNumber = codes "BadNumber"
-row_fault_name csv.BadDate = codes "BadDate"
-row_fault_name csv.BadText = codes "BadText"
-row_fault_name csv.TooManyRows = codes "TooManyRows"
-row_fault_name csv.Read = codes "Read"
-row_fault_name csv.Memory = codes "Memory"
+-- what follows the row of a fault in the file of an import: a colon, the fault's name and LF
+abbrev pub row_fault_end : CsvFault → List ℕ
+row_fault_end csv.Header = codes ": Header\n"
+row_fault_end csv.FieldCount = codes ": FieldCount\n"
+row_fault_end csv.BadNumber = codes ": BadNumber\n"
+row_fault_end csv.BadDate = codes ": BadDate\n"
+row_fault_end csv.BadText = codes ": BadText\n"
+row_fault_end csv.TooManyRows = codes ": TooManyRows\n"
+row_fault_end csv.Read = codes ": Read\n"
+row_fault_end csv.Memory = codes ": Memory\n"
 
--- the row, and the name of its fault
+-- the row, and what follows it
 abbrev pub row_text : ℕ → List ℕ → List ℕ
-row_text row name = codes "fault: row " ++ (decimal row ++ (codes ": " ++ (name ++ codes "\n")))
+row_text row end = codes "fault: row " ++ (decimal row ++ end)
 
 -- the name of the fault, and where its cause is known a second line
 abbrev pub disk_text : Option Cause → List ℕ
@@ -72,7 +74,7 @@ text_of UnknownChild = codes "fault: UnknownChild\n"
 text_of UnknownSchool = codes "fault: UnknownSchool\n"
 text_of NoRound = codes "fault: NoRound\n"
 text_of Listen = codes "fault: Listen\n"
-text_of (Row fault) = row_text fault.row (row_fault_name fault.fault)
+text_of (Row fault) = row_text fault.row (row_fault_end fault.fault)
 
 -- ---- each fault keeps its name
 
@@ -182,10 +184,20 @@ abbrev pub told_of : Result Exit Fault → Exit
 told_of (Ok e) = e
 told_of (Err fault) = exit.Fault
 
+-- words that ask for nothing, or memory ran out while they were read
+abbrev pub exit_of_words : WordsFault → Exit
+exit_of_words words.Memory = exit.Fault
+exit_of_words fault = exit.Words
+
 -- why a close failed
 abbrev pub error_of : {X Y : Type 0} → Result X (Error × Y) → Option Error
 error_of (Ok files) = None
 error_of (Err e) = Some e.0
+
+-- how a line ended that was taken up or came to nothing
+abbrev pub outcome_of : {D : Type 0} {g : disk.Ghosts D} → Result (Ended D g) Fault → Result Exit Fault
+outcome_of (Ok e) = ending_of e.exit (error_of e.closed)
+outcome_of (Err fault) = Err fault
 
 -- what the words were read as: `init` and what prints a text end with 0 or 1, `do`, `what-if` and `import` never with 2, and `serve` with 0, 1 or 4; 2 where they ask for nothing
 abbrev pub ExitsBy : Result Action WordsFault → ℕ → Type 0

@@ -49,11 +49,11 @@ module _ {D : Type 0} {g : disk.Ghosts D} where
     pub ends : ImportsAs desk after file output e
     pub closes : Closes after.conn closed
 
-  -- the file of the rows is not opened, and nothing is changed or written; or its rows are imported
-  abbrev pub ImportsFile : Standing (Held (FileStore D g)) → Stream → Result Exit Fault → Result (Files D) (Error × FileStore D g) → Type 0
-  ImportsFile desk output e closed =
-      ((e ≡ Err (fault.Row (record { row = 0; fault = Read }))) × (output.new ≡ output.old) × Closes desk.conn closed) ⊎ ((file : Stream) × Imports desk file output e closed)
+  -- the open of the file failed, and nothing is changed or written; or its rows are imported
+  abbrev pub ImportsFile : Standing (Held (FileStore D g)) → Stream → Stream → Result Exit Fault → Result (Files D) (Error × FileStore D g) → Type 0
+  ImportsFile desk file output e closed =
+      ((e ≡ Err (fault.Row (record { row = 0; fault = Read }))) × (file.has_failed ≡ true) × (output.new ≡ output.old) × Closes desk.conn closed) ⊎ Imports desk file output e closed
 
   -- the same over files that held this
-  abbrev pub ImportsInto : Image → Stream → Result Exit Fault → Result (Files D) (Error × FileStore D g) → Type 0
-  ImportsInto image output e closed = Opens image output e closed (λ desk. ImportsFile desk output e closed)
+  abbrev pub ImportsInto : Image → Stream → Stream → Result Exit Fault → Result (Files D) (Error × FileStore D g) → Type 0
+  ImportsInto image file output e closed = Opens image (output.new ≡ output.old) e closed (λ desk. ImportsFile desk file output e closed)

@@ -49,9 +49,9 @@ module _ {D : Type 0} {g : disk.Ghosts D} where
     pub ends : EndsAs runs desk after input output e
     pub closes : Closes after.conn closed
 
-  -- a desk has the register that the files stood for, and runs the lines
+  -- a desk has the register that the files stood for, and runs the lines; nothing is read or written before it has
   abbrev pub Answers : Liner (Standing (Held (FileStore D g))) → Image → Stream → Stream → Result Exit Fault → Result (Files D) (Error × FileStore D g) → Type 0
-  Answers runs image input output e closed = Opens image output e closed (λ desk. Runs runs desk input output e closed)
+  Answers runs image input output e closed = Opens image ((input.new ≡ input.old) × (output.new ≡ output.old)) e closed (λ desk. Runs runs desk input output e closed)
 
   -- what a create leaves
   abbrev pub CreatesAs : SeasonFacts → Held (FileStore D g) → Held (FileStore D g) → Result Exit Fault → Type 0

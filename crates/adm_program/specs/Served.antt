@@ -9,7 +9,7 @@ use Rattle.sqlite.specs.declared.error.Error.{Error}
 use Rattle.sqlite.specs.Held.{Held}
 use Rattle.sqlite.specs.Files.{file_state}
 use Rattle.adm_http.specs.Purposes.{RunsBody}
-use Rattle.adm_desk.specs.Standing.{Handles, Standing}
+use Rattle.adm_desk.specs.Standing.{Standing}
 use Rattle.adm_http.specs.Connections.{AnswersUpTo}
 use Rattle.adm_http.specs.Shows.{Shows}
 use Rattle.adm_program.specs.Opened.{Stream, Closes, Opens}
@@ -40,7 +40,7 @@ module _ {D : Type 0} {g : disk.Ghosts D} where
 
   -- the same over files that held this
   abbrev pub ServesOver : Image → ℕ → ℕ → Stream → Result Exit Fault → Result (Files D) (Error × FileStore D g) → Type 0
-  ServesOver image port count output e closed = Opens image output e closed (λ desk. Serves desk port count output e closed)
+  ServesOver image port count output e closed = Opens image (output.new ≡ output.old) e closed (λ desk. Serves desk port count output e closed)
 
 -- ---- for a private clause
 

@@ -44,7 +44,7 @@ PrintsAs (Err f) output e = (e ≡ Err f) × (output.new ≡ output.old)
 
 -- the document of the register is printed, which changes nothing
 abbrev pub Prints : {D : Type 0} {g : disk.Ghosts D} → Image → Document → Stream → Result Exit Fault → Result (Files D) (Error × FileStore D g) → Type 0
-Prints image wanted output e closed = Opens image output e closed (λ desk. PrintsAs (text_in desk.register wanted) output e × Closes desk.conn closed)
+Prints image wanted output e closed = Opens image (output.new ≡ output.old) e closed (λ desk. PrintsAs (text_in desk.register wanted) output e × Closes desk.conn closed)
 
 -- ---- for a private clause
 

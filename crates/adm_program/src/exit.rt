@@ -1,8 +1,9 @@
 // The exit status of a run.
 ghost use Rattle.std.specs.Prelude.{◌≡◌, OnOk};
-ghost use Rattle.adm_program.specs.Exits.{code_of, exit_of, exit_of_answer, exit_of_served};
+ghost use Rattle.adm_program.specs.Exits.{code_of, exit_of, exit_of_answer, exit_of_served, exit_of_words};
 
 use adm_desk::{Answer, Run};
+use adm_words::WordsFault;
 
 /// How the program exits.
 #[derive(Clone, Copy, Debug, PartialEq, Eq)]
@@ -52,6 +53,16 @@ impl Exit {
             Exit::Failed
         } else {
             Exit::Done
+        }
+    }
+
+    /// The exit of words that ask for nothing, or that could not be read for want of memory.
+    pub fn of_words(fault: &WordsFault) -> Exit
+        ensures { result ≡ exit_of_words fault.now }
+    {
+        match fault {
+            WordsFault::Memory => Exit::Fault,
+            WordsFault::Words(_) | WordsFault::BadDate | WordsFault::BadWord => Exit::Words,
         }
     }
 

@@ -1,7 +1,8 @@
 // Why a line of the command line came to nothing, and what is printed of it.
-ghost use Rattle.std.specs.Prelude.{◌≡◌, OnOk};
-ghost use Rattle.std.specs.Io.KnownBytes.{Appends};
-ghost use Rattle.adm_program.specs.Exits.{text_of, disk_text, row_text, row_fault_name, of_season, of_create, of_open, of_run, of_letter, of_error};
+ghost use Rattle.std.specs.Prelude.{◌≡◌, MatchResult};
+ghost use Rattle.adm_program.specs.Exits.{text_of, disk_text, row_text, row_fault_end, of_season, of_create, of_open, of_run, of_letter, of_error};
+ghost use Rattle.adm_program.specs.Opened.{writer};
+ghost use Rattle.adm_program.specs.Told.{Writes};
 
 use crate::cause::Cause;
 use adm_csv::RowFault;
@@ -9,8 +10,9 @@ use adm_desk::RunFault;
 use adm_letters::LetterFault;
 use adm_store::{CreateFault, OpenFault};
 use adm_types::SeasonFault;
+use adm_wire::{Output, WriteFailed};
+use itoa::Buffer;
 use sqlite::{Error, ErrorCode};
-use std::io::{self, Write};
 
 /// Why a line of the command line came to nothing.
 #[derive(Clone, Copy, Debug, PartialEq, Eq)]
@@ -38,33 +40,47 @@ pub enum Fault {
 impl Fault {
     /// Prints `fault: `, the fault's name and LF; before the name of a fault in the file of an import
     /// its row, and after Disk a line with its cause, where one is known. It takes no memory.
-    pub fn print<E: Write>(self, errors: &mut E) -> io::Result<()>
-        ensures { OnOk result (Appends (E.contents errors.old) (E.contents errors.new) (text_of self)) }
+    pub fn print<E: Output>(self, errors: &mut E) -> Result<(), WriteFailed>
+        ensures { Writes (text_of self) (writer E.Output errors.old errors.new) result }
+    {
+        match self.text() {
+            Ok(text) => print_text(text, errors),
+            Err(fault) => print_row(fault.row, row_fault_end(fault.fault), errors),
+        }
+    }
+
+    /// The text of the fault; the `Err` is that of a row, whose text has the row in it.
+    fn text(self) -> Result<&'static str, RowFault>
+        ensures { MatchResult result (λ text. text.now ≡ text_of self) (λ fault. self ≡ Fault.Row fault) }
     {
         match self {
-            Fault::TooManyHolidays => print_text("fault: TooManyHolidays\n", errors),
-            Fault::YearRange => print_text("fault: YearRange\n", errors),
-            Fault::InUse => print_text("fault: InUse\n", errors),
-            Fault::NotOurs => print_text("fault: NotOurs\n", errors),
-            Fault::Version => print_text("fault: Version\n", errors),
-            Fault::BadRow => print_text("fault: BadRow\n", errors),
-            Fault::Disk(cause) => print_text(disk_text(cause), errors),
-            Fault::Memory => print_text("fault: Memory\n", errors),
-            Fault::Read => print_text("fault: Read\n", errors),
-            Fault::Write => print_text("fault: Write\n", errors),
-            Fault::UnknownChild => print_text("fault: UnknownChild\n", errors),
-            Fault::UnknownSchool => print_text("fault: UnknownSchool\n", errors),
-            Fault::NoRound => print_text("fault: NoRound\n", errors),
-            Fault::Listen => print_text("fault: Listen\n", errors),
-            Fault::Row(fault) => print_row(fault.row, row_fault_name(fault.fault), errors),
+            Fault::TooManyHolidays => Ok("fault: TooManyHolidays\n"),
+            Fault::YearRange => Ok("fault: YearRange\n"),
+            Fault::InUse => Ok("fault: InUse\n"),
+            Fault::NotOurs => Ok("fault: NotOurs\n"),
+            Fault::Version => Ok("fault: Version\n"),
+            Fault::BadRow => Ok("fault: BadRow\n"),
+            Fault::Disk(cause) => Ok(disk_text(cause)),
+            Fault::Memory => Ok("fault: Memory\n"),
+            Fault::Read => Ok("fault: Read\n"),
+            Fault::Write => Ok("fault: Write\n"),
+            Fault::UnknownChild => Ok("fault: UnknownChild\n"),
+            Fault::UnknownSchool => Ok("fault: UnknownSchool\n"),
+            Fault::NoRound => Ok("fault: NoRound\n"),
+            Fault::Listen => Ok("fault: Listen\n"),
+            Fault::Row(fault) => Err(fault),
         }
     }
 }
 
-fn print_text<E: Write>(text: &str, errors: &mut E) -> io::Result<()>
-    ensures { OnOk result (Appends (E.contents errors.old) (E.contents errors.new) text.now) }
+/// Prints a text. At a failure a beginning of it was written.
+pub fn print_text<E: Output>(text: &str, errors: &mut E) -> Result<(), WriteFailed>
+    ensures { Writes text.now (writer E.Output errors.old errors.new) result }
 {
-    errors.write_all(text.as_bytes())
+    match errors.put(text.as_bytes()) {
+        Ok(()) => Ok(()),
+        Err(failed) => Err(failed),
+    }
 }
 
 /// The name of the fault, and where its cause is known a second line.
@@ -82,25 +98,29 @@ fn disk_text(cause: Option<Cause>) -> &'static str
     }
 }
 
-/// Prints the fault of a row in the file of an import.
-fn print_row<E: Write>(row: u64, name: &str, errors: &mut E) -> io::Result<()>
-    ensures { OnOk result (Appends (E.contents errors.old) (E.contents errors.new) (row_text row name.now)) }
+/// Prints the fault of a row in the file of an import, by the row and what follows it.
+fn print_row<E: Output>(row: u64, end: &str, errors: &mut E) -> Result<(), WriteFailed>
+    ensures { Writes (row_text row end.now) (writer E.Output errors.old errors.new) result }
 {
-    writeln!(errors, "fault: row {row}: {name}")
+    let mut digits = Buffer::new();
+    print_text("fault: row ", errors)?;
+    print_text(digits.format(row), errors)?;
+    print_text(end, errors)
 }
 
-fn row_fault_name(fault: adm_csv::Fault) -> &'static str
-    ensures { result.now ≡ row_fault_name fault }
+/// What follows the row of a fault in the file of an import: a colon, the fault's name and LF.
+fn row_fault_end(fault: adm_csv::Fault) -> &'static str
+    ensures { result.now ≡ row_fault_end fault }
 {
     match fault {
-        adm_csv::Fault::Header => "Header",
-        adm_csv::Fault::FieldCount => "FieldCount",
-        adm_csv::Fault::BadNumber => "BadNumber",
-        adm_csv::Fault::BadDate => "BadDate",
-        adm_csv::Fault::BadText => "BadText",
-        adm_csv::Fault::TooManyRows => "TooManyRows",
-        adm_csv::Fault::Read => "Read",
-        adm_csv::Fault::Memory => "Memory",
+        adm_csv::Fault::Header => ": Header\n",
+        adm_csv::Fault::FieldCount => ": FieldCount\n",
+        adm_csv::Fault::BadNumber => ": BadNumber\n",
+        adm_csv::Fault::BadDate => ": BadDate\n",
+        adm_csv::Fault::BadText => ": BadText\n",
+        adm_csv::Fault::TooManyRows => ": TooManyRows\n",
+        adm_csv::Fault::Read => ": Read\n",
+        adm_csv::Fault::Memory => ": Memory\n",
     }
 }
 

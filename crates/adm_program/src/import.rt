@@ -3,25 +3,26 @@ ghost use Rattle.std.specs.Prelude.{◌++◌, [], ◌∷◌};
 ghost use Rattle.sqlite.specs.Held.{state};
 ghost use Rattle.adm_desk.specs.Lines.{answer_text};
 ghost use Rattle.adm_program.specs.Imports.{IsHandled, Imports, ImportsFile};
+ghost use Rattle.adm_program.specs.Opened.{files, reader, writer};
 ghost use Rattle.adm_program.specs.Texts.{Puts};
 
 use crate::ended::{Ended, close};
 use crate::exit::Exit;
 use crate::fault::Fault;
 use crate::print::put;
+use crate::rows::Rows;
 use adm_csv::{RowFault, read_rows};
 use adm_desk::{Answer, Desk};
 use adm_types::{Command, ImportRow, Seq};
-use adm_wire::{Input, Output, Watched};
+use adm_wire::{Input, Output};
 use sqlite::{Alter, FileStore};
 use sqlite_disk::Disk;
 use std::alloc::Global;
-use std::fs::File;
 
 /// Writes an answer as a line. The `Err` is Write, or Memory where memory ran out before.
 fn put_answer<O: Output>(alloc: Global, output: &mut O, answer: &Answer) -> Result<(), Fault>
     ensures { Puts (answer_text answer.now ++ 10 ∷ [])
-        (record { old = O.contents output.old; new = O.contents output.new; has_failed = O.has_failed output.new }) result }
+        (writer O.Output output.old output.new) result }
 {
     let Ok(mut text) = answer.text(alloc) else {
         return Err(Fault::Memory);
@@ -40,7 +41,7 @@ fn handle_rows<S: Alter, O: Output>(
     output: &mut O,
 ) -> Result<Exit, Fault>
     ensures { IsHandled (state S.Store) desk.old desk.new rows.items
-        (record { old = O.contents output.old; new = O.contents output.new; has_failed = O.has_failed output.new }) result }
+        (writer O.Output output.old output.new) result }
 {
     let answer = desk.handle(&Command::Import(Seq::from_vec(rows)));
     match put_answer(alloc, output, &answer) {
@@ -57,8 +58,8 @@ fn import_rows<D: Disk + Drop, I: Input, O: Output>(
     output: &mut O,
 ) -> Ended<D>
     ensures { Imports desk
-        (record { old = I.remaining rows.old; new = I.remaining rows.new; has_failed = I.has_failed rows.new })
-        (record { old = O.contents output.old; new = O.contents output.new; has_failed = O.has_failed output.new })
+        (reader I.Input rows.old rows.new)
+        (writer O.Output output.old output.new)
         result.exit result.closed }
 {
     match read_rows(alloc, rows) {
@@ -71,18 +72,18 @@ fn import_rows<D: Disk + Drop, I: Input, O: Output>(
 }
 
 /// Imports the rows of the file, and closes the connection, whatever comes.
-pub fn import_file<D: Disk + Drop, O: Output>(
+pub fn import_file<D: Disk + Drop, F: Rows, O: Output>(
     rt: &HostRuntime,
     desk: Desk<FileStore<D>>,
     csv: &str,
+    rows: &mut F,
     output: &mut O,
 ) -> Ended<D>
-    ensures { ImportsFile desk
-        (record { old = O.contents output.old; new = O.contents output.new; has_failed = O.has_failed output.new })
+    ensures { ImportsFile desk (files F.Rows rows.old rows.new csv.now) (writer O.Output output.old output.new)
         result.exit result.closed }
 {
-    match File::open(rt, csv) {
-        Ok(file) => import_rows(rt.alloc(), desk, &mut Watched::new(file), output),
+    match rows.open(rt, csv) {
+        Ok(()) => import_rows(rt.alloc(), desk, rows, output),
         Err(_) => close(
             desk,
             Err(Fault::Row(RowFault {

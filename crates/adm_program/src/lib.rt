@@ -1,4 +1,4 @@
-// What each line of the command line does, over files that can be started, a reader and two writers.
+// What each line of the command line does, over files that can be started, a reader and writers.
 #![tactic(auto)]
 
 mod cause;
@@ -8,10 +8,15 @@ mod exit;
 mod fault;
 mod import;
 mod laws;
+mod lines;
 mod opening;
 mod print;
+mod rows;
 mod run;
 mod serving;
+mod telling;
 
 pub use laws::next_run;
+pub use rows::{FileRows, NotOpened, Rows};
 pub use run::run_words;
+pub use telling::tell_memory;

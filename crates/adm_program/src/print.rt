@@ -1,6 +1,6 @@
 // A text on the output, and a document of a register printed as one.
 ghost use Rattle.std.specs.Prelude.{◌≡◌, false};
-ghost use Rattle.adm_program.specs.Opened.{Closes};
+ghost use Rattle.adm_program.specs.Opened.{Closes, writer};
 ghost use Rattle.adm_program.specs.Texts.{Puts, PrintsAs, text_in};
 
 use crate::document::Document;
@@ -15,7 +15,7 @@ use std::alloc::Global;
 
 /// Writes a text. The `Err` is Write.
 pub fn put<O: Output>(output: &mut O, text: &str) -> Result<(), Fault>
-    ensures { Puts text.now (record { old = O.contents output.old; new = O.contents output.new; has_failed = O.has_failed output.new }) result }
+    ensures { Puts text.now (writer O.Output output.old output.new) result }
 {
     match output.put(text.as_bytes()) {
         Ok(()) => Ok(()),
@@ -32,7 +32,7 @@ fn print_from<S: Alter, O: Output>(
 ) -> Result<Exit, Fault>
     requires { desk.now.failed ≡ false }
     ensures { PrintsAs (text_in desk.now.register document)
-        (record { old = O.contents output.old; new = O.contents output.new; has_failed = O.has_failed output.new }) result }
+        (writer O.Output output.old output.new) result }
 {
     let Some(register) = desk.register() else {
         unreachable!()
@@ -55,7 +55,7 @@ pub fn print_document<D: Disk + Drop, O: Output>(
 ) -> Ended<D>
     requires { desk.failed ≡ false }
     ensures printed { PrintsAs (text_in desk.register document)
-        (record { old = O.contents output.old; new = O.contents output.new; has_failed = O.has_failed output.new }) result.exit }
+        (writer O.Output output.old output.new) result.exit }
     ensures closes { Closes desk.conn result.closed }
 {
     let exit = print_from(alloc, &desk, document, output);

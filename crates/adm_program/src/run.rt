@@ -1,74 +1,78 @@
-// What each line of the command line does, over a reader and two writers.
-ghost use Rattle.std.specs.Prelude.{◌≡◌, false, map, codes, IsTrue, IfOk, IfErr, OnErr, IsErrAnd};
+// What each line of the command line does, over a reader and writers.
+ghost use Rattle.std.specs.Prelude.{◌≡◌, false, codes, IsTrue, IfOk, IfErr, OnErr, IsErrAnd};
 ghost use Rattle.sqlite_wal.specs.Files.{image_at};
-ghost use Rattle.sqlite.specs.Files.{file_state};
-ghost use Rattle.adm_desk.specs.Lines.{AnswersLine};
-ghost use Rattle.adm_desk.specs.Questions.{TellsLine};
-ghost use Rattle.adm_desk.specs.Standing.{Handles};
-ghost use Rattle.adm_program.specs.Exits.{told_of, ending_of, error_of, has_many_holidays, IsCauseIn, IsOpenFault, RunsWords, IsDisk};
+ghost use Rattle.adm_program.specs.Exits.{has_many_holidays, IsCauseIn, IsOpenFault, RunsWords, IsDisk};
 ghost use Rattle.adm_program.specs.declared.fault.Fault.TheVariants.{TooManyHolidays};
 ghost use Rattle.adm_program.specs.Does.{Does};
 ghost use Rattle.adm_program.specs.Imports.{ImportsInto};
-ghost use Rattle.adm_program.specs.Runs.{Answers, Creates, CreatesIn, Runs};
+ghost use Rattle.adm_program.specs.Opened.{files, reader, writer};
+ghost use Rattle.adm_program.specs.Runs.{Creates, CreatesIn};
 ghost use Rattle.adm_program.specs.Served.{ServesOver};
 ghost use Rattle.adm_program.specs.Texts.{Prints};
+ghost use Rattle.adm_program.specs.Words.{DoesWords, texts};
 
 use crate::document::Document;
-use crate::ended::{Ended, close, ending};
+use crate::ended::Ended;
 use crate::exit::Exit;
 use crate::fault::Fault;
 use crate::import::import_file;
+use crate::lines::{do_lines, tell_lines};
 use crate::opening::{open_desk, open_file};
 use crate::print::print_document;
+use crate::rows::Rows;
 use crate::serving::serve_connections;
-use adm_desk::Desk;
+use crate::telling::{end, refuse_words};
 use adm_store::create;
 use adm_types::Season;
-use adm_wire::{Input, Output, Watched};
-use adm_words::{Action, WordsFault, action, fault_text};
+use adm_wire::{Input, Output};
+use adm_words::{Action, action};
 use sqlite::{Connection, FileFrom, FileStore, Start};
 use sqlite_disk::Disk;
 use std::alloc::Global;
-use std::io::{Read, Write};
+use std::io::Write;
 
 /// Does what the words ask for, with the program's name first, and gives the exit status:
 /// 0 done; 1 a fault, printed to `errors` as `fault: ` and its name; 2 words that ask for nothing;
-/// 3 an import or some line was refused, faulty or met want of memory; 4 the store failed.
-pub fn run_words<S: Start, I: Read + Drop, O: Write + Drop, E: Write>(
+/// 3 an import or some line was refused, faulty or met want of memory; 4 the store failed. What goes
+/// wrong with single connections while `serve` runs is printed to `log`, and nothing else is. `rows`
+/// opens the file that `import` reads.
+pub fn run_words<S: Start, F: Rows, I: Input, O: Output, E: Output, L: Write>(
     rt: &HostRuntime,
     words: &[&str],
     start: S,
-    input: I,
-    output: O,
+    rows: &mut F,
+    input: &mut I,
+    output: &mut O,
     errors: &mut E,
+    log: &mut L,
 ) -> u8
-    ensures { RunsWords (map (λ w. w.now) words.entry.now) result }
+    ensures does { DoesWords ⟦<FileFrom<S> as Disk>⟧ S.Start (texts words.entry.now) (files F.Rows rows.old rows.new)
+        (reader I.Input input.old input.new) (writer O.Output output.old output.new) (writer E.Output errors.old errors.new) result }
+    ensures status { RunsWords (texts words.entry.now) result }
 {
     match action(rt.alloc(), words) {
         Ok(action) => {
-            let mut input = Watched::new(input);
-            let mut output = Watched::new(output);
-            let ended = run_action(rt, action, start, &mut input, &mut output, errors);
+            let ended = run_action(rt, action, start, rows, input, output, log);
             end(ended, errors).code()
         }
-        Err(WordsFault::Memory) => tell(Err(Fault::Memory), errors).code(),
-        Err(fault) => refuse_words(rt, &fault, errors).code(),
+        Err(fault) => refuse_words(rt.alloc(), &fault, errors).code(),
     }
 }
 
 /// Does what a line of the command line asks for. The `Err` is why there is no season of these
 /// values, or why the file was not opened; then nothing was read or written.
-fn run_action<S: Start, I: Input, O: Output, E: Write>(
+fn run_action<S: Start, F: Rows, I: Input, O: Output, L: Write>(
     rt: &HostRuntime,
     action: Action<'_>,
     start: S,
+    rows: &mut F,
     input: &mut I,
     output: &mut O,
-    errors: &mut E,
+    log: &mut L,
 ) -> Result<Ended<FileFrom<S>>, Fault>
-    ensures ok { IfOk result (λ ended. Does (image_at S.Start) action.entry
-        (record { old = I.remaining input.old; new = I.remaining input.new; has_failed = I.has_failed input.new })
-        (record { old = O.contents output.old; new = O.contents output.new; has_failed = O.has_failed output.new })
+    ensures ok { IfOk result (λ ended. Does (image_at S.Start) action.entry (files F.Rows rows.old rows.new)
+        (reader I.Input input.old input.new)
+        (writer O.Output output.old output.new)
         ended.exit ended.closed) }
     ensures err { IfErr result (IsCauseIn action.entry) }
     ensures many { IsTrue (has_many_holidays action.entry) → result ≡ Err TooManyHolidays }
@@ -86,50 +90,14 @@ fn run_action<S: Start, I: Input, O: Output, E: Write>(
         },
         Action::Do { file } => do_lines(rt, file, start, input, output),
         Action::WhatIf { file } => tell_lines(rt, file, start, input, output),
-        Action::Import { file, csv } => import(rt, file, csv, start, output),
-        Action::Serve { file, port, count } => {
-            serve(rt, file, start, port, count, output, errors)
-        }
+        Action::Import { file, csv } => import(rt, file, csv, start, rows, output),
+        Action::Serve { file, port, count } => serve(rt, file, start, port, count, output, log),
         Action::Letter { file, child } => {
             print(rt, file, start, Document::Letter(child), output)
         }
         Action::List { file, school } => print(rt, file, start, Document::List(school), output),
         Action::RoundReport { file, round } => {
             print(rt, file, start, Document::Report(round), output)
-        }
-    }
-}
-
-/// The exit of a line, whose fault is printed.
-fn end<D: Disk + Drop, E: Write>(ended: Result<Ended<D>, Fault>, errors: &mut E) -> Exit
-    ensures ok { IfOk ended (λ e. result ≡ told_of (ending_of e.exit (error_of e.closed))) }
-    ensures err { IfErr ended (λ _. result ≡ Exit.Fault) }
-{
-    match ended {
-        Ok(ended) => tell(ending(ended), errors),
-        Err(fault) => tell(Err(fault), errors),
-    }
-}
-
-/// Prints what is wrong with the words, or the help that they ask for.
-fn refuse_words<E: Write>(rt: &HostRuntime, fault: &WordsFault, errors: &mut E) -> Exit
-    ensures { result ≡ Exit.Words }
-{
-    if let Ok(text) = fault_text(rt.alloc(), fault) {
-        let _ = errors.write_all(text.as_bytes());
-    }
-    Exit::Words
-}
-
-/// Prints a fault. Where that fails, it is passed over.
-fn tell<E: Write>(ended: Result<Exit, Fault>, errors: &mut E) -> Exit
-    ensures { result ≡ told_of ended }
-{
-    match ended {
-        Ok(exit) => exit,
-        Err(fault) => {
-            let _ = fault.print(errors);
-            Exit::Fault
         }
     }
 }
@@ -170,104 +138,25 @@ fn create_register<D: Disk + Drop>(
     }
 }
 
-/// Answers the lines of the input over the register in the file, which is there: an open makes no
-/// file here. The `Err` is why it was not opened; then nothing was read or written.
-fn do_lines<S: Start, I: Input, O: Output>(
-    rt: &HostRuntime,
-    file: &str,
-    start: S,
-    input: &mut I,
-    output: &mut O,
-) -> Result<Ended<FileFrom<S>>, Fault>
-    ensures ok { IfOk result (λ ended. Answers (AnswersLine (Handles file_state)) (image_at S.Start)
-        (record { old = I.remaining input.old; new = I.remaining input.new; has_failed = I.has_failed input.new })
-        (record { old = O.contents output.old; new = O.contents output.new; has_failed = O.has_failed output.new })
-        ended.exit ended.closed) }
-    ensures err { IfErr result IsOpenFault }
-    ensures memory { file.now ≡ codes ":memory:" → IsErrAnd result IsDisk }
-    ensures untouched { OnErr result ((I.remaining input.new ≡ I.remaining input.old) × (O.contents output.new ≡ O.contents output.old)) }
-{
-    match open_desk(rt, file, start)? {
-        Ok(desk) => Ok(run_desk(desk, input, output)),
-        Err(ended) => Ok(ended),
-    }
-}
-
-/// Answers the lines of the input, and closes the connection, whatever comes.
-fn run_desk<D: Disk + Drop, I: Input, O: Output>(
-    mut desk: Desk<FileStore<D>>,
-    input: &mut I,
-    output: &mut O,
-) -> Ended<D>
-    ensures { Runs (AnswersLine (Handles file_state)) desk
-        (record { old = I.remaining input.old; new = I.remaining input.new; has_failed = I.has_failed input.new })
-        (record { old = O.contents output.old; new = O.contents output.new; has_failed = O.has_failed output.new })
-        result.exit result.closed }
-{
-    match desk.run_lines(input, output) {
-        Ok(run) => close(desk, Ok(Exit::of(run))),
-        Err(fault) => close(desk, Err(Fault::from(fault))),
-    }
-}
-
-/// Answers the questions of the input over the register in the file, which is there: an open makes no
-/// file here. The `Err` is why it was not opened; then nothing was read or written.
-fn tell_lines<S: Start, I: Input, O: Output>(
-    rt: &HostRuntime,
-    file: &str,
-    start: S,
-    input: &mut I,
-    output: &mut O,
-) -> Result<Ended<FileFrom<S>>, Fault>
-    ensures ok { IfOk result (λ ended. Answers TellsLine (image_at S.Start)
-        (record { old = I.remaining input.old; new = I.remaining input.new; has_failed = I.has_failed input.new })
-        (record { old = O.contents output.old; new = O.contents output.new; has_failed = O.has_failed output.new })
-        ended.exit ended.closed) }
-    ensures err { IfErr result IsOpenFault }
-    ensures memory { file.now ≡ codes ":memory:" → IsErrAnd result IsDisk }
-    ensures untouched { OnErr result ((I.remaining input.new ≡ I.remaining input.old) × (O.contents output.new ≡ O.contents output.old)) }
-{
-    match open_desk(rt, file, start)? {
-        Ok(desk) => Ok(tell_desk(desk, input, output)),
-        Err(ended) => Ok(ended),
-    }
-}
-
-/// Answers the questions of the input, and closes the connection, whatever comes.
-fn tell_desk<D: Disk + Drop, I: Input, O: Output>(
-    desk: Desk<FileStore<D>>,
-    input: &mut I,
-    output: &mut O,
-) -> Ended<D>
-    ensures { Runs TellsLine desk
-        (record { old = I.remaining input.old; new = I.remaining input.new; has_failed = I.has_failed input.new })
-        (record { old = O.contents output.old; new = O.contents output.new; has_failed = O.has_failed output.new })
-        result.exit result.closed }
-{
-    match desk.tell_lines(input, output) {
-        Ok(run) => close(desk, Ok(Exit::of(run))),
-        Err(fault) => close(desk, Err(Fault::from(fault))),
-    }
-}
-
 /// Imports the rows of the file `csv` into the register in the file, which is there. The `Err` is why
 /// it was not opened; then nothing was written.
-fn import<S: Start, O: Output>(
+fn import<S: Start, F: Rows, O: Output>(
     rt: &HostRuntime,
     file: &str,
     csv: &str,
     start: S,
+    rows: &mut F,
     output: &mut O,
 ) -> Result<Ended<FileFrom<S>>, Fault>
-    ensures ok { IfOk result (λ ended. ImportsInto (image_at S.Start)
-        (record { old = O.contents output.old; new = O.contents output.new; has_failed = O.has_failed output.new })
+    ensures ok { IfOk result (λ ended. ImportsInto (image_at S.Start) (files F.Rows rows.old rows.new csv.now)
+        (writer O.Output output.old output.new)
         ended.exit ended.closed) }
     ensures err { IfErr result IsOpenFault }
     ensures memory { file.now ≡ codes ":memory:" → IsErrAnd result IsDisk }
     ensures untouched { OnErr result (O.contents output.new ≡ O.contents output.old) }
 {
     match open_desk(rt, file, start)? {
-        Ok(desk) => Ok(import_file(rt, desk, csv, output)),
+        Ok(desk) => Ok(import_file(rt, desk, csv, rows, output)),
         Err(ended) => Ok(ended),
     }
 }
@@ -282,7 +171,7 @@ fn print<S: Start, O: Output>(
     output: &mut O,
 ) -> Result<Ended<FileFrom<S>>, Fault>
     ensures ok { IfOk result (λ ended. Prints (image_at S.Start) document
-        (record { old = O.contents output.old; new = O.contents output.new; has_failed = O.has_failed output.new })
+        (writer O.Output output.old output.new)
         ended.exit ended.closed) }
     ensures err { IfErr result IsOpenFault }
     ensures memory { file.now ≡ codes ":memory:" → IsErrAnd result IsDisk }
@@ -296,24 +185,24 @@ fn print<S: Start, O: Output>(
 
 /// Serves connections to a port over the register in the file, which is there. The `Err` is why it was
 /// not opened; then nothing was written.
-fn serve<S: Start, O: Output, E: Write>(
+fn serve<S: Start, O: Output, L: Write>(
     rt: &HostRuntime,
     file: &str,
     start: S,
     port: u16,
     count: u32,
     output: &mut O,
-    errors: &mut E,
+    log: &mut L,
 ) -> Result<Ended<FileFrom<S>>, Fault>
     ensures ok { IfOk result (λ ended. ServesOver (image_at S.Start) port count
-        (record { old = O.contents output.old; new = O.contents output.new; has_failed = O.has_failed output.new })
+        (writer O.Output output.old output.new)
         ended.exit ended.closed) }
     ensures err { IfErr result IsOpenFault }
     ensures memory { file.now ≡ codes ":memory:" → IsErrAnd result IsDisk }
     ensures untouched { OnErr result (O.contents output.new ≡ O.contents output.old) }
 {
     match open_desk(rt, file, start)? {
-        Ok(desk) => Ok(serve_connections(rt, desk, port, count, output, errors)),
+        Ok(desk) => Ok(serve_connections(rt, desk, port, count, output, log)),
         Err(ended) => Ok(ended),
     }
 }

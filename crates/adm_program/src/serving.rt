@@ -1,5 +1,6 @@
 // Connections to a port, served over a desk.
 ghost use Rattle.std.specs.Prelude.{◌≡◌, IfOk, IfErr, string_bytes};
+ghost use Rattle.adm_program.specs.Opened.{writer};
 ghost use Rattle.adm_program.specs.Served.{IsListenFault, Serves, serving_text};
 ghost use Rattle.adm_program.specs.Texts.{Puts};
 
@@ -26,7 +27,7 @@ fn serving_text(alloc: Global, port: u16) -> Result<String, AllocError>
 /// Prints that the port is served. The `Err` is Write, or Memory where memory ran out before.
 fn put_serving<O: Output>(alloc: Global, port: u16, output: &mut O) -> Result<(), Fault>
     ensures { Puts (serving_text port)
-        (record { old = O.contents output.old; new = O.contents output.new; has_failed = O.has_failed output.new }) result }
+        (writer O.Output output.old output.new) result }
 {
     match serving_text(alloc, port) {
         Ok(text) => put(output, text.as_str()),
@@ -50,22 +51,22 @@ fn listen(rt: &HostRuntime, port: u16) -> Result<(Routes, TcpListener), Fault>
 
 /// Prints that the port is served, serves as many connections over the desk, and closes its own
 /// connection, whatever comes.
-pub fn serve_connections<D: Disk + Drop, O: Output, E: Write>(
+pub fn serve_connections<D: Disk + Drop, O: Output, L: Write>(
     rt: &HostRuntime,
     mut desk: Desk<FileStore<D>>,
     port: u16,
     count: u32,
     output: &mut O,
-    errors: &mut E,
+    log: &mut L,
 ) -> Ended<D>
     ensures { Serves desk port count
-        (record { old = O.contents output.old; new = O.contents output.new; has_failed = O.has_failed output.new })
+        (writer O.Output output.old output.new)
         result.exit result.closed }
 {
     match listen(rt, port) {
         Ok((routes, listener)) => match put_serving(rt.alloc(), port, output) {
             Ok(()) => {
-                let status = serve_on(rt, rt.alloc(), &routes, &mut desk, &listener, count, errors);
+                let status = serve_on(rt, rt.alloc(), &routes, &mut desk, &listener, count, log);
                 close(desk, Ok(Exit::of_served(status)))
             }
             Err(fault) => close(desk, Err(fault)),

@@ -11,7 +11,7 @@ use Rattle.adm_program.proofs.run.run_action.Goals as goal
 
 pub returns-in-Ok-clause-ok : goal.returns-in-Ok-clause-ok
 returns-in-Ok-clause-ok g c =
-    if_ok (λ ended made. season_made _ _ _ _ _ _ _ _ _ _ _ c.in-Ok.season c.in-Init.is c.as_slice.ensures refl refl c.in-Ok.ensures.season made) c.init.result c.init.ensures.ok
+    if_ok (λ ended made. season_made _ _ _ _ _ _ _ _ _ _ _ _ c.in-Ok.season c.in-Init.is c.as_slice.ensures refl refl c.in-Ok.ensures.season made) c.init.result c.init.ensures.ok
 
 pub returns-in-Err-clause-err : goal.returns-in-Err-clause-err
 returns-in-Err-clause-err g c =

@@ -7,7 +7,7 @@ use Rattle.adm_program.specs.Runs.{EndsAs}
 use Rattle.adm_program.specs.declared.exit.Exit.{Exit}
 use Rattle.adm_program.specs.declared.fault.Fault.{Fault}
 use Rattle.adm_program.proofs.Closing.{stops}
-use Rattle.adm_program.proofs.run.run_desk.Goals as goal
+use Rattle.adm_program.proofs.lines.run_desk.Goals as goal
 
 pub returns-in-Ok : goal.returns-in-Ok
 returns-in-Ok g c =

@@ -1,0 +1,73 @@
+-- What a line of words comes to and what is told of it, from the clauses of what it calls.
+use Rattle.std.proofs.Common.{◌≡◌, ℕ, zero, suc, ◌+◌, List, [], ◌∷◌, ◌++◌, length, take, Bool, Option, Result, Ok, Err, inl, inr, refl, sym, ap, subst}
+use Rattle.std.specs.Prelude.{IfOk, IfErr, OnErr, IsTrue}
+use Rattle.std.specs.Io.KnownBytes.{Appends}
+use Rattle.std.specs.Result.{IsErr}
+use Rattle.std.proofs.KnownBytes.{Appends-trans}
+use Rattle.std.proofs.Math.Seq.{take-append-add}
+use Rattle.sqlite_disk.specs.declared.Disk as disk
+use Rattle.sqlite_disk.specs.declared.start.Start as start
+use Rattle.sqlite_wal.specs.Files.{image_at}
+use Rattle.adm_words.specs.Lines.{ReadsWords}
+use Rattle.adm_words.specs.declared.actions.Action.{Action}
+use Rattle.adm_program.specs.Exits.{has_many_holidays, IsCauseIn, outcome_of, told_of, code_of}
+use Rattle.adm_program.specs.Opened.{Stream}
+use Rattle.adm_program.specs.Told.{IsCut, Writes, Tells, TellsOutcome}
+use Rattle.adm_program.specs.Does.{Does}
+use Rattle.adm_program.specs.Words.{DoesWords}
+use Rattle.adm_program.specs.declared.ended.Ended.{Ended}
+use Rattle.adm_program.specs.declared.exit.Exit.{Exit}
+use Rattle.adm_program.specs.declared.fault.Fault.{Fault}
+use Rattle.adm_program.specs.declared.fault.Fault.TheVariants.{TooManyHolidays}
+
+-- a beginning of a text is one of a longer text
+begun : (n : ℕ) (xs ys : List ℕ) → (m : ℕ) × (take m (xs ++ ys) ≡ take n xs)
+begun zero xs ys = (0, refl)
+begun (suc n) [] ys = (0, refl)
+begun (suc n) (x ∷ xs) ys = let r = begun n xs ys in (suc r.0, ap (λ (l : List ℕ). x ∷ l) r.1)
+
+-- what failed within a text failed within a longer one
+pub cut_front : (xs ys : List ℕ) (errors : Stream) → IsCut xs errors → IsCut (xs ++ ys) errors
+cut_front xs ys errors cut =
+    let r = begun cut.1 xs ys in
+    (cut.0, r.0, subst (λ (l : List ℕ). Appends errors.old errors.new l) (sym r.1) cut.2)
+
+-- a text was written, and the next failed
+pub cut_more : (xs ys : List ℕ) (a b c : Option (List ℕ)) (failed : Bool) → Appends a b xs → IsCut ys (record { old = b; new = c; has_failed = failed })
+    → IsCut (xs ++ ys) (record { old = a; new = c; has_failed = failed })
+cut_more xs ys a b c failed first cut =
+    (cut.0, length xs + cut.1, subst (λ (l : List ℕ). Appends a c l) (sym (take-append-add xs ys cut.1)) (Appends-trans a b c xs (take cut.1 ys) first cut.2))
+
+-- a text was written, and then the next
+pub writes_more : {A B : Type 0} (xs ys : List ℕ) (a b c : Option (List ℕ)) (failed : Bool) (r : Result A B) → Appends a b xs
+    → Writes ys (record { old = b; new = c; has_failed = failed }) r → Writes (xs ++ ys) (record { old = a; new = c; has_failed = failed }) r
+writes_more xs ys a b c failed (Ok x) first more = Appends-trans a b c xs ys first more
+writes_more xs ys a b c failed (Err e) first cut = cut_more xs ys a b c failed first cut
+
+-- a print that failed
+pub as_cut : {A B : Type 0} (text : List ℕ) (errors : Stream) (r : Result A B) → IsErr r → IsCut text errors → Writes text errors r
+as_cut text errors (Ok x) is cut = let none : ⊥ = cc in absurd none
+as_cut text errors (Err e) is cut = cut
+
+-- a print that fails is passed over
+pub tells : {A B : Type 0} (text : List ℕ) (errors : Stream) (r : Result A B) → Writes text errors r → Tells text errors
+tells text errors (Ok x) writes = inl writes
+tells text errors (Err e) writes = inr writes
+
+-- words that ask for an action
+pub taken : {D S : Type 0} {g : disk.Ghosts D} (first : start.Ghosts S) (given : List (List ℕ)) (a : Action) (rows : List ℕ → Stream) (input output errors : Stream) (r : Result (Ended D g) Fault) (x : Exit)
+    → ReadsWords given (Ok a) → IfOk r (λ ended. Does (image_at first) a rows input output ended.exit ended.closed) → IfErr r (IsCauseIn a)
+    → (IsTrue (has_many_holidays a) → r ≡ Err TooManyHolidays) → OnErr r ((input.new ≡ input.old) × (output.new ≡ output.old))
+    → x ≡ told_of (outcome_of r) → TellsOutcome (outcome_of r) errors → DoesWords g first given rows input output errors (code_of x)
+taken first given a rows input output errors (Ok ended) x reads does cause many kept exits told =
+    record {
+      read = Ok a;
+      reads = reads;
+      comes = inl (record { ended = ended.exit; closed = ended.closed; does = does; few = λ (t : IsTrue (has_many_holidays a)). (let e = many t in cc); told = told; exits = ap code_of exits });
+    }
+taken first given a rows input output errors (Err f) x reads does cause many kept exits told =
+    record {
+      read = Ok a;
+      reads = reads;
+      comes = inr (record { cause = f; is_cause = cause; many = λ (t : IsTrue (has_many_holidays a)). (let e = many t in cc); unread = kept.0; unwritten = kept.1; told = told; exits = ap code_of exits });
+    }

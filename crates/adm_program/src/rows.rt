@@ -1,0 +1,74 @@
+// The file of rows that an import names.
+ghost use Rattle.std.specs.Prelude.{◌≡◌, ◌||◌, ℕ, List, Option, None, false, is_err, OnOk};
+
+use adm_wire::{Input, ReadFailed, Watched};
+use std::fs::File;
+
+/// The file of rows was not opened.
+#[derive(Clone, Copy, Debug, PartialEq, Eq)]
+pub struct NotOpened;
+
+/// A reader of the rows of an import: it is set to the file that the words name.
+pub trait Rows: Input {
+    // The bytes of the file at a path, where they are known.
+    ghost bytes_at: { Self → List ℕ → Option (List ℕ) };
+
+    /// Opens the file at a path: from then on reads give its bytes. The `Err` is a failure of the
+    /// reader.
+    fn open(&mut self, rt: &HostRuntime, path: &str) -> Result<(), NotOpened>
+        ensures bytes { OnOk result (Self.remaining self.new ≡ bytes_at self.old path.now) }
+        ensures fails { Self.has_failed self.new ≡ (Self.has_failed self.old || is_err result) };
+}
+
+/// The rows of a file of the system, whose bytes no clause can know. Before it is opened each read
+/// fails.
+#[derive(Drop)]
+pub struct FileRows {
+    file: Option<Watched<File>>,
+    has_failed: bool,
+}
+
+impl FileRows {
+    /// Rows that are not opened yet, and have not failed.
+    pub fn new() -> FileRows
+        ensures { ⟦<FileRows as Input>⟧.has_failed result ≡ false }
+    {
+        FileRows {
+            file: None,
+            has_failed: false,
+        }
+    }
+}
+
+impl Input for FileRows {
+    ghost remaining = { λ _. None };
+
+    ghost has_failed = { λ s. s.has_failed };
+
+    fn read_some(&mut self, buffer: &mut [u8]) -> Result<usize, ReadFailed> {
+        if let Some(file) = &mut self.file {
+            if let Ok(count) = file.read_some(buffer) {
+                return Ok(count);
+            }
+        }
+        self.has_failed = true;
+        Err(ReadFailed)
+    }
+}
+
+impl Rows for FileRows {
+    ghost bytes_at = { λ _ _. None };
+
+    fn open(&mut self, rt: &HostRuntime, path: &str) -> Result<(), NotOpened> {
+        match File::open(rt, path) {
+            Ok(file) => {
+                self.file = Some(Watched::new(file));
+                Ok(())
+            }
+            Err(_) => {
+                self.has_failed = true;
+                Err(NotOpened)
+            }
+        }
+    }
+}
