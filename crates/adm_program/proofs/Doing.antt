@@ -112,6 +112,7 @@ unmade (action.Serve file port count) = inr (inl refl)
 unmade (action.Letter file child) = inr refl
 unmade (action.List file school) = inr refl
 unmade (action.RoundReport file round) = inr refl
+unmade (action.Pairs file school) = inr refl
 
 -- words that ask for nothing
 pub refused : (fault : WordsFault) → ExitsBy (Err fault) (code_of (exit_of_words fault))
@@ -192,6 +193,7 @@ module _ {D : Type 0} {g : disk.Ghosts D} where
   made image (action.Letter file child) rows input output e closed does = document_exit image (document.Letter child) output e closed does.1
   made image (action.List file school) rows input output e closed does = document_exit image (document.List school) output e closed does.1
   made image (action.RoundReport file round) rows input output e closed does = document_exit image (document.Report round) output e closed does.1
+  made image (action.Pairs file school) rows input output e closed does = document_exit image (document.Pairs school) output e closed does.1
 
   -- the status of an action
   pub exits : (image : Image) (a : Action) (rows : List ℕ → Stream) (input output : Stream) (r : Result (Ended D g) Fault) (x : Exit)

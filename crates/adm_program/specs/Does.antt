@@ -33,3 +33,4 @@ Does image (action.Serve file port count) rows input output e closed = (input.ne
 Does image (action.Letter file child) rows input output e closed = (input.new ≡ input.old) × Prints image (document.Letter child) output e closed
 Does image (action.List file school) rows input output e closed = (input.new ≡ input.old) × Prints image (document.List school) output e closed
 Does image (action.RoundReport file round) rows input output e closed = (input.new ≡ input.old) × Prints image (document.Report round) output e closed
+Does image (action.Pairs file school) rows input output e closed = (input.new ≡ input.old) × Prints image (document.Pairs school) output e closed

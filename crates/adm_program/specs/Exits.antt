@@ -133,6 +133,7 @@ has_many_holidays (action.Serve file port count) = false
 has_many_holidays (action.Letter file child) = false
 has_many_holidays (action.List file school) = false
 has_many_holidays (action.RoundReport file round) = false
+has_many_holidays (action.Pairs file school) = false
 
 -- why an action came to nothing: the year or the holidays are no season's, or the file was not opened, or memory ran out
 abbrev pub IsCauseIn : Action → Fault → Type 0
@@ -145,6 +146,7 @@ IsCauseIn (action.Serve file port count) f = IsOpenFault f
 IsCauseIn (action.Letter file child) f = IsOpenFault f
 IsCauseIn (action.List file school) f = IsOpenFault f
 IsCauseIn (action.RoundReport file round) f = IsOpenFault f
+IsCauseIn (action.Pairs file school) f = IsOpenFault f
 
 -- ---- exits
 
@@ -209,6 +211,7 @@ ExitsBy (Ok (action.Serve file port count)) status = (status ≡ 0) ⊎ ((status
 ExitsBy (Ok (action.Letter file child)) status = (status ≡ 0) ⊎ (status ≡ 1)
 ExitsBy (Ok (action.List file school)) status = (status ≡ 0) ⊎ (status ≡ 1)
 ExitsBy (Ok (action.RoundReport file round)) status = (status ≡ 0) ⊎ (status ≡ 1)
+ExitsBy (Ok (action.Pairs file school)) status = (status ≡ 0) ⊎ (status ≡ 1)
 ExitsBy (Err words.Memory) status = status ≡ 1
 ExitsBy (Err _) status = status ≡ 2
 

@@ -2,7 +2,7 @@
 ghost use Rattle.adm_program.specs.Texts.{Says, text_in};
 
 use crate::fault::Fault;
-use adm_letters::{letter, list_text, round_text};
+use adm_letters::{letter, list_text, pairs_text, round_text};
 use adm_register::Register;
 use adm_types::{ChildNo, SchoolCode};
 use std::alloc::Global;
@@ -16,6 +16,8 @@ pub enum Document {
     List(SchoolCode),
     /// The report of the round of a number.
     Report(u32),
+    /// For whom lots are drawn: for the next round, or for a fill at a school.
+    Pairs(Option<SchoolCode>),
 }
 
 impl Document {
@@ -27,6 +29,7 @@ impl Document {
             Document::Letter(child) => Ok(letter(alloc, register, child)?),
             Document::List(school) => Ok(list_text(alloc, register, school)?),
             Document::Report(round) => Ok(round_text(alloc, register, round)?),
+            Document::Pairs(school) => Ok(pairs_text(alloc, register, school)?),
         }
     }
 }

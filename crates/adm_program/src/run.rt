@@ -99,6 +99,9 @@ fn run_action<S: Start, F: Rows, I: Input, O: Output, L: Write>(
         Action::RoundReport { file, round } => {
             print(rt, file, start, Document::Report(round), output)
         }
+        Action::Pairs { file, school } => {
+            print(rt, file, start, Document::Pairs(school), output)
+        }
     }
 }
 
