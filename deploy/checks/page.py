@@ -122,7 +122,7 @@ def lists(page, see):
     said = act(page, "document.getElementById('school-code').value = 'a'; document.querySelector('#school-form button').click()")
     see("a waiting list, also by a code in small letters", said, "The waiting list of A, as it is now.")
     table = "[...document.querySelectorAll('#result tr')].map(row => [...row.cells].map(cell => cell.innerText).join(' '))"
-    see("as a table", page.value(table), ["Position Child Class Metres", "1 Child 2 0 200"])
+    see("as a table", page.value(table), ["Position Child Class Metres", "1 Child 2 1 200"])
     see("with its total", "1 child waits. 0 places are free." in page.value(RESULT))
     act(page, "document.querySelector('#result td button').click()")
     see("from which a child is found", page.value(f"{FOCUS}.textContent"), "Child 2, Ben Bell")
