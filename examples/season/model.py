@@ -394,6 +394,7 @@ def main():
         said.append(season.fill(school, day, lots))
     show(fills[0], [compact(summer[-2])])
     do("summer.jsonl", summer, said)
+    show("pairs reg.db", [f"{school} {child}" for school, child in season.pairs()])
     round("second_round.jsonl", SECOND)
 
     # what the office sends and hangs out
@@ -402,6 +403,7 @@ def main():
         show(f"letter reg.db {child}", season.letter(child))
     longest = max(sorted(season.schools), key=lambda it: len(season.waiting(it)))
     show(f"list reg.db {longest}", season.list_lines(longest))
+    show(f"pairs reg.db {longest}", [f"{longest} {child}" for child in sorted(it[1] for it in season.waiting(longest))])
     show("round-report reg.db 2", season.report(2))
 
     # worklists and figures of the office
