@@ -78,7 +78,15 @@ impl Bench {
 
     fn request(&mut self, rt: &impl Print, alloc: Global, input: &[u8]) -> io::Result<()> {
         let limits = (NO_LIMITS, NO_LIMITS);
-        Served::of(alloc, &self.routes, &mut self.desk, input, limits).print(rt, alloc)
+        let served = Served::of(alloc, &self.routes, &mut self.desk, input, limits);
+        served.print(rt, alloc)?;
+        // (a GET changes nothing, so it may be answered again)
+        if input.starts_with(b"GET ")
+            && !served.is_answer(alloc, &self.routes, &mut self.desk, input)
+        {
+            println!(rt; "  PROBLEM: `answer` gives other bytes")?;
+        }
+        Ok(())
     }
 
     fn connection(&mut self, rt: &HostRuntime, alloc: Global, input: &[u8]) -> io::Result<()> {

@@ -1,7 +1,7 @@
 // One request, served over a reader and a writer in memory.
 use crate::desks::MemoryDesk;
 use crate::texts::text_of;
-use adm_http::{Routes, ServeFault, serve_one};
+use adm_http::{Routes, ServeFault, answer, serve_one};
 use adm_wire::Watched;
 use run_steps::{Limited, Limits};
 use std::alloc::Global;
@@ -48,6 +48,20 @@ impl Served {
     /// Whether the same was written, and it ended in the same way.
     pub(crate) fn is_same(&self, other: &Served) -> bool {
         self.ended == other.ended && self.written.as_slice() == other.written.as_slice()
+    }
+
+    /// Whether `answer`, which is handed all the bytes at once, gives the same.
+    pub(crate) fn is_answer(
+        &self,
+        alloc: Global,
+        routes: &Routes,
+        desk: &mut MemoryDesk,
+        input: &[u8],
+    ) -> bool {
+        match answer(alloc, routes, desk, input) {
+            Ok(bytes) => bytes.as_slice() == self.written.as_slice(),
+            Err(_) => false,
+        }
     }
 
     /// The status of the response that was written. `None` where nothing was.
