@@ -1,5 +1,5 @@
 -- From the pieces that were read to the whole input.
-use Rattle.std.proofs.Common.{◌≡◌, ℕ, ◌-◌, ◌^◌, ◌≤◌, ◌<◌, Bool, List, [], ◌∷◌, ◌++◌, length, take, Option, Some, None, IfSome, Result, Ok, Err, false, inl, inr, refl, sym, ap, ◌∙◌, arith, length-append}
+use Rattle.std.proofs.Common.{◌≡◌, ℕ, ◌-◌, ◌^◌, ◌≤◌, ◌<◌, ◌||◌, Bool, true, false, List, [], ◌∷◌, ◌++◌, length, take, Option, Some, None, IfSome, Result, Ok, Err, IfOk, OnErr, IfErr, inl, inr, refl, sym, ap, ◌∙◌, arith, length-append}
 use Rattle.std.specs.Io.KnownBytes.{Consumes, Keeps, IsAtEnd}
 use Rattle.std.specs.List.{AllByRecursion}
 use Rattle.std.proofs.Math.Seq.{take-length}
@@ -7,8 +7,9 @@ use Rattle.adm_desk.specs.declared.answer.LineAnswer.{LineAnswer}
 use Rattle.adm_desk.specs.declared.run.Run.{Run}
 use Rattle.adm_desk.specs.declared.run.RunFault.{RunFault}
 use Rattle.adm_desk.specs.declared.run.RunFault.TheVariants.{Read, Write, Memory}
+use Rattle.adm_wire.specs.Streams.{Stream}
 use Rattle.adm_desk.specs.Lines.{lines_of, ended}
-use Rattle.adm_desk.specs.Written.{Answered, Finished, AnsweredUpTo, Stopped, StoppedWithin, LeavesReader, LeavesWriter, Takes, Breaks, joined, IsPlain, last_line}
+use Rattle.adm_desk.specs.Written.{Answered, Finished, AnsweredUpTo, Stopped, StoppedWithin, EndsAs, LeavesReader, LeavesWriter, OfWriter, Takes, Breaks, joined, IsPlain, last_line}
 use Rattle.adm_desk.proofs.CutLemmas.{lines_of-joined, lines_of-piece, ended-joined, ended-more, first_lines}
 use Rattle.adm_desk.proofs.AnswerLemmas.{Answered-then, Answered-stopped}
 
@@ -33,6 +34,12 @@ too_long (Some start) None xs turn F p bound end = absurd p
 too_long (Some start) (Some bs) xs turn F p bound end = λ short. absurd (omega (arith, ap length p, length-append xs bs))
 
 -- ---- what failed
+
+-- a read that failed
+pub read_has_failed : (a : Option (List ℕ)) (old new : Bool) → new ≡ (old || true) → IfSome a (λ input. length input < 2 ^ 64 - 1 → new ≡ true)
+read_has_failed None old new failed = tt
+read_has_failed (Some input) true new failed = λ short. failed
+read_has_failed (Some input) false new failed = λ short. failed
 
 -- nothing failed before
 pub writer_left : {A : Type 0} (r : Result A RunFault) (old mid new : Bool) → mid ≡ old → LeavesWriter r mid new → LeavesWriter r old new
@@ -108,3 +115,13 @@ read_failed_from runs old new u v run ran p bytes takes =
       answered = rw lines takes.answered.answered;
       written = takes.answered.written;
     }
+
+-- a run that read its input to the end, or that no fault of the reader ended
+pub ends_from : {D : Type 0} (runs : D → List ℕ → LineAnswer → D → Type 0) (old new : D) (input output : Stream) (had_failed : Bool) (r : Result Run RunFault)
+    → IfOk r (λ run. IsAtEnd input.new × (bytes : List ℕ) × Consumes input.old input.new bytes × Finished runs old new output.old output.new run (lines_of bytes))
+    → OnErr r ((bytes : List ℕ) × Consumes input.old input.new bytes × StoppedWithin runs old new output.old output.new bytes input.new)
+    → IfErr r OfWriter → LeavesWriter r had_failed output.has_failed → EndsAs runs old new input output r
+ends_from runs old new input output had_failed (Ok run) ok stopped fault left = ok
+ends_from runs old new input output had_failed (Err Read) ok stopped fault left = absurd fault
+ends_from runs old new input output had_failed (Err Write) ok stopped fault left = (left, stopped)
+ends_from runs old new input output had_failed (Err Memory) ok stopped fault left = stopped

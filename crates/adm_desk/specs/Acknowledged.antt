@@ -13,6 +13,7 @@ use Rattle.adm_desk.specs.declared.answer.Answer.{Answer}
 use Rattle.adm_desk.specs.declared.answer.Answer.TheVariants.{Done, Refused, Memory, Failed}
 use Rattle.adm_desk.specs.declared.answer.LineAnswer.{LineAnswer}
 use Rattle.adm_desk.specs.declared.answer.LineAnswer.TheVariants.{Handled, Faulty, Told}
+use Rattle.adm_desk.specs.Lines.{AnswersLines}
 use Rattle.adm_desk.specs.Standing.{Standing, InWork}
 
 -- ---- registers
@@ -84,6 +85,10 @@ pub record KeepsAcknowledged {C : Type 0} (disk : C → Disk) (old new : Standin
   pub run : After old.register (acknowledged answered) new.register
   pub failed : new.failed ≡ is_some (in_work answered)
   pub leaves : LeavesAcknowledged new.register (in_work answered) (disk new.conn)
+
+-- whatever lines were answered so: what their answers acknowledge is kept
+abbrev pub KeepsLines : {C : Type 0} → (C → Disk) → (Standing C → List ℕ → LineAnswer → Standing C → Type 0) → Standing C → Standing C → Type 0
+KeepsLines disk runs old new = (lines : List (List ℕ)) (answers : List LineAnswer) → AnswersLines runs old lines answers new → KeepsAcknowledged disk old new (handled lines answers)
 
 -- ---- for a private clause
 

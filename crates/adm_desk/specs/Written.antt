@@ -1,7 +1,8 @@
 -- What a call over a reader and a writer did.
-use Rattle.std.specs.Prelude.{◌≡◌, ◌≢◌, ◌⊎◌, ◌≤◌, ℕ, ◌+◌, ◌-◌, ◌^◌, ◌||◌, min, max, List, [], ◌∷◌, ◌++◌, Bool, true, Option, Result, Ok, Err, length, take, drop, count_by}
+use Rattle.std.specs.Prelude.{◌≡◌, ◌≢◌, ◌⊎◌, ◌≤◌, ◌<◌, ℕ, ◌+◌, ◌-◌, ◌^◌, ◌||◌, min, max, List, [], ◌∷◌, ◌++◌, Bool, true, Option, IfSome, Result, Ok, Err, length, take, drop, count_by}
 use Rattle.std.specs.List.{list_any, flat_map, AllByRecursion}
-use Rattle.std.specs.Io.KnownBytes.{Appends, IsAtEnd}
+use Rattle.std.specs.Io.KnownBytes.{Appends, Consumes, IsAtEnd}
+use Rattle.adm_wire.specs.Streams.{Stream}
 use Rattle.adm_desk.specs.declared.answer.LineAnswer.{LineAnswer}
 use Rattle.adm_desk.specs.declared.run.Run.{Run}
 use Rattle.adm_desk.specs.declared.run.RunFault.{RunFault}
@@ -57,6 +58,19 @@ pub record StoppedWithin {D : Type 0} (runs : D → List ℕ → LineAnswer → 
   pub count : ℕ
   pub within : IsAtEnd left ⊎ (count ≤ ended bytes)
   pub stopped : Stopped runs old new old_text new_text (take count (lines_of bytes))
+
+-- How a run over the lines of an input ended. Without a fault the input was read to its end, and each of its lines was answered, written and counted.
+-- With Read the input failed, and the lines that had ended before were answered; with Write the output failed, or with Memory memory ran out: some
+-- first lines were answered, and only of the last answer a part may be missing.
+abbrev pub EndsAs : {D : Type 0} → (D → List ℕ → LineAnswer → D → Type 0) → D → D → Stream → Stream → Result Run RunFault → Type 0
+EndsAs runs old new input output (Ok run) = IsAtEnd input.new
+    × (bytes : List ℕ) × Consumes input.old input.new bytes × Finished runs old new output.old output.new run (lines_of bytes)
+EndsAs runs old new input output (Err Read) = IfSome input.old (λ bytes. length bytes < 2 ^ 64 - 1 → input.has_failed ≡ true)
+    × (bytes : List ℕ) × Consumes input.old input.new bytes × AnsweredUpTo runs old new output.old output.new bytes
+EndsAs runs old new input output (Err Write) = (output.has_failed ≡ true)
+    × (bytes : List ℕ) × Consumes input.old input.new bytes × StoppedWithin runs old new output.old output.new bytes input.new
+EndsAs runs old new input output (Err Memory) = (bytes : List ℕ) × Consumes input.old input.new bytes
+    × StoppedWithin runs old new output.old output.new bytes input.new
 
 -- a writer has failed since exactly with Write
 abbrev pub LeavesWriter : {A : Type 0} → Result A RunFault → Bool → Bool → Type 0

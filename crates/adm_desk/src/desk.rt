@@ -1,6 +1,6 @@
 // The desk: one register and its file.
 ghost use Rattle.std.specs.Prelude.{◌≡◌, ◌≢◌, ◌^◌, ◌<◌, ◌-◌, ℕ, List, length, zip, true, false, if◌then◌else◌, IfOk, IfErr, IfSome, OnOk, OnErr, IsErrOf, Some, None, option_copied};
-ghost use Rattle.std.specs.Io.KnownBytes.{Consumes, IsAtEnd};
+ghost use Rattle.adm_wire.specs.Streams.{reader, writer};
 ghost use Rattle.sqlite.specs.Held.{state};
 ghost use Rattle.sqlite.specs.State.{HasCleanDisk, Survives};
 ghost use Rattle.adm_register.specs.Extends.{Extends};
@@ -13,11 +13,10 @@ ghost use Rattle.adm_store.specs.StandsFor.{IsStarted, LeavesOnly, LeavesNone};
 ghost use Rattle.adm_store.specs.Migration.{IsMigrated};
 ghost use Rattle.adm_desk.specs.Steps.{IsRun};
 ghost use Rattle.adm_desk.specs.Standing.{Handles, Keeps, Standing};
-ghost use Rattle.adm_desk.specs.Lines.{lines_of, AnswersLine, AnswersLines};
-ghost use Rattle.adm_desk.specs.Acknowledged.{KeepsAcknowledged, handled};
+ghost use Rattle.adm_desk.specs.Lines.{AnswersLine};
+ghost use Rattle.adm_desk.specs.Acknowledged.{KeepsAcknowledged, KeepsLines};
 ghost use Rattle.adm_desk.specs.Questions.{TellsLine};
-ghost use Rattle.adm_desk.specs.declared.answer.LineAnswer.{LineAnswer as AnswerValue};
-ghost use Rattle.adm_desk.specs.Written.{Finished, AnsweredUpTo, StoppedWithin, LeavesReader, LeavesWriter};
+ghost use Rattle.adm_desk.specs.Written.{EndsAs, LeavesReader, LeavesWriter};
 
 use crate::handler::{self, Handler};
 use crate::lines::Liner;
@@ -192,56 +191,34 @@ impl<S: Alter> Desk<S> {
     /// is not empty.
     pub fn run_lines<R: Input, W: Output>(
         &mut self,
-        reader: &mut R,
-        writer: &mut W,
+        input: &mut R,
+        output: &mut W,
     ) -> Result<Run, RunFault>
-        // The reader was read to its end, and each of its lines was answered, written and counted.
-        ensures end { OnOk result (IsAtEnd (R.remaining reader.new)) }
-        ensures ok { IfOk result (λ run. (bytes : List ℕ) × Consumes (R.remaining reader.old) (R.remaining reader.new) bytes
-            × Finished (AnswersLine (Handles (state S.Store))) self.old self.new (W.contents writer.old) (W.contents writer.new) run (lines_of bytes)) }
-
-        // A fault of the reader: it failed, and what had been read before was answered line by line.
-        ensures read_failed { IsErrOf result RunFault.Read → IfSome (R.remaining reader.old) (λ input. length input < 2 ^ 64 - 1 → R.has_failed reader.new ≡ true) }
-        ensures read { IsErrOf result RunFault.Read → (bytes : List ℕ) × Consumes (R.remaining reader.old) (R.remaining reader.new) bytes
-            × AnsweredUpTo (AnswersLine (Handles (state S.Store))) self.old self.new (W.contents writer.old) (W.contents writer.new) bytes }
-
-        // A fault of the writer, or of memory: some first lines were answered, and only of the last answer a part may be missing.
-        ensures write_failed { IsErrOf result RunFault.Write → W.has_failed writer.new ≡ true }
-        ensures stopped { IfErr result (λ e. e ≢ RunFault.Read → (bytes : List ℕ) × Consumes (R.remaining reader.old) (R.remaining reader.new) bytes
-            × StoppedWithin (AnswersLine (Handles (state S.Store))) self.old self.new (W.contents writer.old) (W.contents writer.new) bytes (R.remaining reader.new)) }
+        ensures ends { EndsAs (AnswersLine (Handles (state S.Store))) self.old self.new (reader R.Input input.old input.new) (writer W.Output output.old output.new) result }
 
         // The writer has failed since exactly with Write, and the reader with Read alone.
-        ensures writer { LeavesWriter result (W.has_failed writer.old) (W.has_failed writer.new) }
-        ensures reader { LeavesReader result (R.has_failed reader.old) (R.has_failed reader.new) }
+        ensures writer { LeavesWriter result (W.has_failed output.old) (W.has_failed output.new) }
+        ensures reader { LeavesReader result (R.has_failed input.old) (R.has_failed input.new) }
 
         // Whatever lines were answered so: what their answers acknowledge is kept.
-        ensures kept { self.old.failed ≡ false → (lines : List (List ℕ)) (answers : List AnswerValue)
-            → AnswersLines (AnswersLine (Handles (state S.Store))) self.old lines answers self.new → KeepsAcknowledged (state S.Store) self.old self.new (handled lines answers) }
+        ensures kept { self.old.failed ≡ false → KeepsLines (state S.Store) (AnswersLine (Handles (state S.Store))) self.old self.new }
     {
-        lines::run_lines(self.alloc, self, reader, writer)
+        lines::run_lines(self.alloc, self, input, output)
     }
 
     /// Answers the questions that the lines of the reader ask, to its end, and writes an answer for
     /// each. Lines are as for `run_lines`. The desk stays as it is.
     pub fn tell_lines<R: Input, W: Output>(
         &self,
-        reader: &mut R,
-        writer: &mut W,
+        input: &mut R,
+        output: &mut W,
     ) -> Result<Run, RunFault>
-        ensures end { OnOk result (IsAtEnd (R.remaining reader.new)) }
-        ensures ok { IfOk result (λ run. (bytes : List ℕ) × Consumes (R.remaining reader.old) (R.remaining reader.new) bytes
-            × Finished TellsLine self.now self.now (W.contents writer.old) (W.contents writer.new) run (lines_of bytes)) }
-        ensures read_failed { IsErrOf result RunFault.Read → IfSome (R.remaining reader.old) (λ input. length input < 2 ^ 64 - 1 → R.has_failed reader.new ≡ true) }
-        ensures read { IsErrOf result RunFault.Read → (bytes : List ℕ) × Consumes (R.remaining reader.old) (R.remaining reader.new) bytes
-            × AnsweredUpTo TellsLine self.now self.now (W.contents writer.old) (W.contents writer.new) bytes }
-        ensures write_failed { IsErrOf result RunFault.Write → W.has_failed writer.new ≡ true }
-        ensures stopped { IfErr result (λ e. e ≢ RunFault.Read → (bytes : List ℕ) × Consumes (R.remaining reader.old) (R.remaining reader.new) bytes
-            × StoppedWithin TellsLine self.now self.now (W.contents writer.old) (W.contents writer.new) bytes (R.remaining reader.new)) }
-        ensures writer { LeavesWriter result (W.has_failed writer.old) (W.has_failed writer.new) }
-        ensures reader { LeavesReader result (R.has_failed reader.old) (R.has_failed reader.new) }
+        ensures ends { EndsAs TellsLine self.now self.now (reader R.Input input.old input.new) (writer W.Output output.old output.new) result }
+        ensures writer { LeavesWriter result (W.has_failed output.old) (W.has_failed output.new) }
+        ensures reader { LeavesReader result (R.has_failed input.old) (R.has_failed input.new) }
     {
         let mut asked = Asked(self);
-        lines::run_lines(self.alloc, &mut asked, reader, writer)
+        lines::run_lines(self.alloc, &mut asked, input, output)
     }
 }
 

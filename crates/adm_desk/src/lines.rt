@@ -1,8 +1,9 @@
 // Lines from a reader, each answered by a line to a writer.
-ghost use Rattle.std.specs.Prelude.{◌≡◌, ◌≢◌, ◌^◌, ◌<◌, ◌-◌, ℕ, true, length, [], ◌∷◌, ◌++◌, List, take, MatchResult, IfOk, IfErr, OnOk, IfSome, IsErrOf};
-ghost use Rattle.std.specs.Io.KnownBytes.{Appends, Consumes, IsAtEnd};
-ghost use Rattle.adm_desk.specs.Lines.{lines_of, line_text};
-ghost use Rattle.adm_desk.specs.Written.{Answered, Finished, AnsweredUpTo, Stopped, StoppedWithin, last_line, Counts, Takes, Breaks, OfWriter, LeavesReader, LeavesWriter};
+ghost use Rattle.std.specs.Prelude.{ℕ, [], ◌∷◌, ◌++◌, take, IfOk, IfErr, OnOk, OnErr};
+ghost use Rattle.std.specs.Io.KnownBytes.{Appends};
+ghost use Rattle.adm_wire.specs.Streams.{reader, writer};
+ghost use Rattle.adm_desk.specs.Lines.{line_text};
+ghost use Rattle.adm_desk.specs.Written.{Answered, Stopped, EndsAs, last_line, Counts, Takes, Breaks, OfWriter, LeavesReader, LeavesWriter};
 
 use crate::{Answer, LineAnswer, Run, RunFault, Told};
 use adm_wire::{Input, Output};
@@ -50,15 +51,13 @@ fn count(run: &mut Run, answer: &LineAnswer)
 /// Writes an answer as a line.
 fn write_answer<W: Output>(
     alloc: Global,
-    writer: &mut W,
+    output: &mut W,
     answer: &LineAnswer,
 ) -> Result<(), RunFault>
-    ensures bytes { MatchResult result
-        (λ _. Appends (W.contents writer.old) (W.contents writer.new) (line_text answer.now ++ 10 ∷ []))
-        (λ _. (n : ℕ) × Appends (W.contents writer.old) (W.contents writer.new)
-        (take n (line_text answer.now ++ 10 ∷ []))) }
+    ensures whole { OnOk result (Appends (W.contents output.old) (W.contents output.new) (line_text answer.now ++ 10 ∷ [])) }
+    ensures part { OnErr result ((n : ℕ) × Appends (W.contents output.old) (W.contents output.new) (take n (line_text answer.now ++ 10 ∷ []))) }
     ensures fault { IfErr result OfWriter }
-    ensures writer { LeavesWriter result (W.has_failed writer.old) (W.has_failed writer.new) }
+    ensures writer { LeavesWriter result (W.has_failed output.old) (W.has_failed output.new) }
 {
     let Ok(mut text) = answer.text(alloc) else {
         return Err(RunFault::Memory);
@@ -66,7 +65,7 @@ fn write_answer<W: Output>(
     if text.push_str("\n").is_err() {
         return Err(RunFault::Memory);
     }
-    match writer.put(text.as_bytes()) {
+    match output.put(text.as_bytes()) {
         Ok(()) => Ok(()),
         Err(_) => Err(RunFault::Write),
     }
@@ -76,38 +75,36 @@ fn write_answer<W: Output>(
 fn run_line<H: Liner, W: Output>(
     alloc: Global,
     handler: &mut H,
-    writer: &mut W,
+    output: &mut W,
     run: &mut Run,
     line: &[u8],
 ) -> Result<(), RunFault>
-    ensures bytes { MatchResult result
-        (λ _. Answered H.runs (H.view handler.old) (H.view handler.new) (W.contents writer.old) (W.contents writer.new) run.old run.new (line.now ∷ []))
-        (λ _. Stopped H.runs (H.view handler.old) (H.view handler.new) (W.contents writer.old) (W.contents writer.new) (line.now ∷ [])) }
+    ensures answered { OnOk result (Answered H.runs (H.view handler.old) (H.view handler.new) (W.contents output.old) (W.contents output.new) run.old run.new (line.now ∷ [])) }
+    ensures stopped { OnErr result (Stopped H.runs (H.view handler.old) (H.view handler.new) (W.contents output.old) (W.contents output.new) (line.now ∷ [])) }
     ensures fault { IfErr result OfWriter }
-    ensures writer { LeavesWriter result (W.has_failed writer.old) (W.has_failed writer.new) }
+    ensures writer { LeavesWriter result (W.has_failed output.old) (W.has_failed output.new) }
 {
     let answer = handler.answer(alloc, line);
     count(run, &answer);
-    write_answer(alloc, writer, &answer)
+    write_answer(alloc, output, &answer)
 }
 
 /// Takes one byte: at LF the pending line is answered.
 fn take_byte<H: Liner, W: Output>(
     handler: &mut H,
-    writer: &mut W,
+    output: &mut W,
     run: &mut Run,
     pending: &mut Vec<u8>,
     byte: u8,
 ) -> Result<(), RunFault>
-    ensures bytes { MatchResult result
-        (λ _. Takes H.runs (H.view handler.old) (H.view handler.new) (W.contents writer.old) (W.contents writer.new) run.old run.new pending.old.items pending.new.items (byte ∷ []))
-        (λ _. Breaks H.runs (H.view handler.old) (H.view handler.new) (W.contents writer.old) (W.contents writer.new) pending.old.items (byte ∷ [])) }
+    ensures taken { OnOk result (Takes H.runs (H.view handler.old) (H.view handler.new) (W.contents output.old) (W.contents output.new) run.old run.new pending.old.items pending.new.items (byte ∷ [])) }
+    ensures broken { OnErr result (Breaks H.runs (H.view handler.old) (H.view handler.new) (W.contents output.old) (W.contents output.new) pending.old.items (byte ∷ [])) }
     ensures fault { IfErr result OfWriter }
-    ensures writer { LeavesWriter result (W.has_failed writer.old) (W.has_failed writer.new) }
+    ensures writer { LeavesWriter result (W.has_failed output.old) (W.has_failed output.new) }
 {
     if byte == b'\n' {
         let alloc = *pending.allocator();
-        match run_line(alloc, handler, writer, run, pending.as_slice()) {
+        match run_line(alloc, handler, output, run, pending.as_slice()) {
             Ok(()) => {
                 pending.clear();
                 Ok(())
@@ -124,19 +121,18 @@ fn take_byte<H: Liner, W: Output>(
 /// Takes bytes, one after another.
 fn take_bytes<H: Liner, W: Output>(
     handler: &mut H,
-    writer: &mut W,
+    output: &mut W,
     run: &mut Run,
     pending: &mut Vec<u8>,
     bytes: &[u8],
 ) -> Result<(), RunFault>
-    ensures bytes { MatchResult result
-        (λ _. Takes H.runs (H.view handler.old) (H.view handler.new) (W.contents writer.old) (W.contents writer.new) run.old run.new pending.old.items pending.new.items bytes.now)
-        (λ _. Breaks H.runs (H.view handler.old) (H.view handler.new) (W.contents writer.old) (W.contents writer.new) pending.old.items bytes.now) }
+    ensures taken { OnOk result (Takes H.runs (H.view handler.old) (H.view handler.new) (W.contents output.old) (W.contents output.new) run.old run.new pending.old.items pending.new.items bytes.now) }
+    ensures broken { OnErr result (Breaks H.runs (H.view handler.old) (H.view handler.new) (W.contents output.old) (W.contents output.new) pending.old.items bytes.now) }
     ensures fault { IfErr result OfWriter }
-    ensures writer { LeavesWriter result (W.has_failed writer.old) (W.has_failed writer.new) }
+    ensures writer { LeavesWriter result (W.has_failed output.old) (W.has_failed output.new) }
 {
     for byte in bytes {
-        match take_byte(handler, writer, run, pending, *byte) {
+        match take_byte(handler, output, run, pending, *byte) {
             Ok(()) => {}
             Err(fault) => return Err(fault),
         }
@@ -148,21 +144,20 @@ fn take_bytes<H: Liner, W: Output>(
 fn finish<H: Liner, W: Output>(
     alloc: Global,
     handler: &mut H,
-    writer: &mut W,
+    output: &mut W,
     run: Run,
     pending: &[u8],
 ) -> Result<Run, RunFault>
-    ensures bytes { MatchResult result
-        (λ r. Answered H.runs (H.view handler.old) (H.view handler.new) (W.contents writer.old) (W.contents writer.new) run r (last_line pending.now))
-        (λ _. Stopped H.runs (H.view handler.old) (H.view handler.new) (W.contents writer.old) (W.contents writer.new) (last_line pending.now)) }
+    ensures answered { IfOk result (λ r. Answered H.runs (H.view handler.old) (H.view handler.new) (W.contents output.old) (W.contents output.new) run r (last_line pending.now)) }
+    ensures stopped { OnErr result (Stopped H.runs (H.view handler.old) (H.view handler.new) (W.contents output.old) (W.contents output.new) (last_line pending.now)) }
     ensures fault { IfErr result OfWriter }
-    ensures writer { LeavesWriter result (W.has_failed writer.old) (W.has_failed writer.new) }
+    ensures writer { LeavesWriter result (W.has_failed output.old) (W.has_failed output.new) }
 {
     let mut run = run;
     if pending.is_empty() {
         return Ok(run);
     }
-    match run_line(alloc, handler, writer, &mut run, pending) {
+    match run_line(alloc, handler, output, &mut run, pending) {
         Ok(()) => Ok(run),
         Err(fault) => Err(fault),
     }
@@ -173,27 +168,14 @@ fn finish<H: Liner, W: Output>(
 pub(crate) fn run_lines<H: Liner, R: Input, W: Output>(
     alloc: Global,
     handler: &mut H,
-    reader: &mut R,
-    writer: &mut W,
+    input: &mut R,
+    output: &mut W,
 ) -> Result<Run, RunFault>
-    // The reader was read to its end, and each of its lines was answered, written and counted.
-    ensures end { OnOk result (IsAtEnd (R.remaining reader.new)) }
-    ensures ok { IfOk result (λ run. (bytes : List ℕ) × Consumes (R.remaining reader.old) (R.remaining reader.new) bytes
-        × Finished H.runs (H.view handler.old) (H.view handler.new) (W.contents writer.old) (W.contents writer.new) run (lines_of bytes)) }
-
-    // A fault of the reader: it failed, and what had been read before was answered line by line.
-    ensures read_failed { IsErrOf result RunFault.Read → IfSome (R.remaining reader.old) (λ input. length input < 2 ^ 64 - 1 → R.has_failed reader.new ≡ true) }
-    ensures read { IsErrOf result RunFault.Read → (bytes : List ℕ) × Consumes (R.remaining reader.old) (R.remaining reader.new) bytes
-        × AnsweredUpTo H.runs (H.view handler.old) (H.view handler.new) (W.contents writer.old) (W.contents writer.new) bytes }
-
-    // A fault of the writer, or of memory: some first lines were answered, and only of the last answer a part may be missing.
-    ensures write_failed { IsErrOf result RunFault.Write → W.has_failed writer.new ≡ true }
-    ensures stopped { IfErr result (λ e. e ≢ RunFault.Read → (bytes : List ℕ) × Consumes (R.remaining reader.old) (R.remaining reader.new) bytes
-        × StoppedWithin H.runs (H.view handler.old) (H.view handler.new) (W.contents writer.old) (W.contents writer.new) bytes (R.remaining reader.new)) }
+    ensures ends { EndsAs H.runs (H.view handler.old) (H.view handler.new) (reader R.Input input.old input.new) (writer W.Output output.old output.new) result }
 
     // The writer has failed since exactly with Write, and the reader with Read alone.
-    ensures writer { LeavesWriter result (W.has_failed writer.old) (W.has_failed writer.new) }
-    ensures reader { LeavesReader result (R.has_failed reader.old) (R.has_failed reader.new) }
+    ensures writer { LeavesWriter result (W.has_failed output.old) (W.has_failed output.new) }
+    ensures reader { LeavesReader result (R.has_failed input.old) (R.has_failed input.new) }
 {
     let mut run = Run {
         done: 0,
@@ -203,14 +185,14 @@ pub(crate) fn run_lines<H: Liner, R: Input, W: Output>(
     let mut pending = Vec::new(alloc);
     let mut buffer = [0; 4096];
     for _turn in 0..u64::MAX {
-        let count = match reader.read_some(&mut buffer) {
+        let count = match input.read_some(&mut buffer) {
             Ok(count) => count,
             Err(_) => return Err(RunFault::Read),
         };
         if count == 0 {
-            return finish(alloc, handler, writer, run, pending.as_slice());
+            return finish(alloc, handler, output, run, pending.as_slice());
         }
-        match take_bytes(handler, writer, &mut run, &mut pending, &buffer[..count]) {
+        match take_bytes(handler, output, &mut run, &mut pending, &buffer[..count]) {
             Ok(()) => {}
             Err(fault) => return Err(fault),
         }

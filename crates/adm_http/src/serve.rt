@@ -1,5 +1,5 @@
 // One request of a connection: what is read, and what is written.
-ghost use Rattle.std.specs.Prelude.{◌≡◌, ◌≢◌, ◌||◌, ◌≤◌, ℕ, List, ◌++◌, length, MatchResult, MatchOption, MatchBool};
+ghost use Rattle.std.specs.Prelude.{◌≡◌, ◌≢◌, ◌||◌, ◌≤◌, ℕ, List, ◌++◌, length, MatchResult, MatchOption, MatchBool, IfOk, IfErr};
 ghost use Rattle.std.specs.Io.KnownBytes.{Consumes, Keeps, IsAtEnd};
 ghost use Rattle.adm_http.specs.Reading.{MayStop, GoesOnTo, IsNotFarPast, HasRead, HasReadSome, Served, is_read_fault, is_write_fault};
 
@@ -58,9 +58,8 @@ fn read_request<R: Input>(
     routes: &Routes,
     reader: &mut R,
 ) -> Result<Vec<u8>, ServeFault>
-    ensures bytes { MatchResult result
-        (λ input. HasRead (R.remaining reader.old) (R.remaining reader.new) input.items)
-        (λ fault. (fault ≢ ServeFault.Write) × ((got : List ℕ) × HasReadSome (R.remaining reader.old) (R.remaining reader.new) got)) }
+    ensures ok { IfOk result (λ input. HasRead (R.remaining reader.old) (R.remaining reader.new) input.items) }
+    ensures err { IfErr result (λ fault. (fault ≢ ServeFault.Write) × ((got : List ℕ) × HasReadSome (R.remaining reader.old) (R.remaining reader.new) got)) }
     ensures reader { R.has_failed reader.new ≡ (R.has_failed reader.old || is_read_fault result) }
 {
     let mut input = Vec::new(alloc);
@@ -121,12 +120,9 @@ fn read_to<R: Input>(reader: &mut R, input: &mut Vec<u8>, total: usize) -> Resul
 
 // Reads up to 8,192 bytes more: none only at the end. Room for them is made first.
 fn read_more<R: Input>(reader: &mut R, input: &mut Vec<u8>) -> Result<usize, ServeFault>
-    ensures bytes { MatchResult result
-        (λ n. (more : List ℕ) × Consumes (R.remaining reader.old) (R.remaining reader.new) more
-        × (input.new.items ≡ input.old.items ++ more) × (n ≡ length more) × (n ≤ 8192)
-        × (n ≡ 0 → IsAtEnd (R.remaining reader.new)))
-        (λ fault. (fault ≢ ServeFault.Write) × (input.new.items ≡ input.old.items)
-        × Keeps (R.remaining reader.old) (R.remaining reader.new)) }
+    ensures ok { IfOk result (λ n. (more : List ℕ) × Consumes (R.remaining reader.old) (R.remaining reader.new) more
+        × (input.new.items ≡ input.old.items ++ more) × (n ≡ length more) × (n ≤ 8192) × (n ≡ 0 → IsAtEnd (R.remaining reader.new))) }
+    ensures err { IfErr result (λ fault. (fault ≢ ServeFault.Write) × (input.new.items ≡ input.old.items) × Keeps (R.remaining reader.old) (R.remaining reader.new)) }
     ensures reader { R.has_failed reader.new ≡ (R.has_failed reader.old || is_read_fault result) }
 {
     let mut buffer = [0u8; 8192];

@@ -22,12 +22,15 @@ use Rattle.adm_desk.specs.Questions.{TellsLine}
 use Rattle.adm_desk.specs.Standing.{Handles, Standing}
 use Rattle.adm_desk.specs.declared.answer.Answer.{Answer}
 use Rattle.adm_desk.specs.declared.answer.Answer.TheVariants as answer
-use Rattle.adm_program.specs.Exits.{of_season, has_many_holidays, IsCauseIn, ExitsBy, exit_of_answer, ending_of, error_of, told_of, outcome_of, exit_of_words, code_of}
-use Rattle.adm_program.specs.Opened.{Stream, IsNotOpened}
+use Rattle.adm_desk.specs.declared.run.Run.{Run}
+use Rattle.adm_desk.specs.declared.run.RunFault.{RunFault}
+use Rattle.adm_program.specs.Exits.{of_season, of_lines, has_many_holidays, IsCauseIn, ExitsBy, exit_of_answer, ending_of, error_of, told_of, outcome_of, exit_of_words, code_of}
+use Rattle.adm_wire.specs.Streams.{Stream}
+use Rattle.adm_program.specs.Opened.{IsNotOpened}
 use Rattle.adm_program.specs.Imports.{ImportsAs, ImportsFile, ImportsInto}
 use Rattle.adm_program.specs.Served.{ServesAs, ServesOver}
 use Rattle.adm_program.specs.Texts.{Prints, PrintsAs, text_in}
-use Rattle.adm_program.specs.Runs.{Liner, Answers, Creates, CreatesAs, EndsAs}
+use Rattle.adm_program.specs.Runs.{Liner, Answers, Creates, CreatesAs}
 use Rattle.adm_program.specs.Does.{Does}
 use Rattle.adm_program.specs.declared.document.Document.{Document}
 use Rattle.adm_program.specs.declared.document.Document.TheVariants as document
@@ -135,11 +138,9 @@ module _ {D : Type 0} {g : disk.Ghosts D} where
   created season found left (Err f) closed made = inr refl
   created season found left (Ok x) closed made = done_exit x closed made.0
 
-  ran : (runs : Liner (Standing (Held (FileStore D g)))) (old new : Standing (Held (FileStore D g))) (input output : Stream) (e : Result Exit Fault) (closed : Option Error) → EndsAs runs old new input output e
-      → status e closed ≢ 2
-  ran runs old new input output (Err f) closed ends = λ e. cc
-  ran runs old new input output (Ok x) closed ends =
-      subst (λ (y : Exit). status (Ok y) closed ≢ 2) (sym ends.1) (run_exit ends.0.failed (nat_lt 0 ends.0.refused) closed)
+  ran : (run : Result Run RunFault) (e : Result Exit Fault) (closed : Option Error) → e ≡ of_lines run → status e closed ≢ 2
+  ran (Err f) e closed told = subst (λ (y : Result Exit Fault). status y closed ≢ 2) (sym told) (λ e. cc)
+  ran (Ok run) e closed told = subst (λ (y : Result Exit Fault). status y closed ≢ 2) (sym told) (run_exit run.failed (nat_lt 0 run.refused) closed)
 
   imported : (old new : Standing (Held (FileStore D g))) (file output : Stream) (e : Result Exit Fault) (closed : Option Error) → ImportsAs old new file output e
       → status e closed ≢ 2
@@ -154,7 +155,7 @@ module _ {D : Type 0} {g : disk.Ghosts D} where
   lines_exit : (runs : Liner (Standing (Held (FileStore D g)))) (image : Image) (input output : Stream) (e : Result Exit Fault) (closed : Result (Files D) (Error × FileStore D g)) → Answers runs image input output e closed
       → status e (error_of closed) ≢ 2
   lines_exit runs image input output e closed (inl left) = not_two _ (not_opened image e closed left.0)
-  lines_exit runs image input output e closed (inr does) = ran runs does.0 does.2.after input output e (error_of closed) does.2.ends
+  lines_exit runs image input output e closed (inr does) = ran does.2.run e (error_of closed) does.2.told
 
   file_exit : (desk : Standing (Held (FileStore D g))) (file output : Stream) (e : Result Exit Fault) (closed : Result (Files D) (Error × FileStore D g))
       → ImportsFile desk file output e closed → status e (error_of closed) ≢ 2

@@ -6,7 +6,7 @@ use Rattle.sqlite.specs.Held.{Held}
 use Rattle.sqlite.specs.Files.{file_state}
 use Rattle.adm_types.specs.declared.rows.ImportRow.{ImportRow}
 use Rattle.adm_desk.specs.Standing.{Standing}
-use Rattle.adm_program.specs.Opened.{Stream}
+use Rattle.adm_wire.specs.Streams.{Stream}
 use Rattle.adm_program.specs.Imports.{FileGives, IsHandled, ImportsAs}
 use Rattle.adm_program.specs.declared.exit.Exit.{Exit}
 use Rattle.adm_program.specs.declared.fault.Fault.{Fault}

@@ -5,7 +5,7 @@ use Rattle.sqlite_store.specs.declared.store.FileStore.{FileStore}
 use Rattle.sqlite.specs.Held.{Held}
 use Rattle.adm_desk.specs.Standing.{Standing}
 use Rattle.adm_program.specs.Exits.{exit_of_served}
-use Rattle.adm_program.specs.Opened.{Stream}
+use Rattle.adm_wire.specs.Streams.{Stream}
 use Rattle.adm_program.specs.Served.{IsListenFault, ServesAs, serving_text}
 use Rattle.adm_program.specs.Texts.{Puts}
 use Rattle.adm_program.specs.declared.exit.Exit.{Exit}

@@ -2,6 +2,7 @@
 use Rattle.std.proofs.Common.{◌≡◌, ℕ, zero, suc, ◌+◌, List, [], ◌∷◌, ◌++◌, length, take, Bool, Option, Result, Ok, Err, inl, inr, refl, sym, ap, subst}
 use Rattle.std.specs.Prelude.{IfOk, IfErr, OnErr, IsTrue}
 use Rattle.std.specs.Io.KnownBytes.{Appends}
+use Rattle.std.specs.Borrow.{Bor}
 use Rattle.std.specs.Result.{IsErr}
 use Rattle.std.proofs.KnownBytes.{Appends-trans}
 use Rattle.std.proofs.Math.Seq.{take-append-add}
@@ -11,10 +12,10 @@ use Rattle.sqlite_wal.specs.Files.{image_at}
 use Rattle.adm_words.specs.Lines.{ReadsWords}
 use Rattle.adm_words.specs.declared.actions.Action.{Action}
 use Rattle.adm_program.specs.Exits.{has_many_holidays, IsCauseIn, outcome_of, told_of, code_of}
-use Rattle.adm_program.specs.Opened.{Stream}
+use Rattle.adm_wire.specs.Streams.{Stream}
 use Rattle.adm_program.specs.Told.{IsCut, Writes, Tells, TellsOutcome}
 use Rattle.adm_program.specs.Does.{Does}
-use Rattle.adm_program.specs.Words.{DoesWords}
+use Rattle.adm_program.specs.Words.{DoesWords, texts}
 use Rattle.adm_program.specs.declared.ended.Ended.{Ended}
 use Rattle.adm_program.specs.declared.exit.Exit.{Exit}
 use Rattle.adm_program.specs.declared.fault.Fault.{Fault}
@@ -55,17 +56,17 @@ tells text errors (Ok x) writes = inl writes
 tells text errors (Err e) writes = inr writes
 
 -- words that ask for an action
-pub taken : {D S : Type 0} {g : disk.Ghosts D} (first : start.Ghosts S) (given : List (List ℕ)) (a : Action) (rows : List ℕ → Stream) (input output errors : Stream) (r : Result (Ended D g) Fault) (x : Exit)
-    → ReadsWords given (Ok a) → IfOk r (λ ended. Does (image_at first) a rows input output ended.exit ended.closed) → IfErr r (IsCauseIn a)
+pub taken : {D S : Type 0} {g : disk.Ghosts D} (first : start.Ghosts S) (words : List (Bor (List ℕ))) (a : Action) (rows : List ℕ → Stream) (input output errors : Stream) (r : Result (Ended D g) Fault) (x : Exit)
+    → ReadsWords (texts words) (Ok a) → IfOk r (λ ended. Does (image_at first) a rows input output ended.exit ended.closed) → IfErr r (IsCauseIn a)
     → (IsTrue (has_many_holidays a) → r ≡ Err TooManyHolidays) → OnErr r ((input.new ≡ input.old) × (output.new ≡ output.old))
-    → x ≡ told_of (outcome_of r) → TellsOutcome (outcome_of r) errors → DoesWords g first given rows input output errors (code_of x)
-taken first given a rows input output errors (Ok ended) x reads does cause many kept exits told =
+    → x ≡ told_of (outcome_of r) → TellsOutcome (outcome_of r) errors → DoesWords g first words rows input output errors (code_of x)
+taken first words a rows input output errors (Ok ended) x reads does cause many kept exits told =
     record {
       read = Ok a;
       reads = reads;
       comes = inl (record { ended = ended.exit; closed = ended.closed; does = does; few = λ (t : IsTrue (has_many_holidays a)). (let e = many t in cc); told = told; exits = ap code_of exits });
     }
-taken first given a rows input output errors (Err f) x reads does cause many kept exits told =
+taken first words a rows input output errors (Err f) x reads does cause many kept exits told =
     record {
       read = Ok a;
       reads = reads;

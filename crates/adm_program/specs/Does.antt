@@ -12,7 +12,7 @@ use Rattle.sqlite.specs.Files.{file_state}
 use Rattle.adm_desk.specs.Lines.{AnswersLine}
 use Rattle.adm_desk.specs.Questions.{TellsLine}
 use Rattle.adm_desk.specs.Standing.{Handles}
-use Rattle.adm_program.specs.Opened.{Stream}
+use Rattle.adm_wire.specs.Streams.{Stream}
 use Rattle.adm_program.specs.Runs.{Answers, Creates}
 use Rattle.adm_program.specs.Imports.{ImportsInto}
 use Rattle.adm_program.specs.Served.{ServesOver}

@@ -154,6 +154,11 @@ IsCauseIn (action.Pairs file school) f = IsOpenFault f
 abbrev pub exit_of : Run → Exit
 exit_of r = if r.failed then exit.Failed else (if nat_lt 0 r.refused then exit.Refused else exit.Done)
 
+-- what is told of a run of lines
+abbrev pub of_lines : Result Run RunFault → Result Exit Fault
+of_lines (Ok run) = Ok (exit_of run)
+of_lines (Err fault) = Err (of_run fault)
+
 -- the same of one answer
 abbrev pub exit_of_answer : Answer → Exit
 exit_of_answer (answer.Done reply) = exit.Done

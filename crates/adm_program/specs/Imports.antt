@@ -18,7 +18,8 @@ use Rattle.adm_desk.specs.Lines.{answer_text}
 use Rattle.adm_desk.specs.Standing.{Handles, Standing}
 use Rattle.adm_desk.specs.declared.answer.Answer.{Answer}
 use Rattle.adm_program.specs.Exits.{exit_of_answer}
-use Rattle.adm_program.specs.Opened.{Stream, Closes, Opens}
+use Rattle.adm_wire.specs.Streams.{Stream}
+use Rattle.adm_program.specs.Opened.{Closes, Opens}
 use Rattle.adm_program.specs.Texts.{Puts}
 use Rattle.adm_program.specs.declared.exit.Exit.{Exit}
 use Rattle.adm_program.specs.declared.fault.Fault.{Fault}

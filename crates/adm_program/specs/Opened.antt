@@ -17,28 +17,15 @@ use Rattle.adm_store.specs.Faults.{IsNoRegister}
 use Rattle.adm_store.specs.FirstFault.{IsFirstFault}
 use Rattle.adm_store.specs.declared.fault.OpenFault.{OpenFault}
 use Rattle.adm_desk.specs.Standing.{Standing}
-use Rattle.adm_wire.specs.declared.streams.Input as input
-use Rattle.adm_wire.specs.declared.streams.Output as output
+use Rattle.adm_wire.specs.Streams.{Stream}
 use Rattle.adm_program.specs.Exits.{of_open}
 use Rattle.adm_program.specs.declared.ended.Ended.{Ended}
 use Rattle.adm_program.specs.declared.exit.Exit.{Exit}
 use Rattle.adm_program.specs.declared.fault.Fault.{Fault}
 
--- a reader before and after, or a writer, and whether it has failed
-pub record Stream : Type 0 where
-  pub old : Option (List ℕ)
-  pub new : Option (List ℕ)
-  pub has_failed : Bool
-
-abbrev pub reader : {S : Type 0} → input.Ghosts S → S → S → Stream
-reader g old new = record { old = g.remaining old; new = g.remaining new; has_failed = g.has_failed new }
-
 -- what the file of rows at a path held, and what was left of it
 abbrev pub files : {S : Type 0} → record { remaining : S → Option (List ℕ); has_failed : S → Bool; bytes_at : S → List ℕ → Option (List ℕ) } → S → S → List ℕ → Stream
 files g old new path = record { old = g.bytes_at old path; new = g.remaining new; has_failed = g.has_failed new }
-
-abbrev pub writer : {S : Type 0} → output.Ghosts S → S → S → Stream
-writer g old new = record { old = g.contents old; new = g.contents new; has_failed = g.has_failed new }
 
 module _ {D : Type 0} {g : disk.Ghosts D} where
   -- The close of a connection: on a clean disk the last commit is in the file alone, or its error tells what is left.

@@ -1,6 +1,5 @@
 -- What a run of lines and the creation of a register do to the files at a path, from the open to the close.
-use Rattle.std.specs.Prelude.{◌≡◌, ◌≢◌, ◌-◌, ◌^◌, ◌<◌, ℕ, true, List, length, Result, Ok, Err, IfSome}
-use Rattle.std.specs.Io.KnownBytes.{Consumes, IsAtEnd}
+use Rattle.std.specs.Prelude.{◌≡◌, ◌≢◌, ℕ, List, Result, Ok, Err}
 use Rattle.sqlite_disk.specs.declared.Disk as disk
 use Rattle.sqlite_disk.specs.declared.Files.{Files}
 use Rattle.sqlite_wal.specs.Recovery.{Image}
@@ -15,38 +14,28 @@ use Rattle.adm_store.specs.StandsFor.{LeavesOnly, LeavesOldOrNew}
 use Rattle.adm_store.specs.declared.fault.CreateFault.{CreateFault}
 use Rattle.adm_store.specs.declared.fault.CreateFault.TheVariants as create
 use Rattle.adm_desk.specs.Standing.{Standing}
-use Rattle.adm_desk.specs.Lines.{lines_of}
-use Rattle.adm_desk.specs.Written.{Finished, AnsweredUpTo, StoppedWithin}
+use Rattle.adm_desk.specs.Written.{EndsAs}
 use Rattle.adm_desk.specs.declared.answer.LineAnswer.{LineAnswer}
 use Rattle.adm_desk.specs.declared.run.Run.{Run}
-use Rattle.adm_program.specs.Exits.{exit_of, of_create}
-use Rattle.adm_program.specs.Opened.{Stream, Closes, IsFound, Opens}
+use Rattle.adm_desk.specs.declared.run.RunFault.{RunFault}
+use Rattle.adm_program.specs.Exits.{of_create, of_lines}
+use Rattle.adm_wire.specs.Streams.{Stream}
+use Rattle.adm_program.specs.Opened.{Closes, IsFound, Opens}
 use Rattle.adm_program.specs.declared.exit.Exit.{Exit}
 use Rattle.adm_program.specs.declared.exit.Exit.TheVariants as exit
 use Rattle.adm_program.specs.declared.fault.Fault.{Fault}
-use Rattle.adm_program.specs.declared.fault.Fault.TheVariants as fault
 
 -- what one line may be answered, and what is there then
 abbrev pub Liner : Type 0 → Type 1
 Liner S = S → List ℕ → LineAnswer → S → Type 0
 
 module _ {D : Type 0} {g : disk.Ghosts D} where
-  -- how a run of lines ended, from the desk as it was to the desk as it is
-  abbrev pub EndsAs : Liner (Standing (Held (FileStore D g))) → Standing (Held (FileStore D g)) → Standing (Held (FileStore D g)) → Stream → Stream → Result Exit Fault → Type 0
-  EndsAs runs old new input output (Ok e) = (run : Run) × (e ≡ exit_of run) × IsAtEnd input.new
-      × (bytes : List ℕ) × Consumes input.old input.new bytes × Finished runs old new output.old output.new run (lines_of bytes)
-  EndsAs runs old new input output (Err fault.Read) = IfSome input.old (λ bytes. length bytes < 2 ^ 64 - 1 → input.has_failed ≡ true)
-      × (bytes : List ℕ) × Consumes input.old input.new bytes × AnsweredUpTo runs old new output.old output.new bytes
-  EndsAs runs old new input output (Err fault.Write) = (output.has_failed ≡ true)
-      × (bytes : List ℕ) × Consumes input.old input.new bytes × StoppedWithin runs old new output.old output.new bytes input.new
-  EndsAs runs old new input output (Err fault.Memory) = (bytes : List ℕ) × Consumes input.old input.new bytes
-      × StoppedWithin runs old new output.old output.new bytes input.new
-  EndsAs runs old new input output (Err _) = ⊥
-
   -- the lines are run over the desk, and then its connection is closed
   pub record Runs (runs : Liner (Standing (Held (FileStore D g)))) (desk : Standing (Held (FileStore D g))) (input output : Stream) (e : Result Exit Fault) (closed : Result (Files D) (Error × FileStore D g)) : Type 0 where
     pub after : Standing (Held (FileStore D g))
-    pub ends : EndsAs runs desk after input output e
+    pub run : Result Run RunFault
+    pub ends : EndsAs runs desk after input output run
+    pub told : e ≡ of_lines run
     pub closes : Closes after.conn closed
 
   -- a desk has the register that the files stood for, and runs the lines; nothing is read or written before it has

@@ -12,7 +12,8 @@ use Rattle.adm_http.specs.Purposes.{RunsBody}
 use Rattle.adm_desk.specs.Standing.{Standing}
 use Rattle.adm_http.specs.Connections.{AnswersUpTo}
 use Rattle.adm_http.specs.Shows.{Shows}
-use Rattle.adm_program.specs.Opened.{Stream, Closes, Opens}
+use Rattle.adm_wire.specs.Streams.{Stream}
+use Rattle.adm_program.specs.Opened.{Closes, Opens}
 use Rattle.adm_program.specs.Texts.{Puts}
 use Rattle.adm_program.specs.declared.exit.Exit.{Exit}
 use Rattle.adm_program.specs.declared.exit.Exit.TheVariants as exit

@@ -12,7 +12,8 @@ use Rattle.adm_letters.specs.Letters.{letter_text}
 use Rattle.adm_letters.specs.Lists.{list_text}
 use Rattle.adm_letters.specs.Pairs.{pairs_text}
 use Rattle.adm_letters.specs.Reports.{round_text}
-use Rattle.adm_program.specs.Opened.{Stream, Closes, Opens}
+use Rattle.adm_wire.specs.Streams.{Stream}
+use Rattle.adm_program.specs.Opened.{Closes, Opens}
 use Rattle.adm_program.specs.declared.document.Document.{Document}
 use Rattle.adm_program.specs.declared.document.Document.TheVariants as document
 use Rattle.adm_program.specs.declared.exit.Exit.{Exit}

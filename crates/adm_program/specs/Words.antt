@@ -12,7 +12,7 @@ use Rattle.adm_words.specs.Lines.{ReadsWords}
 use Rattle.adm_words.specs.declared.actions.Action.{Action}
 use Rattle.adm_words.specs.declared.faults.WordsFault.{WordsFault}
 use Rattle.adm_program.specs.Exits.{has_many_holidays, IsCauseIn, ending_of, error_of, told_of, code_of, exit_of_words, text_of}
-use Rattle.adm_program.specs.Opened.{Stream}
+use Rattle.adm_wire.specs.Streams.{Stream}
 use Rattle.adm_program.specs.Told.{Tells, TellsOutcome, TellsWords}
 use Rattle.adm_program.specs.Does.{Does}
 use Rattle.adm_program.specs.declared.exit.Exit.{Exit}
@@ -56,7 +56,7 @@ module _ {D : Type 0} (g : disk.Ghosts D) where
   ComesOf image (Err fault) rows input output errors status = AskForNothing fault input output errors status
 
   -- the words are read, and this comes of them, over files that held what the start says
-  pub record DoesWords {S : Type 0} (first : start.Ghosts S) (given : List (List ℕ)) (rows : List ℕ → Stream) (input output errors : Stream) (status : ℕ) : Type 0 where
+  pub record DoesWords {S : Type 0} (first : start.Ghosts S) (words : List (Bor (List ℕ))) (rows : List ℕ → Stream) (input output errors : Stream) (status : ℕ) : Type 0 where
     pub read : Result Action WordsFault
-    pub reads : ReadsWords given read
+    pub reads : ReadsWords (texts words) read
     pub comes : ComesOf (image_at first) read rows input output errors status

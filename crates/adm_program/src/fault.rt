@@ -1,7 +1,7 @@
 // Why a line of the command line came to nothing, and what is printed of it.
 ghost use Rattle.std.specs.Prelude.{◌≡◌, MatchResult};
 ghost use Rattle.adm_program.specs.Exits.{text_of, disk_text, row_text, row_fault_end, of_season, of_create, of_open, of_run, of_letter, of_error};
-ghost use Rattle.adm_program.specs.Opened.{writer};
+ghost use Rattle.adm_wire.specs.Streams.{writer};
 ghost use Rattle.adm_program.specs.Told.{Writes};
 
 use crate::cause::Cause;

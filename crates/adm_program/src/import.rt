@@ -3,7 +3,8 @@ ghost use Rattle.std.specs.Prelude.{◌++◌, [], ◌∷◌};
 ghost use Rattle.sqlite.specs.Held.{state};
 ghost use Rattle.adm_desk.specs.Lines.{answer_text};
 ghost use Rattle.adm_program.specs.Imports.{IsHandled, Imports, ImportsFile};
-ghost use Rattle.adm_program.specs.Opened.{files, reader, writer};
+ghost use Rattle.adm_wire.specs.Streams.{reader, writer};
+ghost use Rattle.adm_program.specs.Opened.{files};
 ghost use Rattle.adm_program.specs.Texts.{Puts};
 
 use crate::ended::{Ended, close};

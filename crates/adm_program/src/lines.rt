@@ -6,7 +6,7 @@ ghost use Rattle.adm_desk.specs.Lines.{AnswersLine};
 ghost use Rattle.adm_desk.specs.Questions.{TellsLine};
 ghost use Rattle.adm_desk.specs.Standing.{Handles};
 ghost use Rattle.adm_program.specs.Exits.{IsOpenFault, IsDisk};
-ghost use Rattle.adm_program.specs.Opened.{reader, writer};
+ghost use Rattle.adm_wire.specs.Streams.{reader, writer};
 ghost use Rattle.adm_program.specs.Runs.{Answers, Runs};
 
 use crate::ended::{Ended, close};

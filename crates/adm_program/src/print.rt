@@ -1,6 +1,7 @@
 // A text on the output, and a document of a register printed as one.
 ghost use Rattle.std.specs.Prelude.{◌≡◌, false};
-ghost use Rattle.adm_program.specs.Opened.{Closes, writer};
+ghost use Rattle.adm_wire.specs.Streams.{writer};
+ghost use Rattle.adm_program.specs.Opened.{Closes};
 ghost use Rattle.adm_program.specs.Texts.{Puts, PrintsAs, text_in};
 
 use crate::document::Document;

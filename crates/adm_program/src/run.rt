@@ -5,7 +5,8 @@ ghost use Rattle.adm_program.specs.Exits.{has_many_holidays, IsCauseIn, IsOpenFa
 ghost use Rattle.adm_program.specs.declared.fault.Fault.TheVariants.{TooManyHolidays};
 ghost use Rattle.adm_program.specs.Does.{Does};
 ghost use Rattle.adm_program.specs.Imports.{ImportsInto};
-ghost use Rattle.adm_program.specs.Opened.{files, reader, writer};
+ghost use Rattle.adm_wire.specs.Streams.{reader, writer};
+ghost use Rattle.adm_program.specs.Opened.{files};
 ghost use Rattle.adm_program.specs.Runs.{Creates, CreatesIn};
 ghost use Rattle.adm_program.specs.Served.{ServesOver};
 ghost use Rattle.adm_program.specs.Texts.{Prints};
@@ -46,7 +47,7 @@ pub fn run_words<S: Start, F: Rows, I: Input, O: Output, E: Output, L: Write>(
     errors: &mut E,
     log: &mut L,
 ) -> u8
-    ensures does { DoesWords ⟦<FileFrom<S> as Disk>⟧ S.Start (texts words.entry.now) (files F.Rows rows.old rows.new)
+    ensures does { DoesWords ⟦<FileFrom<S> as Disk>⟧ S.Start words.entry.now (files F.Rows rows.old rows.new)
         (reader I.Input input.old input.new) (writer O.Output output.old output.new) (writer E.Output errors.old errors.new) result }
     ensures status { RunsWords (texts words.entry.now) result }
 {

@@ -1,6 +1,6 @@
 // Connections to a port, served over a desk.
 ghost use Rattle.std.specs.Prelude.{◌≡◌, IfOk, IfErr, string_bytes};
-ghost use Rattle.adm_program.specs.Opened.{writer};
+ghost use Rattle.adm_wire.specs.Streams.{writer};
 ghost use Rattle.adm_program.specs.Served.{IsListenFault, Serves, serving_text};
 ghost use Rattle.adm_program.specs.Texts.{Puts};
 

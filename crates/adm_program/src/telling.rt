@@ -1,7 +1,7 @@
 // What is told of a fault on the standard error, and the exit that goes with it.
 ghost use Rattle.std.specs.Prelude.{◌≡◌};
 ghost use Rattle.adm_program.specs.Exits.{exit_of_words, outcome_of, text_of, told_of};
-ghost use Rattle.adm_program.specs.Opened.{writer};
+ghost use Rattle.adm_wire.specs.Streams.{writer};
 ghost use Rattle.adm_program.specs.Told.{Tells, TellsOutcome, TellsWords, WritesWords};
 ghost use Rattle.adm_program.specs.declared.fault.Fault.TheVariants.{Memory};
 

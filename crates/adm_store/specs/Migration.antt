@@ -7,7 +7,7 @@ use Rattle.sqlite.specs.Tree.{Trees}
 use Rattle.adm_schema.specs.declared.version.Version.TheVariants.{First, Second}
 use Rattle.adm_schema.specs.Effects.{AddsTable, MarksSecond}
 use Rattle.adm_schema.specs.Schema.{schema_of, register_schema}
-use Rattle.adm_store.specs.StandsFor.{StandsAs}
+use Rattle.adm_store.specs.StandsFor.{StandsAs, LeavesAll}
 
 -- where the tables were those of the first version, the table of the present schools is there too, without rows
 abbrev pub MakesPresent : State → State → Type 0
@@ -16,6 +16,10 @@ MakesPresent old new = (IsTrue old.is_open → old.now.schema ≡ schema_of Firs
 -- where the tables were those of the second version, the row of `meta` names it
 abbrev pub MakesSecond : State → State → Type 0
 MakesSecond old new = (IsTrue old.is_open → (old.now.schema ≡ register_schema) × IsDatabase old.now) → MarksSecond old new
+
+-- the file is open, and stands in the second version for each register for which all stood in the first that a crash could leave before
+abbrev pub Migrates : State → State → Type 0
+Migrates old new = IsTrue new.is_open × ((r : Register) → LeavesAll First r old → StandsAs Second new.committed.trees r)
 
 -- the trees stand in the second version for a register for which, in the first, all stood that a crash could leave before
 pub record IsMigrated (old : State) (db : Trees) : Type 0 where

@@ -20,7 +20,7 @@ use Rattle.std.specs.FinMap.{values}
 use Rattle.adm_types.specs.Seasons.{SeasonFacts}
 use Rattle.adm_register.specs.State.{State as Register}
 use Rattle.adm_store.specs.Faults.{IsReadAgain, AreReadAgain, IsImportReadAgain}
-use Rattle.adm_store.specs.StandsFor.{HasRows, written_in, written_tables}
+use Rattle.adm_store.specs.StandsFor.{HasRows, HoldsRegister, written_in, written_tables}
 
 -- in a file of this version the text asks for each row of the table, column by column
 pub record AsksAll (v : Version) (table : Table) (text : List ℕ) : Type 0 where
@@ -65,6 +65,18 @@ HoldsSeason v season draws = HasRows meta (season_row v season draws ∷ [])
 -- the register is of this season, and has so many draws
 abbrev pub IsOfSeason : SeasonFacts → ℕ → Register → Type 0
 IsOfSeason season draws r = (r.season ≡ season) × (length (values r.draws) ≡ draws)
+
+-- no register of this season, with so many draws, is found
+abbrev pub FindsNone : Version → SeasonFacts → ℕ → State → State → Type 0
+FindsNone v season draws old new = (r : Register) → IsOfSeason season draws r → FindsIn v (λ db. ¬ HoldsRegister v db r) old new
+
+-- the same where `meta` names the version, the season and so many draws
+abbrev pub FindsNoneNamed : Version → SeasonFacts → ℕ → State → State → Type 0
+FindsNoneNamed v season draws old new = (r : Register) → IsOfSeason season draws r → FindsIn v (λ db. HoldsSeason v season draws db → ¬ HoldsRegister v db r) old new
+
+-- no register at all is found where the tables that were there from the first version on have these rows
+abbrev pub FindsNoneWith : Version → Rows → State → State → Type 0
+FindsNoneWith v rows old new = (r : Register) → FindsIn v (λ db. HoldsFirst v rows db → ¬ HoldsRegister v db r) old new
 
 -- each of these is what its row is read as
 pub record AreReadBack (rows : Rows) : Type 0 where

@@ -1,10 +1,10 @@
 // A file of the first version made one of the second.
-ghost use Rattle.std.specs.Prelude.{◌≡◌, false, OnOk, IsTrue};
+ghost use Rattle.std.specs.Prelude.{◌≡◌, false, OnOk};
 ghost use Rattle.sqlite.specs.Held.{state};
 ghost use Rattle.sqlite.specs.State.{HasCleanDisk, Survives};
 ghost use Rattle.adm_register.specs.State.{State as RegisterFacts};
 ghost use Rattle.adm_schema.specs.declared.version.Version.TheVariants.{First, Second};
-ghost use Rattle.adm_store.specs.Migration.{MakesPresent, MakesSecond};
+ghost use Rattle.adm_store.specs.Migration.{MakesPresent, MakesSecond, Migrates};
 ghost use Rattle.adm_store.specs.StandsFor.{StandsAs, LeavesAll};
 
 use sqlite::{Alter, Connection, Error, Transaction};
@@ -37,7 +37,7 @@ fn mark_second<S: Alter>(tx: &mut Transaction<'_, S>) -> Result<(), Error>
 pub(crate) fn migrate<S: Alter>(conn: &mut Connection<S>) -> Result<(), Error>
     requires ended { conn.old.in_transaction ≡ false }
     ensures ended { conn.new.in_transaction ≡ false }
-    ensures committed { HasCleanDisk (state S.Store conn.new) → OnOk result (IsTrue (state S.Store conn.new).is_open × ((r : RegisterFacts) → LeavesAll First r (state S.Store conn.old) → StandsAs Second (state S.Store conn.new).committed.trees r)) }
+    ensures committed { HasCleanDisk (state S.Store conn.new) → OnOk result (Migrates (state S.Store conn.old) (state S.Store conn.new)) }
     ensures survives { (r : RegisterFacts) → LeavesAll First r (state S.Store conn.old) → Survives (state S.Store conn.old) (state S.Store conn.new) (λ db. StandsAs Second db r) }
 {
     let at_rest = conn.is_autocommit();

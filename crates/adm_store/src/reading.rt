@@ -8,7 +8,7 @@ ghost use Rattle.adm_schema.specs.declared.version.Version.TheVariants.{First, S
 ghost use Rattle.adm_schema.specs.Schema.{schema_of};
 ghost use Rattle.std.specs.List.{list_all};
 ghost use Rattle.adm_store.specs.StandsFor.{HoldsRows, HoldsRegister, is_feeder, names_no_feeder};
-ghost use Rattle.adm_store.specs.Reads.{FindsIn, SeesTheSame, HoldsFirst, HoldsSeason, IsOfSeason, AreReadBack};
+ghost use Rattle.adm_store.specs.Reads.{FindsIn, SeesTheSame, HoldsFirst, HoldsSeason, AreReadBack, FindsNone, FindsNoneNamed, FindsNoneWith};
 ghost use Rattle.adm_store.specs.FirstFault.{IsFirstFault};
 ghost use Rattle.adm_store.specs.Faults.{IsNoRegister};
 ghost use Rattle.adm_store.specs.Causes.{DiskFailed, DiskFailedIn, HasDiskCause};
@@ -69,7 +69,7 @@ fn first_tables<S: Alter>(
     ensures ok { IfOk result (λ rows. FindsIn first.version (λ db. HoldsSeason first.version first.season first.draws db → HoldsFirst first.version rows db) (state S.Store tx.old.conn.now) (state S.Store tx.new.conn.now)) }
     ensures same { OnOk result (SeesTheSame (state S.Store tx.old.conn.now) (state S.Store tx.new.conn.now)) }
     ensures again { IfOk result AreReadBack }
-    ensures bad { IfErr result (λ e. IsNoRegister e → (r : RegisterFacts) → IsOfSeason first.season first.draws r → FindsIn first.version (λ db. ¬ HoldsRegister first.version db r) (state S.Store tx.old.conn.now) (state S.Store tx.new.conn.now)) }
+    ensures bad { IfErr result (λ e. IsNoRegister e → FindsNone first.version first.season first.draws (state S.Store tx.old.conn.now) (state S.Store tx.new.conn.now)) }
     ensures first { HasCleanDisk (state S.Store tx.new.conn.now) → IfErr result (λ e. IsNoRegister e → e ≡ OpenFault.BadRow) }
     ensures disk { IfErr result (λ e. e ≡ OpenFault.Disk → DiskFailed (state S.Store tx.old.conn.now) (state S.Store tx.new.conn.now)) }
     ensures survives { Survives (state S.Store tx.old.conn.now) (state S.Store tx.new.conn.now) (λ _. ⊥) }
@@ -151,7 +151,7 @@ fn with_presents<S: Alter>(
     ensures season { IfOk result (λ all. all.season ≡ rows.season) }
     ensures ok { IfOk result (λ all. FindsIn version (λ db. HoldsFirst version rows db → HoldsRows version db all) (state S.Store tx.old.conn.now) (state S.Store tx.new.conn.now)) }
     ensures again { AreReadBack rows → IfOk result AreReadBack }
-    ensures bad { IfErr result (λ e. IsNoRegister e → AreReadBack rows → (r : RegisterFacts) → FindsIn version (λ db. HoldsFirst version rows db → ¬ HoldsRegister version db r) (state S.Store tx.old.conn.now) (state S.Store tx.new.conn.now)) }
+    ensures bad { IfErr result (λ e. IsNoRegister e → AreReadBack rows → FindsNoneWith version rows (state S.Store tx.old.conn.now) (state S.Store tx.new.conn.now)) }
     ensures first { HasCleanDisk (state S.Store tx.new.conn.now) → IfErr result (λ e. IsNoRegister e → e ≡ OpenFault.BadRow) }
     ensures disk { IfErr result (λ e. e ≡ OpenFault.Disk → DiskFailedIn version (state S.Store tx.old.conn.now) (state S.Store tx.new.conn.now)) }
     ensures survives { Survives (state S.Store tx.old.conn.now) (state S.Store tx.new.conn.now) (λ _. ⊥) }
@@ -199,7 +199,7 @@ fn rows_in<S: Alter>(
     ensures season { IfOk result (λ rows. rows.season ≡ first.season) }
     ensures ok { IfOk result (λ rows. FindsIn first.version (λ db. HoldsSeason first.version first.season first.draws db → HoldsRows first.version db rows) (state S.Store tx.old.conn.now) (state S.Store tx.new.conn.now)) }
     ensures again { IfOk result AreReadBack }
-    ensures bad { IfErr result (λ e. IsNoRegister e → (r : RegisterFacts) → IsOfSeason first.season first.draws r → FindsIn first.version (λ db. HoldsSeason first.version first.season first.draws db → ¬ HoldsRegister first.version db r) (state S.Store tx.old.conn.now) (state S.Store tx.new.conn.now)) }
+    ensures bad { IfErr result (λ e. IsNoRegister e → FindsNoneNamed first.version first.season first.draws (state S.Store tx.old.conn.now) (state S.Store tx.new.conn.now)) }
     ensures first { HasCleanDisk (state S.Store tx.new.conn.now) → IfErr result (λ e. IsNoRegister e → e ≡ OpenFault.BadRow) }
     ensures disk { IfErr result (λ e. e ≡ OpenFault.Disk → DiskFailedIn first.version (state S.Store tx.old.conn.now) (state S.Store tx.new.conn.now)) }
     ensures survives { Survives (state S.Store tx.old.conn.now) (state S.Store tx.new.conn.now) (λ _. ⊥) }

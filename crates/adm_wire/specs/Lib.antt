@@ -4,3 +4,4 @@ pub mod Forms
 pub mod Commands
 pub mod WhatIfs
 pub mod Texts
+pub mod Streams

@@ -1,7 +1,7 @@
 use Rattle.std.proofs.Common.{ℕ, List, [], ◌∷◌, ◌++◌, take, Option, refl, subst, sym}
 use Rattle.std.specs.Io.KnownBytes.{Appends}
 use Rattle.std.proofs.lemmas.List.{append-nil}
-use Rattle.std.proofs.lemmas.Result.{MatchResult-weaker}
+use Rattle.std.proofs.lemmas.Result.{on_ok_weaker, on_err_weaker}
 use Rattle.adm_desk.specs.declared.answer.LineAnswer.{LineAnswer}
 use Rattle.adm_desk.specs.declared.run.Run.{Run}
 use Rattle.adm_desk.specs.Lines.{line_text}
@@ -27,8 +27,14 @@ one_stopped runs old new w v line a by part = record {
   written = part.1;
 }
 
-pub returns-clause-bytes : goal.returns-clause-bytes
-returns-clause-bytes g c =
-    MatchResult-weaker c.write_answer.result c.write_answer.ensures.bytes
-    (λ _ text. one_answered g.H.Liner.runs _ _ _ _ _ _ c.args.line.now c.answer-answer.result c.answer-answer.ensures c.count.ensures text)
-    (λ _ part. one_stopped g.H.Liner.runs _ _ _ _ c.args.line.now c.answer-answer.result c.answer-answer.ensures part)
+pub returns-clause-answered : goal.returns-clause-answered
+returns-clause-answered g c =
+    on_ok_weaker c.write_answer.result
+    (λ text. one_answered g.H.Liner.runs _ _ _ _ _ _ c.args.line.now c.answer-answer.result c.answer-answer.ensures c.count.ensures text)
+    c.write_answer.ensures.whole
+
+pub returns-clause-stopped : goal.returns-clause-stopped
+returns-clause-stopped g c =
+    on_err_weaker c.write_answer.result
+    (λ part. one_stopped g.H.Liner.runs _ _ _ _ c.args.line.now c.answer-answer.result c.answer-answer.ensures part)
+    c.write_answer.ensures.part

@@ -3,8 +3,8 @@ use Rattle.adm_desk.proofs.CutLemmas.{Cuts-byte}
 use Rattle.adm_desk.proofs.AnswerLemmas.{Answered-nothing, Stopped-nothing}
 use Rattle.adm_desk.proofs.lines.take_byte.Goals as goal
 
-pub returns-then-is_ok-clause-bytes : goal.returns-then-is_ok-clause-bytes
-returns-then-is_ok-clause-bytes g c =
+pub returns-then-is_ok-clause-taken : goal.returns-then-is_ok-clause-taken
+returns-then-is_ok-clause-taken g c =
     let items : c.push.new.self.items ≡ c.args.pending.now.items ++ c.args.byte ∷ [] = search rules in
     rw items record {
       lines = [];
@@ -12,8 +12,8 @@ returns-then-is_ok-clause-bytes g c =
       answered = Answered-nothing g.H.Liner.runs _ _ _;
     }
 
-pub returns-else-is_ok-clause-bytes : goal.returns-else-is_ok-clause-bytes
-returns-else-is_ok-clause-bytes g c = record {
+pub returns-else-is_ok-clause-broken : goal.returns-else-is_ok-clause-broken
+returns-else-is_ok-clause-broken g c = record {
   lines = [];
   more = c.args.pending.now.items ++ c.args.byte ∷ [];
   whole = refl;

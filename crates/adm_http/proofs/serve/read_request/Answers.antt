@@ -4,8 +4,8 @@ use Rattle.adm_http.specs.Reading.{MayStop}
 use Rattle.adm_http.proofs.StepLemmas.{consumed_on}
 use Rattle.adm_http.proofs.serve.read_request.Goals as goal
 
-pub returns-in-Err-clause-bytes : goal.returns-in-Err-clause-bytes
-returns-in-Err-clause-bytes g c =
+pub returns-in-Err-clause-err : goal.returns-in-Err-clause-err
+returns-in-Err-clause-err g c =
     let less = c.in-Err.ensures.bytes in (
       c.in-Err.ensures.reached,
       (
@@ -19,8 +19,8 @@ none_wanted : (wanted : Option ℕ) (A : Type 0) (B : ℕ → Type 0) → MatchO
 none_wanted None A B h none = h
 none_wanted (Some total) A B h none = absurd (none total refl)
 
-pub returns-clause-bytes : goal.returns-clause-bytes
-returns-clause-bytes g c = record {
+pub returns-clause-ok : goal.returns-clause-ok
+returns-clause-ok g c = record {
   consumed = c.loop-total.invariant.consumed;
   near = c.loop-total.invariant.near;
   stopped = inl (subst MayStop c.deref.ensures.value (none_wanted c.wanted.result _ _ c.wanted.ensures c.in_default.not-Some));

@@ -9,7 +9,7 @@ returns-in-Ok-eq0-clause-bytes g c =
     let same = ap length was.2 in
     let on : MayGoOn c.loop-reader.input.items =
     subst MayGoOn (sym was.2) (c.requires.on.on was.0 (omega (arith, same, c.len.ensures, c.loop-reader-test.true))) in
-    let more = rw c.in-Ok-eq0.field-0-is at c.in-Ok-eq0.ensures.bytes in
+    let more = rw c.in-Ok-eq0.field-0-is at c.in-Ok-eq0.ensures.ok in
     let step = read_step _ _ _ c.args.input.now.items was.0 c.loop-reader.input.items more.0 c.read_more.new.input.items was.1 was.2 on more.1 more.2
     (omega (arith, more.3, more.4)) in
     (_, step.consumed, step.grown, step.near)
@@ -20,7 +20,7 @@ loop-reader-preserved g c =
     let same = ap length was.2 in
     let on : MayGoOn c.loop-reader.input.items =
     subst MayGoOn (sym was.2) (c.requires.on.on was.0 (omega (arith, same, c.len.ensures, c.loop-reader-test.true))) in
-    let more = c.in-Ok.ensures.bytes in
+    let more = c.in-Ok.ensures.ok in
     let step = read_step _ _ _ c.args.input.now.items was.0 c.loop-reader.input.items more.0 c.read_more.new.input.items was.1 was.2 on more.1 more.2
     (omega (arith, more.3, more.4)) in
     record {
@@ -32,7 +32,7 @@ loop-reader-preserved g c =
 pub returns-in-Err-clause-bytes : goal.returns-in-Err-clause-bytes
 returns-in-Err-clause-bytes g c =
     let was = c.loop-reader.invariant.grown in
-    let less = c.in-Err.ensures.bytes in
+    let less = c.in-Err.ensures.err in
     let step = failed_step _ _ _ c.args.input.now.items was.0 c.loop-reader.input.items c.read_more.new.input.items was.1 was.2
     c.loop-reader.invariant.near less.2 less.1 in
     (_, step.consumed, step.grown, step.near)

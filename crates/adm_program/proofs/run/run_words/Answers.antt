@@ -1,6 +1,6 @@
 use Rattle.std.proofs.Common.{ℕ, Ok, Err, refl, ap, ◌∙◌, sym, subst}
 use Rattle.adm_program.specs.Exits.{ExitsBy, code_of}
-use Rattle.adm_program.specs.Opened.{Stream}
+use Rattle.adm_wire.specs.Streams.{Stream}
 use Rattle.adm_program.proofs.Doing.{exits, refused}
 use Rattle.adm_program.proofs.Wording.{taken}
 use Rattle.adm_program.proofs.run.run_words.Goals as goal

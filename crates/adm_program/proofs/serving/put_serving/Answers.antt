@@ -1,5 +1,5 @@
 use Rattle.std.proofs.Common.{ℕ, List, subst}
-use Rattle.adm_program.specs.Opened.{Stream}
+use Rattle.adm_wire.specs.Streams.{Stream}
 use Rattle.adm_program.specs.Texts.{Puts}
 use Rattle.adm_program.proofs.serving.put_serving.Goals as goal
 

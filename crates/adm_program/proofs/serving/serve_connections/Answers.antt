@@ -1,5 +1,5 @@
 use Rattle.std.proofs.Common.{Result, Ok, sym, refl, subst}
-use Rattle.adm_program.specs.Opened.{Stream}
+use Rattle.adm_wire.specs.Streams.{Stream}
 use Rattle.adm_program.specs.Served.{ServesAs}
 use Rattle.adm_program.specs.declared.exit.Exit.{Exit}
 use Rattle.adm_program.specs.declared.fault.Fault.{Fault}

@@ -1,11 +1,13 @@
-use Rattle.std.proofs.Common.{◌≡◌, ◌∙◌, ◌≢◌, ℕ, List, [], ◌∷◌, Option, Result, Ok, Err, subst}
-use Rattle.std.specs.Prelude.{IfOk, IfErr}
+use Rattle.std.proofs.Common.{◌≡◌, ◌∙◌, ℕ, List, [], ◌∷◌, Option, Result, Ok, Err, subst}
+use Rattle.adm_wire.specs.Streams.{Stream}
 use Rattle.adm_desk.specs.Lines.{AnswersLines}
 use Rattle.adm_desk.specs.Questions.{TellsLine}
 use Rattle.adm_desk.specs.Standing.{Standing}
-use Rattle.adm_desk.specs.Written.{Finished, AnsweredUpTo, StoppedWithin}
+use Rattle.adm_desk.specs.Written.{Finished, AnsweredUpTo, StoppedWithin, EndsAs}
 use Rattle.adm_desk.specs.declared.answer.LineAnswer.{LineAnswer}
 use Rattle.adm_desk.specs.declared.run.Run.{Run}
+use Rattle.adm_desk.specs.declared.run.RunFault.{RunFault}
+use Rattle.adm_desk.specs.declared.run.RunFault.TheVariants.{Read, Write, Memory}
 use Rattle.adm_desk.proofs.desk.Desk.tell_lines.Goals as goal
 
 -- questions leave the desk as it is
@@ -24,19 +26,11 @@ up_to old new u v bytes it = subst (λ n. AnsweredUpTo TellsLine old n u v bytes
 within : {C : Type 0} (old new : Standing C) (u v : Option (List ℕ)) (bytes : List ℕ) (left : Option (List ℕ)) → StoppedWithin TellsLine old new u v bytes left → StoppedWithin TellsLine old old u v bytes left
 within old new u v bytes left it = subst (λ n. StoppedWithin TellsLine old n u v bytes left) (stays old new _ it.stopped.answers it.stopped.answered) it
 
-if_ok : {X E : Type 0} {P Q : X → Type 0} (r : Result X E) → ((x : X) → P x → Q x) → IfOk r P → IfOk r Q
-if_ok (Ok x) more it = more x it
-if_ok (Err e) more it = tt
+ends : {C : Type 0} (old new : Standing C) (input output : Stream) (r : Result Run RunFault) → EndsAs TellsLine old new input output r → EndsAs TellsLine old old input output r
+ends old new input output (Ok run) it = (it.0, it.1, it.2, finished old new _ _ run _ it.3)
+ends old new input output (Err Read) it = (it.0, it.1, it.2, up_to old new _ _ it.1 it.3)
+ends old new input output (Err Write) it = (it.0, it.1, it.2, within old new _ _ it.1 _ it.3)
+ends old new input output (Err Memory) it = (it.0, it.1, within old new _ _ it.0 _ it.2)
 
-if_err : {X E : Type 0} {P Q : E → Type 0} (r : Result X E) → ((e : E) → P e → Q e) → IfErr r P → IfErr r Q
-if_err (Ok x) more it = tt
-if_err (Err e) more it = more e it
-
-pub returns-clause-ok : goal.returns-clause-ok
-returns-clause-ok g c = if_ok c.run_lines.result (λ run it. (it.0, it.1, finished _ _ _ _ run _ it.2)) c.run_lines.ensures.ok
-
-pub returns-clause-read : goal.returns-clause-read
-returns-clause-read g c = λ e. let it = c.run_lines.ensures.read e in (it.0, it.1, up_to _ _ _ _ it.0 it.2)
-
-pub returns-clause-stopped : goal.returns-clause-stopped
-returns-clause-stopped g c = if_err c.run_lines.result (λ e stopped unread. let it = stopped unread in (it.0, it.1, within _ _ _ _ it.0 _ it.2)) c.run_lines.ensures.stopped
+pub returns-clause-ends : goal.returns-clause-ends
+returns-clause-ends g c = ends _ _ _ _ c.run_lines.result c.run_lines.ensures.ends
