@@ -58,8 +58,7 @@ pub returns-in-Err-take_bytes-clause-ends : goal.returns-in-Err-take_bytes-claus
 returns-in-Err-take_bytes-clause-ends g c =
     let i = c.loop-turn.invariant in
     let bytes = i.0 ++ take c.in-Ok.count c.read_some.new.buffer in
-    ends_from g.H.Liner.runs _ _ _ _ _ (Err c.in-Err-take_bytes.fault) tt
-    (
+    ends_from g.H.Liner.runs _ _ _ _ _ (Err c.in-Err-take_bytes.fault) tt (
       bytes,
       Consumes-then _ _ _ i.0 _ i.1 c.in-Ok.ensures.bytes.0,
       broken_from g.H.Liner.runs _ _ _ _ _ bytes (Takes-breaks g.H.Liner.runs _ _ _ _ _ _ _ _ _ _ i.0 _ i.2 c.in-Err-take_bytes.ensures.broken),
