@@ -25,7 +25,7 @@ use Rattle.adm_register.specs.declared.difference.Difference.{Difference}
 use Rattle.adm_register.specs.Change.{no_change, put_child, after}
 use Rattle.adm_register.specs.Plans.{has_plan, is_plan_row}
 use Rattle.adm_commands.specs.KeptByTypes.{KeptBySchool, KeptByChild}
-use Rattle.adm_register.specs.WellFormed.{AllRows, WellFormed, ChildFits, has_round, held_at, is_held, lists_school}
+use Rattle.adm_register.specs.WellFormed.{AllRows, WellFormed, ChildFits, has_first_round, places_outside_plans, is_outside_plan, lists_school}
 use Rattle.adm_register.specs.Draws.{DrawFits, are_in_order, no_draws, with_draws}
 use Rattle.adm_commands.specs.Tests.{first_failing}
 use Rattle.adm_commands.specs.AddSchool as add_school
@@ -56,7 +56,7 @@ draws_stay old change none = record {
 }
 
 -- no place is held at a school that is not there
-pub none_there : (old : State) (code : List ℕ) → WellFormed old → not (contains_key old.schools code) ≡ true → AllRows (λ number row. is_held (Some row) code ≡ false) old.places
+pub none_there : (old : State) (code : List ℕ) → WellFormed old → not (contains_key old.schools code) ≡ true → AllRows (λ number row. is_outside_plan (Some row) code ≡ false) old.places
 none_there old code well gone number row there =
     elim (pointwise nat_eq row.place.school code) as (λ b. pointwise nat_eq row.place.school code ≡ b → (b && not (is_plan row.place.state)) ≡ false) [
       | true ↦ λ is. let here = subst (λ c. contains_key old.schools c ≡ true) ((bytes_decides row.place.school code).0 is) (well.places.each number row there).school in let none = not-true _ gone in cc (here, none)
@@ -64,10 +64,10 @@ none_there old code well gone number row there =
     ] refl
 
 -- there is room at the schools where one more is put that was not there
-pub room_with : (old : State) (school : School) → WellFormed old → not (contains_key old.schools school.code) ≡ true → AllRows (λ code (s : School). held_at old.places code ≤ s.pan) (insert old.schools school.code school)
+pub room_with : (old : State) (school : School) → WellFormed old → not (contains_key old.schools school.code) ≡ true → AllRows (λ code (s : School). places_outside_plans old.places code ≤ s.pan) (insert old.schools school.code school)
 room_with old school well new =
     let none = none_held school.code old.places (none_there old school.code well new) in
-    AllRows-put_all nat_list_cmp_total code_cmp-IsAntisymmetric (λ (s : School). s.code) (λ code (s : School). held_at old.places code ≤ s.pan) old.schools (school ∷ [])
+    AllRows-put_all nat_list_cmp_total code_cmp-IsAntisymmetric (λ (s : School). s.code) (λ code (s : School). places_outside_plans old.places code ≤ s.pan) old.schools (school ∷ [])
     (λ code s there still. well.places.room code s there) (omega (arith, none), tt)
 
 pub add_school-fit : (old : State) (school : School) → KeptBySchool school → WellFormed old → first_failing (add_school.tests old school) ≡ None → Fit old (add_school.change_of school)
@@ -134,14 +134,14 @@ name_plan-fit old child school well passes =
             ] refl;
         room = λ code s there.
             let less = held_le code old.places (insert old.places child row) (λ number other now held.
-            elim (eq_by_cmp nat_cmp number child) as (λ b. eq_by_cmp nat_cmp number child ≡ b → is_held (get old.places number) code ≡ true) [
+            elim (eq_by_cmp nat_cmp number child) as (λ b. eq_by_cmp nat_cmp number child ≡ b → is_outside_plan (get old.places number) code ≡ true) [
               | true ↦ λ tie.
                   let it : Some row ≡ Some other = sym (get-insert nat_cmp_total old.places child row number ∙ ap (λ b. cond b (Some row) (get old.places number)) tie) ∙ now in
-                  let free : is_held (Some other) code ≡ false = ap (λ o. is_held o code) (sym it) ∙ and-false (pointwise nat_eq school code) in
+                  let free : is_outside_plan (Some other) code ≡ false = ap (λ o. is_outside_plan o code) (sym it) ∙ and-false (pointwise nat_eq school code) in
                   cc (held, free)
               | false ↦ λ tie.
                   let it : get old.places number ≡ Some other = sym (get-insert nat_cmp_total old.places child row number ∙ ap (λ b. cond b (Some row) (get old.places number)) tie) ∙ now in
-                  ap (λ o. is_held o code) it ∙ held
+                  ap (λ o. is_outside_plan o code) it ∙ held
             ] refl) in
             let room = well.places.room code s there in
             omega (arith, less, room);
@@ -160,8 +160,8 @@ no_place old child well unplanned unlisted =
           let fits = well.places.each child row there in
           let other : is_plan row.place.state ≡ false = sym (ap is_plan_row there) ∙ unplanned in
           let none : get old.applications row.child ≡ None = none_of _ (ap not (ap (contains_key old.applications) fits.own_number ∙ unlisted)) in
-          let wrong : (has_round old.draws && false) ≡ true = sym (λ i. if other i then not (is_some (none i)) else has_round old.draws && lists_school (none i) row.place.school) ∙ fits.entitled in
-          let no = and-false (has_round old.draws) in
+          let wrong : (has_first_round old.draws && false) ≡ true = sym (λ i. if other i then not (is_some (none i)) else has_first_round old.draws && lists_school (none i) row.place.school) ∙ fits.entitled in
+          let no = and-false (has_first_round old.draws) in
           cc (wrong, no)
       | None ↦ λ there. refl
     ] refl

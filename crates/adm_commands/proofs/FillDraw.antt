@@ -27,7 +27,7 @@ use Rattle.adm_register.specs.State.{State}
 use Rattle.adm_register.specs.Draws.{DrawFits, no_draws, with_draw, with_draws, is_round, is_next, are_in_order, is_known_lot, draws_so_far}
 use Rattle.adm_commands.specs.KeptByTypes.{KeptByRound}
 use Rattle.adm_commands.specs.Tests.{first_failing}
-use Rattle.adm_register.specs.WellFormed.{WellFormed, has_round}
+use Rattle.adm_register.specs.WellFormed.{WellFormed, has_first_round}
 use Rattle.adm_register.specs.Waits.{waits, waiting_child, waiting_at}
 use Rattle.adm_commands.specs.Fill as fill
 use Rattle.adm_commands.specs.Fill.{fill_pairs, fill_lots, filled_draw}
@@ -64,7 +64,7 @@ first_round season draw next =
     by true first is = refl
     by false first is = absurd (false≢true is)
 
-some_round : (s : State) → are_in_order s.season no_draws (values s.draws) ≡ true → has_round s.draws ≡ true → 0 < (draws_so_far s).rounds
+some_round : (s : State) → are_in_order s.season no_draws (values s.draws) ≡ true → has_first_round s.draws ≡ true → 0 < (draws_so_far s).rounds
 some_round s ordered held =
     elim (get s.draws 1) as (λ o. get s.draws 1 ≡ o → is_some o ≡ true → 0 < (draws_so_far s).rounds) [
       | None ↦ λ there some. absurd (false≢true some)
@@ -106,17 +106,17 @@ length-map f (x ∷ xs) = ap suc (length-map f xs)
 
 module _ (old : State) (draw : ℕ) (school : List ℕ) (day : ℕ) (numbers : List ℕ) (passes : first_failing (fill.tests old draw school day numbers) ≡ None) where
   -- someone waits, so there was a round
-  pub was_round : has_round old.draws ≡ true
+  pub was_round : has_first_round old.draws ≡ true
   unfolding fill.tests
   was_round =
       let pass = all_pass (fill.tests old draw school day numbers) passes in
       by (waiting_at old school) pass.1.1.1.0 refl
     where
-      by : (children : List Child) → nat_lt 0 (length children) ≡ true → waiting_at old school ≡ children → has_round old.draws ≡ true
+      by : (children : List Child) → nat_lt 0 (length children) ≡ true → waiting_at old school ≡ children → has_first_round old.draws ≡ true
       by [] some are = absurd (false≢true some)
       by (child ∷ children) some are =
           let found = from_filter_map (waiting_child old school) (values old.applications) child (subst (In child) (sym are) (inl refl)) in
-          (and_parts (has_round old.draws) _ (chosen (waits old found.0 school) (get old.children found.0.child) child found.2).0).0
+          (and_parts (has_first_round old.draws) _ (chosen (waits old found.0 school) (get old.children found.0.child) child found.2).0).0
 
   -- it is the next
   pub fill-next : (child : ℕ) → are_in_order old.season no_draws (values old.draws) ≡ true → are_in_order old.season (draws_so_far old) (filled_draw old draw school day numbers child ∷ []) ≡ true

@@ -23,7 +23,7 @@ use Rattle.adm_register.specs.Change.{after}
 use Rattle.adm_commands.specs.KeptByTypes.{KeptByRound}
 use Rattle.adm_register.specs.Draws.{no_draws, with_draws}
 use Rattle.adm_commands.specs.Tests.{first_failing}
-use Rattle.adm_register.specs.WellFormed.{WellFormed, has_round, lists_school}
+use Rattle.adm_register.specs.WellFormed.{WellFormed, has_first_round, lists_school}
 use Rattle.adm_register.specs.Wanted.{has_left}
 use Rattle.adm_register.specs.Waits.{waiting_at}
 use Rattle.adm_commands.specs.Fill as fill
@@ -104,7 +104,7 @@ fill-fit old draw school day numbers row child well kept passes first =
     let applied : get old.applications child ≡ Some waiter.application = ap (get old.applications) (sym found.2) ∙ waiter.applied in
     let it : Draw = filled_draw old draw school day numbers child in
     let place : PlaceRow = record { child = child; place = record { school = school; state = Offered day None } } in
-    let held : has_round (insert old.draws draw it) ≡ true = contains_key-insert nat_cmp_total old.draws draw it 1 (was_round old draw school day numbers passes) in
+    let held : has_first_round (insert old.draws draw it) ≡ true = contains_key-insert nat_cmp_total old.draws draw it 1 (was_round old draw school day numbers passes) in
     let next = fill-next old draw school day numbers passes child well.draws.in_order in
     record {
       base = record { schools = tt; kept_schools = tt; few_schools = tt; children = tt; few_children = tt; applications = tt };

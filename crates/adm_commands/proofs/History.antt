@@ -4,7 +4,7 @@ use Rattle.std.specs.Cmp.{nat_cmp_total}
 use Rattle.std.specs.FinMap.{get}
 use Rattle.adm_register.specs.Change.{after}
 use Rattle.adm_commands.specs.Round as round
-use Rattle.adm_commands.specs.History.{DrawsKept, RoundHeld, drawn_on}
+use Rattle.adm_commands.specs.History.{DrawsKept, RoundIsRecorded, drawn_on}
 use Rattle.adm_commands.proofs.EachCommand.{shows}
 use Rattle.adm_commands.proofs.PutAgain.{get-insert_same}
 
@@ -13,7 +13,7 @@ draws_kept_lem old new command ordered step =
     let effect = step.1.1 in
     (shows command).draws old new effect.0 step.0 ordered step.1.0 effect.1 effect.2
 
-pub round_held_lem : RoundHeld
+pub round_held_lem : RoundIsRecorded
 unfolding round.change_of
 round_held_lem old new draw day numbers step =
     let effect = step.1.1 in

@@ -31,13 +31,13 @@ use Rattle.adm_round.specs.declared.applicants.Applicant.{Applicant}
 use Rattle.adm_round.specs.declared.applicants.Site.{Site}
 use Rattle.adm_round.specs.declared.applicants.Pair.{Pair}
 use Rattle.adm_round.specs.Round.{code_of, number_of, lots_of, pair_of, same_lot, is_site, IsListFit, IsPosed}
-use Rattle.adm_round.specs.Ranks.{market_of}
+use Rattle.adm_round.specs.Ranks.{market_of_round}
 use Rattle.adm_round.specs.Outcomes.{AreBest}
 use Rattle.adm_register.specs.State.{State}
 use Rattle.adm_commands.specs.Tests.{first_failing}
 use Rattle.adm_register.specs.WellFormed.{WellFormed}
 use Rattle.adm_register.specs.Wanted.{above, has_left, wanted_of, own_school}
-use Rattle.adm_commands.specs.Round.{is_entrant, applicant_of, entrants, quota, sites, round_pairs, round_lots, is_lot_count, are_lots_apart, AreOutcomes}
+use Rattle.adm_commands.specs.Round.{takes_part, applicant_of, entrants, quota, sites, round_pairs, round_lots, is_lot_count, are_lots_apart, AreOutcomes}
 use Rattle.adm_commands.specs.Round as round
 use Rattle.adm_commands.specs.Problem.{lots_fault}
 use Rattle.adm_commands.specs.declared.problems.DrawFault.TheVariants.{LotCount, LotsRepeated}
@@ -81,7 +81,7 @@ pub record OfApplication (old : State) (application : Application) (applicant : 
 
 pub of_application : (old : State) (application : Application) (applicant : Applicant) → applicant_of old application ≡ Some applicant → OfApplication old application applicant
 of_application old application applicant =
-    elim (is_entrant old application) as (λ b. cond b (option_map as_applicant (get old.children application.child)) None ≡ Some applicant → OfApplication old application applicant) [
+    elim (takes_part old application) as (λ b. cond b (option_map as_applicant (get old.children application.child)) None ≡ Some applicant → OfApplication old application applicant) [
       | false ↦ λ made. absurd (none-some applicant made)
       | true ↦ of_child (get old.children application.child) refl
     ]
@@ -198,11 +198,11 @@ posed_as old numbers found taking lots well passes at_sites at_entrants at_lots 
 
 -- and its best outcomes are those of the round
 pub best_as : (old : State) (numbers : List ℕ) (found : List Site) (taking : List Applicant) (lots : List Lot) (outcomes : List Outcome)
-    → found ≡ sites old → taking ≡ entrants old → lots ≡ round_lots old numbers → AreBest (market_of found taking lots) taking outcomes → AreOutcomes old numbers outcomes
+    → found ≡ sites old → taking ≡ entrants old → lots ≡ round_lots old numbers → AreBest (market_of_round found taking lots) taking outcomes → AreOutcomes old numbers outcomes
 best_as old numbers found taking lots outcomes at_sites at_entrants at_lots best =
-    subst (λ xs. AreBest (market_of xs (entrants old) (round_lots old numbers)) (entrants old) outcomes) at_sites
-    (subst (λ xs. AreBest (market_of found xs (round_lots old numbers)) xs outcomes) at_entrants
-    (subst (λ ls. AreBest (market_of found taking ls) taking outcomes) at_lots best))
+    subst (λ xs. AreBest (market_of_round xs (entrants old) (round_lots old numbers)) (entrants old) outcomes) at_sites
+    (subst (λ xs. AreBest (market_of_round found xs (round_lots old numbers)) xs outcomes) at_entrants
+    (subst (λ ls. AreBest (market_of_round found taking ls) taking outcomes) at_lots best))
 
 -- ---- how many take part
 

@@ -10,9 +10,9 @@ use Rattle.adm_types.specs.Limits.{is_criterion, is_on_map, is_pan}
 use Rattle.adm_types.specs.declared.rows.School.{School}
 use Rattle.adm_register.specs.State.{State}
 use Rattle.adm_register.specs.Change.{no_change, after}
-use Rattle.adm_register.specs.Extends.{IsKept}
+use Rattle.adm_register.specs.Extends.{IsRaised}
 use Rattle.adm_register.specs.Fits.{Fit}
-use Rattle.adm_register.specs.WellFormed.{WellFormed, held_at}
+use Rattle.adm_register.specs.WellFormed.{WellFormed, places_outside_plans}
 use Rattle.adm_register.proofs.Maps.{code_cmp-IsAntisymmetric}
 use Rattle.adm_register.proofs.Puts.{AllRows-put_all}
 use Rattle.adm_register.proofs.Tidy.{tidy_none, tidy_put}
@@ -43,7 +43,7 @@ module _ (old : State) (school : List ℕ) (pan : ℕ) (well : WellFormed old) w
         record {
           base = record {
             schools = (record { own_code = refl; code_form = fits.code_form; text = fits.text; name = fits.name; in_range = λ i. parts.0 i && first.1 i && second.1 i && third.1 i }, tt);
-            kept_schools = (λ was same. subst (λ w. IsKept w now) (same_Some row was (sym here ∙ same)) (record { number = least; others = refl }), tt);
+            kept_schools = (λ was same. subst (λ w. IsRaised w now) (same_Some row was (sym here ∙ same)) (record { number = least; others = refl }), tt);
             few_schools = rw same_len well.base.few_schools;
             children = tt;
             few_children = tt;
@@ -52,7 +52,7 @@ module _ (old : State) (school : List ℕ) (pan : ℕ) (well : WellFormed old) w
           places = record {
             places = tt;
             kept = λ number place was still. refl;
-            room = AllRows-put_all nat_list_cmp_total code_cmp-IsAntisymmetric (λ (s : School). s.code) (λ code (s : School). held_at old.places code ≤ s.pan) old.schools (now ∷ [])
+            room = AllRows-put_all nat_list_cmp_total code_cmp-IsAntisymmetric (λ (s : School). s.code) (λ code (s : School). places_outside_plans old.places code ≤ s.pan) old.schools (now ∷ [])
                 (λ code s was still. well.places.room code s was) (let room = well.places.room row.code row here in omega (arith, room, least), tt);
           };
           left = record { left = tt; places = tt };

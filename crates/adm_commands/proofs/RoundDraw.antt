@@ -19,19 +19,20 @@ use Rattle.adm_types.specs.Seasons.{lists_end}
 use Rattle.adm_types.specs.declared.draws.Draw.{Draw}
 use Rattle.adm_types.specs.declared.draws.Outcome.{Outcome}
 use Rattle.adm_types.specs.declared.draws.Lot.{Lot}
-use Rattle.adm_draws.specs.Draws.{rises, outcome_cmp, lot_cmp, is_draw, is_fresh_at_school, repeats_lot}
+use Rattle.adm_draws.specs.Draws.{rises, outcome_cmp, lot_cmp, is_draw, fresh_has_school, repeats_lot}
 use Rattle.adm_match.specs.Market.{Code}
 use Rattle.adm_round.specs.declared.applicants.Applicant.{Applicant}
 use Rattle.adm_round.specs.declared.applicants.Site.{Site}
 use Rattle.adm_round.specs.declared.applicants.Pair.{Pair}
 use Rattle.adm_round.specs.Round.{code_of, number_of, listed, wants, pair_at, pairs_at, pairs, pair_of, lot_of_draw}
-use Rattle.adm_round.specs.Lookups.{code_cmp, pair_cmp}
-use Rattle.adm_round.specs.Outcomes.{is_fresh, IsListed}
+use Rattle.adm_types.specs.Limits.{code_cmp}
+use Rattle.adm_round.specs.Lookups.{pair_cmp}
+use Rattle.adm_round.specs.Outcomes.{is_fresh, HasListedSchool}
 use Rattle.adm_register.specs.State.{State}
 use Rattle.adm_register.specs.Draws.{DrawFits, is_due, is_next, are_in_order, no_draws, with_draws, is_choice, is_known_outcome, is_known_lot, draws_so_far}
 use Rattle.adm_commands.specs.KeptByTypes.{KeptByRound}
 use Rattle.adm_commands.specs.Round.{entrants, sites, round_pairs, round_lots}
-use Rattle.adm_register.specs.WellFormed.{WellFormed, has_round}
+use Rattle.adm_register.specs.WellFormed.{WellFormed, has_first_round}
 use Rattle.adm_register.proofs.DrawLemmas.{next_number}
 use Rattle.adm_register.proofs.RoundLemmas.{rises_by}
 use Rattle.adm_register.proofs.RoundKeys.{from_values}
@@ -96,9 +97,9 @@ round_draw old draw day numbers outcomes =
     record { number = draw; round = (draws_so_far old).rounds + 1; school = None; day = day; outcomes = outcomes; lots = round_lots old numbers }
 
 -- after the draw there was a round
-pub round_after : (old : State) (draw : Draw) → WellFormed old → draw.number ≡ (draws_so_far old).draws + 1 → has_round (insert old.draws draw.number draw) ≡ true
+pub round_after : (old : State) (draw : Draw) → WellFormed old → draw.number ≡ (draws_so_far old).draws + 1 → has_first_round (insert old.draws draw.number draw) ≡ true
 round_after old draw well number =
-    elim (values old.draws) as (λ ds. values old.draws ≡ ds → has_round (insert old.draws draw.number draw) ≡ true) [
+    elim (values old.draws) as (λ ds. values old.draws ≡ ds → has_first_round (insert old.draws draw.number draw) ≡ true) [
       | [] ↦ λ none.
           let first : draw.number ≡ 1 = number ∙ ap (λ ds. (with_draws no_draws ds).draws + 1) none in
           ap is_some (get-insert nat_cmp_total old.draws draw.number draw 1 ∙ ap (λ b. cond b (Some draw) (get old.draws 1)) (ap (eq_by_cmp nat_cmp 1) first ∙ tied nat_cmp_total 1))
@@ -126,10 +127,10 @@ module _ {old : State} {numbers : List ℕ} {outcomes : List Outcome} (facts : I
   outcomes_rise : rises outcome_cmp outcomes ≡ true
   outcomes_rise = rises_by nat_cmp (λ (o : Outcome). o.child) outcomes (children_rise facts)
 
-  all_fresh : list_all is_fresh_at_school outcomes ≡ true
-  all_fresh = list_all_in is_fresh_at_school outcomes (λ o at.
+  all_fresh : list_all fresh_has_school outcomes ≡ true
+  all_fresh = list_all_in fresh_has_school outcomes (λ o at.
       let who = of_outcome facts o at in
-      ap is_fresh_at_school (sym who.2) ∙ has_form who.0.own (facts.best.allocation (number_of who.0)))
+      ap fresh_has_school (sym who.2) ∙ has_form who.0.own (facts.best.allocation (number_of who.0)))
 
   form : not (repeats_lot lots) ≡ true → is_draw it ≡ true
   form apart =
@@ -146,7 +147,7 @@ module _ {old : State} {numbers : List ℕ} {outcomes : List Outcome} (facts : I
   known_outcomes = list_all_in (is_known_outcome old.schools old.children) outcomes (λ o at.
       let who = of_outcome facts o at in
       let child = (entrant_is old facts.well who.0 who.1).child in
-      let school = choice who.0 who.1 (facts.best.allocation (number_of who.0)) (is_given facts IsListed (lists_given facts) who.0 who.1) in
+      let school = choice who.0 who.1 (facts.best.allocation (number_of who.0)) (is_given facts HasListedSchool (lists_given facts) who.0 who.1) in
       ap (is_known_outcome old.schools old.children) (sym who.2) ∙ (λ i. child i && school i))
     where
       choice : (applicant : Applicant) → In applicant (entrants old) → (place : Option Code) → IfSome place (λ s. is_listed (listed applicant) s ≡ true) → is_choice old.schools place ≡ true

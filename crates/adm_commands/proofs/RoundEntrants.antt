@@ -18,7 +18,7 @@ use Rattle.adm_round.specs.declared.applicants.Applicant.{Applicant}
 use Rattle.adm_round.specs.declared.applicants.Site.{Site}
 use Rattle.adm_round.specs.Round.{code_of, number_of, listed, is_site, IsListFit, IsPosed}
 use Rattle.adm_register.specs.State.{State}
-use Rattle.adm_commands.specs.Round.{is_entrant, applicant_of, entrants, quota, sites}
+use Rattle.adm_commands.specs.Round.{takes_part, applicant_of, entrants, quota, sites}
 use Rattle.adm_register.specs.Wanted.{wanted_of, own_school}
 use Rattle.adm_register.specs.WellFormed.{WellFormed}
 use Rattle.adm_register.proofs.Maps.{code_cmp-IsAntisymmetric}
@@ -49,7 +49,7 @@ module _ (old : State) (well : WellFormed old) where
   entrant_is applicant at =
       let found = from_filter_map (applicant_of old) (values old.applications) applicant at in
       let application = found.0 in
-      let parts = made (is_entrant old application) (get old.children application.child) (wanted_of old application) (own_school (get old.places application.child)) applicant found.2 in
+      let parts = made (takes_part old application) (get old.children application.child) (wanted_of old application) (own_school (get old.places application.child)) applicant found.2 in
       let there = from_values nat_cmp_total nat_cmp-IsAntisymmetric old.applications (λ (a : Application). a.child) (λ number row here. (well.base.applications_fit number row here).own_number) application found.1 in
       let number : number_of applicant ≡ application.child = (well.base.children_fit application.child applicant.child parts.0).own_number in
       record {
@@ -62,7 +62,7 @@ module _ (old : State) (well : WellFormed old) where
       }
 
   -- each application of an entrant is that of an applicant
-  pub takes_part : (number : ℕ) (application : Application) → get old.applications number ≡ Some application → is_entrant old application ≡ true → (applicant : Applicant) × In applicant (entrants old) × (number_of applicant ≡ number)
+  pub takes_part : (number : ℕ) (application : Application) → get old.applications number ≡ Some application → takes_part old application ≡ true → (applicant : Applicant) × In applicant (entrants old) × (number_of applicant ≡ number)
   takes_part number application there part =
       let fits = well.base.applications_fit number application there in
       elim (get old.children application.child) as (λ o. get old.children application.child ≡ o → (applicant : Applicant) × In applicant (entrants old) × (number_of applicant ≡ number)) [

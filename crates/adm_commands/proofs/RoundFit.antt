@@ -14,7 +14,7 @@ use Rattle.adm_commands.specs.Round.{entrants, sites, round_lots, AreOutcomes}
 use Rattle.adm_register.specs.Draws.{draws_so_far}
 use Rattle.adm_commands.specs.Round as round
 use Rattle.adm_commands.specs.Tests.{first_failing}
-use Rattle.adm_register.specs.WellFormed.{WellFormed, has_round}
+use Rattle.adm_register.specs.WellFormed.{WellFormed, has_first_round}
 use Rattle.adm_register.specs.Fits.{Fit}
 use Rattle.adm_commands.proofs.Keeps.{all_pass}
 use Rattle.adm_register.proofs.Tidy.{tidy_none, tidy_put}
@@ -29,13 +29,13 @@ round-fit old draw day numbers outcomes well kept passes law posed best =
     let pass = all_pass (round.tests old draw day numbers) passes in
     let it : Draw = round_draw old draw day numbers outcomes in
     let number : draw ≡ (draws_so_far old).draws + 1 = (unsigned_Decides draw ((draws_so_far old).draws + 1)).0 pass.0 in
-    let held : has_round (insert old.draws draw it) ≡ true = round_after old it well number in
+    let held : has_first_round (insert old.draws draw it) ≡ true = round_after old it well number in
     let facts : IsRound old numbers outcomes = record { well = well; posed = posed; best = best; law = law } in
     let next = draw_next facts draw day kept number pass.1.0 pass.1.1.0 ((unsigned_Decides _ _).0 pass.1.1.1.0) pass.1.1.1.1.1.0 in
     record {
       base = record { schools = tt; kept_schools = tt; few_schools = tt; children = tt; few_children = tt; applications = tt };
       places = record {
-        places = offers_fit facts day (has_round (insert old.draws draw it)) kept.is_day held;
+        places = offers_fit facts day (has_first_round (insert old.draws draw it)) kept.is_day held;
         kept = λ child row there still. refl;
         room = room_after facts day;
       };

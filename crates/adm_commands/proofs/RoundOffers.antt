@@ -20,11 +20,11 @@ use Rattle.adm_types.specs.declared.draws.Outcome.{Outcome}
 use Rattle.adm_match.specs.Market.{Code, has}
 use Rattle.adm_round.specs.declared.applicants.Applicant.{Applicant}
 use Rattle.adm_round.specs.Round.{number_of, listed, IsPosed}
-use Rattle.adm_round.specs.Outcomes.{is_fresh, outcome_of, IsListed, KeepsTenant, HasRoom, AllotmentFits}
+use Rattle.adm_round.specs.Outcomes.{is_fresh, outcome_of, HasListedSchool, KeepsTenant, HasRoom, AllotmentFits}
 use Rattle.adm_register.specs.State.{State, is_plan}
 use Rattle.adm_commands.specs.Round.{entrants, sites, round_lots, AreOutcomes, offer_of, offers_on}
 use Rattle.adm_register.specs.Wanted.{has_left, own_school}
-use Rattle.adm_register.specs.WellFormed.{WellFormed, PlaceFits, has_round, is_state, lists_school}
+use Rattle.adm_register.specs.WellFormed.{WellFormed, PlaceFits, has_first_round, has_days_in_order, lists_school}
 use Rattle.adm_register.proofs.RoundLemmas.{listed_in, in_listed}
 use Rattle.adm_commands.proofs.RoundEntrants.{entrant_is, takes_part, school_there}
 use Rattle.adm_register.proofs.WaitLemmas.{wants_is}
@@ -103,10 +103,10 @@ module _ {old : State} {numbers : List ℕ} {outcomes : List Outcome} (facts : I
   is_given R all applicant at = zip_in R outcome (entrants old) applicant (subst (AllZip R (entrants old)) facts.best.given all) at
 
   -- what the law says of the outcomes
-  abbrev pub allotted : AllZip IsListed (entrants old) outcomes × AllZip KeepsTenant (entrants old) outcomes × All (HasRoom outcomes) (sites old) × (map (λ (o : Outcome). o.child) outcomes ≡ map number_of (entrants old))
+  abbrev pub allotted : AllZip HasListedSchool (entrants old) outcomes × AllZip KeepsTenant (entrants old) outcomes × All (HasRoom outcomes) (sites old) × (map (λ (o : Outcome). o.child) outcomes ≡ map number_of (entrants old))
   allotted = facts.law (sites old) (entrants old) (round_lots old numbers) outcomes facts.posed facts.best
 
-  pub lists_given : AllZip IsListed (entrants old) outcomes
+  pub lists_given : AllZip HasListedSchool (entrants old) outcomes
   lists_given = allotted.0
 
   pub tenants_given : AllZip KeepsTenant (entrants old) outcomes
@@ -123,7 +123,7 @@ module _ {old : State} {numbers : List ℕ} {outcomes : List Outcome} (facts : I
       let code = row.place.school in
       let parts = offer_made day (outcome applicant) row (ap (offer_of day) who.2 ∙ found.2) in
       let entrant = entrant_is old facts.well applicant who.1 in
-      let lists = subst (λ o. IfSome o (λ s. is_listed (listed applicant) s ≡ true)) parts.1 (is_given IsListed lists_given applicant who.1) in
+      let lists = subst (λ o. IfSome o (λ s. is_listed (listed applicant) s ≡ true)) parts.1 (is_given HasListedSchool lists_given applicant who.1) in
       let wanted = wanted_fresh applicant.wanted applicant.own code lists (subst (λ o. is_fresh applicant.own o ≡ true) parts.1 parts.0) in
       let both = wants_is old facts.well entrant.application code (ap (λ codes. is_listed codes code) (sym entrant.wanted) ∙ wanted) in
       record {
@@ -144,7 +144,7 @@ module _ {old : State} {numbers : List ℕ} {outcomes : List Outcome} (facts : I
         own_number = refl;
         child = it.child;
         school = it.school;
-        state = ap is_state it.state ∙ is_day;
+        state = ap has_days_in_order it.state ∙ is_day;
         entitled = (λ i. if is_plan (it.state i) then not (is_some (it.applied i)) else was i && lists_school (it.applied i) row.place.school) ∙ it.lists;
       })
 
@@ -163,8 +163,8 @@ module _ {old : State} {numbers : List ℕ} {outcomes : List Outcome} (facts : I
       → (applicant : Applicant) × In applicant (entrants old) × (number_of applicant ≡ number) × (applicant.own ≡ Some row.place.school)
   tenant_is number row there other =
       let fits = facts.well.places.each number row there in
-      let entitled = and_parts (has_round old.draws) (lists_school (get old.applications row.child) row.place.school)
-      (sym (ap (λ b. if b then not (is_some (get old.applications row.child)) else has_round old.draws && lists_school (get old.applications row.child) row.place.school) other) ∙ fits.entitled) in
+      let entitled = and_parts (has_first_round old.draws) (lists_school (get old.applications row.child) row.place.school)
+      (sym (ap (λ b. if b then not (is_some (get old.applications row.child)) else has_first_round old.draws && lists_school (get old.applications row.child) row.place.school) other) ∙ fits.entitled) in
       elim (get old.applications row.child) as (λ o. get old.applications row.child ≡ o → lists_school o row.place.school ≡ true → (applicant : Applicant) × In applicant (entrants old) × (number_of applicant ≡ number) × (applicant.own ≡ Some row.place.school)) [
         | None ↦ λ is lists. absurd (false≢true lists)
         | Some application ↦ λ is lists.

@@ -30,10 +30,10 @@ drawn_on old draw day numbers outcomes =
     record { number = draw; round = (draws_so_far old).rounds + 1; school = None; day = day; outcomes = outcomes; lots = round_lots old numbers }
 
 -- the register holds the draw of that round, whose outcomes are those of the child-optimal stable allocation of the problem on the register in which it began
-abbrev pub HoldsRound : State → ℕ → ℕ → List ℕ → State → Type 0
-HoldsRound began draw day numbers s =
+abbrev pub RecordsRound : State → ℕ → ℕ → List ℕ → State → Type 0
+RecordsRound began draw day numbers s =
     (outcomes : List Outcome) × AreOutcomes began numbers outcomes × (get s.draws draw ≡ Some (drawn_on began draw day numbers outcomes))
 
 -- so does the register that an accepted round leaves
-abbrev pub RoundHeld : Type 0
-RoundHeld = (old new : State) (draw day : ℕ) (numbers : List ℕ) → Accepts old (Round draw day numbers) new → HoldsRound old draw day numbers new
+abbrev pub RoundIsRecorded : Type 0
+RoundIsRecorded = (old new : State) (draw day : ℕ) (numbers : List ℕ) → Accepts old (Round draw day numbers) new → RecordsRound old draw day numbers new

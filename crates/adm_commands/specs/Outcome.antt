@@ -81,36 +81,36 @@ refused old (Import rows) = import.refused_from old 1 rows
 refused old command = without_row (first_failing (tests_of old command))
 
 -- just this is changed, and the reply is Done
-abbrev pub IsDone : Difference → Difference → Reply → Type 0
-IsDone only change reply = (change ≡ only) × (reply ≡ Done)
+abbrev pub ChangesJust : Difference → Difference → Reply → Type 0
+ChangesJust only change reply = (change ≡ only) × (reply ≡ Done)
 
 -- a round has outcomes, which are those of the child-optimal stable allocation of its problem: these are changed and counted
-abbrev pub IsHeld : State → ℕ → ℕ → List ℕ → Difference → Reply → Type 0
-IsHeld old draw day lots change reply =
+abbrev pub IsRoundResult : State → ℕ → ℕ → List ℕ → Difference → Reply → Type 0
+IsRoundResult old draw day lots change reply =
     (outcomes : List OutcomeRow) × round.AreOutcomes old lots outcomes × (change ≡ round.change_of old draw day lots outcomes) × (reply ≡ round.reply_of old outcomes)
 
 -- of those that wait at the school one ranks before all others by class, distance and the lots handed in: just this child is offered the vacancy, and named
-abbrev pub IsFilled : State → ℕ → List ℕ → ℕ → List ℕ → Difference → Reply → Type 0
-IsFilled old draw school day lots change reply =
+abbrev pub IsFillResult : State → ℕ → List ℕ → ℕ → List ℕ → Difference → Reply → Type 0
+IsFillResult old draw school day lots change reply =
     (row : School) × (get old.schools school ≡ Some row)
     × (child : ℕ) × (first_by_lot row (waiting_at old school) lots ≡ Some child)
     × (change ≡ fill.change_of old draw school day lots child) × (reply ≡ Filled child)
 
 -- what an accepted command changes, and what it answers
 abbrev pub Changes : State → Command → Difference → Reply → Type 0
-Changes old (AddSchool school) = IsDone (add_school.change_of school)
-Changes old (RaisePan school pan) = IsDone (raise_pan.change_of old school pan)
-Changes old (AddChild child) = IsDone (put_child child)
-Changes old (Amend child) = IsDone (put_child child)
-Changes old (NamePlan child school) = IsDone (name_plan.change_of child school)
-Changes old (Apply application) = IsDone (apply.change_of application)
-Changes old (Round draw day lots) = IsHeld old draw day lots
-Changes old (Accept child school) = IsDone (accept.change_of child school)
-Changes old (Decline child school) = IsDone (decline.change_of child school)
-Changes old (Remind child school day) = IsDone (remind.change_of old child school day)
-Changes old (Lapse child school day) = IsDone (decline.change_of child school)
-Changes old (LeaveList child school) = IsDone (leave_list.change_of child school)
-Changes old (Fill draw school day lots) = IsFilled old draw school day lots
+Changes old (AddSchool school) = ChangesJust (add_school.change_of school)
+Changes old (RaisePan school pan) = ChangesJust (raise_pan.change_of old school pan)
+Changes old (AddChild child) = ChangesJust (put_child child)
+Changes old (Amend child) = ChangesJust (put_child child)
+Changes old (NamePlan child school) = ChangesJust (name_plan.change_of child school)
+Changes old (Apply application) = ChangesJust (apply.change_of application)
+Changes old (Round draw day lots) = IsRoundResult old draw day lots
+Changes old (Accept child school) = ChangesJust (accept.change_of child school)
+Changes old (Decline child school) = ChangesJust (decline.change_of child school)
+Changes old (Remind child school day) = ChangesJust (remind.change_of old child school day)
+Changes old (Lapse child school day) = ChangesJust (decline.change_of child school)
+Changes old (LeaveList child school) = ChangesJust (leave_list.change_of child school)
+Changes old (Fill draw school day lots) = IsFillResult old draw school day lots
 Changes old (Import rows) = import.IsImported old rows
 
 -- what comes of a command that is refused so, or changes this where it is not

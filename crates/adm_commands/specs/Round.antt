@@ -21,26 +21,26 @@ use Rattle.adm_round.specs.declared.applicants.Applicant.{Applicant}
 use Rattle.adm_round.specs.declared.applicants.Site.{Site}
 use Rattle.adm_round.specs.declared.applicants.Pair.{Pair}
 use Rattle.adm_round.specs.Round.{pairs, lots_of}
-use Rattle.adm_round.specs.Ranks.{market_of}
+use Rattle.adm_round.specs.Ranks.{market_of_round}
 use Rattle.adm_round.specs.Outcomes.{AreBest, is_kept}
 use Rattle.adm_match.specs.Market.{Market}
 use Rattle.adm_register.specs.declared.difference.Difference.{Difference}
 use Rattle.adm_register.specs.State.{State, is_plan}
 use Rattle.adm_register.specs.Change.{no_change}
 use Rattle.adm_register.specs.Draws.{is_due, draws_so_far}
-use Rattle.adm_register.specs.WellFormed.{has_round}
+use Rattle.adm_register.specs.WellFormed.{has_first_round}
 use Rattle.adm_register.specs.Wanted.{wanted_of, own_school}
 
 -- ---- the problem of a round
 
 -- in the first round an application by the closing day takes part, and later each
-abbrev pub is_entrant : State → Application → Bool
-is_entrant s application = has_round s.draws || nat_le application.day (closing s.season)
+abbrev pub takes_part : State → Application → Bool
+takes_part s application = has_first_round s.draws || nat_le application.day (closing s.season)
 
 -- the child of an application, with the schools that it wants, and that of which it is a tenant
 abbrev pub applicant_of : State → Application → Option Applicant
 applicant_of s application =
-    if is_entrant s application
+    if takes_part s application
     then option_map (λ child. record { child = child; wanted = wanted_of s application; own = own_school (get s.places application.child) }) (get s.children application.child)
     else None
 
@@ -68,7 +68,7 @@ abbrev pub round_lots : State → List ℕ → List Lot
 round_lots s numbers = lots_of (round_pairs s) numbers
 
 abbrev pub round_market : State → List ℕ → Market
-round_market s numbers = market_of (sites s) (entrants s) (round_lots s numbers)
+round_market s numbers = market_of_round (sites s) (entrants s) (round_lots s numbers)
 
 -- ---- the command
 

@@ -1,7 +1,7 @@
 // To decline a place.
 ghost use Rattle.std.specs.Prelude.{◌≡◌, IfOk};
 ghost use Rattle.adm_commands.specs.Tests.{first_failing};
-ghost use Rattle.adm_commands.specs.Outcome.{Comes, IsDone, without_row};
+ghost use Rattle.adm_commands.specs.Outcome.{Comes, ChangesJust, without_row};
 ghost use Rattle.adm_commands.specs.Decline.{tests, change_of};
 
 use crate::failing::first_failing;
@@ -19,7 +19,7 @@ fn refusal_of(old: &Tables, child: ChildNo, school: SchoolCode) -> Option<Refusa
     first_failing(&[
         (old.has_child(child), Refusal::UnknownChild),
         (old.has_school(school), Refusal::UnknownSchool),
-        (old.is_held(child, school), Refusal::NotOffered),
+        (old.is_outside_plan(child, school), Refusal::NotOffered),
     ])
 }
 
@@ -45,7 +45,7 @@ pub(crate) fn tried(
     child: ChildNo,
     school: SchoolCode,
 ) -> Result<Tried, AllocError>
-    ensures { IfOk result (λ tried. Comes (without_row (first_failing (tests old.now child school))) (IsDone (change_of child school)) tried) }
+    ensures { IfOk result (λ tried. Comes (without_row (first_failing (tests old.now child school))) (ChangesJust (change_of child school)) tried) }
 {
     match refusal_of(old, child, school) {
         Some(refusal) => Ok(refused(refusal)),

@@ -3,7 +3,7 @@ ghost use Rattle.std.specs.Prelude.{◌≡◌, IfOk, filter, map, count_by, nat_
 ghost use Rattle.std.specs.List.{filter_map};
 ghost use Rattle.std.specs.Cmp.Lexicographic.{pointwise};
 ghost use Rattle.adm_register.specs.State.{is_plan};
-ghost use Rattle.adm_commands.specs.Round.{is_entrant, applicant_of, entrants, sites};
+ghost use Rattle.adm_commands.specs.Round.{takes_part, applicant_of, entrants, sites};
 
 use adm_register::{Tables, is_plan};
 use adm_round::{Applicant, Site};
@@ -12,10 +12,10 @@ use adm_types::{Application, PlaceRow, School, SchoolCode, Seq};
 use std::alloc::{AllocError, Global};
 
 /// Whether the application takes part in the next round.
-fn is_entrant(old: &Tables, application: &Application) -> bool
-    ensures { result ≡ is_entrant old.now application.now }
+fn takes_part(old: &Tables, application: &Application) -> bool
+    ensures { result ≡ takes_part old.now application.now }
 {
-    old.has_round() || application.day <= old.season().closing()
+    old.has_first_round() || application.day <= old.season().closing()
 }
 
 /// The child of an application as an applicant, if it takes part in the next round.
@@ -26,7 +26,7 @@ fn applicant_of(
 ) -> Result<Option<Applicant>, AllocError>
     ensures { IfOk result (λ made. made ≡ applicant_of old.now application.now) }
 {
-    if !is_entrant(old, application) {
+    if !takes_part(old, application) {
         return Ok(None);
     }
     let number = application.child;

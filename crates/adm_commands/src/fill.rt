@@ -7,7 +7,7 @@ ghost use Rattle.adm_register.specs.Draws.{IsWithin, draws_so_far};
 ghost use Rattle.adm_register.specs.Waits.{waiting_at};
 ghost use Rattle.adm_commands.specs.Tests.{first_failing};
 ghost use Rattle.adm_register.specs.WellFormed.{WellFormed};
-ghost use Rattle.adm_commands.specs.Outcome.{Comes, IsFilled, without_row};
+ghost use Rattle.adm_commands.specs.Outcome.{Comes, IsFillResult, without_row};
 ghost use Rattle.adm_register.specs.Rows.{vacancies};
 ghost use Rattle.adm_draws.specs.Draws.{repeats_lot};
 ghost use Rattle.adm_commands.specs.Fill.{tests, is_vacant, fill_lots, draw_of_fill};
@@ -73,7 +73,7 @@ pub(crate) fn tried(
     lots: &Seq<u32>,
 ) -> Result<Tried, AllocError>
     requires { WellFormed old.now }
-    ensures { IfOk result (λ tried. Comes (without_row (first_failing (tests old.now draw school day lots.now))) (IsFilled old.now draw school day lots.now) tried) }
+    ensures { IfOk result (λ tried. Comes (without_row (first_failing (tests old.now draw school day lots.now))) (IsFillResult old.now draw school day lots.now) tried) }
 {
     let so_far = draws_so_far(old, alloc)?;
     let waiting = old.waiting_at(alloc, school)?;

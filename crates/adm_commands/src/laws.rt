@@ -1,5 +1,5 @@
 // Laws of the steps of a register.
-ghost use Rattle.adm_commands.specs.History.{DrawsKept, RoundHeld};
+ghost use Rattle.adm_commands.specs.History.{DrawsKept, RoundIsRecorded};
 ghost use Rattle.adm_commands.specs.Imports.{ImportOnce};
 ghost use Rattle.adm_commands.specs.Outcome.{OneStep, RepeatSafe, SomeStep};
 ghost use Rattle.adm_commands.specs.Problem.{RoundIsPosed};
@@ -44,7 +44,7 @@ pub fn draws_kept()
 /// A register holds the draw of the round that it comes from, whose outcomes are those of the
 /// child-optimal stable allocation of the round's problem on the register in which it began.
 pub fn round_held()
-    ensures { RoundHeld }
+    ensures { RoundIsRecorded }
 {}
 
 /// An import that was accepted is accepted again, whatever accepted commands came since. It leaves

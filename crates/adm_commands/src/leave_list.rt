@@ -1,7 +1,7 @@
 // To take a child off the waiting list of a school.
 ghost use Rattle.std.specs.Prelude.{◌≡◌, IfOk};
 ghost use Rattle.adm_commands.specs.Tests.{first_failing};
-ghost use Rattle.adm_commands.specs.Outcome.{Comes, IsDone, without_row};
+ghost use Rattle.adm_commands.specs.Outcome.{Comes, ChangesJust, without_row};
 ghost use Rattle.adm_commands.specs.LeaveList.{tests, change_of};
 
 use crate::failing::first_failing;
@@ -31,7 +31,7 @@ pub(crate) fn tried(
     child: ChildNo,
     school: SchoolCode,
 ) -> Result<Tried, AllocError>
-    ensures { IfOk result (λ tried. Comes (without_row (first_failing (tests old.now child school))) (IsDone (change_of child school)) tried) }
+    ensures { IfOk result (λ tried. Comes (without_row (first_failing (tests old.now child school))) (ChangesJust (change_of child school)) tried) }
 {
     if let Some(refusal) = refusal_of(old, child, school) {
         return Ok(refused(refusal));

@@ -1,7 +1,7 @@
 // To raise the admission number of a school.
 ghost use Rattle.std.specs.Prelude.{◌≡◌, IfOk, option_copied};
 ghost use Rattle.adm_commands.specs.Tests.{first_failing};
-ghost use Rattle.adm_commands.specs.Outcome.{Comes, IsDone, without_row};
+ghost use Rattle.adm_commands.specs.Outcome.{Comes, ChangesJust, without_row};
 ghost use Rattle.adm_commands.specs.RaisePan.{may_have, tests, with_pan, change_of};
 
 use crate::failing::first_failing;
@@ -58,7 +58,7 @@ pub(crate) fn tried(
     school: SchoolCode,
     pan: u32,
 ) -> Result<Tried, AllocError>
-    ensures { IfOk result (λ tried. Comes (without_row (first_failing (tests old.now school pan))) (IsDone (change_of old.now school pan)) tried) }
+    ensures { IfOk result (λ tried. Comes (without_row (first_failing (tests old.now school pan))) (ChangesJust (change_of old.now school pan)) tried) }
 {
     if let Some(refusal) = refusal_of(old, school, pan) {
         return Ok(refused(refusal));

@@ -5,7 +5,7 @@ ghost use Rattle.std.specs.List.{list_all};
 ghost use Rattle.adm_commands.specs.Tests.{first_failing};
 ghost use Rattle.adm_register.specs.WellFormed.{WellFormed};
 ghost use Rattle.adm_commands.specs.KeptByTypes.{KeptByRound};
-ghost use Rattle.adm_commands.specs.Outcome.{Comes, IsHeld, without_row};
+ghost use Rattle.adm_commands.specs.Outcome.{Comes, IsRoundResult, without_row};
 ghost use Rattle.adm_register.specs.Draws.{IsWithin, draws_so_far};
 ghost use Rattle.adm_commands.specs.Round.{tests, is_lot_count, are_lots_apart, offer_of, offers_on};
 ghost use Rattle.adm_round.specs.Outcomes.{is_kept};
@@ -63,7 +63,7 @@ pub(crate) fn tried(
     lots: &Seq<u32>,
 ) -> Result<Tried, AllocError>
     requires { WellFormed old.now }
-    ensures { IfOk result (λ tried. Comes (without_row (first_failing (tests old.now draw day lots.now))) (IsHeld old.now draw day lots.now) tried) }
+    ensures { IfOk result (λ tried. Comes (without_row (first_failing (tests old.now draw day lots.now))) (IsRoundResult old.now draw day lots.now) tried) }
 {
     let so_far = draws_so_far(old, alloc)?;
     let Parts {

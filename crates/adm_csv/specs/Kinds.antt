@@ -2,8 +2,7 @@
 use Rattle.std.specs.Prelude.{ℕ, List, Bool, true, false, codes, Option, Some, None, option_and_then, Result, if◌then◌else◌}
 use Rattle.std.specs.Str.{bytes_eq}
 use Rattle.adm_types.specs.Code.{code_or_none_of}
-use Rattle.adm_types.specs.Numbers.{child_of}
-use Rattle.adm_types.specs.Fields.{plain_of}
+use Rattle.adm_types.specs.Fields.{plain_of, child_named}
 use Rattle.adm_types.specs.Flags.{flag_of}
 use Rattle.adm_types.specs.DayText.{day_named}
 use Rattle.adm_types.specs.Joined.{items_of, codes_of}
@@ -19,9 +18,6 @@ abbrev pub a_number : Option Text → Result ℕ Fault
 a_number text = some_or BadNumber (option_and_then plain_of text)
 
 -- a plain number from 1 to 9,999,999
-abbrev pub child_named : Text → Option ℕ
-child_named text = option_and_then child_of (plain_of text)
-
 abbrev pub a_child : Option Text → Result ℕ Fault
 a_child text = some_or BadNumber (option_and_then child_named text)
 

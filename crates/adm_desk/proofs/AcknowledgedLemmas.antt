@@ -14,8 +14,9 @@ use Rattle.adm_desk.specs.declared.answer.LineAnswer.{LineAnswer}
 use Rattle.adm_desk.specs.declared.answer.LineAnswer.TheVariants.{Handled, Faulty, Told}
 use Rattle.adm_desk.specs.Steps.{IsRun}
 use Rattle.adm_desk.specs.Lines.{AnswersLine, AnswersLines}
-use Rattle.adm_desk.specs.Standing.{Standing, Handles, InWork}
-use Rattle.adm_desk.specs.Acknowledged.{After, OneAfter, KeepsAcknowledged, acknowledged, handled, with_command}
+use Rattle.adm_desk.specs.DeskState.{DeskState, Handles, InWork}
+use Rattle.adm_commands.specs.Imports.{Reaches}
+use Rattle.adm_desk.specs.Acknowledged.{OneAfter, KeepsAcknowledged, acknowledged, handled, with_command}
 
 -- ---- a run over commands with their answers
 
@@ -57,7 +58,7 @@ over_lines {D} step old new (l ∷ lines) (Handled a ∷ answers) run =
 
 module _ {C : Type 0} (disk : C → Disk) where
   -- after a Failed nothing changes, and nothing is acknowledged
-  pub all_failed : (old new : Standing C) (answered : List (Command × Answer)) → old.failed ≡ true → RunsOver (Handles disk) old answered new → (new ≡ old) × (acknowledged answered ≡ [])
+  pub all_failed : (old new : DeskState C) (answered : List (Command × Answer)) → old.failed ≡ true → RunsOver (Handles disk) old answered new → (new ≡ old) × (acknowledged answered ≡ [])
   all_failed old new [] dead run = (run, refl)
   all_failed old new ((c, Done reply) ∷ more) dead run = absurd (true≢false (sym dead ∙ run.1.0))
   all_failed old new ((c, Refused refusal row) ∷ more) dead run = absurd (true≢false (sym dead ∙ run.1.0))
@@ -67,25 +68,25 @@ module _ {C : Type 0} (disk : C → Disk) where
       let rest = all_failed run.0 new more run.1.0 run.2 in
       (rest.0 ∙ same, rest.1)
 
-  at_same : (old new : Standing C) → new ≡ old → old.failed ≡ false → LeavesOnly old.register (disk old.conn) → KeepsAcknowledged disk old new []
+  at_same : (old new : DeskState C) → new ≡ old → old.failed ≡ false → LeavesOnly old.register (disk old.conn) → KeepsAcknowledged disk old new []
   at_same old new same alive leaves = record {
-    run = ap (λ (s : Standing C). s.register) same;
-    failed = ap (λ (s : Standing C). s.failed) same ∙ alive;
-    leaves = subst (λ (s : Standing C). LeavesOnly s.register (disk s.conn)) (sym same) leaves;
+    run = ap (λ (s : DeskState C). s.register) same;
+    failed = ap (λ (s : DeskState C). s.failed) same ∙ alive;
+    leaves = subst (λ (s : DeskState C). LeavesOnly s.register (disk s.conn)) (sym same) leaves;
   }
 
-  after_work : (old mid new : Standing C) (c : Command) (more : List (Command × Answer)) → Handles disk old c Failed mid → old.failed ≡ false → RunsOver (Handles disk) mid more new → KeepsAcknowledged disk old new ((c, Failed) ∷ more)
+  after_work : (old mid new : DeskState C) (c : Command) (more : List (Command × Answer)) → Handles disk old c Failed mid → old.failed ≡ false → RunsOver (Handles disk) mid more new → KeepsAcknowledged disk old new ((c, Failed) ∷ more)
   after_work old mid new c more by alive run =
       let rest = all_failed mid new more by.0 run in
-      let register : new.register ≡ old.register = ap (λ (s : Standing C). s.register) rest.0 ∙ by.1 in
+      let register : new.register ≡ old.register = ap (λ (s : DeskState C). s.register) rest.0 ∙ by.1 in
       let at_mid : InWork mid.register c (disk mid.conn) = subst (λ (r : Register). InWork r c (disk mid.conn)) (sym by.1) (by.3 alive) in
       record {
-        run = subst (λ cs. After old.register cs new.register) (sym rest.1) register;
-        failed = ap (λ (s : Standing C). s.failed) rest.0 ∙ by.0;
-        leaves = subst (λ (s : Standing C). InWork s.register c (disk s.conn)) (sym rest.0) at_mid;
+        run = subst (λ cs. Reaches old.register cs new.register) (sym rest.1) register;
+        failed = ap (λ (s : DeskState C). s.failed) rest.0 ∙ by.0;
+        leaves = subst (λ (s : DeskState C). InWork s.register c (disk s.conn)) (sym rest.0) at_mid;
       }
 
-  pub keeps : (old new : Standing C) (answered : List (Command × Answer)) → old.failed ≡ false → LeavesOnly old.register (disk old.conn) → RunsOver (Handles disk) old answered new → KeepsAcknowledged disk old new answered
+  pub keeps : (old new : DeskState C) (answered : List (Command × Answer)) → old.failed ≡ false → LeavesOnly old.register (disk old.conn) → RunsOver (Handles disk) old answered new → KeepsAcknowledged disk old new answered
   keeps old new [] alive leaves run = at_same old new run alive leaves
   keeps old new ((c, Done reply) ∷ more) alive leaves run =
       let by = run.1 in
@@ -99,11 +100,11 @@ module _ {C : Type 0} (disk : C → Disk) where
       record { run = rest.run; failed = rest.failed; leaves = rest.leaves }
   keeps old new ((c, Failed) ∷ more) alive leaves run = after_work old run.0 new c more run.1 alive run.2
 
-  pub keeps_commands : (old new : Standing C) (commands : List Command) (answers : List Answer) → old.failed ≡ false → LeavesOnly old.register (disk old.conn)
+  pub keeps_commands : (old new : DeskState C) (commands : List Command) (answers : List Answer) → old.failed ≡ false → LeavesOnly old.register (disk old.conn)
       → IsRun (Handles disk) old commands answers new → KeepsAcknowledged disk old new (zip commands answers)
   keeps_commands old new commands answers alive leaves run = keeps old new (zip commands answers) alive leaves (over_commands (Handles disk) old new commands answers run)
 
-  pub keeps_lines : (old new : Standing C) (lines : List (List ℕ)) (answers : List LineAnswer) → old.failed ≡ false → LeavesOnly old.register (disk old.conn)
+  pub keeps_lines : (old new : DeskState C) (lines : List (List ℕ)) (answers : List LineAnswer) → old.failed ≡ false → LeavesOnly old.register (disk old.conn)
       → AnswersLines (AnswersLine (Handles disk)) old lines answers new → KeepsAcknowledged disk old new (handled lines answers)
   keeps_lines old new lines answers alive leaves run = keeps old new (handled lines answers) alive leaves (over_lines (Handles disk) old new lines answers run)
 
@@ -113,4 +114,4 @@ pub one_after_lem : OneStep → OneAfter
 one_after_lem step old a b [] one other = one ∙ sym other
 one_after_lem step old a b (c ∷ commands) one other =
     let same = step old one.0 other.0 c one.1 other.1 in
-    one_after_lem step one.0 a b commands one.2 (subst (λ (r : Register). After r commands b) (sym same) other.2)
+    one_after_lem step one.0 a b commands one.2 (subst (λ (r : Register). Reaches r commands b) (sym same) other.2)

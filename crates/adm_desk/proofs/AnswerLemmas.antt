@@ -9,7 +9,7 @@ use Rattle.adm_lists.proofs.Each.{each_append}
 use Rattle.adm_lists.proofs.KnownBytes.{Appends-then}
 use Rattle.adm_desk.specs.declared.answer.LineAnswer.{LineAnswer}
 use Rattle.adm_desk.specs.declared.run.Run.{Run}
-use Rattle.adm_desk.specs.Lines.{AnswersLines, line_text, text_of, is_done, is_refused, is_failed}
+use Rattle.adm_desk.specs.Lines.{AnswersLines, line_text, answers_text, is_done, is_refused, is_failed}
 use Rattle.adm_desk.specs.Written.{Answered, Stopped, Counts, counted, IsBeginning, Takes, Breaks, joined, IsPlain}
 use Rattle.adm_desk.proofs.Known.{Appends-nothing}
 use Rattle.adm_desk.proofs.CutLemmas.{Cuts-then, Cuts-nothing, whole-then}
@@ -21,8 +21,8 @@ AnswersLines-append runs old mid new [] ms (x ∷ xs) ys p q = absurd p
 AnswersLines-append runs old mid new (l ∷ ls) ms [] ys p q = absurd p
 AnswersLines-append runs old mid new (l ∷ ls) ms (x ∷ xs) ys p q = (p.0, p.1, AnswersLines-append runs p.0 mid new ls ms xs ys p.2 q)
 
-pub text_of-append : (xs ys : List LineAnswer) → text_of (xs ++ ys) ≡ text_of xs ++ text_of ys
-text_of-append xs ys = flat_map-append (λ a. line_text a ++ 10 ∷ []) xs ys
+pub answers_text-append : (xs ys : List LineAnswer) → answers_text (xs ++ ys) ≡ answers_text xs ++ answers_text ys
+answers_text-append xs ys = flat_map-append (λ a. line_text a ++ 10 ∷ []) xs ys
 
 count_by-append : {X : Type 0} (p : X → Bool) (xs ys : List X) → count_by p (xs ++ ys) ≡ count_by p xs + count_by p ys
 count_by-append p xs ys = sum_by-append (λ x. cond (p x) 1 0) xs ys
@@ -46,31 +46,31 @@ pub Answered-then : {D : Type 0} (runs : D → List ℕ → LineAnswer → D →
 Answered-then runs old mid new u v w a b c ls ms p q = record {
   answers = p.answers ++ q.answers;
   answered = AnswersLines-append runs old mid new ls ms p.answers q.answers p.answered q.answered;
-  written = rw (text_of-append p.answers q.answers) (Appends-then u v w _ _ p.written q.written);
+  written = rw (answers_text-append p.answers q.answers) (Appends-then u v w _ _ p.written q.written);
   counted = Counts-then a b c p.answers q.answers p.counted q.counted;
 }
 
-whole_beginning : (xs : List LineAnswer) → IsBeginning xs (text_of xs)
+whole_beginning : (xs : List LineAnswer) → IsBeginning xs (answers_text xs)
 whole_beginning xs =
     let k = length xs - 1 in (
-      length (text_of (drop k xs)),
-      rw (take-length (text_of (drop k xs))) (ap text_of (sym (take-append-drop k xs)) ∙ text_of-append (take k xs) (drop k xs)),
+      length (answers_text (drop k xs)),
+      rw (take-length (answers_text (drop k xs))) (ap answers_text (sym (take-append-drop k xs)) ∙ answers_text-append (take k xs) (drop k xs)),
     )
 
-take-nil : (n : ℕ) → take n (text_of []) ≡ []
+take-nil : (n : ℕ) → take n (answers_text []) ≡ []
 take-nil zero = refl
 take-nil (suc n) = refl
 
-after_front : (xs ys : List LineAnswer) (k n : ℕ) (text : List ℕ) → text ≡ text_of (take k ys) ++ take n (text_of (drop k ys))
-    → text_of xs ++ text ≡ text_of (take (length xs + k) (xs ++ ys)) ++ take n (text_of (drop (length xs + k) (xs ++ ys)))
+after_front : (xs ys : List LineAnswer) (k n : ℕ) (text : List ℕ) → text ≡ answers_text (take k ys) ++ take n (answers_text (drop k ys))
+    → answers_text xs ++ text ≡ answers_text (take (length xs + k) (xs ++ ys)) ++ take n (answers_text (drop (length xs + k) (xs ++ ys)))
 after_front xs ys k n text e =
-    rw (e, take-append-add xs ys k, drop-append-add xs ys k, text_of-append xs (take k ys))
-    (sym (append_assoc (text_of xs) (text_of (take k ys)) (take n (text_of (drop k ys)))))
+    rw (e, take-append-add xs ys k, drop-append-add xs ys k, answers_text-append xs (take k ys))
+    (sym (append_assoc (answers_text xs) (answers_text (take k ys)) (take n (answers_text (drop k ys)))))
 
-later_beginning : (xs ys : List LineAnswer) (text : List ℕ) → IsBeginning ys text → IsBeginning (xs ++ ys) (text_of xs ++ text)
+later_beginning : (xs ys : List LineAnswer) (text : List ℕ) → IsBeginning ys text → IsBeginning (xs ++ ys) (answers_text xs ++ text)
 later_beginning xs [] text h =
     let none : text ≡ [] = h.1 ∙ take-nil h.0 in
-    rw (append-nil xs, none, append-nil (text_of xs)) (whole_beginning xs)
+    rw (append-nil xs, none, append-nil (answers_text xs)) (whole_beginning xs)
 later_beginning xs (y ∷ ys) text h =
     let same : length (xs ++ y ∷ ys) - 1 ≡ length xs + (length (y ∷ ys) - 1) = omega (arith, length-append xs (y ∷ ys)) in
     (h.0, rw same (after_front xs (y ∷ ys) (length (y ∷ ys) - 1) h.0 text h.1))
@@ -79,7 +79,7 @@ pub Answered-stopped : {D : Type 0} (runs : D → List ℕ → LineAnswer → D 
     → Answered runs old mid u v a b ls → Stopped runs mid new v w ms → Stopped runs old new u w (ls ++ ms)
 Answered-stopped runs old mid new u v w a b ls ms p q = record {
   answers = p.answers ++ q.answers;
-  text = text_of p.answers ++ q.text;
+  text = answers_text p.answers ++ q.text;
   answered = AnswersLines-append runs old mid new ls ms p.answers q.answers p.answered q.answered;
   beginning = later_beginning p.answers q.answers q.text q.beginning;
   written = Appends-then u v w _ _ p.written q.written;

@@ -11,7 +11,8 @@ use Rattle.adm_store.specs.StandsFor.{StandsNow, StandsFor, LeavesOnly, LeavesNo
 use Rattle.adm_store.specs.Migration.{IsMigrated}
 use Rattle.adm_store.proofs.MigrationLemmas.{not_migrated, stands_for}
 use Rattle.adm_desk.specs.declared.answer.Answer.{Answer}
-use Rattle.adm_desk.specs.Acknowledged.{After, LeavesAcknowledged, FindsAgain, Reopens, acknowledged, in_work}
+use Rattle.adm_commands.specs.Imports.{Reaches}
+use Rattle.adm_desk.specs.Acknowledged.{LeavesAcknowledged, FindsAgain, Reopens, acknowledged, in_work}
 
 -- a crash leaves something
 abbrev pub LeavesSome : Disk → Type 0
@@ -86,7 +87,7 @@ no_exchange [] answers none = refl
 no_exchange (c ∷ commands) answers none = ap (zip (c ∷ commands)) none
 
 pub none_answered : (disk : Disk) (r : Register) (commands : List Command) (answers : List Answer) → answers ≡ [] → LeavesOnly r disk
-    → (kept : Register) × After r (acknowledged (zip commands answers)) kept × LeavesAcknowledged kept (in_work (zip commands answers)) disk
+    → (kept : Register) × Reaches r (acknowledged (zip commands answers)) kept × LeavesAcknowledged kept (in_work (zip commands answers)) disk
 none_answered disk r commands answers none leaves =
-    let P : List (Command × Answer) → Type 0 = λ x. (kept : Register) × After r (acknowledged x) kept × LeavesAcknowledged kept (in_work x) disk in
+    let P : List (Command × Answer) → Type 0 = λ x. (kept : Register) × Reaches r (acknowledged x) kept × LeavesAcknowledged kept (in_work x) disk in
     subst P (sym (no_exchange commands answers none)) (r, refl, leaves)

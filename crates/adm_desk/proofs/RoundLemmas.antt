@@ -19,22 +19,23 @@ use Rattle.adm_register.specs.declared.draws_so_far.DrawsSoFar.{DrawsSoFar}
 use Rattle.adm_commands.specs.Outcome.{Accepts, without_row}
 use Rattle.adm_commands.specs.Tests.{first_failing}
 use Rattle.adm_commands.specs.Round as round
-use Rattle.adm_commands.specs.History.{DrawsInOrder, DrawsStay, DrawsKept, RoundHeld, HoldsRound}
+use Rattle.adm_commands.specs.History.{DrawsInOrder, DrawsStay, DrawsKept, RoundIsRecorded, RecordsRound}
 use Rattle.sqlite.specs.State.{State as Disk}
-use Rattle.adm_desk.specs.Acknowledged.{After, FindsAgain, LeavesAcknowledged}
-use Rattle.adm_desk.specs.Rounds.{EachRoundHeld, RoundHeldOrNot, RoundsHeld, RoundsStay}
+use Rattle.adm_commands.specs.Imports.{Reaches}
+use Rattle.adm_desk.specs.Acknowledged.{FindsAgain, LeavesAcknowledged}
+use Rattle.adm_desk.specs.Rounds.{EachRoundRecorded, RoundRecordedOrNot, RoundsAreRecorded, RoundsStay}
 
 -- draws stay over accepted commands
-stay : DrawsKept → (commands : List Command) (old new : Register) → DrawsInOrder old → After old commands new → DrawsInOrder new × DrawsStay old new
+stay : DrawsKept → (commands : List Command) (old new : Register) → DrawsInOrder old → Reaches old commands new → DrawsInOrder new × DrawsStay old new
 stay law [] old new ordered run = subst (λ s. DrawsInOrder s × DrawsStay old s) (sym run) (ordered, λ number draw there. there)
 stay law (command ∷ commands) old new ordered run =
     let one = law old run.0 command ordered run.1 in
     let rest = stay law commands run.0 new one.0 run.2 in
     (rest.0, λ number draw there. rest.1 number draw (one.1 number draw there))
 
-module _ (law : DrawsKept) (held : RoundHeld) (draw day : ℕ) (numbers : List ℕ) (later : List Command) (new : Register) where
-  began : (before : List Command) (old : Register) → DrawsInOrder old → After old (before ++ Round draw day numbers ∷ later) new
-      → (mid : Register) × After old before mid × HoldsRound mid draw day numbers new
+module _ (law : DrawsKept) (held : RoundIsRecorded) (draw day : ℕ) (numbers : List ℕ) (later : List Command) (new : Register) where
+  began : (before : List Command) (old : Register) → DrawsInOrder old → Reaches old (before ++ Round draw day numbers ∷ later) new
+      → (mid : Register) × Reaches old before mid × RecordsRound mid draw day numbers new
   began [] old ordered run =
       let one = law old run.0 (Round draw day numbers) ordered run.1 in
       let rest = stay law later run.0 new one.0 run.2 in
@@ -45,9 +46,9 @@ module _ (law : DrawsKept) (held : RoundHeld) (draw day : ℕ) (numbers : List �
       let rest = began before run.0 one.0 run.2 in
       (rest.0, (run.0, run.1, rest.1), rest.2)
 
-pub rounds_held_lem : DrawsKept → RoundHeld → RoundsHeld
+pub rounds_held_lem : DrawsKept → RoundIsRecorded → RoundsAreRecorded
 rounds_held_lem law held old new commands ordered run = (
-  λ before later draw day numbers is. began law held draw day numbers later new before old ordered (subst (λ cs. After old cs new) is run),
+  λ before later draw day numbers is. began law held draw day numbers later new before old ordered (subst (λ cs. Reaches old cs new) is run),
   (stay law commands old new ordered run).0,
 )
 
@@ -58,13 +59,13 @@ rounds_stay_lem law old mid new commands command ordered held step before later 
     (was.0, was.1, (was.2.0, was.2.1, one.1 draw _ was.2.2))
 
 -- the register that is found again holds them too
-pub found_rounds : RoundsHeld → RoundsStay → (old kept found : Register) (commands : List Command) (work : Option Command) → DrawsInOrder old → After old commands kept → FindsAgain kept work found
-    → EachRoundHeld old commands found
-found_rounds law more old kept found commands None ordered run finds = subst (EachRoundHeld old commands) (sym finds) (law old kept commands ordered run).0
+pub found_rounds : RoundsAreRecorded → RoundsStay → (old kept found : Register) (commands : List Command) (work : Option Command) → DrawsInOrder old → Reaches old commands kept → FindsAgain kept work found
+    → EachRoundRecorded old commands found
+found_rounds law more old kept found commands None ordered run finds = subst (EachRoundRecorded old commands) (sym finds) (law old kept commands ordered run).0
 found_rounds law more old kept found commands (Some command) ordered run finds =
     let first = law old kept commands ordered run in
     elim finds [
-      | inl same ↦ subst (EachRoundHeld old commands) (sym same) first.0
+      | inl same ↦ subst (EachRoundRecorded old commands) (sym same) first.0
       | inr step ↦ more old kept found commands command first.1 first.0 step
     ]
 
@@ -123,8 +124,8 @@ unfolding round.tests
 round_number old new draw day numbers step = (unsigned_Decides draw ((draws_so_far old).draws + 1)).0 (first_passes (round.tests old draw day numbers) step.1.0)
 
 -- with the round in work the register has no draw of its number, or the whole round
-pub held_or_not : RoundHeld → (kept found : Register) (work : Option Command) (disk : Disk) → DrawsInOrder kept → LeavesAcknowledged kept work disk → FindsAgain kept work found
-    → RoundHeldOrNot kept work found
+pub held_or_not : RoundIsRecorded → (kept found : Register) (work : Option Command) (disk : Disk) → DrawsInOrder kept → LeavesAcknowledged kept work disk → FindsAgain kept work found
+    → RoundRecordedOrNot kept work found
 held_or_not law kept found None disk ordered left finds draw day numbers is = absurd (none-some _ is)
 held_or_not law kept found (Some command) disk ordered left finds draw day numbers is =
     let same = same_Some command (Round draw day numbers) is in

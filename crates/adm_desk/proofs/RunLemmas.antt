@@ -9,7 +9,7 @@ use Rattle.adm_desk.specs.declared.run.RunFault.{RunFault}
 use Rattle.adm_desk.specs.declared.run.RunFault.TheVariants.{Read, Write, Memory}
 use Rattle.adm_wire.specs.Streams.{Stream}
 use Rattle.adm_desk.specs.Lines.{lines_of, ended}
-use Rattle.adm_desk.specs.Written.{Answered, Finished, AnsweredUpTo, Stopped, StoppedWithin, EndsAs, LeavesReader, LeavesWriter, OfWriter, Takes, Breaks, joined, IsPlain, last_line}
+use Rattle.adm_desk.specs.Written.{Answered, Finished, AnsweredUpTo, Stopped, StoppedWithin, EndsAs, ReaderFailsBy, WriterFailsBy, OfWriter, Takes, Breaks, joined, IsPlain, last_line}
 use Rattle.adm_desk.proofs.CutLemmas.{lines_of-joined, lines_of-piece, ended-joined, ended-more, first_lines}
 use Rattle.adm_desk.proofs.AnswerLemmas.{Answered-then, Answered-stopped}
 
@@ -42,13 +42,13 @@ read_has_failed (Some input) true new failed = λ short. failed
 read_has_failed (Some input) false new failed = λ short. failed
 
 -- nothing failed before
-pub writer_left : {A : Type 0} (r : Result A RunFault) (old mid new : Bool) → mid ≡ old → LeavesWriter r mid new → LeavesWriter r old new
+pub writer_left : {A : Type 0} (r : Result A RunFault) (old mid new : Bool) → mid ≡ old → WriterFailsBy r mid new → WriterFailsBy r old new
 writer_left (Ok x) old mid new same left = left ∙ same
 writer_left (Err Read) old mid new same left = left ∙ same
 writer_left (Err Write) old mid new same left = left
 writer_left (Err Memory) old mid new same left = left ∙ same
 
-pub reader_left : {A : Type 0} (r : Result A RunFault) (old new : Bool) → new ≡ old → LeavesReader r old new
+pub reader_left : {A : Type 0} (r : Result A RunFault) (old new : Bool) → new ≡ old → ReaderFailsBy r old new
 reader_left (Ok x) old new same = same
 reader_left (Err Read) old new same = tt
 reader_left (Err Write) old new same = same
@@ -120,7 +120,7 @@ read_failed_from runs old new u v run ran p bytes takes =
 pub ends_from : {D : Type 0} (runs : D → List ℕ → LineAnswer → D → Type 0) (old new : D) (input output : Stream) (had_failed : Bool) (r : Result Run RunFault)
     → IfOk r (λ run. IsAtEnd input.new × (bytes : List ℕ) × Consumes input.old input.new bytes × Finished runs old new output.old output.new run (lines_of bytes))
     → OnErr r ((bytes : List ℕ) × Consumes input.old input.new bytes × StoppedWithin runs old new output.old output.new bytes input.new)
-    → IfErr r OfWriter → LeavesWriter r had_failed output.has_failed → EndsAs runs old new input output r
+    → IfErr r OfWriter → WriterFailsBy r had_failed output.has_failed → EndsAs runs old new input output r
 ends_from runs old new input output had_failed (Ok run) ok stopped fault left = ok
 ends_from runs old new input output had_failed (Err Read) ok stopped fault left = absurd fault
 ends_from runs old new input output had_failed (Err Write) ok stopped fault left = (left, stopped)

@@ -9,10 +9,10 @@ use Rattle.adm_commands.specs.Outcome.{Step}
 use Rattle.adm_store.specs.StandsFor.{LeavesOnly}
 use Rattle.adm_desk.specs.declared.answer.Answer.{Answer}
 use Rattle.adm_desk.specs.declared.answer.Answer.TheVariants.{Done, Refused, Memory, Failed}
-use Rattle.adm_desk.specs.Standing.{Standing, Handles, Keeps}
+use Rattle.adm_desk.specs.DeskState.{DeskState, Handles, Keeps}
 
 -- an accepted step that was kept, or not, is handled
-pub handles : {C : Type 0} (disk : C → Disk) (old new : Standing C) (command : Command) (next : Register) (reply : Reply) (answer : Answer)
+pub handles : {C : Type 0} (disk : C → Disk) (old new : DeskState C) (command : Command) (next : Register) (reply : Reply) (answer : Answer)
     → old.failed ≡ false → Step old.register command (Ok reply) next → Keeps disk old next reply answer new → Handles disk old command answer new
 handles disk old new command next reply (Done r) alive step keeps = (
   alive,

@@ -8,24 +8,20 @@ use Rattle.adm_wire.specs.declared.fault.WireFault.{WireFault}
 use Rattle.adm_wire.specs.Commands.{command_of}
 use Rattle.adm_register.specs.State.{State as Register}
 use Rattle.adm_commands.specs.Outcome.{Accepts}
+use Rattle.adm_commands.specs.Imports.{Reaches}
 use Rattle.adm_store.specs.StandsFor.{LeavesOnly}
 use Rattle.adm_desk.specs.declared.answer.Answer.{Answer}
 use Rattle.adm_desk.specs.declared.answer.Answer.TheVariants.{Done, Refused, Memory, Failed}
 use Rattle.adm_desk.specs.declared.answer.LineAnswer.{LineAnswer}
 use Rattle.adm_desk.specs.declared.answer.LineAnswer.TheVariants.{Handled, Faulty, Told}
 use Rattle.adm_desk.specs.Lines.{AnswersLines}
-use Rattle.adm_desk.specs.Standing.{Standing, InWork}
+use Rattle.adm_desk.specs.DeskState.{DeskState, InWork}
 
 -- ---- registers
 
--- new is a register after these commands, each accepted on the register after those before it
-abbrev pub After : Register → List Command → Register → Type 0
-After old [] new = new ≡ old
-After old (command ∷ commands) new = (mid : Register) × Accepts old command mid × After mid commands new
-
 -- accepted commands, one after another, leave one register
 abbrev pub OneAfter : Type 0
-OneAfter = (old a b : Register) (commands : List Command) → After old commands a → After old commands b → a ≡ b
+OneAfter = (old a b : Register) (commands : List Command) → Reaches old commands a → Reaches old commands b → a ≡ b
 
 -- ---- commands with their answers
 
@@ -73,21 +69,21 @@ FindsAgain register (Some command) found = (found ≡ register) ⊎ Accepts regi
 
 -- the register is one after the acknowledged commands, or one that the command in work leaves after these
 abbrev pub FindsAfter : Register → List Command → List Answer → Register → Type 0
-FindsAfter r commands answers found = (kept : Register) × After r (acknowledged (zip commands answers)) kept × FindsAgain kept (in_work (zip commands answers)) found
+FindsAfter r commands answers found = (kept : Register) × Reaches r (acknowledged (zip commands answers)) kept × FindsAgain kept (in_work (zip commands answers)) found
 
 -- all that a crash may leave stands for such a register
 abbrev pub LeavesAfter : Register → List Command → List Answer → Disk → Type 0
-LeavesAfter r commands answers disk = (kept : Register) × After r (acknowledged (zip commands answers)) kept × LeavesAcknowledged kept (in_work (zip commands answers)) disk
+LeavesAfter r commands answers disk = (kept : Register) × Reaches r (acknowledged (zip commands answers)) kept × LeavesAcknowledged kept (in_work (zip commands answers)) disk
 
 -- The desk has a register after the acknowledged commands, in their order, each of which was accepted. It has failed just where a command is
 -- in work. All that a crash may leave stands for that register, or also for one that the command in work leaves.
-pub record KeepsAcknowledged {C : Type 0} (disk : C → Disk) (old new : Standing C) (answered : List (Command × Answer)) : Type 0 where
-  pub run : After old.register (acknowledged answered) new.register
+pub record KeepsAcknowledged {C : Type 0} (disk : C → Disk) (old new : DeskState C) (answered : List (Command × Answer)) : Type 0 where
+  pub run : Reaches old.register (acknowledged answered) new.register
   pub failed : new.failed ≡ is_some (in_work answered)
   pub leaves : LeavesAcknowledged new.register (in_work answered) (disk new.conn)
 
 -- whatever lines were answered so: what their answers acknowledge is kept
-abbrev pub KeepsLines : {C : Type 0} → (C → Disk) → (Standing C → List ℕ → LineAnswer → Standing C → Type 0) → Standing C → Standing C → Type 0
+abbrev pub KeepsLines : {C : Type 0} → (C → Disk) → (DeskState C → List ℕ → LineAnswer → DeskState C → Type 0) → DeskState C → DeskState C → Type 0
 KeepsLines disk runs old new = (lines : List (List ℕ)) (answers : List LineAnswer) → AnswersLines runs old lines answers new → KeepsAcknowledged disk old new (handled lines answers)
 
 -- ---- for a private clause

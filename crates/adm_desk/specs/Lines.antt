@@ -64,8 +64,8 @@ line_text (Faulty fault) = fault_text fault
 line_text (Told told) = told_text told
 
 -- each answer's text, and LF
-abbrev pub text_of : List LineAnswer → List ℕ
-text_of answers = flat_map (λ a. line_text a ++ 10 ∷ []) answers
+abbrev pub answers_text : List LineAnswer → List ℕ
+answers_text answers = flat_map (λ a. line_text a ++ 10 ∷ []) answers
 
 -- ---- answers
 

@@ -8,7 +8,7 @@ use Rattle.adm_register.specs.State.{State as Register}
 use Rattle.adm_commands.specs.Round.{round_market}
 use Rattle.adm_commands.specs.WhatIf.{told_fault}
 use Rattle.adm_commands.specs.declared.what_ifs.NotTold.TheVariants as untold
-use Rattle.adm_desk.specs.Standing.{Standing}
+use Rattle.adm_desk.specs.DeskState.{DeskState}
 use Rattle.adm_desk.specs.declared.answer.LineAnswer.{LineAnswer}
 use Rattle.adm_desk.specs.declared.answer.LineAnswer.TheVariants.{Handled, Faulty, Told}
 use Rattle.adm_desk.specs.declared.answer.Told.{Told as ToldAnswer}
@@ -25,7 +25,7 @@ Answered s asked (Untold why) = told_fault s asked.child asked.lots asked.prefer
 Answered s asked Failed = ⊥
 
 -- What bytes are told by a desk: their fault where they ask nothing, that it has failed, or what the question is told of its register. Any may meet want of memory. The desk stays as it is.
-abbrev pub Tells : {C : Type 0} → Standing C → List ℕ → LineAnswer → Type 0
+abbrev pub Tells : {C : Type 0} → DeskState C → List ℕ → LineAnswer → Type 0
 Tells desk bytes (Faulty fault.Memory) = ⊤
 Tells desk bytes (Faulty f) = what_if_of bytes ≡ Err f
 Tells desk bytes (Told Failed) = (desk.failed ≡ true) × ((asked : WhatIf) × (what_if_of bytes ≡ Ok asked))
@@ -33,5 +33,5 @@ Tells desk bytes (Told told) = (desk.failed ≡ false) × ((asked : WhatIf) × (
 Tells desk bytes (Handled answer) = ⊥
 
 -- the same of lines, one after another
-abbrev pub TellsLine : {C : Type 0} → Standing C → List ℕ → LineAnswer → Standing C → Type 0
+abbrev pub TellsLine : {C : Type 0} → DeskState C → List ℕ → LineAnswer → DeskState C → Type 0
 TellsLine old line answer new = Tells old line answer × (new ≡ old)

@@ -18,7 +18,7 @@ use Rattle.adm_store.specs.StandsFor.{StandsNow}
 use Rattle.adm_store.specs.declared.fault.OpenFault.{OpenFault}
 use Rattle.adm_store.specs.declared.fault.OpenFault.TheVariants.{Memory}
 use Rattle.adm_desk.specs.declared.answer.Answer.{Answer}
-use Rattle.adm_desk.specs.Standing.{Standing, Handles}
+use Rattle.adm_desk.specs.DeskState.{DeskState, Handles}
 use Rattle.adm_desk.specs.Steps.{IsRun}
 
 -- the two files hold a database that stands for the register, in the version that is written
@@ -40,8 +40,8 @@ module _ {D : Type 0} {g : Ghosts D} where
   StillStandsFor r (left.Store now) = (db : Trees) → recovers now db → ∥ StandsNow db r ∥₁
 
   -- The answers are a run of the commands on a desk of the register. Where there was no room for them, none was handled, and the connection is the desk's as it was.
-  pub record RunsOn (r : Register) (commands : List Command) (answers : List Answer) (opened : Result (Standing (Held (FileStore D g))) (OpenFault × Option (Held (FileStore D g)))) : Type 0 where
-    pub desk : Standing (Held (FileStore D g))
+  pub record RunsOn (r : Register) (commands : List Command) (answers : List Answer) (opened : Result (DeskState (Held (FileStore D g))) (OpenFault × Option (Held (FileStore D g)))) : Type 0 where
+    pub desk : DeskState (Held (FileStore D g))
     pub register : desk.register ≡ r
     pub alive : desk.failed ≡ false
-    pub run : ((mid : Standing (Held (FileStore D g))) × IsRun (Handles file_state) desk commands answers mid) ⊎ ((answers ≡ []) × (opened ≡ Err (Memory, Some desk.conn)))
+    pub run : ((mid : DeskState (Held (FileStore D g))) × IsRun (Handles file_state) desk commands answers mid) ⊎ ((answers ≡ []) × (opened ≡ Err (Memory, Some desk.conn)))

@@ -7,7 +7,7 @@ use Rattle.adm_desk.specs.declared.answer.LineAnswer.{LineAnswer}
 use Rattle.adm_desk.specs.declared.run.Run.{Run}
 use Rattle.adm_desk.specs.declared.run.RunFault.{RunFault}
 use Rattle.adm_desk.specs.declared.run.RunFault.TheVariants.{Read, Write, Memory}
-use Rattle.adm_desk.specs.Lines.{AnswersLines, lines_of, ended, text_of, is_done, is_refused, is_failed}
+use Rattle.adm_desk.specs.Lines.{AnswersLines, lines_of, ended, answers_text, is_done, is_refused, is_failed}
 
 -- a count that stops at the largest number
 abbrev pub counted : ℕ → ℕ → ℕ
@@ -21,20 +21,20 @@ pub record Counts (old new : Run) (answers : List LineAnswer) : Type 0 where
 
 -- the answers but for a part of the last one
 abbrev pub IsBeginning : List LineAnswer → List ℕ → Type 0
-IsBeginning answers text = (n : ℕ) × (text ≡ text_of (take (length answers - 1) answers) ++ take n (text_of (drop (length answers - 1) answers)))
+IsBeginning answers text = (n : ℕ) × (text ≡ answers_text (take (length answers - 1) answers) ++ take n (answers_text (drop (length answers - 1) answers)))
 
 -- the lines were answered, each answer was written whole, and the counts are theirs
 pub record Answered {D : Type 0} (runs : D → List ℕ → LineAnswer → D → Type 0) (old new : D) (old_text new_text : Option (List ℕ)) (old_run new_run : Run) (lines : List (List ℕ)) : Type 0 where
   pub answers : List LineAnswer
   pub answered : AnswersLines runs old lines answers new
-  pub written : Appends old_text new_text (text_of answers)
+  pub written : Appends old_text new_text (answers_text answers)
   pub counted : Counts old_run new_run answers
 
 -- the lines were answered, each answer was written whole, and the run counts them
 pub record Finished {D : Type 0} (runs : D → List ℕ → LineAnswer → D → Type 0) (old new : D) (old_text new_text : Option (List ℕ)) (run : Run) (lines : List (List ℕ)) : Type 0 where
   pub answers : List LineAnswer
   pub answered : AnswersLines runs old lines answers new
-  pub written : Appends old_text new_text (text_of answers)
+  pub written : Appends old_text new_text (answers_text answers)
   pub done : run.done ≡ min (count_by is_done answers) (2 ^ 64 - 1)
   pub refused : run.refused ≡ min (count_by is_refused answers) (2 ^ 64 - 1)
   pub failed : run.failed ≡ list_any is_failed answers
@@ -43,7 +43,7 @@ pub record Finished {D : Type 0} (runs : D → List ℕ → LineAnswer → D →
 pub record AnsweredUpTo {D : Type 0} (runs : D → List ℕ → LineAnswer → D → Type 0) (old new : D) (old_text new_text : Option (List ℕ)) (bytes : List ℕ) : Type 0 where
   pub answers : List LineAnswer
   pub answered : AnswersLines runs old (take (ended bytes) (lines_of bytes)) answers new
-  pub written : Appends old_text new_text (text_of answers)
+  pub written : Appends old_text new_text (answers_text answers)
 
 -- the lines were answered, and the answers were written but for a part of the last one
 pub record Stopped {D : Type 0} (runs : D → List ℕ → LineAnswer → D → Type 0) (old new : D) (old_text new_text : Option (List ℕ)) (lines : List (List ℕ)) : Type 0 where
@@ -73,18 +73,18 @@ EndsAs runs old new input output (Err Memory) = (bytes : List ℕ) × Consumes i
     × StoppedWithin runs old new output.old output.new bytes input.new
 
 -- a writer has failed since exactly with Write
-abbrev pub LeavesWriter : {A : Type 0} → Result A RunFault → Bool → Bool → Type 0
-LeavesWriter (Ok x) old new = new ≡ old
-LeavesWriter (Err Read) old new = new ≡ old
-LeavesWriter (Err Write) old new = new ≡ true
-LeavesWriter (Err Memory) old new = new ≡ old
+abbrev pub WriterFailsBy : {A : Type 0} → Result A RunFault → Bool → Bool → Type 0
+WriterFailsBy (Ok x) old new = new ≡ old
+WriterFailsBy (Err Read) old new = new ≡ old
+WriterFailsBy (Err Write) old new = new ≡ true
+WriterFailsBy (Err Memory) old new = new ≡ old
 
 -- and a reader with Read alone
-abbrev pub LeavesReader : {A : Type 0} → Result A RunFault → Bool → Bool → Type 0
-LeavesReader (Ok x) old new = new ≡ old
-LeavesReader (Err Read) old new = Unit {0}
-LeavesReader (Err Write) old new = new ≡ old
-LeavesReader (Err Memory) old new = new ≡ old
+abbrev pub ReaderFailsBy : {A : Type 0} → Result A RunFault → Bool → Bool → Type 0
+ReaderFailsBy (Ok x) old new = new ≡ old
+ReaderFailsBy (Err Read) old new = Unit {0}
+ReaderFailsBy (Err Write) old new = new ≡ old
+ReaderFailsBy (Err Memory) old new = new ≡ old
 
 -- ---- for private clauses
 

@@ -12,11 +12,11 @@ ghost use Rattle.adm_store.specs.FirstFault.{IsFirstFault};
 ghost use Rattle.adm_store.specs.StandsFor.{IsStarted, LeavesOnly, LeavesNone};
 ghost use Rattle.adm_store.specs.Migration.{IsMigrated};
 ghost use Rattle.adm_desk.specs.Steps.{IsRun};
-ghost use Rattle.adm_desk.specs.Standing.{Handles, Keeps, Standing};
+ghost use Rattle.adm_desk.specs.DeskState.{Handles, Keeps, DeskState};
 ghost use Rattle.adm_desk.specs.Lines.{AnswersLine};
 ghost use Rattle.adm_desk.specs.Acknowledged.{KeepsAcknowledged, KeepsLines};
 ghost use Rattle.adm_desk.specs.Questions.{TellsLine};
-ghost use Rattle.adm_desk.specs.Written.{EndsAs, LeavesReader, LeavesWriter};
+ghost use Rattle.adm_desk.specs.Written.{EndsAs, ReaderFailsBy, WriterFailsBy};
 
 use crate::handler::{self, Handler};
 use crate::lines::Liner;
@@ -56,9 +56,9 @@ impl<S: Alter> Model for Desk<S> {
     ghost use Rattle.std.specs.Prelude.{◌≡◌, false};
     ghost use Rattle.sqlite.specs.Held.{Held, held_code, state};
     ghost use Rattle.adm_store.specs.StandsFor.{LeavesOnly};
-    ghost use Rattle.adm_desk.specs.Standing.{Standing, coded_standing};
+    ghost use Rattle.adm_desk.specs.DeskState.{DeskState, coded_standing};
 
-    ghost Value = { Standing (Held S) };
+    ghost Value = { DeskState (Held S) };
 
     ghost coded = { coded_standing (held_code S.code) };
 
@@ -197,8 +197,8 @@ impl<S: Alter> Desk<S> {
         ensures ends { EndsAs (AnswersLine (Handles (state S.Store))) self.old self.new (reader R.Input input.old input.new) (writer W.Output output.old output.new) result }
 
         // The writer has failed since exactly with Write, and the reader with Read alone.
-        ensures writer { LeavesWriter result (W.has_failed output.old) (W.has_failed output.new) }
-        ensures reader { LeavesReader result (R.has_failed input.old) (R.has_failed input.new) }
+        ensures writer { WriterFailsBy result (W.has_failed output.old) (W.has_failed output.new) }
+        ensures reader { ReaderFailsBy result (R.has_failed input.old) (R.has_failed input.new) }
 
         // Whatever lines were answered so: what their answers acknowledge is kept.
         ensures kept { self.old.failed ≡ false → KeepsLines (state S.Store) (AnswersLine (Handles (state S.Store))) self.old self.new }
@@ -214,8 +214,8 @@ impl<S: Alter> Desk<S> {
         output: &mut W,
     ) -> Result<Run, RunFault>
         ensures ends { EndsAs TellsLine self.now self.now (reader R.Input input.old input.new) (writer W.Output output.old output.new) result }
-        ensures writer { LeavesWriter result (W.has_failed output.old) (W.has_failed output.new) }
-        ensures reader { LeavesReader result (R.has_failed input.old) (R.has_failed input.new) }
+        ensures writer { WriterFailsBy result (W.has_failed output.old) (W.has_failed output.new) }
+        ensures reader { ReaderFailsBy result (R.has_failed input.old) (R.has_failed input.new) }
     {
         let mut asked = Asked(self);
         lines::run_lines(self.alloc, &mut asked, input, output)
@@ -225,9 +225,9 @@ impl<S: Alter> Desk<S> {
 impl<S: Alter> Liner for Desk<S> {
     ghost use Rattle.sqlite.specs.Held.{Held, state};
     ghost use Rattle.adm_desk.specs.Lines.{AnswersLine};
-    ghost use Rattle.adm_desk.specs.Standing.{Handles, Standing};
+    ghost use Rattle.adm_desk.specs.DeskState.{Handles, DeskState};
 
-    ghost View = { Standing (Held S) };
+    ghost View = { DeskState (Held S) };
 
     ghost view = { λ d. d };
 
@@ -243,9 +243,9 @@ impl<S: Alter> Liner for Desk<S> {
 
 impl<S: Alter> Handler for Desk<S> {
     ghost use Rattle.sqlite.specs.Held.{Held, state};
-    ghost use Rattle.adm_desk.specs.Standing.{Handles, Standing};
+    ghost use Rattle.adm_desk.specs.DeskState.{Handles, DeskState};
 
-    ghost View = { Standing (Held S) };
+    ghost View = { DeskState (Held S) };
 
     ghost view = { λ d. d };
 

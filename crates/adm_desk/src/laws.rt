@@ -1,6 +1,6 @@
 // Laws of accepted commands, one after another.
 ghost use Rattle.adm_desk.specs.Acknowledged.{OneAfter};
-ghost use Rattle.adm_desk.specs.Rounds.{RoundsHeld, RoundsStay};
+ghost use Rattle.adm_desk.specs.Rounds.{RoundsAreRecorded, RoundsStay};
 
 use adm_commands::{draws_kept, one_step, round_held};
 
@@ -15,7 +15,7 @@ pub fn one_after()
 /// Each round among accepted commands is held by the register after them: its outcomes are those of
 /// the child-optimal stable allocation of its problem on the register in which it began.
 pub fn rounds_held()
-    ensures { RoundsHeld }
+    ensures { RoundsAreRecorded }
 {
     draws_kept();
     round_held();

@@ -3,7 +3,7 @@ ghost use Rattle.std.specs.Prelude.{ℕ, [], ◌∷◌, ◌++◌, take, IfOk, If
 ghost use Rattle.std.specs.Io.KnownBytes.{Appends};
 ghost use Rattle.adm_wire.specs.Streams.{reader, writer};
 ghost use Rattle.adm_desk.specs.Lines.{line_text};
-ghost use Rattle.adm_desk.specs.Written.{Answered, Stopped, EndsAs, last_line, Counts, Takes, Breaks, OfWriter, LeavesReader, LeavesWriter};
+ghost use Rattle.adm_desk.specs.Written.{Answered, Stopped, EndsAs, last_line, Counts, Takes, Breaks, OfWriter, ReaderFailsBy, WriterFailsBy};
 
 use crate::{Answer, LineAnswer, Run, RunFault, Told};
 use adm_wire::{Input, Output};
@@ -57,7 +57,7 @@ fn write_answer<W: Output>(
     ensures whole { OnOk result (Appends (W.contents output.old) (W.contents output.new) (line_text answer.now ++ 10 ∷ [])) }
     ensures part { OnErr result ((n : ℕ) × Appends (W.contents output.old) (W.contents output.new) (take n (line_text answer.now ++ 10 ∷ []))) }
     ensures fault { IfErr result OfWriter }
-    ensures writer { LeavesWriter result (W.has_failed output.old) (W.has_failed output.new) }
+    ensures writer { WriterFailsBy result (W.has_failed output.old) (W.has_failed output.new) }
 {
     let Ok(mut text) = answer.text(alloc) else {
         return Err(RunFault::Memory);
@@ -82,7 +82,7 @@ fn run_line<H: Liner, W: Output>(
     ensures answered { OnOk result (Answered H.runs (H.view handler.old) (H.view handler.new) (W.contents output.old) (W.contents output.new) run.old run.new (line.now ∷ [])) }
     ensures stopped { OnErr result (Stopped H.runs (H.view handler.old) (H.view handler.new) (W.contents output.old) (W.contents output.new) (line.now ∷ [])) }
     ensures fault { IfErr result OfWriter }
-    ensures writer { LeavesWriter result (W.has_failed output.old) (W.has_failed output.new) }
+    ensures writer { WriterFailsBy result (W.has_failed output.old) (W.has_failed output.new) }
 {
     let answer = handler.answer(alloc, line);
     count(run, &answer);
@@ -100,7 +100,7 @@ fn take_byte<H: Liner, W: Output>(
     ensures taken { OnOk result (Takes H.runs (H.view handler.old) (H.view handler.new) (W.contents output.old) (W.contents output.new) run.old run.new pending.old.items pending.new.items (byte ∷ [])) }
     ensures broken { OnErr result (Breaks H.runs (H.view handler.old) (H.view handler.new) (W.contents output.old) (W.contents output.new) pending.old.items (byte ∷ [])) }
     ensures fault { IfErr result OfWriter }
-    ensures writer { LeavesWriter result (W.has_failed output.old) (W.has_failed output.new) }
+    ensures writer { WriterFailsBy result (W.has_failed output.old) (W.has_failed output.new) }
 {
     if byte == b'\n' {
         let alloc = *pending.allocator();
@@ -129,7 +129,7 @@ fn take_bytes<H: Liner, W: Output>(
     ensures taken { OnOk result (Takes H.runs (H.view handler.old) (H.view handler.new) (W.contents output.old) (W.contents output.new) run.old run.new pending.old.items pending.new.items bytes.now) }
     ensures broken { OnErr result (Breaks H.runs (H.view handler.old) (H.view handler.new) (W.contents output.old) (W.contents output.new) pending.old.items bytes.now) }
     ensures fault { IfErr result OfWriter }
-    ensures writer { LeavesWriter result (W.has_failed output.old) (W.has_failed output.new) }
+    ensures writer { WriterFailsBy result (W.has_failed output.old) (W.has_failed output.new) }
 {
     for byte in bytes {
         match take_byte(handler, output, run, pending, *byte) {
@@ -151,7 +151,7 @@ fn finish<H: Liner, W: Output>(
     ensures answered { IfOk result (λ r. Answered H.runs (H.view handler.old) (H.view handler.new) (W.contents output.old) (W.contents output.new) run r (last_line pending.now)) }
     ensures stopped { OnErr result (Stopped H.runs (H.view handler.old) (H.view handler.new) (W.contents output.old) (W.contents output.new) (last_line pending.now)) }
     ensures fault { IfErr result OfWriter }
-    ensures writer { LeavesWriter result (W.has_failed output.old) (W.has_failed output.new) }
+    ensures writer { WriterFailsBy result (W.has_failed output.old) (W.has_failed output.new) }
 {
     let mut run = run;
     if pending.is_empty() {
@@ -174,8 +174,8 @@ pub(crate) fn run_lines<H: Liner, R: Input, W: Output>(
     ensures ends { EndsAs H.runs (H.view handler.old) (H.view handler.new) (reader R.Input input.old input.new) (writer W.Output output.old output.new) result }
 
     // The writer has failed since exactly with Write, and the reader with Read alone.
-    ensures writer { LeavesWriter result (W.has_failed output.old) (W.has_failed output.new) }
-    ensures reader { LeavesReader result (R.has_failed input.old) (R.has_failed input.new) }
+    ensures writer { WriterFailsBy result (W.has_failed output.old) (W.has_failed output.new) }
+    ensures reader { ReaderFailsBy result (R.has_failed input.old) (R.has_failed input.new) }
 {
     let mut run = Run {
         done: 0,

@@ -44,9 +44,9 @@ pub(crate) struct Asked<'d, S: Alter>(pub(crate) &'d Desk<S>);
 impl<S: Alter> Liner for Asked<'_, S> {
     ghost use Rattle.sqlite.specs.Held.{Held};
     ghost use Rattle.adm_desk.specs.Questions.{TellsLine};
-    ghost use Rattle.adm_desk.specs.Standing.{Standing};
+    ghost use Rattle.adm_desk.specs.DeskState.{DeskState};
 
-    ghost View = { Standing (Held S) };
+    ghost View = { DeskState (Held S) };
 
     ghost view = { λ asked. asked.0.now };
 

@@ -5,11 +5,11 @@ ghost use Rattle.sqlite.specs.State.{HasCleanDisk};
 ghost use Rattle.adm_store.specs.Faults.{IsNoRegister};
 ghost use Rattle.adm_store.specs.StandsFor.{IsStarted, LeavesOnly};
 ghost use Rattle.adm_desk.specs.Steps.{IsRun};
-ghost use Rattle.adm_desk.specs.Standing.{Handles, Standing};
+ghost use Rattle.adm_desk.specs.DeskState.{Handles, DeskState};
 ghost use Rattle.adm_commands.specs.History.{DrawsInOrder};
 ghost use Rattle.adm_register.specs.State.{State as Register};
 ghost use Rattle.adm_types.specs.declared.commands.Command.{Command as Asked};
-ghost use Rattle.adm_desk.specs.Rounds.{HoldsRounds, HoldsRoundInWork};
+ghost use Rattle.adm_desk.specs.Rounds.{RecordsRounds, RecordsRoundInWork};
 ghost use Rattle.adm_desk.specs.Acknowledged.{FindsAgain, FindsAfter, LeavesAcknowledged, LeavesAfter, Reopens};
 
 use crate::{Answer, Desk, rounds_held, rounds_stay};
@@ -127,14 +127,14 @@ pub fn run_and_reopen<S: Alter + Reopen + Drop>(
         → FindsAfter desk.register commands.now result.answers.items new.register) }
     // It holds each round among the acknowledged commands, with the child-optimal stable allocation of the problem on the register in which it began.
     ensures rounds { desk.failed ≡ false → IfOk result.opened (λ new. HasCleanDisk (state S.Store new.conn)
-        → HoldsRounds desk.register commands.now result.answers.items new.register) }
+        → RecordsRounds desk.register commands.now result.answers.items new.register) }
     // A round in work is there whole, with the child-optimal stable allocation of the problem on the register in which it began, or not at all.
     ensures round { desk.failed ≡ false → IfOk result.opened (λ new. HasCleanDisk (state S.Store new.conn)
-        → HoldsRoundInWork desk.register commands.now result.answers.items new.register) }
+        → RecordsRoundInWork desk.register commands.now result.answers.items new.register) }
     ensures alive { IfOk result.opened (λ new. (new.failed ≡ false) × LeavesOnly new.register (state S.Store new.conn)) }
 
     // Whether it was opened again or not, the answers are a run of the commands. Where there was no room for them, none was handled, and the connection is the desk's as it was.
-    ensures run { ((mid : Standing (Held S)) × IsRun (Handles (state S.Store)) desk commands.now result.answers.items mid)
+    ensures run { ((mid : DeskState (Held S)) × IsRun (Handles (state S.Store)) desk commands.now result.answers.items mid)
         ⊎ ((result.answers.items ≡ []) × (result.opened ≡ Err (OpenFault.Memory, Some desk.conn))) }
 
     // What was started stands for such a register also where it was not opened, so no NotOurs, Version or BadRow comes.

@@ -5,7 +5,7 @@ ghost use Rattle.adm_register.specs.State.{State as Register};
 ghost use Rattle.adm_store.specs.Faults.{IsNoRegister};
 ghost use Rattle.adm_store.specs.StandsFor.{LeavesOnly};
 ghost use Rattle.adm_desk.specs.Acknowledged.{FindsAfter, LeavesAfter};
-ghost use Rattle.adm_desk.specs.Rounds.{HoldsRounds, HoldsRoundInWork};
+ghost use Rattle.adm_desk.specs.Rounds.{RecordsRounds, RecordsRoundInWork};
 ghost use Rattle.adm_desk.specs.Stops.{AreDisksOf, RunsOn, StillStandsFor};
 
 use crate::restart::fault_at;
@@ -54,9 +54,9 @@ fn run_over<D: Crash + Drop>(
     ensures register { (r : Register) → AreDisksOf D.Disk r disks.log disks.db → IfOk result (λ it. IfOk it.opened (λ new.
         FindsAfter r commands.now it.answers.items new.register)) }
     ensures rounds { (r : Register) → AreDisksOf D.Disk r disks.log disks.db → IfOk result (λ it. IfOk it.opened (λ new.
-        HoldsRounds r commands.now it.answers.items new.register)) }
+        RecordsRounds r commands.now it.answers.items new.register)) }
     ensures round { (r : Register) → AreDisksOf D.Disk r disks.log disks.db → IfOk result (λ it. IfOk it.opened (λ new.
-        HoldsRoundInWork r commands.now it.answers.items new.register)) }
+        RecordsRoundInWork r commands.now it.answers.items new.register)) }
     ensures alive { IfOk result (λ it. IfOk it.opened (λ new. (new.failed ≡ false) × LeavesOnly new.register (file_state new.conn))) }
     ensures run { (r : Register) → AreDisksOf D.Disk r disks.log disks.db → IfOk result (λ it. RunsOn r commands.now it.answers.items it.opened) }
     ensures kept { (r : Register) → AreDisksOf D.Disk r disks.log disks.db → IfOk result (λ it. IfErr it.opened (λ e. IfSome e.1 (λ conn.
@@ -91,10 +91,10 @@ pub fn run_until_stopped<D: Crash + Drop>(
         FindsAfter r commands.now it.answers.items new.register)) }
     // It holds each round among the acknowledged commands, with the child-optimal stable allocation of the problem on the register in which it began.
     ensures rounds { (r : Register) → AreDisksOf D.Disk r disks.log disks.db → IfOk result (λ it. IfOk it.opened (λ new.
-        HoldsRounds r commands.now it.answers.items new.register)) }
+        RecordsRounds r commands.now it.answers.items new.register)) }
     // It holds a round in work whole, as best where it began, or nothing of it.
     ensures round { (r : Register) → AreDisksOf D.Disk r disks.log disks.db → IfOk result (λ it. IfOk it.opened (λ new.
-        HoldsRoundInWork r commands.now it.answers.items new.register)) }
+        RecordsRoundInWork r commands.now it.answers.items new.register)) }
     ensures alive { IfOk result (λ it. IfOk it.opened (λ new. (new.failed ≡ false) × LeavesOnly new.register (file_state new.conn))) }
     ensures run { (r : Register) → AreDisksOf D.Disk r disks.log disks.db → IfOk result (λ it. RunsOn r commands.now it.answers.items it.opened) }
 

@@ -16,7 +16,7 @@ use Rattle.adm_types.specs.declared.draws.Draw.{Draw}
 use Rattle.adm_types.specs.declared.draws.DrawRow.{DrawRow}
 use Rattle.adm_types.specs.declared.draws.OfferRow.{OfferRow}
 use Rattle.adm_types.specs.declared.draws.LotRow.{LotRow}
-use Rattle.adm_draws.specs.Draws.{rises, row_of, offer_row, offers_of, lot_row, lots_of, outcome_cmp, lot_cmp, are_ordered, AreInOrder}
+use Rattle.adm_draws.specs.Draws.{rises, row_of, offer_row, offer_rows_of, lot_row, lot_rows_of, outcome_cmp, lot_cmp, are_ordered, AreByNumber}
 use Rattle.adm_draws.proofs.Rising.{sorted_rises, rises_sorted}
 
 -- ---- lists on end
@@ -117,20 +117,20 @@ pair (d ∷ ds) one other = (and_from _ _ one.0 other.0, pair ds one.1 other.1)
 heads_are : (ds : List Draw) → rises head_cmp (map row_of ds) ≡ rises nat_cmp (map (λ draw. draw.number) ds)
 heads_are ds = rises_map head_cmp row_of ds ∙ sym (rises_map nat_cmp (λ draw. draw.number) ds)
 
-pub heads_rise : (ds : List Draw) → AreInOrder ds → rises head_cmp (map row_of ds) ≡ true
+pub heads_rise : (ds : List Draw) → AreByNumber ds → rises head_cmp (map row_of ds) ≡ true
 heads_rise ds order = heads_are ds ∙ sorted_rises nat_cmp (map (λ draw. draw.number) ds) order.rising
 
-pub offers_rise : (ds : List Draw) → AreInOrder ds → rises offer_row_cmp (flat_map offers_of ds) ≡ true
+pub offers_rise : (ds : List Draw) → AreByNumber ds → rises offer_row_cmp (flat_map offer_rows_of ds) ≡ true
 offers_rise ds order =
     rows_rise (λ d. d.outcomes) offer_row outcome_cmp offer_row_cmp (λ n x y. tied n (outcome_cmp x y)) (λ n m x y h. less n m (outcome_cmp x y) h) ds order.rising
     (first_of_both ds (both_ordered ds order.each))
 
-pub lots_rise : (ds : List Draw) → AreInOrder ds → rises lot_row_cmp (flat_map lots_of ds) ≡ true
+pub lots_rise : (ds : List Draw) → AreByNumber ds → rises lot_row_cmp (flat_map lot_rows_of ds) ≡ true
 lots_rise ds order =
     rows_rise (λ d. d.lots) lot_row lot_cmp lot_row_cmp (λ n x y. tied n (lot_cmp x y)) (λ n m x y h. less n m (lot_cmp x y) h) ds order.rising
     (second_of_both ds (both_ordered ds order.each))
 
-pub in_order_by_rows : (ds : List Draw) → rises head_cmp (map row_of ds) ≡ true → rises offer_row_cmp (flat_map offers_of ds) ≡ true → rises lot_row_cmp (flat_map lots_of ds) ≡ true → AreInOrder ds
+pub in_order_by_rows : (ds : List Draw) → rises head_cmp (map row_of ds) ≡ true → rises offer_row_cmp (flat_map offer_rows_of ds) ≡ true → rises lot_row_cmp (flat_map lot_rows_of ds) ≡ true → AreByNumber ds
 in_order_by_rows ds heads offers lots = record {
   rising = rises_sorted nat_cmp (map (λ draw. draw.number) ds) (sym (heads_are ds) ∙ heads);
   each = All-from_recursion (λ draw. are_ordered draw ≡ true) ds (pair ds

@@ -26,17 +26,17 @@ offer_row number outcome = record { draw = number; outcome = outcome }
 abbrev pub lot_row : ℕ → Lot → LotRow
 lot_row number lot = record { draw = number; lot = lot }
 
-abbrev pub offers_of : Draw → List OfferRow
-offers_of d = map (offer_row d.number) d.outcomes
+abbrev pub offer_rows_of : Draw → List OfferRow
+offer_rows_of d = map (offer_row d.number) d.outcomes
 
-abbrev pub lots_of : Draw → List LotRow
-lots_of d = map (lot_row d.number) d.lots
+abbrev pub lot_rows_of : Draw → List LotRow
+lot_rows_of d = map (lot_row d.number) d.lots
 
 -- these are the rows of the draws, in any order
-pub record AreRowsOf (draw_rows : List DrawRow) (offer_rows : List OfferRow) (lot_rows : List LotRow) (draws : List Draw) : Type 0 where
+pub record AreDrawRowsOf (draw_rows : List DrawRow) (offer_rows : List OfferRow) (lot_rows : List LotRow) (draws : List Draw) : Type 0 where
   pub heads : IsPermutation draw_rows (map row_of draws)
-  pub offers : IsPermutation offer_rows (flat_map offers_of draws)
-  pub lots : IsPermutation lot_rows (flat_map lots_of draws)
+  pub offers : IsPermutation offer_rows (flat_map offer_rows_of draws)
+  pub lots : IsPermutation lot_rows (flat_map lot_rows_of draws)
 
 -- ---- their order
 
@@ -58,7 +58,7 @@ abbrev pub are_ordered : Draw → Bool
 are_ordered d = rises outcome_cmp d.outcomes && rises lot_cmp d.lots
 
 -- draws by their numbers, each number once, and each draw ordered
-pub record AreInOrder (draws : List Draw) : Type 0 where
+pub record AreByNumber (draws : List Draw) : Type 0 where
   pub rising : IsStrictlySortedBy nat_cmp (map (λ draw. draw.number) draws)
   pub each : All (λ draw. IsTrue (are_ordered draw)) draws
 
@@ -74,8 +74,8 @@ repeats_lot [] = false
 repeats_lot (lot ∷ lots) = list_any (is_same_lot lot) lots || repeats_lot lots
 
 -- who was moved has a school
-abbrev pub is_fresh_at_school : Outcome → Bool
-is_fresh_at_school outcome = is_some outcome.school || not outcome.fresh
+abbrev pub fresh_has_school : Outcome → Bool
+fresh_has_school outcome = is_some outcome.school || not outcome.fresh
 
 -- the school is this one
 abbrev pub is_allotted : List ℕ → Option (List ℕ) → Bool
@@ -83,16 +83,16 @@ is_allotted school None = false
 is_allotted school (Some allotted) = pointwise nat_eq allotted school
 
 -- the child was allotted this school, where it was not before
-abbrev pub is_filled : List ℕ → Outcome → Bool
-is_filled school outcome = outcome.fresh && is_allotted school outcome.school
+abbrev pub is_offered_at : List ℕ → Outcome → Bool
+is_offered_at school outcome = outcome.fresh && is_allotted school outcome.school
 
 -- a round, which is numbered from 1, has no school; a fill has one, and one outcome, at that school
 abbrev pub is_round_or_fill : ℕ → Option (List ℕ) → List Outcome → Bool
 is_round_or_fill round None outcomes = not (nat_eq round 0)
 is_round_or_fill round (Some school) [] = false
-is_round_or_fill round (Some school) (outcome ∷ []) = nat_eq round 0 && is_filled school outcome
+is_round_or_fill round (Some school) (outcome ∷ []) = nat_eq round 0 && is_offered_at school outcome
 is_round_or_fill round (Some school) (first ∷ second ∷ outcomes) = false
 
 -- in order, no lot twice at a school, and the draw of a round or of a fill
 abbrev pub is_draw : Draw → Bool
-is_draw d = are_ordered d && not (repeats_lot d.lots) && list_all is_fresh_at_school d.outcomes && is_round_or_fill d.round d.school d.outcomes
+is_draw d = are_ordered d && not (repeats_lot d.lots) && list_all fresh_has_school d.outcomes && is_round_or_fill d.round d.school d.outcomes

@@ -1,7 +1,7 @@
 // Whether a draw may stand in a register.
 ghost use Rattle.std.specs.Prelude.{◌≡◌, IfOk};
 ghost use Rattle.std.specs.List.{list_all};
-ghost use Rattle.adm_draws.specs.Draws.{is_draw, are_ordered, is_fresh_at_school, is_allotted, is_filled, is_round_or_fill};
+ghost use Rattle.adm_draws.specs.Draws.{is_draw, are_ordered, fresh_has_school, is_allotted, is_offered_at, is_round_or_fill};
 
 use crate::order::rises;
 use crate::repeats::has_repeated_lot;
@@ -33,7 +33,7 @@ fn are_ordered(draw: &Draw) -> bool
 
 /// Whether each outcome that is fresh has a school.
 fn all_fresh_at_school(outcomes: &[Outcome]) -> bool
-    ensures { result ≡ list_all is_fresh_at_school outcomes.now }
+    ensures { result ≡ list_all fresh_has_school outcomes.now }
 {
     outcomes
         .iter()
@@ -46,14 +46,14 @@ fn is_round_or_fill(round: u32, school: Option<SchoolCode>, outcomes: &[Outcome]
 {
     match (school, outcomes) {
         (None, _) => round != 0,
-        (Some(school), [outcome]) => round == 0 && is_filled(school, outcome),
+        (Some(school), [outcome]) => round == 0 && is_offered_at(school, outcome),
         (Some(_), _) => false,
     }
 }
 
 /// Whether the child was allotted this school, where it was not before.
-fn is_filled(school: SchoolCode, outcome: &Outcome) -> bool
-    ensures { result ≡ is_filled school outcome.now }
+fn is_offered_at(school: SchoolCode, outcome: &Outcome) -> bool
+    ensures { result ≡ is_offered_at school outcome.now }
 {
     outcome.fresh && is_allotted(school, outcome.school)
 }

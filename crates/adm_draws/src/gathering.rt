@@ -1,7 +1,7 @@
 // Draws gathered from the rows of the three tables.
 ghost use Rattle.std.specs.Prelude.{◌≡◌, ◌≤◌, [], length, List, map, Some, None, IfOk, IfSome, IfNone};
 ghost use Rattle.std.specs.List.{prefix_len};
-ghost use Rattle.adm_draws.specs.Draws.{AreRowsOf, AreInOrder};
+ghost use Rattle.adm_draws.specs.Draws.{AreDrawRowsOf, AreByNumber};
 ghost use Rattle.adm_draws.specs.Grouped.{is_offer_of, is_lot_of, front, later, draw_of, draws_after};
 
 use crate::order::in_order;
@@ -17,9 +17,9 @@ pub fn draws_of(
     offer_rows: Vec<OfferRow>,
     lot_rows: Vec<LotRow>,
 ) -> Result<Option<Vec<Draw>>, AllocError>
-    ensures made { IfOk result (λ made. IfSome made (λ draws. AreRowsOf draw_rows.items offer_rows.items lot_rows.items draws.items × AreInOrder draws.items)) }
-    ensures only { IfOk result (λ made. IfSome made (λ draws. (list : List Draw) → AreRowsOf draw_rows.items offer_rows.items lot_rows.items list → AreInOrder list → list ≡ draws.items)) }
-    ensures none { IfOk result (λ made. IfNone made ((list : List Draw) → AreRowsOf draw_rows.items offer_rows.items lot_rows.items list → AreInOrder list → ⊥)) }
+    ensures made { IfOk result (λ made. IfSome made (λ draws. AreDrawRowsOf draw_rows.items offer_rows.items lot_rows.items draws.items × AreByNumber draws.items)) }
+    ensures only { IfOk result (λ made. IfSome made (λ draws. (list : List Draw) → AreDrawRowsOf draw_rows.items offer_rows.items lot_rows.items list → AreByNumber list → list ≡ draws.items)) }
+    ensures none { IfOk result (λ made. IfNone made ((list : List Draw) → AreDrawRowsOf draw_rows.items offer_rows.items lot_rows.items list → AreByNumber list → ⊥)) }
 {
     let Some(heads) = in_order(draw_rows) else {
         return Ok(None);

@@ -1,7 +1,7 @@
 // The rows of draws, for the three tables.
 ghost use Rattle.std.specs.Prelude.{◌≡◌, ◌++◌, map, IfOk};
 ghost use Rattle.std.specs.List.{flat_map};
-ghost use Rattle.adm_draws.specs.Draws.{row_of, offer_row, offers_of, lot_row, lots_of};
+ghost use Rattle.adm_draws.specs.Draws.{row_of, offer_row, offer_rows_of, lot_row, lot_rows_of};
 
 use adm_table::Shared;
 use adm_types::{Draw, DrawRow, Lot, LotRow, OfferRow, Outcome};
@@ -18,7 +18,7 @@ pub fn draw_rows(alloc: Global, draws: &[Shared<Draw>]) -> Result<Vec<DrawRow>, 
 /// The outcomes of the draws, in the order of the draws. Memory and time grow with the outcomes
 /// and with the draws.
 pub fn offer_rows(alloc: Global, draws: &[Shared<Draw>]) -> Result<Vec<OfferRow>, AllocError>
-    ensures { IfOk result (λ rows. rows.items ≡ flat_map offers_of draws.now) }
+    ensures { IfOk result (λ rows. rows.items ≡ flat_map offer_rows_of draws.now) }
 {
     let mut rows = Vec::new(alloc);
     for draw in draws {
@@ -31,7 +31,7 @@ pub fn offer_rows(alloc: Global, draws: &[Shared<Draw>]) -> Result<Vec<OfferRow>
 /// The lots of the draws, in the order of the draws. Memory and time grow with the lots and with
 /// the draws.
 pub fn lot_rows(alloc: Global, draws: &[Shared<Draw>]) -> Result<Vec<LotRow>, AllocError>
-    ensures { IfOk result (λ rows. rows.items ≡ flat_map lots_of draws.now) }
+    ensures { IfOk result (λ rows. rows.items ≡ flat_map lot_rows_of draws.now) }
 {
     let mut rows = Vec::new(alloc);
     for draw in draws {

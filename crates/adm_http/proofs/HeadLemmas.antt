@@ -6,7 +6,7 @@ use Rattle.httparse.specs.Grammar.{RequestHead, print_request, ReadsRequest}
 use Rattle.httparse.specs.Spans.{IsRequestOf, IsRequestAt, header_bytes}
 use Rattle.httparse.specs.declared.spans.HeaderSpan.{HeaderSpan}
 use Rattle.httparse.specs.declared.spans.RequestSpans.{RequestSpans}
-use Rattle.adm_http.specs.Heads.{Decides, Pair, window, verdict_of}
+use Rattle.adm_http.specs.Heads.{Decides, HeadField, window, verdict_of}
 use Rattle.adm_http.specs.declared.heads.Verdict.{Verdict}
 
 -- the fields of a head fit the room that they were read in
@@ -31,7 +31,7 @@ whole_head input w headers r method target v w_is of room method_is target_is v_
       len_is = at.len;
       verdict_is = v_is ∙ ap (λ m. verdict_of m target (map (header_bytes w) (take r.headers headers))) (method_is ∙ at.method)
           ∙ ap (λ t. verdict_of h.method t (map (header_bytes w) (take r.headers headers))) (target_is ∙ at.path)
-          ∙ ap (λ (fields : List Pair). verdict_of h.method h.target fields) at.fields;
+          ∙ ap (λ (fields : List HeadField). verdict_of h.method h.target fields) at.fields;
     }
 
 pub inside_window : (input w : List ℕ) (len : ℕ) → w ≡ window input → len ≤ length w → (len ≤ length input) × (len ≤ 8192)

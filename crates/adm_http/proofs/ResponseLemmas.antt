@@ -4,7 +4,7 @@ use Rattle.std.specs.List.{slice_range}
 use Rattle.std.proofs.lemmas.Bool.Decides.{nat_tests}
 use Rattle.std.proofs.lemmas.Grind.{common_steps}
 use Rattle.adm_http.specs.Texts.{Response, response_bytes, bare}
-use Rattle.adm_http.specs.Responses.{of_answer, Carries, Answers, Responds}
+use Rattle.adm_http.specs.Responses.{of_answer, Carries, AnswersRequest, Responds}
 use Rattle.adm_http.specs.declared.heads.Verdict.TheVariants.{Run}
 use Rattle.adm_http.specs.declared.targets.Purpose.{Purpose}
 use Rattle.adm_http.specs.declared.targets.Resource.{Resource}
@@ -17,7 +17,7 @@ front_is xs n = grind (arith, common_steps)
 
 module _ {S : Type 0} (runs : Purpose → S → List ℕ → LineAnswer → S → Type 0) (shows : S → Resource → Shown → Type 0) where
   pub responded : (old new : S) (input : List ℕ) (response : Response) → false ≡ (length input == 0)
-      → Answers runs shows old input response new → Responds runs shows old input (response_bytes response) new
+      → AnswersRequest runs shows old input response new → Responds runs shows old input (response_bytes response) new
   responded old new [] response some a = absurd (cc some)
   responded old new (b ∷ input) response some a = (response, a, refl)
 

@@ -3,8 +3,8 @@ use Rattle.std.proofs.Common.{◌≡◌, ℕ, List, Option, Some, None, Result, 
 use Rattle.std.specs.Prelude.{MatchBool}
 use Rattle.std.specs.declared.string.String.{String}
 use Rattle.adm_register.specs.State.{State}
-use Rattle.adm_desk.specs.Standing.{Standing}
-use Rattle.adm_letters.specs.Answers.{Gives}
+use Rattle.adm_desk.specs.DeskState.{DeskState}
+use Rattle.adm_letters.specs.Answers.{GivesText}
 use Rattle.adm_letters.specs.declared.fault.LetterFault.{LetterFault}
 use Rattle.adm_letters.specs.declared.fault.LetterFault.TheVariants as letter
 use Rattle.adm_http.specs.Shows.{text_in, IsShown, IsShownAs, Shows}
@@ -14,7 +14,7 @@ use Rattle.adm_http.specs.declared.targets.Resource.{Resource}
 
 -- what was given is shown
 pub given_shown : {A : Type 0} (text : Option (List ℕ)) (fault : LetterFault) (given : Result (String A) LetterFault) (shown : Shown)
-    → (fault ≡ letter.Memory → ⊥) → Gives text fault given → IsShownAs given shown → IsShown text shown
+    → (fault ≡ letter.Memory → ⊥) → GivesText text fault given → IsShownAs given shown → IsShown text shown
 given_shown (Some text) fault (Ok given) (Text made) other gives is = ap Some (sym gives ∙ sym is)
 given_shown None fault (Ok given) (Text made) other gives is = absurd gives
 given_shown text fault (Ok given) Missing other gives is = absurd is
@@ -27,7 +27,7 @@ given_shown (Some text) fault (Err e) Memory other gives is = (text, refl)
 given_shown None fault (Err e) Memory other gives is = absurd (other (sym gives ∙ is))
 given_shown text fault (Err e) Failed other gives is = absurd is
 
-module _ {C : Type 0} (desk : Standing C) (resource : Resource) where
+module _ {C : Type 0} (desk : DeskState C) (resource : Resource) where
   -- of a desk that has not failed its register is shown
   pub shows_register : (register : State) (shown : Shown) → Some register ≡ cond desk.failed None (Some desk.register)
       → IsShown (text_in register resource) shown → Shows desk resource shown

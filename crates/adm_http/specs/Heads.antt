@@ -21,15 +21,15 @@ abbrev pub window : List ℕ → List ℕ
 window input = take 8192 input
 
 -- a field's name, and its value without the white space around it
-abbrev pub Pair : Type 0
-Pair = List ℕ × List ℕ
+abbrev pub HeadField : Type 0
+HeadField = List ℕ × List ℕ
 
 -- the field has this name, without regard to ASCII case
-abbrev pub is_named : List ℕ → Pair → Bool
+abbrev pub is_named : List ℕ → HeadField → Bool
 is_named name field = bytes_eq (map to_ascii_lowercase field.0) (map to_ascii_lowercase name)
 
 -- the values of the fields of this name
-abbrev pub values_of : List ℕ → List Pair → List (List ℕ)
+abbrev pub values_of : List ℕ → List HeadField → List (List ℕ)
 values_of name fields = map (λ field. field.1) (filter (is_named name) fields)
 
 -- there are this many values, and this is the last of them
@@ -59,24 +59,24 @@ by_codings purpose [] lengths = by_lengths purpose lengths
 by_codings purpose (coding ∷ more) lengths = Reject 501
 
 -- by the fields of a request with a body
-abbrev pub body_verdict : Purpose → List Pair → Verdict
+abbrev pub body_verdict : Purpose → List HeadField → Verdict
 body_verdict purpose fields =
     by_codings purpose (values_of (codes "Transfer-Encoding") fields) (values_of (codes "Content-Length") fields)
 
 -- by what the target names, and the method that its route is for
-abbrev pub on_target : Verb → Option Target → List Pair → Verdict
+abbrev pub on_target : Verb → Option Target → List HeadField → Verdict
 on_target verb None fields = Reject 404
 on_target Get (Some (Body purpose)) fields = NotAllowed Post
 on_target Post (Some (Body purpose)) fields = body_verdict purpose fields
 on_target Get (Some (Text resource)) fields = Show resource
 on_target Post (Some (Text resource)) fields = NotAllowed Get
 
-abbrev pub on_verb : Option Verb → Option Target → List Pair → Verdict
+abbrev pub on_verb : Option Verb → Option Target → List HeadField → Verdict
 on_verb None target fields = Reject 501
 on_verb (Some verb) target fields = on_target verb target fields
 
 -- what a method, a target and fields decide: a refusal, a text to show, or a body of this length
-abbrev pub verdict_of : List ℕ → List ℕ → List Pair → Verdict
+abbrev pub verdict_of : List ℕ → List ℕ → List HeadField → Verdict
 verdict_of method target fields = on_verb (verb_of method) (target_of target) fields
 
 abbrev pub head_verdict : RequestHead → Verdict

@@ -3,12 +3,12 @@ use Rattle.std.specs.Prelude.{ℕ, List}
 use Rattle.sqlite.specs.State.{State as Disk}
 use Rattle.adm_desk.specs.Lines.{AnswersLine}
 use Rattle.adm_desk.specs.Questions.{TellsLine}
-use Rattle.adm_desk.specs.Standing.{Handles, Standing}
+use Rattle.adm_desk.specs.DeskState.{Handles, DeskState}
 use Rattle.adm_desk.specs.declared.answer.LineAnswer.{LineAnswer}
 use Rattle.adm_http.specs.declared.targets.Purpose.{Purpose}
 use Rattle.adm_http.specs.declared.targets.Purpose.TheVariants.{Command, Question}
 
 -- a command is handled, and a question is told and changes nothing
-abbrev pub RunsBody : {C : Type 0} → (C → Disk) → Purpose → Standing C → List ℕ → LineAnswer → Standing C → Type 0
+abbrev pub RunsBody : {C : Type 0} → (C → Disk) → Purpose → DeskState C → List ℕ → LineAnswer → DeskState C → Type 0
 RunsBody disk Command = AnswersLine (Handles disk)
 RunsBody disk Question = TellsLine

@@ -56,12 +56,12 @@ module _ {S : Type 0} (runs : Purpose → S → List ℕ → LineAnswer → S �
   OnJudgement old input Unfinished response new = Carries old input (verdict_at_end input Unfinished) response new
 
   -- the request that the bytes are may be answered by this response, and leave that desk
-  abbrev pub Answers : S → List ℕ → Response → S → Type 0
-  Answers old input response new =
+  abbrev pub AnswersRequest : S → List ℕ → Response → S → Type 0
+  AnswersRequest old input response new =
       (judgement : Judgement) × IsJudgement input judgement × OnJudgement old input judgement response new
 
   -- the bytes of the response; no bytes get none
   abbrev pub Responds : S → List ℕ → List ℕ → S → Type 0
   Responds old [] output new = (output ≡ []) × (new ≡ old)
   Responds old (b ∷ input) output new =
-      (response : Response) × Answers old (b ∷ input) response new × (output ≡ response_bytes response)
+      (response : Response) × AnswersRequest old (b ∷ input) response new × (output ≡ response_bytes response)

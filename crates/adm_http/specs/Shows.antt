@@ -2,10 +2,10 @@
 use Rattle.std.specs.Prelude.{◌≡◌, ℕ, List, Option, Some, None, Result, Ok, Err, MatchBool, string_bytes}
 use Rattle.std.specs.declared.string.String.{String}
 use Rattle.adm_register.specs.State.{State}
-use Rattle.adm_desk.specs.Standing.{Standing}
+use Rattle.adm_desk.specs.DeskState.{DeskState}
 use Rattle.adm_letters.specs.Letters.{letter_text}
 use Rattle.adm_letters.specs.Lists.{list_text}
-use Rattle.adm_letters.specs.Reports.{round_text}
+use Rattle.adm_letters.specs.Reports.{report_text}
 use Rattle.adm_letters.specs.declared.fault.LetterFault.{LetterFault}
 use Rattle.adm_letters.specs.declared.fault.LetterFault.TheVariants as letter
 use Rattle.adm_http.specs.States.{child_text}
@@ -19,7 +19,7 @@ abbrev pub text_in : State → Resource → Option (List ℕ)
 text_in s (ChildState child) = child_text s child
 text_in s (ChildLetter child) = letter_text s child
 text_in s (WaitingList school) = list_text s school
-text_in s (RoundReport round) = round_text s round
+text_in s (RoundReport round) = report_text s round
 
 -- the text, if there is one, or that there is none; for a text memory may run out
 abbrev pub IsShown : Option (List ℕ) → Shown → Type 0
@@ -29,7 +29,7 @@ IsShown text Memory = (some : List ℕ) × (text ≡ Some some)
 IsShown text (Text given) = text ≡ Some (string_bytes given)
 
 -- Of a desk that has failed nothing is shown, and else what its register has.
-abbrev pub Shows : {C : Type 0} → Standing C → Resource → Shown → Type 0
+abbrev pub Shows : {C : Type 0} → DeskState C → Resource → Shown → Type 0
 Shows desk resource shown = MatchBool desk.failed (shown ≡ Failed) (IsShown (text_in desk.register resource) shown)
 
 -- ---- for a private clause

@@ -25,23 +25,23 @@ place_json None = codes "null"
 place_json (Some place) = held_json (kind_of place.state) place.school
 
 -- where a child waits: the school, and its position there
-pub record Wait : Type 0 where
+pub record QueuePosition : Type 0 where
   pub school : List ℕ
   pub position : ℕ
 
-abbrev pub wait_json : Wait → List ℕ
+abbrev pub wait_json : QueuePosition → List ℕ
 wait_json wait = codes "{\"position\":" ++ (decimal wait.position ++ (codes ",\"school\":\"" ++ (wait.school ++ codes "\"}")))
 
 -- at the school, if the child waits there
-abbrev pub wait_at : State → ℕ → List ℕ → Option Wait
-wait_at s child code = option_map (λ standing. record { school = code; position = standing.entry.position }) (standing_of s child code)
+abbrev pub queue_position_at : State → ℕ → List ℕ → Option QueuePosition
+queue_position_at s child code = option_map (λ standing. record { school = code; position = standing.entry.position }) (standing_of s child code)
 
 -- where the child waits, in the order of its own list
-abbrev pub waits_of : State → ℕ → List Wait
-waits_of s child = filter_map (wait_at s child) (wanted s child)
+abbrev pub queue_positions_of : State → ℕ → List QueuePosition
+queue_positions_of s child = filter_map (queue_position_at s child) (wanted s child)
 
 -- with a comma between each two
-abbrev pub waits_json : List Wait → List ℕ
+abbrev pub waits_json : List QueuePosition → List ℕ
 waits_json waits = join_by wait_json (codes ",") waits
 
 -- a child's number, its place, and where it waits
@@ -49,7 +49,7 @@ abbrev pub state_json : ℕ → List ℕ → List ℕ → List ℕ
 state_json child place waits = codes "{\"child\":" ++ (decimal child ++ (codes ",\"place\":" ++ (place ++ (codes ",\"waiting\":[" ++ (waits ++ codes "]}")))))
 
 abbrev pub child_json : State → ℕ → List ℕ
-child_json s child = state_json child (place_json (place_of s child)) (waits_json (waits_of s child))
+child_json s child = state_json child (place_json (place_of s child)) (waits_json (queue_positions_of s child))
 
 -- the state of the child of a number, if there is such a child
 abbrev pub child_text : State → ℕ → Option (List ℕ)

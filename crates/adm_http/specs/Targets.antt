@@ -1,8 +1,7 @@
 -- The targets of the six routes, and what each names.
 use Rattle.std.specs.Prelude.{ℕ, ◌==◌, ◌&&◌, List, [], ◌∷◌, length, nat_lt, if◌then◌else◌, Option, Some, None, option_map, option_and_then, codes, bytes_eq}
-use Rattle.adm_types.specs.Numbers.{child_of}
 use Rattle.adm_types.specs.Code.{code_of}
-use Rattle.adm_types.specs.Fields.{plain_of}
+use Rattle.adm_types.specs.Fields.{plain_of, child_named}
 use Rattle.adm_http.specs.declared.targets.Route.{Route}
 use Rattle.adm_http.specs.declared.targets.Route.TheVariants.{Command, Child, Letter, Waiting, Round, WhatIf}
 use Rattle.adm_http.specs.declared.targets.Target.{Target}
@@ -57,16 +56,12 @@ route_of target =
     (or_found (option_and_then (with_part Waiting (codes "/waiting")) (after (codes "/school/") target))
     (option_and_then (at_end WhatIf) (after (codes "/what-if") target)))))
 
--- a plain number from 1 to 9,999,999
-abbrev pub child_number_of : List ℕ → Option ℕ
-child_number_of text = option_and_then child_of (plain_of text)
-
 -- what the part of a route names, where it has the form that the route asks for
 abbrev pub named_by : Route × List ℕ → Option Target
 named_by (Command, part) = Some (Body purpose.Command)
 named_by (WhatIf, part) = Some (Body purpose.Question)
-named_by (Child, part) = option_map (λ n. Text (ChildState n)) (child_number_of part)
-named_by (Letter, part) = option_map (λ n. Text (ChildLetter n)) (child_number_of part)
+named_by (Child, part) = option_map (λ n. Text (ChildState n)) (child_named part)
+named_by (Letter, part) = option_map (λ n. Text (ChildLetter n)) (child_named part)
 named_by (Waiting, part) = option_map (λ code. Text (WaitingList code)) (code_of part)
 named_by (Round, part) = option_map (λ n. Text (RoundReport n)) (plain_of part)
 

@@ -1,7 +1,7 @@
 // Requests answered and served over a desk.
 ghost use Rattle.std.specs.Prelude.{◌≡◌, ◌||◌, IfOk, ℕ, List};
 ghost use Rattle.sqlite.specs.Held.{Held, state};
-ghost use Rattle.adm_desk.specs.Standing.{Standing};
+ghost use Rattle.adm_desk.specs.DeskState.{DeskState};
 ghost use Rattle.adm_http.specs.Purposes.{RunsBody};
 ghost use Rattle.adm_http.specs.Responses.{Responds};
 ghost use Rattle.adm_http.specs.Reading.{Served, is_read_fault, is_write_fault};
@@ -57,7 +57,7 @@ pub fn serve_one<S: Alter, R: Input, W: Output>(
 }
 
 impl<S: Alter> Answering for Desk<S> {
-    ghost View = { Standing (Held S) };
+    ghost View = { DeskState (Held S) };
 
     ghost view = { λ desk. desk };
 

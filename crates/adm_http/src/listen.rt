@@ -1,7 +1,7 @@
 // The loop over connections.
 ghost use Rattle.std.specs.Prelude.{◌≡◌, if◌then◌else◌};
 ghost use Rattle.sqlite.specs.Held.{state};
-ghost use Rattle.adm_desk.specs.Standing.{Handles};
+ghost use Rattle.adm_desk.specs.DeskState.{Handles};
 ghost use Rattle.adm_http.specs.Purposes.{RunsBody};
 ghost use Rattle.adm_http.specs.Connections.{AnswersOne, AnswersUpTo, fault_line};
 ghost use Rattle.adm_http.specs.Shows.{Shows};

@@ -4,7 +4,7 @@ ghost use Rattle.adm_http.specs.Shows.{text_in, IsShown, IsShownAs};
 use crate::answering::Shown;
 use crate::states::child_text;
 use crate::targets::Resource;
-use adm_letters::{LetterFault, letter, list_text, round_text};
+use adm_letters::{LetterFault, letter, list_text, report_text};
 use adm_register::Register;
 use std::alloc::Global;
 
@@ -16,7 +16,7 @@ pub(crate) fn show(alloc: Global, register: &Register, resource: &Resource) -> S
         Resource::ChildState(child) => shown(child_text(alloc, register, *child)),
         Resource::ChildLetter(child) => shown(letter(alloc, register, *child)),
         Resource::WaitingList(school) => shown(list_text(alloc, register, *school)),
-        Resource::RoundReport(round) => shown(round_text(alloc, register, *round)),
+        Resource::RoundReport(round) => shown(report_text(alloc, register, *round)),
     }
 }
 

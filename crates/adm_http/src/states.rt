@@ -1,9 +1,9 @@
 // The state of a child: its place, and where it waits, as JSON.
 ghost use Rattle.std.specs.Prelude.{◌≡◌, IfOk, map, string_bytes};
 ghost use Rattle.std.specs.List.{filter_map};
-ghost use Rattle.adm_letters.specs.Answers.{Gives};
+ghost use Rattle.adm_letters.specs.Answers.{GivesText};
 ghost use Rattle.adm_letters.specs.declared.fault.LetterFault.TheVariants.{UnknownChild};
-ghost use Rattle.adm_http.specs.States.{kind_of, held_json, place_json, Wait, wait_json, wait_at, waits_of, waits_json, state_json, child_json, child_text};
+ghost use Rattle.adm_http.specs.States.{kind_of, held_json, place_json, QueuePosition, wait_json, queue_position_at, queue_positions_of, waits_json, state_json, child_json, child_text};
 
 use adm_letters::LetterFault;
 use adm_register::Register;
@@ -19,7 +19,7 @@ pub(crate) fn child_text(
     register: &Register,
     child: ChildNo,
 ) -> Result<String, LetterFault>
-    ensures { Gives (child_text register.now child) UnknownChild result }
+    ensures { GivesText (child_text register.now child) UnknownChild result }
 {
     match register.child(child) {
         Some(_) => Ok(known_child_text(alloc, register, child)?),
@@ -73,7 +73,7 @@ fn kind(state: PlaceState) -> &'static str
 }
 
 fn waits_text(alloc: Global, register: &Register, child: ChildNo) -> Result<String, AllocError>
-    ensures { IfOk result (λ text. string_bytes text ≡ waits_json (waits_of register.now child)) }
+    ensures { IfOk result (λ text. string_bytes text ≡ waits_json (queue_positions_of register.now child)) }
 {
     let schools = register.wanted(alloc, child)?;
     let waits = waits_at(alloc, register, child, &schools)?;
@@ -87,7 +87,7 @@ fn waits_at(
     child: ChildNo,
     schools: &[SchoolCode],
 ) -> Result<Vec<String>, AllocError>
-    ensures { IfOk result (λ texts. map string_bytes texts.items ≡ map wait_json (filter_map (wait_at register.now child) schools.now)) }
+    ensures { IfOk result (λ texts. map string_bytes texts.items ≡ map wait_json (filter_map (queue_position_at register.now child) schools.now)) }
 {
     let mut waits = Vec::new(alloc);
     for school in schools {

@@ -1,6 +1,7 @@
 // What a target names: what a body is read as, or a text of the register.
 ghost use Rattle.std.specs.Prelude.{◌≡◌};
-ghost use Rattle.adm_http.specs.Targets.{child_number_of, named_by};
+ghost use Rattle.adm_types.specs.Fields.{child_named};
+ghost use Rattle.adm_http.specs.Targets.{named_by};
 
 use adm_types::{ChildNo, SchoolCode, plain};
 
@@ -60,7 +61,7 @@ pub(crate) fn named(route: Route, part: &str) -> Option<Target>
 
 // The number of a child that the text writes as a plain number.
 fn child_number(text: &str) -> Option<ChildNo>
-    ensures { result ≡ child_number_of text.now }
+    ensures { result ≡ child_named text.now }
 {
     ChildNo::new(plain(text)?)
 }

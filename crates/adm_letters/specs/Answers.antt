@@ -7,11 +7,11 @@ use Rattle.adm_register.specs.declared.list_fault.ListFault.{ListFault}
 use Rattle.adm_register.specs.declared.list_fault.ListFault.TheVariants.{UnknownSchool, Memory}
 
 -- the text, if there is one, or else this fault; for a text memory may run out
-abbrev pub Gives : {A : Type 0} → Option (List ℕ) → LetterFault → Result (String A) LetterFault → Type 0
-Gives (Some text) fault (Ok given) = string_bytes given ≡ text
-Gives (Some text) fault (Err e) = e ≡ letter.Memory
-Gives None fault (Ok given) = ⊥
-Gives None fault (Err e) = e ≡ fault
+abbrev pub GivesText : {A : Type 0} → Option (List ℕ) → LetterFault → Result (String A) LetterFault → Type 0
+GivesText (Some text) fault (Ok given) = string_bytes given ≡ text
+GivesText (Some text) fault (Err e) = e ≡ letter.Memory
+GivesText None fault (Ok given) = ⊥
+GivesText None fault (Err e) = e ≡ fault
 
 -- why there is no text, where there is no waiting list
 abbrev pub fault_of : ListFault → LetterFault

@@ -10,7 +10,7 @@ use Rattle.adm_register.specs.State.{State}
 use Rattle.adm_register.specs.Rows.{place_of}
 use Rattle.adm_letters.specs.Days.{day_text}
 use Rattle.adm_letters.specs.LetterLines.{head_line, child_line, phase_text, no_place, offered_line, reminded_line, accepted_line, plan_line, withdrawal_line, waiting_line, waits_nowhere}
-use Rattle.adm_letters.specs.Lines.{text_of}
+use Rattle.adm_letters.specs.Lines.{lines_text}
 use Rattle.adm_letters.specs.Waits.{waits_of}
 use Rattle.adm_letters.specs.declared.waits.Wait.{Wait}
 
@@ -30,17 +30,17 @@ abbrev pub name_in : Option School → List ℕ
 name_in None = []
 name_in (Some school) = school.name
 
-abbrev pub name_of : State → List ℕ → List ℕ
-name_of s code = name_in (get s.schools code)
+abbrev pub school_name : State → List ℕ → List ℕ
+school_name s code = name_in (get s.schools code)
 
 -- the place of the child, or that it has none
 abbrev pub lines_of_place : State → Option Place → List (List ℕ)
 lines_of_place s None = no_place ∷ []
-lines_of_place s (Some place) = place_lines place.school (name_of s place.school) place.state
+lines_of_place s (Some place) = place_lines place.school (school_name s place.school) place.state
 
 -- where the child waits, or that it waits nowhere
 abbrev pub wait_line : State → Wait → List ℕ
-wait_line s wait = waiting_line wait.school (name_of s wait.school) wait.standing.entry wait.standing.many
+wait_line s wait = waiting_line wait.school (school_name s wait.school) wait.standing.entry wait.standing.many
 
 abbrev pub lines_of_waits : State → List Wait → List (List ℕ)
 lines_of_waits s [] = waits_nowhere ∷ []
@@ -53,4 +53,4 @@ letter_lines s child =
 
 -- the letter to the child of a number, if there is such a child
 abbrev pub letter_text : State → ℕ → Option (List ℕ)
-letter_text s number = option_map (λ child. text_of (letter_lines s child)) (get s.children number)
+letter_text s number = option_map (λ child. lines_text (letter_lines s child)) (get s.children number)

@@ -6,7 +6,7 @@ use Rattle.adm_waiting.specs.declared.lists.Waiting.{Waiting}
 use Rattle.adm_register.specs.State.{State}
 use Rattle.adm_register.specs.Rows.{places_at}
 use Rattle.adm_register.specs.Waits.{list_of}
-use Rattle.adm_letters.specs.Lines.{right, text_of}
+use Rattle.adm_letters.specs.Lines.{right, lines_text}
 
 -- the school
 unfoldable pub list_head : List ℕ → List ℕ → List ℕ
@@ -30,4 +30,4 @@ list_lines school waiting vacancies = list_head school.code school.name ∷ colu
 
 -- the waiting list of the school of a code, if there is such a school
 abbrev pub list_text : State → List ℕ → Option (List ℕ)
-list_text s code = option_map (λ school. text_of (list_lines school (list_of s school) (school.pan - places_at s code))) (get s.schools code)
+list_text s code = option_map (λ school. lines_text (list_lines school (list_of s school) (school.pan - places_at s code))) (get s.schools code)

@@ -5,7 +5,7 @@ use Rattle.adm_round.specs.declared.applicants.Pair.{Pair}
 use Rattle.adm_register.specs.State.{State}
 use Rattle.adm_commands.specs.Round.{round_pairs}
 use Rattle.adm_commands.specs.Fill.{fill_pairs}
-use Rattle.adm_letters.specs.Lines.{text_of}
+use Rattle.adm_letters.specs.Lines.{lines_text}
 
 -- the code of a school, a blank, and the number of a child
 unfoldable pub pair_line : List ℕ → ℕ → List ℕ
@@ -21,4 +21,4 @@ pairs_drawn s (Some code) = option_map (λ _. fill_pairs s code) (get s.schools 
 
 -- a line for each pair, and nothing else
 abbrev pub pairs_text : State → Option (List ℕ) → Option (List ℕ)
-pairs_text s school = option_map (λ pairs. text_of (map pair_text pairs)) (pairs_drawn s school)
+pairs_text s school = option_map (λ pairs. lines_text (map pair_text pairs)) (pairs_drawn s school)

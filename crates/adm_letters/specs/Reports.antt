@@ -5,7 +5,7 @@ use Rattle.adm_types.specs.declared.draws.Outcome.{Outcome}
 use Rattle.adm_round.specs.Outcomes.{is_kept}
 use Rattle.adm_register.specs.State.{State}
 use Rattle.adm_register.specs.Rows.{round_of}
-use Rattle.adm_letters.specs.Lines.{right, text_of}
+use Rattle.adm_letters.specs.Lines.{right, lines_text}
 use Rattle.adm_letters.specs.Days.{day_text}
 
 -- the numbers of the round and of its draw, and its day
@@ -36,5 +36,5 @@ unfoldable pub report_lines : Draw → List (List ℕ)
 report_lines draw = report_head draw.round draw.number (day_text draw.day) ∷ (map outcome_text draw.outcomes ++ counted draw.outcomes ∷ [])
 
 -- the report of the round of a number, if there was one
-abbrev pub round_text : State → ℕ → Option (List ℕ)
-round_text s number = option_map (λ draw. text_of (report_lines draw)) (round_of s number)
+abbrev pub report_text : State → ℕ → Option (List ℕ)
+report_text s number = option_map (λ draw. lines_text (report_lines draw)) (round_of s number)

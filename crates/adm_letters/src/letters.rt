@@ -1,12 +1,12 @@
 // The letter to a child.
 ghost use Rattle.std.specs.Prelude.{◌≡◌, IfOk, [], ◌∷◌, map, string_bytes};
 ghost use Rattle.adm_register.specs.Rows.{place_of};
-ghost use Rattle.adm_letters.specs.Answers.{Gives};
+ghost use Rattle.adm_letters.specs.Answers.{GivesText};
 ghost use Rattle.adm_letters.specs.declared.fault.LetterFault.TheVariants.{UnknownChild};
-ghost use Rattle.adm_letters.specs.Lines.{AddsLines, text_of};
+ghost use Rattle.adm_letters.specs.Lines.{AddsLines, lines_text};
 ghost use Rattle.adm_letters.specs.Days.{day_text};
 ghost use Rattle.adm_letters.specs.LetterLines.{head_line, child_line, phase_text, reminded_line, withdrawal_line};
-ghost use Rattle.adm_letters.specs.Letters.{offer_lines, place_lines, name_of, lines_of_place, wait_line, lines_of_waits, letter_lines, letter_text};
+ghost use Rattle.adm_letters.specs.Letters.{offer_lines, place_lines, school_name, lines_of_place, wait_line, lines_of_waits, letter_lines, letter_text};
 
 use crate::LetterFault;
 use crate::days::day_text;
@@ -26,7 +26,7 @@ use std::alloc::{AllocError, Global};
 ///
 /// Where it is an error, there is no such child (`UnknownChild`), or memory ran out.
 pub fn letter(alloc: Global, register: &Register, child: ChildNo) -> Result<String, LetterFault>
-    ensures { Gives (letter_text register.now child) UnknownChild result }
+    ensures { GivesText (letter_text register.now child) UnknownChild result }
 {
     match register.child(child) {
         Some(found) => Ok(letter_to(alloc, register, found)?),
@@ -35,7 +35,7 @@ pub fn letter(alloc: Global, register: &Register, child: ChildNo) -> Result<Stri
 }
 
 fn letter_to(alloc: Global, register: &Register, child: &Child) -> Result<String, AllocError>
-    ensures { IfOk result (λ text. string_bytes text ≡ text_of (letter_lines register.now child.now)) }
+    ensures { IfOk result (λ text. string_bytes text ≡ lines_text (letter_lines register.now child.now)) }
 {
     let waits = waits_of(alloc, register, child.no)?;
     let mut text = String::new(alloc);
@@ -99,8 +99,8 @@ fn put_place(text: &mut String, code: &str, name: &str, state: PlaceState) -> Re
 }
 
 /// The name of the school, which is there wherever a child has a place or wants one.
-fn name_of(register: &Register, school: SchoolCode) -> &str
-    ensures { result.now ≡ name_of register.now school }
+fn school_name(register: &Register, school: SchoolCode) -> &str
+    ensures { result.now ≡ school_name register.now school }
 {
     match register.school(school) {
         Some(found) => found.name.as_str(),
@@ -116,7 +116,7 @@ fn put_place_of(text: &mut String, register: &Register, child: ChildNo) -> Resul
         Some(place) => put_place(
             text,
             place.school.as_str(),
-            name_of(register, place.school),
+            school_name(register, place.school),
             place.state,
         ),
     }
@@ -147,7 +147,7 @@ fn put_wait(text: &mut String, register: &Register, wait: &Wait) -> Result<(), A
     waiting_line(
         text,
         school.as_str(),
-        name_of(register, school),
+        school_name(register, school),
         wait.standing.entry,
         wait.standing.many,
     )

@@ -16,4 +16,4 @@ pub use fault::LetterFault;
 pub use letters::letter;
 pub use lists::list_text;
 pub use pairs::pairs_text;
-pub use reports::round_text;
+pub use reports::report_text;

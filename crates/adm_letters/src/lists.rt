@@ -1,8 +1,8 @@
 // The waiting list of a school.
 ghost use Rattle.std.specs.Prelude.{◌≡◌, IfOk, [], ◌∷◌, map, string_bytes};
-ghost use Rattle.adm_letters.specs.Answers.{Gives};
+ghost use Rattle.adm_letters.specs.Answers.{GivesText};
 ghost use Rattle.adm_letters.specs.declared.fault.LetterFault.TheVariants.{UnknownSchool};
-ghost use Rattle.adm_letters.specs.Lines.{AddsLines, text_of};
+ghost use Rattle.adm_letters.specs.Lines.{AddsLines, lines_text};
 ghost use Rattle.adm_letters.specs.Lists.{list_head, columns, list_row, list_foot, list_lines, list_text};
 
 use crate::LetterFault;
@@ -22,7 +22,7 @@ pub fn list_text(
     register: &Register,
     school: SchoolCode,
 ) -> Result<String, LetterFault>
-    ensures { Gives (list_text register.now school) UnknownSchool result }
+    ensures { GivesText (list_text register.now school) UnknownSchool result }
 {
     let waiting = register.waiting(alloc, school)?;
     let vacancies = register.vacancies(school).unwrap_or(0);
@@ -39,7 +39,7 @@ fn list(
     waiting: &[Waiting],
     vacancies: u32,
 ) -> Result<String, AllocError>
-    ensures { IfOk result (λ text. string_bytes text ≡ text_of (list_lines school.now waiting.now vacancies)) }
+    ensures { IfOk result (λ text. string_bytes text ≡ lines_text (list_lines school.now waiting.now vacancies)) }
 {
     let mut text = String::new(alloc);
     put_head(&mut text, school)?;

@@ -2,9 +2,9 @@
 ghost use Rattle.std.specs.Prelude.{◌≡◌, IfOk, [], ◌∷◌, map, string_bytes};
 ghost use Rattle.adm_commands.specs.Round.{round_pairs};
 ghost use Rattle.adm_commands.specs.Fill.{fill_pairs};
-ghost use Rattle.adm_letters.specs.Answers.{Gives};
+ghost use Rattle.adm_letters.specs.Answers.{GivesText};
 ghost use Rattle.adm_letters.specs.declared.fault.LetterFault.TheVariants.{UnknownSchool};
-ghost use Rattle.adm_letters.specs.Lines.{AddsLines, text_of};
+ghost use Rattle.adm_letters.specs.Lines.{AddsLines, lines_text};
 ghost use Rattle.adm_letters.specs.Pairs.{pair_line, pair_text, pairs_text};
 
 use crate::LetterFault;
@@ -31,7 +31,7 @@ pub fn pairs_text(
     register: &Register,
     school: Option<SchoolCode>,
 ) -> Result<String, LetterFault>
-    ensures { Gives (pairs_text register.now school) UnknownSchool result }
+    ensures { GivesText (pairs_text register.now school) UnknownSchool result }
 {
     match school {
         None => Ok(of_round(alloc, register)?),
@@ -44,7 +44,7 @@ pub fn pairs_text(
 
 /// For whom lots are drawn in the next round.
 fn of_round(alloc: Global, register: &Register) -> Result<String, AllocError>
-    ensures { IfOk result (λ text. string_bytes text ≡ text_of (map pair_text (round_pairs register.now))) }
+    ensures { IfOk result (λ text. string_bytes text ≡ lines_text (map pair_text (round_pairs register.now))) }
 {
     let pairs = round_pairs(register, alloc)?;
     list(alloc, &pairs)
@@ -52,14 +52,14 @@ fn of_round(alloc: Global, register: &Register) -> Result<String, AllocError>
 
 /// For whom lots are drawn in a fill at the school.
 fn of_fill(alloc: Global, register: &Register, school: SchoolCode) -> Result<String, AllocError>
-    ensures { IfOk result (λ text. string_bytes text ≡ text_of (map pair_text (fill_pairs register.now school))) }
+    ensures { IfOk result (λ text. string_bytes text ≡ lines_text (map pair_text (fill_pairs register.now school))) }
 {
     let pairs = fill_pairs(register, alloc, school)?;
     list(alloc, &pairs)
 }
 
 fn list(alloc: Global, pairs: &[Pair]) -> Result<String, AllocError>
-    ensures { IfOk result (λ text. string_bytes text ≡ text_of (map pair_text pairs.now)) }
+    ensures { IfOk result (λ text. string_bytes text ≡ lines_text (map pair_text pairs.now)) }
 {
     let mut text = String::new(alloc);
     put_pairs(&mut text, pairs)?;

@@ -1,10 +1,10 @@
 // The report of a round.
 ghost use Rattle.std.specs.Prelude.{◌≡◌, IfOk, [], ◌∷◌, map, string_bytes};
-ghost use Rattle.adm_letters.specs.Answers.{Gives};
+ghost use Rattle.adm_letters.specs.Answers.{GivesText};
 ghost use Rattle.adm_letters.specs.declared.fault.LetterFault.TheVariants.{NoRound};
-ghost use Rattle.adm_letters.specs.Lines.{AddsLines, text_of};
+ghost use Rattle.adm_letters.specs.Lines.{AddsLines, lines_text};
 ghost use Rattle.adm_letters.specs.Days.{day_text};
-ghost use Rattle.adm_letters.specs.Reports.{report_head, outcome_line, outcome_text, report_foot, counted, report_lines, round_text};
+ghost use Rattle.adm_letters.specs.Reports.{report_head, outcome_line, outcome_text, report_foot, counted, report_lines, report_text};
 
 use crate::LetterFault;
 use crate::days::day_text;
@@ -19,8 +19,8 @@ use std::fmt::Write;
 /// takes memory for the text; what it costs grows with the draws and with the round's children.
 ///
 /// Where it is an error, there was no such round (`NoRound`), or memory ran out.
-pub fn round_text(alloc: Global, register: &Register, number: u32) -> Result<String, LetterFault>
-    ensures { Gives (round_text register.now number) NoRound result }
+pub fn report_text(alloc: Global, register: &Register, number: u32) -> Result<String, LetterFault>
+    ensures { GivesText (report_text register.now number) NoRound result }
 {
     match register.round(number) {
         Some(draw) => Ok(report(alloc, draw)?),
@@ -30,7 +30,7 @@ pub fn round_text(alloc: Global, register: &Register, number: u32) -> Result<Str
 
 /// The report of the round of this draw.
 fn report(alloc: Global, draw: &Draw) -> Result<String, AllocError>
-    ensures { IfOk result (λ text. string_bytes text ≡ text_of (report_lines draw.now)) }
+    ensures { IfOk result (λ text. string_bytes text ≡ lines_text (report_lines draw.now)) }
 {
     let mut text = String::new(alloc);
     put_head(&mut text, draw)?;

@@ -7,7 +7,7 @@ use Rattle.std.proofs.lemmas.Option.{slice_get_within}
 use Rattle.adm_match.specs.declared.progress.Progress.{Progress}
 use Rattle.adm_match.specs.Market.{Code, Candidate, Market, has, preference_rank, assigned_rank, is_tenant, ranks_before, quota_of}
 use Rattle.adm_match.specs.Stability.{Allocation, count_at, is_guest, blocks, IsBest}
-use Rattle.adm_match.specs.Turns.{held_at, WellListed, Shaped, IsGuestAt, IsRejected, Sound, AllDone, Gives}
+use Rattle.adm_match.specs.Turns.{held_at, WellListed, Shaped, IsGuestAt, IsRejected, Sound, AllDone, AllotsWhatIsHeld}
 use Rattle.adm_match.proofs.Side.{count_beside, element_at}
 use Rattle.adm_match.proofs.Words.{All_at, list_any_gives, wish_at_rank, ranks_before_asym, guest_gives}
 
@@ -24,7 +24,7 @@ listed m rows well h k e r ek rk = elim (h.holds k e r ek rk) [
   | inr some ↦ subst (λ (o : Option Code). IfSome o (λ s. preference_rank e.list s < length e.list)) (sym some.2) (omega (arith, well.own_rank k e r.rejections some.0 ek some.1, slice_get_within e.list r.rejections some.0 some.1))
 ]
 
-pub ends_best : (m : Market) (rows : List Progress) (b : Allocation) → WellListed m → Sound m rows → AllDone m.entrants rows → Gives m rows b → IsBest m b
+pub ends_best : (m : Market) (rows : List Progress) (b : Allocation) → WellListed m → Sound m rows → AllDone m.entrants rows → AllotsWhatIsHeld m rows b → IsBest m b
 ends_best m rows b well h done gives =
     let row : (k : ℕ) (e : Candidate) → slice_get m.entrants k ≡ Some e → (r : Progress) × (slice_get rows k ≡ Some r)
     = λ k e ek. element_at rows k (omega (arith, slice_get_within m.entrants k e ek, h.shaped.same)) in

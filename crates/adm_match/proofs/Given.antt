@@ -11,7 +11,7 @@ use Rattle.adm_match.specs.declared.problem.Seats.{Seats}
 use Rattle.adm_match.specs.Market.{Candidate, Market, market_of, first_fault, preference_rank, assigned_rank}
 use Rattle.adm_match.specs.Stability.{Allocation, Allotment, IsBest, school_of, gone_through, proposals_of, is_entrant}
 use Rattle.adm_match.specs.Distinct.{Distinct}
-use Rattle.adm_match.specs.Turns.{Shaped, Sound, AllDone, Gives, IsHeldByNext, WellListed, reached, found_in}
+use Rattle.adm_match.specs.Turns.{Shaped, Sound, AllDone, AllotsWhatIsHeld, IsHeldByNext, WellListed, reached, found_in}
 use Rattle.adm_match.proofs.Side.{element_at}
 use Rattle.adm_match.proofs.Words.{list_any_of}
 use Rattle.adm_match.proofs.Posed.{posed}
@@ -34,7 +34,7 @@ find_none p (y ∷ ys) h =
     ap (λ b. cond b (Some y) (find p ys)) (h 0 y refl) ∙ find_none p ys (λ j z a. h (suc j) z a)
 
 -- each entrant is given the school that holds it, where no child stands at two indices
-pub gives_by : (m : Market) (rows : List Progress) → ((i j : ℕ) (d e : Candidate) → slice_get m.entrants i ≡ Some d → slice_get m.entrants j ≡ Some e → i < j → d.child ≡ e.child → ⊥) → Shaped m rows → Gives m rows (found_in rows)
+pub gives_by : (m : Market) (rows : List Progress) → ((i j : ℕ) (d e : Candidate) → slice_get m.entrants i ≡ Some d → slice_get m.entrants j ≡ Some e → i < j → d.child ≡ e.child → ⊥) → Shaped m rows → AllotsWhatIsHeld m rows (found_in rows)
 gives_by m rows once h k e r ek rk =
     let test : Progress → Bool = λ row. row.child == e.child in
     let found : find test rows ≡ Some r =
@@ -80,7 +80,7 @@ reached_is e r well holds done within = elim holds [
 ]
 
 -- the list entries that the rows have reached are those gone through
-pub reached_all : (m : Market) (rows : List Progress) (b : Allocation) → WellListed m → Shaped m rows → AllDone m.entrants rows → Gives m rows b → sum_by reached rows ≡ proposals_of m b
+pub reached_all : (m : Market) (rows : List Progress) (b : Allocation) → WellListed m → Shaped m rows → AllDone m.entrants rows → AllotsWhatIsHeld m rows b → sum_by reached rows ≡ proposals_of m b
 reached_all m rows b well h done given =
     sum_alike reached (λ (e : Candidate). gone_through e.list (b e.child)) rows m.entrants h.same
     (λ k r e rk ek. reached_is e r (λ j w jw. well.own_rank k e j w ek jw) (h.holds k e r ek rk) (done k e r ek rk) (h.within k e r ek rk)

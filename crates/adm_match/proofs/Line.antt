@@ -12,7 +12,7 @@ use Rattle.adm_match.specs.declared.directory.Directory.{Directory}
 use Rattle.adm_match.specs.Market.{Code, Candidate, Market}
 use Rattle.adm_match.specs.Turns.{held_at, IsFree, AllDone, Sound, start_of}
 use Rattle.adm_match.specs.Holding.{Holding, guests_of, nobody_held}
-use Rattle.adm_match.specs.Queue.{IsDirectory, IsMirror, Turned, Queued, BetweenTurns}
+use Rattle.adm_match.specs.Queue.{FindsMarket, IsMirror, Turned, Queued, BetweenTurns}
 use Rattle.adm_match.proofs.Words.{at_All, All_at}
 use Rattle.adm_match.proofs.Turn.{starts}
 
@@ -143,7 +143,7 @@ no_guests : (es : List Candidate) (s : Code) → guests_of es (map start_of es) 
 no_guests [] s = refl
 no_guests (e ∷ es) s = no_guests es s
 
-pub between_turns_first : (m : Market) (directory : Directory) (rows : List Progress) (schools : List Holding) (queue : List ℕ) → IsDirectory m directory → rows ≡ map start_of m.entrants → schools ≡ map nobody_held m.seats → ((k : ℕ) → k < length m.entrants → list_any (λ q. q == k) queue ≡ true) → All (λ q. q < length m.entrants) queue → BetweenTurns m directory rows schools queue
+pub between_turns_first : (m : Market) (directory : Directory) (rows : List Progress) (schools : List Holding) (queue : List ℕ) → FindsMarket m directory → rows ≡ map start_of m.entrants → schools ≡ map nobody_held m.seats → ((k : ℕ) → k < length m.entrants → list_any (λ q. q == k) queue ≡ true) → All (λ q. q < length m.entrants) queue → BetweenTurns m directory rows schools queue
 between_turns_first m directory rows schools queue directs rows_is schools_is waiting within = record {
   directs = directs;
   sound = subst (λ (x : List Progress). Sound m x) (sym rows_is) (starts m);

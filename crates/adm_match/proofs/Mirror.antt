@@ -14,7 +14,7 @@ use Rattle.std.proofs.lemmas.List.Elements.{Contains-append_cases, Contains-appe
 use Rattle.adm_rank.specs.Ranking.{precedes}
 use Rattle.adm_match.specs.Market.{Code, Candidate, Market, has, is_tenant, key_at, both_precede, ranks_before}
 use Rattle.adm_match.specs.Turns.{IsGuestAt, Shaped, IsLast}
-use Rattle.adm_match.specs.Holding.{entry_of, guests_of, RanksLast, SameBag}
+use Rattle.adm_match.specs.Holding.{guest_entry, guests_of, RanksLast, SameBag}
 use Rattle.adm_match.proofs.Departure.{held_wish}
 use Rattle.adm_match.specs.Distinct.{Distinct}
 use Rattle.adm_match.proofs.Distinct.{ranked_of}
@@ -28,33 +28,33 @@ use Rattle.std.proofs.lemmas.List.Sums.{sum_by-cons, get_or-le-sum_by}
 use Rattle.adm_match.proofs.Side.{count_no}
 
 -- the entry of a guest, and of one that is none
-pub entry_is : (e : Candidate) (r : Progress) (s : Code) (key : RankKey) → r.school ≡ Some s → is_tenant e s ≡ false → key_at e.list s ≡ Some key → entry_of e r s ≡ (record { key = key; child = e.child } ∷ [])
+pub entry_is : (e : Candidate) (r : Progress) (s : Code) (key : RankKey) → r.school ≡ Some s → is_tenant e s ≡ false → key_at e.list s ≡ Some key → guest_entry e r s ≡ (record { key = key; child = e.child } ∷ [])
 entry_is e r s key at free k =
     ap (λ b. cond b (option_to_list (option_map (λ (q : RankKey). record { key = q; child = e.child }) (key_at e.list s))) []) (and_from (has r.school s) (not (is_tenant e s)) (has_true r.school s at) (not_from_false (is_tenant e s) free))
     ∙ ap (λ o. option_to_list (option_map (λ (q : RankKey). record { key = q; child = e.child }) o)) k
 
-pub entry_none : (e : Candidate) (r : Progress) (s : Code) → (has r.school s && not (is_tenant e s)) ≡ false → entry_of e r s ≡ []
+pub entry_none : (e : Candidate) (r : Progress) (s : Code) → (has r.school s && not (is_tenant e s)) ≡ false → guest_entry e r s ≡ []
 entry_none e r s out = ap (λ b. cond b (option_to_list (option_map (λ (q : RankKey). record { key = q; child = e.child }) (key_at e.list s))) []) out
 
 -- one row is written: the guests before and after, with the entries of that row
-pub guests_set : (es : List Candidate) (rows : List Progress) (s : Code) (i : ℕ) (e : Candidate) (r v : Progress) → slice_get es i ≡ Some e → slice_get rows i ≡ Some r → IsPermutation (entry_of e v s ++ guests_of es rows s) (entry_of e r s ++ guests_of es (set rows i v) s)
+pub guests_set : (es : List Candidate) (rows : List Progress) (s : Code) (i : ℕ) (e : Candidate) (r v : Progress) → slice_get es i ≡ Some e → slice_get rows i ≡ Some r → IsPermutation (guest_entry e v s ++ guests_of es rows s) (guest_entry e r s ++ guests_of es (set rows i v) s)
 guests_set [] rows s i e r v ei ri = absurd (none-some e ei)
 guests_set (d ∷ es) [] s i e r v ei ri = absurd (none-some r ri)
 guests_set (d ∷ es) (q ∷ rows) s zero e r v ei ri =
     let d_is : d ≡ e = same_Some d e ei in
     let q_is : q ≡ r = same_Some q r ri in
-    subst (λ (x : Candidate). IsPermutation (entry_of e v s ++ (entry_of x q s ++ guests_of es rows s)) (entry_of e r s ++ (entry_of x v s ++ guests_of es rows s))) (sym d_is)
-    (subst (λ (x : Progress). IsPermutation (entry_of e v s ++ (entry_of e x s ++ guests_of es rows s)) (entry_of e r s ++ (entry_of e v s ++ guests_of es rows s))) (sym q_is)
-    (swap_front (entry_of e v s) (entry_of e r s) (guests_of es rows s)))
+    subst (λ (x : Candidate). IsPermutation (guest_entry e v s ++ (guest_entry x q s ++ guests_of es rows s)) (guest_entry e r s ++ (guest_entry x v s ++ guests_of es rows s))) (sym d_is)
+    (subst (λ (x : Progress). IsPermutation (guest_entry e v s ++ (guest_entry e x s ++ guests_of es rows s)) (guest_entry e r s ++ (guest_entry e v s ++ guests_of es rows s))) (sym q_is)
+    (swap_front (guest_entry e v s) (guest_entry e r s) (guests_of es rows s)))
   where
     swap_front : (xs ys zs : List Guest) → IsPermutation (xs ++ (ys ++ zs)) (ys ++ (xs ++ zs))
     swap_front xs ys zs =
         rw (← append_assoc) (rw (← append_assoc) (IsPermutation-append_left zs (xs ++ ys) (ys ++ xs) (IsPermutation-append_comm xs ys)))
 guests_set (d ∷ es) (q ∷ rows) s (suc i) e r v ei ri =
     let rest = guests_set es rows s i e r v ei ri in
-    IsPermutation-trans _ _ _ (swap_front (entry_of e v s) (entry_of d q s) (guests_of es rows s))
-    (IsPermutation-trans _ _ _ (IsPermutation-append_right (entry_of d q s) _ _ rest)
-    (swap_front (entry_of d q s) (entry_of e r s) (guests_of es (set rows i v) s)))
+    IsPermutation-trans _ _ _ (swap_front (guest_entry e v s) (guest_entry d q s) (guests_of es rows s))
+    (IsPermutation-trans _ _ _ (IsPermutation-append_right (guest_entry d q s) _ _ rest)
+    (swap_front (guest_entry d q s) (guest_entry e r s) (guests_of es (set rows i v) s)))
   where
     swap_front : (xs ys zs : List Guest) → IsPermutation (xs ++ (ys ++ zs)) (ys ++ (xs ++ zs))
     swap_front xs ys zs =
@@ -64,7 +64,7 @@ guests_set (d ∷ es) (q ∷ rows) s (suc i) e r v ei ri =
 pub guest_behind : (es : List Candidate) (rows : List Progress) (s : Code) (g : Guest) → Contains (guests_of es rows s) g → (k : ℕ) × (e : Candidate) × IsGuestAt es rows s k e × (key_at e.list s ≡ Some g.key) × (e.child ≡ g.child)
 guest_behind [] rows s g h = absurd (omega (arith, h.1))
 guest_behind (e ∷ es) [] s g h = absurd (omega (arith, h.1))
-guest_behind (e ∷ es) (r ∷ rows) s g h = elim (Contains-append_cases (entry_of e r s) (guests_of es rows s) g h) [
+guest_behind (e ∷ es) (r ∷ rows) s g h = elim (Contains-append_cases (guest_entry e r s) (guests_of es rows s) g h) [
   | inl here ↦ first e es r rows s g here (key_at e.list s) refl
   | inr there ↦
       let w = guest_behind es rows s g there in
@@ -80,7 +80,7 @@ guest_behind (e ∷ es) (r ∷ rows) s g h = elim (Contains-append_cases (entry_
         one zero l is = (refl, ap (λ (x : Guest). Some x.key) is, ap (λ (x : Guest). x.child) is)
         one (suc k) l is = absurd (omega arith)
 
-    first : (e : Candidate) (es : List Candidate) (r : Progress) (rows : List Progress) (s : Code) (g : Guest) → Contains (entry_of e r s) g → (o : Option RankKey) → key_at e.list s ≡ o → (k : ℕ) × (d : Candidate) × IsGuestAt (e ∷ es) (r ∷ rows) s k d × (key_at d.list s ≡ Some g.key) × (d.child ≡ g.child)
+    first : (e : Candidate) (es : List Candidate) (r : Progress) (rows : List Progress) (s : Code) (g : Guest) → Contains (guest_entry e r s) g → (o : Option RankKey) → key_at e.list s ≡ o → (k : ℕ) × (d : Candidate) × IsGuestAt (e ∷ es) (r ∷ rows) s k d × (key_at d.list s ≡ Some g.key) × (d.child ≡ g.child)
     first e es r rows s g here o is =
         let f = in_entry (has r.school s && not (is_tenant e s)) (key_at e.list s) e.child g here in
         let parts = and_parts (has r.school s) (not (is_tenant e s)) f.0 in
@@ -93,12 +93,12 @@ entry_behind (d ∷ es) [] s k e key g h = absurd (none-some g.1.0 g.1.1)
 entry_behind (d ∷ es) (q ∷ rows) s zero e key g h =
     let d_is : e ≡ d = sym (same_Some d e g.0) in
     let q_is : g.1.0 ≡ q = sym (same_Some q g.1.0 g.1.1) in
-    let here = subst (λ (x : Candidate). Contains (entry_of x q s) (record { key = key; child = e.child })) d_is
-    (subst (λ (x : Progress). Contains (entry_of e x s) (record { key = key; child = e.child })) q_is
+    let here = subst (λ (x : Candidate). Contains (guest_entry x q s) (record { key = key; child = e.child })) d_is
+    (subst (λ (x : Progress). Contains (guest_entry e x s) (record { key = key; child = e.child })) q_is
     (subst (λ (xs : List Guest). Contains xs (record { key = key; child = e.child })) (sym (entry_is e g.1.0 s key g.1.2 g.2 h)) (0, omega arith, refl))) in
-    Contains-append_left (entry_of d q s) (guests_of es rows s) _ here
+    Contains-append_left (guest_entry d q s) (guests_of es rows s) _ here
 entry_behind (d ∷ es) (q ∷ rows) s (suc k) e key g h =
-    Contains-append_right (entry_of d q s) (guests_of es rows s) _ (entry_behind es rows s k e key g h)
+    Contains-append_right (guest_entry d q s) (guests_of es rows s) _ (entry_behind es rows s k e key g h)
 
 pub bag_of : (xs ys : List Guest) → IsPermutation xs ys → SameBag xs ys
 bag_of xs ys h p = sym (sum_by-IsPermutation (λ x. cond (p x) 1 0) xs ys h)

@@ -10,7 +10,7 @@ use Rattle.std.proofs.lemmas.Slice.Eq.{bytes_eq-Decides}
 use Rattle.adm_match.specs.declared.problem.Wish.{Wish}
 use Rattle.adm_match.specs.Market.{Code, Candidate, Market, preference_rank, assigned_rank, is_tenant, key_at, is_not_last, some_pair, same_code, same_school}
 use Rattle.adm_match.specs.Stability.{Allocation, IsStable}
-use Rattle.adm_match.specs.Relisting.{wishes_for, with_list, relist, relisted, NoGain, SamePlaced, OneBest}
+use Rattle.adm_match.specs.Relisting.{wishes_among, with_list, relist, relisted, NoGain, SamePlaced, OneBest}
 use Rattle.adm_match.proofs.Words.{has_tells, at_All, All_at, same_rank, wish_at_rank}
 use Rattle.adm_match.proofs.FirstBlock.{found_at, rank_upto}
 use Rattle.adm_match.proofs.Posed.{Posed, posed, list_any_not}
@@ -67,9 +67,9 @@ wish_own list rest t s (Some w) found h l = elim (cases_Bool (bytes_eq w.school 
       (own.0, ap (λ b. option_map (λ (x : Wish). x.key) (cond b (Some w) (find (λ x. bytes_eq x.school s) rest))) miss ∙ own.1)
 ]
 
-wishes_own : (list : List Wish) (schools : List Code) (s : Code) → Own list (wishes_for list schools) s
+wishes_own : (list : List Wish) (schools : List Code) (s : Code) → Own list (wishes_among list schools) s
 wishes_own list [] s = λ l. absurd (omega arith)
-wishes_own list (t ∷ ts) s = wish_own list (wishes_for list ts) t s (find (λ wish. bytes_eq wish.school t) list) refl (wishes_own list ts s)
+wishes_own list (t ∷ ts) s = wish_own list (wishes_among list ts) t s (find (λ wish. bytes_eq wish.school t) list) refl (wishes_own list ts s)
 
 listing : (e : Candidate) (schools : List Code) → Listing e (with_list e schools)
 listing e schools = record {

@@ -14,7 +14,7 @@ use Rattle.adm_match.specs.declared.progress.Progress.{Progress}
 use Rattle.adm_match.specs.Market.{Code, Candidate, Market, has, is_tenant, key_at, quota_of, some_pair, same_code}
 use Rattle.adm_match.specs.Turns.{held_at, Shaped, Sound, IsFree, IsLast, NoGuest, held_by, with_rejection}
 use Rattle.adm_match.specs.Distinct.{Distinct, Seated, ChildrenOnce}
-use Rattle.adm_match.specs.Holding.{Holding, tenants_with, guests_with, HoldsAll, Rejects, Considers, entry_of, guests_of, SameBag}
+use Rattle.adm_match.specs.Holding.{Holding, tenants_with, guests_with, HoldsAll, Rejects, Considers, guest_entry, guests_of, SameBag}
 use Rattle.adm_match.specs.Queue.{StandsAt, SeatedAt, IsMirror, Mirrored, Turned}
 use Rattle.adm_match.proofs.Side.{after_set}
 use Rattle.adm_match.proofs.Words.{has_true, list_any_gives}
@@ -46,8 +46,8 @@ quota_at m j seat h at =
 -- a written row that names neither before nor after the school leaves its guests
 bag_other : (es : List Candidate) (rows : List Progress) (t : Code) (i : ℕ) (e : Candidate) (r v : Progress) → slice_get es i ≡ Some e → slice_get rows i ≡ Some r → has r.school t ≡ false → has v.school t ≡ false → SameBag (guests_of es (set rows i v) t) (guests_of es rows t)
 bag_other es rows t i e r v ei ri was is p =
-    let before : entry_of e r t ≡ [] = entry_none e r t (ap (λ b. b && not (is_tenant e t)) was) in
-    let after : entry_of e v t ≡ [] = entry_none e v t (ap (λ b. b && not (is_tenant e t)) is) in
+    let before : guest_entry e r t ≡ [] = entry_none e r t (ap (λ b. b && not (is_tenant e t)) was) in
+    let after : guest_entry e v t ≡ [] = entry_none e v t (ap (λ b. b && not (is_tenant e t)) is) in
     let moved = bag_of _ _ (guests_set es rows t i e r v ei ri) p in
     sym ((λ k. count_by p (sym after k ++ guests_of es rows t)) ∙ (moved ∙ (λ k. count_by p (before k ++ guests_of es (set rows i v) t))))
 
@@ -60,18 +60,18 @@ came_here m rows i e r w seat old d ei ri free next mirror code =
     let more : held_at now s ≡ held_at rows s + 1 = held_set_more rows i r v s ri (none_has r.school s free) (has_true v.school s refl) in
     let count : length old.tenants + length old.guests ≡ held_at rows s = mirror.count ∙ ap (held_at rows) code in
     let bag : SameBag (guests_of m.entrants rows s) old.guests = λ p. ap (λ (c : Code). count_by p (guests_of m.entrants rows c)) (sym code) ∙ mirror.guests p in
-    let before : entry_of e r s ≡ [] = entry_none e r s (ap (λ b. b && not (is_tenant e s)) (none_has r.school s free)) in
-    let moved : SameBag (entry_of e v s ++ guests_of m.entrants rows s) (guests_of m.entrants now s)
+    let before : guest_entry e r s ≡ [] = entry_none e r s (ap (λ b. b && not (is_tenant e s)) (none_has r.school s free)) in
+    let moved : SameBag (guest_entry e v s ++ guests_of m.entrants rows s) (guests_of m.entrants now s)
     = λ p. bag_of _ _ (guests_set m.entrants rows s i e r v ei ri) p ∙ (λ k. count_by p (before k ++ guests_of m.entrants now s)) in
     elim (cases_Bool (is_tenant e s)) [
       | inl tenant ↦
-          let after : entry_of e v s ≡ [] = entry_none e v s ((λ k. has v.school s && not (tenant k)) ∙ ap (λ b. b && false) (has_true v.school s refl)) in (
+          let after : guest_entry e v s ≡ [] = entry_none e v s ((λ k. has v.school s && not (tenant k)) ∙ ap (λ b. b && false) (has_true v.school s refl)) in (
             subst (λ b. length (tenants_with old e.child b) + length (guests_with old e.child w.key b) ≡ held_at now s) (sym tenant) (omega (arith, more, count, length_more old.tenants e.child)),
             λ p. sym (moved p) ∙ ((λ k. count_by p (after k ++ guests_of m.entrants rows s)) ∙ (bag p ∙ (λ k. count_by p (guests_with old e.child w.key (sym tenant k))))),
           )
       | inr guest ↦
           let g : Guest = record { key = w.key; child = e.child } in
-          let after : entry_of e v s ≡ (g ∷ []) = entry_is e v s w.key refl guest (d.key_of i e r.rejections w ei next) in (
+          let after : guest_entry e v s ≡ (g ∷ []) = entry_is e v s w.key refl guest (d.key_of i e r.rejections w ei next) in (
             subst (λ b. length (tenants_with old e.child b) + length (guests_with old e.child w.key b) ≡ held_at now s) (sym guest) (omega (arith, more, count)),
             λ p. sym (moved p) ∙ ((λ k. count_by p (after k ++ guests_of m.entrants rows s)) ∙ (one_more p g (guests_of m.entrants rows s) old.guests (bag p) ∙ (λ k. count_by p (guests_with old e.child w.key (sym guest k))))),
           )
@@ -210,8 +210,8 @@ turn_rejects m rows mid now schools i at e r w seat old new out k c mid_is consi
     let after = set mid k v in
     let over : quota_of m.seats s < held_at mid s = omega (arith, rejects.over, count, quota) in
     let less : held_at after s + 1 ≡ held_at mid s = held_set_less mid k q v s g.1.1 (has_true q.school s g.1.2) refl in
-    let was_entry : entry_of d q s ≡ (guest ∷ []) = entry_is d q s guest.key g.1.2 g.2 gone.key ∙ (λ l. record { key = guest.key; child = gone.child l } ∷ []) in
-    let no_entry : entry_of d v s ≡ [] = entry_none d v s refl in
+    let was_entry : guest_entry d q s ≡ (guest ∷ []) = entry_is d q s guest.key g.1.2 g.2 gone.key ∙ (λ l. record { key = guest.key; child = gone.child l } ∷ []) in
+    let no_entry : guest_entry d v s ≡ [] = entry_none d v s refl in
     let split : SameBag (guests_of m.entrants mid s) (guest ∷ guests_of m.entrants after s)
     = λ p. (λ l. count_by p (sym no_entry l ++ guests_of m.entrants mid s)) ∙ (bag_of _ _ (guests_set m.entrants mid s k d q v g.0 g.1.1) p ∙ (λ l. count_by p (was_entry l ++ guests_of m.entrants after s))) in
     let left_bag : SameBag (guests_of m.entrants after s) new.guests

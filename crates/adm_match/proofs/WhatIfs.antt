@@ -18,7 +18,7 @@ use Rattle.adm_match.specs.declared.what_ifs.WhatIfFault.TheVariants.{UnknownChi
 use Rattle.adm_match.specs.Market.{Code, Candidate, Market, market_of, has, is_tenant, some_pair, same_school, first_fault}
 use Rattle.adm_match.specs.Stability.{Allotment, IsBest, school_of}
 use Rattle.adm_match.specs.Distinct.{Distinct, Seated}
-use Rattle.adm_match.specs.Relisting.{wishes_for, with_list, relist, relisted, is_wanted, may_list, list_fault, what_if_fault, IsWhatIf, IsNoGain}
+use Rattle.adm_match.specs.Relisting.{wishes_among, with_list, relist, relisted, is_wanted, may_list, list_fault, what_if_fault, IsWhatIf, IsNoGain}
 use Rattle.adm_match.proofs.FirstBlock.{found_at}
 use Rattle.adm_match.proofs.Posed.{posed, rank_is, key_is}
 use Rattle.adm_match.proofs.Distinct.{distinct}
@@ -29,19 +29,19 @@ use Rattle.adm_match.proofs.Twice.{pair_pushed, pair_same}
 pub codes_same : (schools : List Code) → some_pair (λ a b. is_eq (slice_cmp nat_cmp a b)) schools ≡ some_pair bytes_eq schools
 codes_same schools = pair_same (λ a b. is_eq (slice_cmp nat_cmp a b)) bytes_eq schools (λ a b. is_eq-slice_cmp a b)
 
-pub wishes_append : (list : List Wish) (xs ys : List Code) → wishes_for list (xs ++ ys) ≡ wishes_for list xs ++ wishes_for list ys
+pub wishes_append : (list : List Wish) (xs ys : List Code) → wishes_among list (xs ++ ys) ≡ wishes_among list xs ++ wishes_among list ys
 wishes_append list xs ys = filter_map-append (λ school. find (λ wish. bytes_eq wish.school school) list) xs ys
 
-pub wishes_more : (list : List Wish) (schools : List Code) (i : ℕ) (school : Code) (first old new : List Wish) → i < length schools → school ≡ get_or schools i school → old ≡ first ++ wishes_for list (take i schools) → new ≡ old ++ wishes_for list (school ∷ []) → new ≡ first ++ wishes_for list (take (i + 1) schools)
+pub wishes_more : (list : List Wish) (schools : List Code) (i : ℕ) (school : Code) (first old new : List Wish) → i < length schools → school ≡ get_or schools i school → old ≡ first ++ wishes_among list (take i schools) → new ≡ old ++ wishes_among list (school ∷ []) → new ≡ first ++ wishes_among list (take (i + 1) schools)
 wishes_more list schools i school first old new l at was now =
     let step : take (i + 1) schools ≡ take i schools ++ school ∷ [] = rw add-one (take-suc schools i school l ∙ ap (λ z. take i schools ++ z ∷ []) (sym at)) in
-    now ∙ (ap (λ (x : List Wish). x ++ wishes_for list (school ∷ [])) was ∙ (append_assoc first (wishes_for list (take i schools)) (wishes_for list (school ∷ []))
-    ∙ sym (ap (λ (x : List Code). first ++ wishes_for list x) step ∙ ap (λ (x : List Wish). first ++ x) (wishes_append list (take i schools) (school ∷ [])))))
+    now ∙ (ap (λ (x : List Wish). x ++ wishes_among list (school ∷ [])) was ∙ (append_assoc first (wishes_among list (take i schools)) (wishes_among list (school ∷ []))
+    ∙ sym (ap (λ (x : List Code). first ++ wishes_among list x) step ∙ ap (λ (x : List Wish). first ++ x) (wishes_append list (take i schools) (school ∷ [])))))
 
 -- a school that is not asked for is no wish's
-wishes_without : (list : List Wish) (schools : List Code) (s : Code) → list_any (bytes_eq s) schools ≡ false → list_any (λ z. bytes_eq s z.school) (wishes_for list schools) ≡ false
+wishes_without : (list : List Wish) (schools : List Code) (s : Code) → list_any (bytes_eq s) schools ≡ false → list_any (λ z. bytes_eq s z.school) (wishes_among list schools) ≡ false
 wishes_without list [] s h = refl
-wishes_without list (c ∷ cs) s h = one list (wishes_for list cs) c s (find (λ wish. bytes_eq wish.school c) list) refl parts.0 (wishes_without list cs s parts.1)
+wishes_without list (c ∷ cs) s h = one list (wishes_among list cs) c s (find (λ wish. bytes_eq wish.school c) list) refl parts.0 (wishes_without list cs s parts.1)
   where
     parts : (bytes_eq s c ≡ false) × (list_any (bytes_eq s) cs ≡ false)
     parts = or_parts (bytes_eq s c) (list_any (bytes_eq s) cs) h
@@ -54,9 +54,9 @@ wishes_without list (c ∷ cs) s h = one list (wishes_for list cs) c s (find (λ
         λ i. (ap (bytes_eq s) same ∙ apart) i || h i
 
 -- the wishes for schools that are all different are for different schools
-wishes_apart : (list : List Wish) (schools : List Code) → some_pair bytes_eq schools ≡ false → some_pair same_school (wishes_for list schools) ≡ false
+wishes_apart : (list : List Wish) (schools : List Code) → some_pair bytes_eq schools ≡ false → some_pair same_school (wishes_among list schools) ≡ false
 wishes_apart list [] h = refl
-wishes_apart list (c ∷ cs) h = one list (wishes_for list cs) c (find (λ wish. bytes_eq wish.school c) list) refl (wishes_without list cs c parts.0) (wishes_apart list cs parts.1)
+wishes_apart list (c ∷ cs) h = one list (wishes_among list cs) c (find (λ wish. bytes_eq wish.school c) list) refl (wishes_without list cs c parts.0) (wishes_apart list cs parts.1)
   where
     parts : (list_any (bytes_eq c) cs ≡ false) × (some_pair bytes_eq cs ≡ false)
     parts = or_parts (list_any (bytes_eq c) cs) (some_pair bytes_eq cs) h
@@ -69,9 +69,9 @@ wishes_apart list (c ∷ cs) h = one list (wishes_for list cs) c (find (λ wish.
         λ i. (ap (λ (s : Code). list_any (λ z. bytes_eq s z.school) rest) (sym same) ∙ without) i || apart i
 
 -- each wish for some schools is a wish of the list
-wishes_old : (list : List Wish) (schools : List Code) (j : ℕ) (w : Wish) → slice_get (wishes_for list schools) j ≡ Some w → (i : ℕ) × (slice_get list i ≡ Some w)
+wishes_old : (list : List Wish) (schools : List Code) (j : ℕ) (w : Wish) → slice_get (wishes_among list schools) j ≡ Some w → (i : ℕ) × (slice_get list i ≡ Some w)
 wishes_old list [] j w at = absurd (none-some w at)
-wishes_old list (c ∷ cs) j w at = one list (wishes_for list cs) c (find (λ wish. bytes_eq wish.school c) list) refl (wishes_old list cs) j w at
+wishes_old list (c ∷ cs) j w at = one list (wishes_among list cs) c (find (λ wish. bytes_eq wish.school c) list) refl (wishes_old list cs) j w at
   where
     one : (list rest : List Wish) (c : Code) (o : Option Wish) → find (λ wish. bytes_eq wish.school c) list ≡ o → ((j : ℕ) (w : Wish) → slice_get rest j ≡ Some w → (i : ℕ) × (slice_get list i ≡ Some w)) → (j : ℕ) (w : Wish) → slice_get (cons_option o rest) j ≡ Some w → (i : ℕ) × (slice_get list i ≡ Some w)
     one list rest c None is h j w at = h j w at

@@ -62,15 +62,15 @@ pub record Considers (old new : Holding) (child : ℕ) (key : RankKey) (tenant :
   pub guests : GuestsAfter old new child key tenant out
 
 -- the guest's entry at a school that holds it and of which it is no tenant, or nothing
-abbrev pub entry_of : Candidate → Progress → Code → List Guest
-entry_of e r s =
+abbrev pub guest_entry : Candidate → Progress → Code → List Guest
+guest_entry e r s =
     if has r.school s && not (is_tenant e s) then option_to_list (option_map (λ key. record { key = key; child = e.child }) (key_at e.list s)) else []
 
 -- the guests of a school, in the order of the entrants
 abbrev pub guests_of : List Candidate → List Progress → Code → List Guest
 guests_of [] rows s = []
 guests_of (e ∷ es) [] s = []
-guests_of (e ∷ es) (r ∷ rows) s = entry_of e r s ++ guests_of es rows s
+guests_of (e ∷ es) (r ∷ rows) s = guest_entry e r s ++ guests_of es rows s
 
 -- the same guests, as often: every test passes as often on the one side as on the other
 abbrev pub SameBag : List Guest → List Guest → Type 0

@@ -27,7 +27,7 @@ StandsAt entrants child k = (e : Candidate) × (slice_get entrants k ≡ Some e)
 abbrev pub SeatedAt : List Seats → Code → ℕ → Type 0
 SeatedAt seats school j = (seat : Seats) × (slice_get seats j ≡ Some seat) × (seat.code ≡ school)
 
-pub record IsDirectory (m : Market) (directory : Directory) : Type 0 where
+pub record FindsMarket (m : Market) (directory : Directory) : Type 0 where
   pub children : FindsChildren m.entrants directory.children
   pub schools : FindsSchools m.seats directory.schools
 
@@ -61,7 +61,7 @@ pub record Queued (entrants : List Candidate) (rows : List Progress) (queue : Li
 
 -- what holds between two turns
 pub record BetweenTurns (m : Market) (directory : Directory) (rows : List Progress) (schools : List Holding) (queue : List ℕ) : Type 0 where
-  pub directs : IsDirectory m directory
+  pub directs : FindsMarket m directory
   pub sound : Sound m rows
   pub mirrored : Mirrored m rows schools
   pub queued : Queued m.entrants rows queue

@@ -9,12 +9,12 @@ use Rattle.adm_match.specs.declared.what_ifs.WhatIfFault.TheVariants.{UnknownChi
 use Rattle.adm_match.specs.Stability.{Allocation, IsStable, IsBest}
 
 -- the wishes of a list for these schools, in the schools' order
-abbrev pub wishes_for : List Wish → List Code → List Wish
-wishes_for list schools = filter_map (λ school. find (λ wish. bytes_eq wish.school school) list) schools
+abbrev pub wishes_among : List Wish → List Code → List Wish
+wishes_among list schools = filter_map (λ school. find (λ wish. bytes_eq wish.school school) list) schools
 
 -- the entrant with these schools for its list, then the school of which it is a tenant
 abbrev pub with_list : Candidate → List Code → Candidate
-with_list entrant schools = record entrant { list = wishes_for entrant.list (schools ++ option_to_list entrant.tenant) }
+with_list entrant schools = record entrant { list = wishes_among entrant.list (schools ++ option_to_list entrant.tenant) }
 
 -- the entrant, with these schools for its list where it is the child
 abbrev pub relist : ℕ → List Code → Candidate → Candidate

@@ -53,8 +53,8 @@ abbrev pub AllDone : List Candidate → List Progress → Type 0
 AllDone entrants rows = (k : ℕ) (e : Candidate) (r : Progress) → slice_get entrants k ≡ Some e → slice_get rows k ≡ Some r → r.school ≡ None → length e.list ≤ r.rejections
 
 -- the allocation gives each entrant the school that holds it
-abbrev pub Gives : Market → List Progress → Allocation → Type 0
-Gives m rows b = (k : ℕ) (e : Candidate) (r : Progress) → slice_get m.entrants k ≡ Some e → slice_get rows k ≡ Some r → b e.child ≡ r.school
+abbrev pub AllotsWhatIsHeld : Market → List Progress → Allocation → Type 0
+AllotsWhatIsHeld m rows b = (k : ℕ) (e : Candidate) (r : Progress) → slice_get m.entrants k ≡ Some e → slice_get rows k ≡ Some r → b e.child ≡ r.school
 
 -- the entrant at the index is held by nobody, and has a school left on its list
 abbrev pub IsFree : List Candidate → List Progress → ℕ → Type 0

@@ -7,7 +7,7 @@ ghost use Rattle.adm_match.specs.Market.{market_of};
 ghost use Rattle.adm_match.specs.Turns.{IsFree, AllDone, Sound};
 ghost use Rattle.adm_match.specs.Distinct.{Distinct, Seated};
 ghost use Rattle.adm_match.specs.Holding.{nobody_held};
-ghost use Rattle.adm_match.specs.Queue.{IsDirectory, Mirrored, Turned, Queued};
+ghost use Rattle.adm_match.specs.Queue.{FindsMarket, Mirrored, Turned, Queued};
 
 use crate::allotment::{Offers, offers_of};
 use crate::directory::{Directory, directory_of, index_of_child, index_of_school};
@@ -72,7 +72,7 @@ fn propose(
 ) -> Result<Option<usize>, AllocError>
     requires distinct { Distinct (market_of entrants.now seats.now) }
     requires seated { Seated (market_of entrants.now seats.now) }
-    requires directs { IsDirectory (market_of entrants.now seats.now) directory.now }
+    requires directs { FindsMarket (market_of entrants.now seats.now) directory.now }
     requires sound { Sound (market_of entrants.now seats.now) rows.old }
     requires mirrored { Mirrored (market_of entrants.now seats.now) rows.old schools.old }
     requires free { IsFree entrants.now rows.old index }

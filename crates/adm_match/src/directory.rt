@@ -2,7 +2,7 @@
 ghost use Rattle.std.specs.Prelude.{◌≡◌, ◌<◌, ℕ, length, IfOk, false};
 ghost use Rattle.adm_match.specs.Market.{market_of, some_pair, same_code};
 ghost use Rattle.adm_match.specs.Distinct.{ChildrenOnce};
-ghost use Rattle.adm_match.specs.Queue.{FindsChildren, FindsSchools, StandsAt, SeatedAt, IsDirectory};
+ghost use Rattle.adm_match.specs.Queue.{FindsChildren, FindsSchools, StandsAt, SeatedAt, FindsMarket};
 
 use crate::problem::{Entrant, Seats};
 use adm_types::{ChildNo, SchoolCode};
@@ -74,7 +74,7 @@ pub(crate) fn directory_of(
 ) -> Result<Directory, AllocError>
     requires children { ChildrenOnce entrants.now }
     requires schools { some_pair same_code seats.now ≡ false }
-    ensures { IfOk result (IsDirectory (market_of entrants.now seats.now)) }
+    ensures { IfOk result (FindsMarket (market_of entrants.now seats.now)) }
 {
     let children = indices_of_children(alloc, entrants)?;
     let schools = indices_of_schools(alloc, seats)?;

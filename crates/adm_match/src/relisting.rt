@@ -1,7 +1,7 @@
 // The entrants of a problem in which one child lists its wanted schools otherwise.
 ghost use Rattle.std.specs.Prelude.{◌≡◌, ◌++◌, ◌∷◌, [], IfOk, map, find, bytes_eq};
 ghost use Rattle.std.specs.Option.{option_to_list, option_copied};
-ghost use Rattle.adm_match.specs.Relisting.{wishes_for, relist};
+ghost use Rattle.adm_match.specs.Relisting.{wishes_among, relist};
 
 use crate::problem::{Entrant, Wish};
 use adm_types::{ChildNo, SchoolCode};
@@ -16,7 +16,7 @@ fn wish_for(list: &[Wish], school: SchoolCode) -> Option<&Wish>
 
 /// Adds the list's wish for the school, where there is one.
 fn add_wish(wishes: &mut Vec<Wish>, list: &[Wish], school: SchoolCode) -> Result<(), AllocError>
-    ensures { IfOk result (λ _. wishes.new.items ≡ wishes.old.items ++ wishes_for list.now (school ∷ [])) }
+    ensures { IfOk result (λ _. wishes.new.items ≡ wishes.old.items ++ wishes_among list.now (school ∷ [])) }
 {
     if let Some(wish) = wish_for(list, school) {
         wishes.push(*wish)?;
@@ -30,7 +30,7 @@ fn add_wishes(
     list: &[Wish],
     schools: &[SchoolCode],
 ) -> Result<(), AllocError>
-    ensures { IfOk result (λ _. wishes.new.items ≡ wishes.old.items ++ wishes_for list.now schools.now) }
+    ensures { IfOk result (λ _. wishes.new.items ≡ wishes.old.items ++ wishes_among list.now schools.now) }
 {
     for index in 0..schools.len() {
         add_wish(wishes, list, schools[index])?;
@@ -44,7 +44,7 @@ fn add_own(
     list: &[Wish],
     tenant: Option<SchoolCode>,
 ) -> Result<(), AllocError>
-    ensures { IfOk result (λ _. wishes.new.items ≡ wishes.old.items ++ wishes_for list.now (option_to_list tenant)) }
+    ensures { IfOk result (λ _. wishes.new.items ≡ wishes.old.items ++ wishes_among list.now (option_to_list tenant)) }
 {
     match tenant {
         Some(home) => add_wish(wishes, list, home),
@@ -60,7 +60,7 @@ fn new_list(
     tenant: Option<SchoolCode>,
     schools: &[SchoolCode],
 ) -> Result<Vec<Wish>, AllocError>
-    ensures { IfOk result (λ wishes. wishes.items ≡ wishes_for list.now (schools.now ++ option_to_list tenant)) }
+    ensures { IfOk result (λ wishes. wishes.items ≡ wishes_among list.now (schools.now ++ option_to_list tenant)) }
 {
     let mut wishes = Vec::new(alloc);
     add_wishes(&mut wishes, list, schools)?;

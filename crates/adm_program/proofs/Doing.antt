@@ -19,18 +19,18 @@ use Rattle.sqlite.specs.Files.{file_state}
 use Rattle.sqlite.specs.Held.{Held}
 use Rattle.adm_desk.specs.Lines.{AnswersLine}
 use Rattle.adm_desk.specs.Questions.{TellsLine}
-use Rattle.adm_desk.specs.Standing.{Handles, Standing}
+use Rattle.adm_desk.specs.DeskState.{Handles, DeskState}
 use Rattle.adm_desk.specs.declared.answer.Answer.{Answer}
 use Rattle.adm_desk.specs.declared.answer.Answer.TheVariants as answer
 use Rattle.adm_desk.specs.declared.run.Run.{Run}
 use Rattle.adm_desk.specs.declared.run.RunFault.{RunFault}
-use Rattle.adm_program.specs.Exits.{of_season, of_lines, has_many_holidays, IsCauseIn, ExitsBy, exit_of_answer, ending_of, error_of, told_of, outcome_of, exit_of_words, code_of}
+use Rattle.adm_program.specs.Exits.{of_season, of_lines, has_many_holidays, IsCauseIn, ExitsBy, exit_of_answer, ending_of, error_of, told_of, outcome_of, exit_of_words, exit_code}
 use Rattle.adm_wire.specs.Streams.{Stream}
 use Rattle.adm_program.specs.Opened.{IsNotOpened}
 use Rattle.adm_program.specs.Imports.{ImportsAs, ImportsFile, ImportsInto}
 use Rattle.adm_program.specs.Served.{ServesAs, ServesOver}
 use Rattle.adm_program.specs.Texts.{Prints, PrintsAs, text_in}
-use Rattle.adm_program.specs.Runs.{Liner, Answers, Creates, CreatesAs}
+use Rattle.adm_program.specs.Runs.{Liner, OpensAndRuns, Creates, CreatesAs}
 use Rattle.adm_program.specs.Does.{Does}
 use Rattle.adm_program.specs.declared.document.Document.{Document}
 use Rattle.adm_program.specs.declared.document.Document.TheVariants as document
@@ -54,7 +54,7 @@ no_season file phase year days season.Memory range many = inr (inr (inl refl))
 
 -- the status of a line that ended so, and of what its close came to
 abbrev status : Result Exit Fault → Option Error → ℕ
-status e closed = code_of (told_of (ending_of e closed))
+status e closed = exit_code (told_of (ending_of e closed))
 
 -- a line that ended with a fault
 fault_exit : (e : Result Exit Fault) (f : Fault) (closed : Option Error) → e ≡ Err f → status e closed ≡ 1
@@ -118,7 +118,7 @@ unmade (action.RoundReport file round) = inr refl
 unmade (action.Pairs file school) = inr refl
 
 -- words that ask for nothing
-pub refused : (fault : WordsFault) → ExitsBy (Err fault) (code_of (exit_of_words fault))
+pub refused : (fault : WordsFault) → ExitsBy (Err fault) (exit_code (exit_of_words fault))
 refused (words.Words e) = refl
 refused words.BadDate = refl
 refused words.BadWord = refl
@@ -142,7 +142,7 @@ module _ {D : Type 0} {g : disk.Ghosts D} where
   ran (Err f) e closed told = subst (λ (y : Result Exit Fault). status y closed ≢ 2) (sym told) (λ e. cc)
   ran (Ok run) e closed told = subst (λ (y : Result Exit Fault). status y closed ≢ 2) (sym told) (run_exit run.failed (nat_lt 0 run.refused) closed)
 
-  imported : (old new : Standing (Held (FileStore D g))) (file output : Stream) (e : Result Exit Fault) (closed : Option Error) → ImportsAs old new file output e
+  imported : (old new : DeskState (Held (FileStore D g))) (file output : Stream) (e : Result Exit Fault) (closed : Option Error) → ImportsAs old new file output e
       → status e closed ≢ 2
   imported old new file output (Err f) closed ends = λ e. cc
   imported old new file output (Ok x) closed ends =
@@ -152,12 +152,12 @@ module _ {D : Type 0} {g : disk.Ghosts D} where
   not_opened : (image : Image) (e : Result Exit Fault) (closed : Result (Files D) (Error × FileStore D g)) → IsNotOpened image e closed → status e (error_of closed) ≡ 1
   not_opened image e closed left = fault_exit e _ (error_of closed) left.told
 
-  lines_exit : (runs : Liner (Standing (Held (FileStore D g)))) (image : Image) (input output : Stream) (e : Result Exit Fault) (closed : Result (Files D) (Error × FileStore D g)) → Answers runs image input output e closed
+  lines_exit : (runs : Liner (DeskState (Held (FileStore D g)))) (image : Image) (input output : Stream) (e : Result Exit Fault) (closed : Result (Files D) (Error × FileStore D g)) → OpensAndRuns runs image input output e closed
       → status e (error_of closed) ≢ 2
   lines_exit runs image input output e closed (inl left) = not_two _ (not_opened image e closed left.0)
   lines_exit runs image input output e closed (inr does) = ran does.2.run e (error_of closed) does.2.told
 
-  file_exit : (desk : Standing (Held (FileStore D g))) (file output : Stream) (e : Result Exit Fault) (closed : Result (Files D) (Error × FileStore D g))
+  file_exit : (desk : DeskState (Held (FileStore D g))) (file output : Stream) (e : Result Exit Fault) (closed : Result (Files D) (Error × FileStore D g))
       → ImportsFile desk file output e closed → status e (error_of closed) ≢ 2
   file_exit desk file output e closed (inl left) = not_two _ (fault_exit e _ (error_of closed) left.0)
   file_exit desk file output e closed (inr does) = imported desk does.after file output e (error_of closed) does.ends
@@ -172,7 +172,7 @@ module _ {D : Type 0} {g : disk.Ghosts D} where
   document_exit image wanted output e closed (inl left) = inr (not_opened image e closed left.0)
   document_exit image wanted output e closed (inr does) = print_exit (text_in does.0.register wanted) output e (error_of closed) does.2.0
 
-  served : (old new : Standing (Held (FileStore D g))) (port count : ℕ) (output : Stream) (e : Result Exit Fault) (closed : Option Error)
+  served : (old new : DeskState (Held (FileStore D g))) (port count : ℕ) (output : Stream) (e : Result Exit Fault) (closed : Option Error)
       → ServesAs old new port count output e → IsOfServing (status e closed)
   served old new port count output (Err f) closed ends = inr (inl refl)
   served old new port count output (Ok x) closed ends = subst (λ (y : Exit). IsOfServing (status (Ok y) closed)) (sym ends.2) (served_exit new.failed closed)
@@ -198,6 +198,6 @@ module _ {D : Type 0} {g : disk.Ghosts D} where
 
   -- the status of an action
   pub exits : (image : Image) (a : Action) (rows : List ℕ → Stream) (input output : Stream) (r : Result (Ended D g) Fault) (x : Exit)
-      → IfOk r (λ ended. Does image a rows input output ended.exit ended.closed) → x ≡ told_of (outcome_of r) → ExitsBy (Ok a) (code_of x)
-  exits image a rows input output (Ok ended) x does told = subst (λ (y : Exit). ExitsBy (Ok a) (code_of y)) (sym told) (made image a rows input output ended.exit ended.closed does)
-  exits image a rows input output (Err f) x does told = subst (λ (y : Exit). ExitsBy (Ok a) (code_of y)) (sym told) (unmade a)
+      → IfOk r (λ ended. Does image a rows input output ended.exit ended.closed) → x ≡ told_of (outcome_of r) → ExitsBy (Ok a) (exit_code x)
+  exits image a rows input output (Ok ended) x does told = subst (λ (y : Exit). ExitsBy (Ok a) (exit_code y)) (sym told) (made image a rows input output ended.exit ended.closed does)
+  exits image a rows input output (Err f) x does told = subst (λ (y : Exit). ExitsBy (Ok a) (exit_code y)) (sym told) (unmade a)

@@ -3,8 +3,8 @@ use Rattle.std.proofs.Common.{◌≡◌, ℕ, Bool, true, false, if◌then◌els
 use Rattle.sqlite_disk.specs.declared.Disk as disk
 use Rattle.sqlite_store.specs.declared.store.FileStore.{FileStore}
 use Rattle.sqlite.specs.Held.{Held}
-use Rattle.adm_desk.specs.Standing.{Standing}
-use Rattle.adm_program.specs.Exits.{exit_of_served}
+use Rattle.adm_desk.specs.DeskState.{DeskState}
+use Rattle.adm_program.specs.Exits.{exit_of_status}
 use Rattle.adm_wire.specs.Streams.{Stream}
 use Rattle.adm_program.specs.Served.{IsListenFault, ServesAs, serving_text}
 use Rattle.adm_program.specs.Texts.{Puts}
@@ -14,20 +14,20 @@ use Rattle.adm_program.specs.declared.fault.Fault.{Fault}
 use Rattle.adm_program.specs.declared.fault.Fault.TheVariants as fault
 
 -- the exit tells whether the store failed
-pub exit_served : (failed : Bool) (status : ℕ) (e : Exit) → status ≡ (if failed then 4 else 0) → e ≡ exit_of_served status → e ≡ (if failed then exit.Failed else exit.Done)
-exit_served true status e is told = subst (λ (n : ℕ). e ≡ exit_of_served n) is told
-exit_served false status e is told = subst (λ (n : ℕ). e ≡ exit_of_served n) is told
+pub exit_served : (failed : Bool) (status : ℕ) (e : Exit) → status ≡ (if failed then 4 else 0) → e ≡ exit_of_status status → e ≡ (if failed then exit.Failed else exit.Done)
+exit_served true status e is told = subst (λ (n : ℕ). e ≡ exit_of_status n) is told
+exit_served false status e is told = subst (λ (n : ℕ). e ≡ exit_of_status n) is told
 
 module _ {D : Type 0} {g : disk.Ghosts D} where
   -- no connection could be waited for
-  pub not_ready : (desk : Standing (Held (FileStore D g))) (port count : ℕ) (output : Stream) (f : Fault) → IsListenFault f → output.new ≡ output.old
+  pub not_ready : (desk : DeskState (Held (FileStore D g))) (port count : ℕ) (output : Stream) (f : Fault) → IsListenFault f → output.new ≡ output.old
       → ServesAs desk desk port count output (Err f)
   not_ready desk port count output fault.Listen is same = (refl, same)
   not_ready desk port count output fault.Memory is same = (refl, same)
   not_ready desk port count output f is same = absurd is
 
   -- the line was not printed
-  pub not_printed : (A : Type 0) (desk : Standing (Held (FileStore D g))) (port count : ℕ) (output : Stream) (f : Fault) → Puts {A = A} (serving_text port) output (Err f)
+  pub not_printed : (A : Type 0) (desk : DeskState (Held (FileStore D g))) (port count : ℕ) (output : Stream) (f : Fault) → Puts {A = A} (serving_text port) output (Err f)
       → ServesAs desk desk port count output (Err f)
   not_printed A desk port count output fault.Listen puts = absurd puts
   not_printed A desk port count output f puts = (refl, puts)

@@ -11,7 +11,7 @@ use Rattle.sqlite_disk.specs.declared.start.Start as start
 use Rattle.sqlite_wal.specs.Files.{image_at}
 use Rattle.adm_words.specs.Lines.{ReadsWords}
 use Rattle.adm_words.specs.declared.actions.Action.{Action}
-use Rattle.adm_program.specs.Exits.{has_many_holidays, IsCauseIn, outcome_of, told_of, code_of}
+use Rattle.adm_program.specs.Exits.{has_many_holidays, IsCauseIn, outcome_of, told_of, exit_code}
 use Rattle.adm_wire.specs.Streams.{Stream}
 use Rattle.adm_program.specs.Told.{IsCut, Writes, Tells, TellsOutcome}
 use Rattle.adm_program.specs.Does.{Does}
@@ -59,16 +59,16 @@ tells text errors (Err e) writes = inr writes
 pub taken : {D S : Type 0} {g : disk.Ghosts D} (first : start.Ghosts S) (words : List (Bor (List ℕ))) (a : Action) (rows : List ℕ → Stream) (input output errors : Stream) (r : Result (Ended D g) Fault) (x : Exit)
     → ReadsWords (texts words) (Ok a) → IfOk r (λ ended. Does (image_at first) a rows input output ended.exit ended.closed) → IfErr r (IsCauseIn a)
     → (IsTrue (has_many_holidays a) → r ≡ Err TooManyHolidays) → OnErr r ((input.new ≡ input.old) × (output.new ≡ output.old))
-    → x ≡ told_of (outcome_of r) → TellsOutcome (outcome_of r) errors → DoesWords g first words rows input output errors (code_of x)
+    → x ≡ told_of (outcome_of r) → TellsOutcome (outcome_of r) errors → DoesWords g first words rows input output errors (exit_code x)
 taken first words a rows input output errors (Ok ended) x reads does cause many kept exits told =
     record {
       read = Ok a;
       reads = reads;
-      comes = inl (record { ended = ended.exit; closed = ended.closed; does = does; few = λ (t : IsTrue (has_many_holidays a)). (let e = many t in cc); told = told; exits = ap code_of exits });
+      comes = inl (record { ended = ended.exit; closed = ended.closed; does = does; few = λ (t : IsTrue (has_many_holidays a)). (let e = many t in cc); told = told; exits = ap exit_code exits });
     }
 taken first words a rows input output errors (Err f) x reads does cause many kept exits told =
     record {
       read = Ok a;
       reads = reads;
-      comes = inr (record { cause = f; is_cause = cause; many = λ (t : IsTrue (has_many_holidays a)). (let e = many t in cc); unread = kept.0; unwritten = kept.1; told = told; exits = ap code_of exits });
+      comes = inr (record { cause = f; is_cause = cause; many = λ (t : IsTrue (has_many_holidays a)). (let e = many t in cc); unread = kept.0; unwritten = kept.1; told = told; exits = ap exit_code exits });
     }

@@ -11,9 +11,9 @@ use Rattle.adm_words.specs.declared.actions.Action.TheVariants as action
 use Rattle.sqlite.specs.Files.{file_state}
 use Rattle.adm_desk.specs.Lines.{AnswersLine}
 use Rattle.adm_desk.specs.Questions.{TellsLine}
-use Rattle.adm_desk.specs.Standing.{Handles}
+use Rattle.adm_desk.specs.DeskState.{Handles}
 use Rattle.adm_wire.specs.Streams.{Stream}
-use Rattle.adm_program.specs.Runs.{Answers, Creates}
+use Rattle.adm_program.specs.Runs.{OpensAndRuns, Creates}
 use Rattle.adm_program.specs.Imports.{ImportsInto}
 use Rattle.adm_program.specs.Served.{ServesOver}
 use Rattle.adm_program.specs.Texts.{Prints}
@@ -26,8 +26,8 @@ use Rattle.adm_program.specs.declared.fault.Fault.{Fault}
 abbrev pub Does : {D : Type 0} {g : disk.Ghosts D} → Image → Action → (List ℕ → Stream) → Stream → Stream → Result Exit Fault → Result (Files D) (Error × FileStore D g) → Type 0
 Does image (action.Init file phase year days) rows input output e closed = (input.new ≡ input.old) × (output.new ≡ output.old)
     × (season : SeasonFacts) × (season.phase ≡ phase) × (season.year ≡ year) × IsRising days season.holidays × Creates image season e closed
-Does image (action.Do file) rows input output e closed = Answers (AnswersLine (Handles file_state)) image input output e closed
-Does image (action.WhatIf file) rows input output e closed = Answers TellsLine image input output e closed
+Does image (action.Do file) rows input output e closed = OpensAndRuns (AnswersLine (Handles file_state)) image input output e closed
+Does image (action.WhatIf file) rows input output e closed = OpensAndRuns TellsLine image input output e closed
 Does image (action.Import file csv) rows input output e closed = (input.new ≡ input.old) × ImportsInto image (rows csv.now) output e closed
 Does image (action.Serve file port count) rows input output e closed = (input.new ≡ input.old) × ServesOver image port count output e closed
 Does image (action.Letter file child) rows input output e closed = (input.new ≡ input.old) × Prints image (document.Letter child) output e closed

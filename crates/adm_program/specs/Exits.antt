@@ -59,22 +59,22 @@ disk_text (Some cause.NoDatabase) = codes "fault: Disk\ncause: it is no database
 disk_text (Some cause.Full) = codes "fault: Disk\ncause: the disk is full\n"
 
 -- `fault: `, the fault's name and LF; before the name of a fault in the file of an import its row, and after Disk its cause
-abbrev pub text_of : Fault → List ℕ
-text_of TooManyHolidays = codes "fault: TooManyHolidays\n"
-text_of YearRange = codes "fault: YearRange\n"
-text_of InUse = codes "fault: InUse\n"
-text_of NotOurs = codes "fault: NotOurs\n"
-text_of Version = codes "fault: Version\n"
-text_of BadRow = codes "fault: BadRow\n"
-text_of (Disk cause) = disk_text cause
-text_of Memory = codes "fault: Memory\n"
-text_of Read = codes "fault: Read\n"
-text_of Write = codes "fault: Write\n"
-text_of UnknownChild = codes "fault: UnknownChild\n"
-text_of UnknownSchool = codes "fault: UnknownSchool\n"
-text_of NoRound = codes "fault: NoRound\n"
-text_of Listen = codes "fault: Listen\n"
-text_of (Row fault) = row_text fault.row (row_fault_end fault.fault)
+abbrev pub fault_line : Fault → List ℕ
+fault_line TooManyHolidays = codes "fault: TooManyHolidays\n"
+fault_line YearRange = codes "fault: YearRange\n"
+fault_line InUse = codes "fault: InUse\n"
+fault_line NotOurs = codes "fault: NotOurs\n"
+fault_line Version = codes "fault: Version\n"
+fault_line BadRow = codes "fault: BadRow\n"
+fault_line (Disk cause) = disk_text cause
+fault_line Memory = codes "fault: Memory\n"
+fault_line Read = codes "fault: Read\n"
+fault_line Write = codes "fault: Write\n"
+fault_line UnknownChild = codes "fault: UnknownChild\n"
+fault_line UnknownSchool = codes "fault: UnknownSchool\n"
+fault_line NoRound = codes "fault: NoRound\n"
+fault_line Listen = codes "fault: Listen\n"
+fault_line (Row fault) = row_text fault.row (row_fault_end fault.fault)
 
 -- ---- each fault keeps its name
 
@@ -167,25 +167,25 @@ exit_of_answer answer.Memory = exit.Refused
 exit_of_answer answer.Failed = exit.Failed
 
 -- the same of the status that serving gave
-abbrev pub exit_of_served : ℕ → Exit
-exit_of_served status = if status == 4 then exit.Failed else exit.Done
+abbrev pub exit_of_status : ℕ → Exit
+exit_of_status status = if status == 4 then exit.Failed else exit.Done
 
 -- a fault before all else; a close that failed is one, but after a Failed
-abbrev pub closing_of : Exit → Option Error → Result Exit Fault
-closing_of exit.Failed closed = Ok exit.Failed
-closing_of e None = Ok e
-closing_of e (Some error) = Err (of_error error)
+abbrev pub with_close : Exit → Option Error → Result Exit Fault
+with_close exit.Failed closed = Ok exit.Failed
+with_close e None = Ok e
+with_close e (Some error) = Err (of_error error)
 
 abbrev pub ending_of : Result Exit Fault → Option Error → Result Exit Fault
 ending_of (Err fault) closed = Err fault
-ending_of (Ok e) closed = closing_of e closed
+ending_of (Ok e) closed = with_close e closed
 
-abbrev pub code_of : Exit → ℕ
-code_of exit.Done = 0
-code_of exit.Fault = 1
-code_of exit.Words = 2
-code_of exit.Refused = 3
-code_of exit.Failed = 4
+abbrev pub exit_code : Exit → ℕ
+exit_code exit.Done = 0
+exit_code exit.Fault = 1
+exit_code exit.Words = 2
+exit_code exit.Refused = 3
+exit_code exit.Failed = 4
 
 abbrev pub told_of : Result Exit Fault → Exit
 told_of (Ok e) = e

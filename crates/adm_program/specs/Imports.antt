@@ -15,7 +15,7 @@ use Rattle.adm_csv.specs.Rows.{ReadsRows, records_of}
 use Rattle.adm_csv.specs.declared.fault.Fault.TheVariants.{Read}
 use Rattle.adm_csv.specs.declared.fault.RowFault.{RowFault}
 use Rattle.adm_desk.specs.Lines.{answer_text}
-use Rattle.adm_desk.specs.Standing.{Handles, Standing}
+use Rattle.adm_desk.specs.DeskState.{Handles, DeskState}
 use Rattle.adm_desk.specs.declared.answer.Answer.{Answer}
 use Rattle.adm_program.specs.Exits.{exit_of_answer}
 use Rattle.adm_wire.specs.Streams.{Stream}
@@ -32,7 +32,7 @@ FileGives file (Err e) = IfSome file.old (λ bytes. ReadsRows (Unit {0}) (λ xs.
     × (e.fault ≡ Read → (file.has_failed ≡ true) × StopsAfter file.old file.new e.row)
 
 -- one command has these rows; its answer is written as a line, and makes the exit
-pub record IsHandled {C : Type 0} (disk : C → Left) (old new : Standing C) (rows : List ImportRow) (output : Stream) (e : Result Exit Fault) : Type 0 where
+pub record IsHandled {C : Type 0} (disk : C → Left) (old new : DeskState C) (rows : List ImportRow) (output : Stream) (e : Result Exit Fault) : Type 0 where
   pub answer : Answer
   pub handled : Handles disk old (Import rows) answer new
   pub written : Puts (answer_text answer ++ 10 ∷ []) output e
@@ -40,18 +40,18 @@ pub record IsHandled {C : Type 0} (disk : C → Left) (old new : Standing C) (ro
 
 module _ {D : Type 0} {g : disk.Ghosts D} where
   -- how an import ended, from the desk as it was to the desk as it is: a fault of the file changes nothing
-  abbrev pub ImportsAs : Standing (Held (FileStore D g)) → Standing (Held (FileStore D g)) → Stream → Stream → Result Exit Fault → Type 0
+  abbrev pub ImportsAs : DeskState (Held (FileStore D g)) → DeskState (Held (FileStore D g)) → Stream → Stream → Result Exit Fault → Type 0
   ImportsAs old new file output (Err (fault.Row f)) = FileGives file (Err f) × (new ≡ old) × (output.new ≡ output.old)
   ImportsAs old new file output e = (rows : List ImportRow) × FileGives file (Ok rows) × IsHandled file_state old new rows output e
 
   -- the rows of the file are imported over the desk, and then its connection is closed
-  pub record Imports (desk : Standing (Held (FileStore D g))) (file output : Stream) (e : Result Exit Fault) (closed : Result (Files D) (Error × FileStore D g)) : Type 0 where
-    pub after : Standing (Held (FileStore D g))
+  pub record Imports (desk : DeskState (Held (FileStore D g))) (file output : Stream) (e : Result Exit Fault) (closed : Result (Files D) (Error × FileStore D g)) : Type 0 where
+    pub after : DeskState (Held (FileStore D g))
     pub ends : ImportsAs desk after file output e
     pub closes : Closes after.conn closed
 
   -- the open of the file failed, and nothing is changed or written; or its rows are imported
-  abbrev pub ImportsFile : Standing (Held (FileStore D g)) → Stream → Stream → Result Exit Fault → Result (Files D) (Error × FileStore D g) → Type 0
+  abbrev pub ImportsFile : DeskState (Held (FileStore D g)) → Stream → Stream → Result Exit Fault → Result (Files D) (Error × FileStore D g) → Type 0
   ImportsFile desk file output e closed =
       ((e ≡ Err (fault.Row (record { row = 0; fault = Read }))) × (file.has_failed ≡ true) × (output.new ≡ output.old) × Closes desk.conn closed) ⊎ Imports desk file output e closed
 

@@ -16,7 +16,7 @@ use Rattle.adm_types.specs.declared.commands.Command.{Command}
 use Rattle.adm_register.specs.State.{State as Register}
 use Rattle.adm_store.specs.Faults.{IsNoRegister}
 use Rattle.adm_desk.specs.Acknowledged.{FindsAgain, LeavesAcknowledged}
-use Rattle.adm_desk.specs.Standing.{Standing}
+use Rattle.adm_desk.specs.DeskState.{DeskState}
 use Rattle.adm_program.specs.Opened.{IsNotOpened, IsOpened}
 use Rattle.adm_program.specs.declared.exit.Exit.{Exit}
 use Rattle.adm_program.specs.declared.fault.Fault.{Fault}
@@ -24,7 +24,7 @@ use Rattle.adm_program.specs.declared.fault.Fault.{Fault}
 -- A run over files that held this: where it opens the register, that is the one after the acknowledged commands, or also one that the
 -- command in work leaves; and it never tells that they hold none.
 pub record GoesOn {E : Type 0} (h : disk.Ghosts E) (image : Image) (r : Register) (work : Option Command) : Type 0 where
-  pub opened : (desk : Standing (Held (FileStore E h))) → IsOpened image desk → HasCleanDisk (file_state desk.conn) → ∥ FindsAgain r work desk.register ∥₁
+  pub opened : (desk : DeskState (Held (FileStore E h))) → IsOpened image desk → HasCleanDisk (file_state desk.conn) → ∥ FindsAgain r work desk.register ∥₁
   pub never : (e : Result Exit Fault) (closed : Result (Files E) (Error × FileStore E h)) (it : IsNotOpened image e closed) → HasCleanDisk (file_state it.left) → ¬ IsNoRegister it.cause
 
 module _ {D : Type 0} {g : disk.Ghosts D} {E : Type 0} (h : disk.Ghosts E) (c : Held (FileStore D g)) where

@@ -16,7 +16,7 @@ use Rattle.adm_store.specs.Migration.{IsMigrated}
 use Rattle.adm_store.specs.Faults.{IsNoRegister}
 use Rattle.adm_store.specs.FirstFault.{IsFirstFault}
 use Rattle.adm_store.specs.declared.fault.OpenFault.{OpenFault}
-use Rattle.adm_desk.specs.Standing.{Standing}
+use Rattle.adm_desk.specs.DeskState.{DeskState}
 use Rattle.adm_wire.specs.Streams.{Stream}
 use Rattle.adm_program.specs.Exits.{of_open}
 use Rattle.adm_program.specs.declared.ended.Ended.{Ended}
@@ -49,7 +49,7 @@ module _ {D : Type 0} {g : disk.Ghosts D} where
     pub closes : Closes left closed
 
   -- the desk has the register that the files stood for, and a crash leaves the files as they were, or in the second version for the same register
-  pub record IsOpened (image : Image) (desk : Standing (Held (FileStore D g))) : Type 0 where
+  pub record IsOpened (image : Image) (desk : DeskState (Held (FileStore D g))) : Type 0 where
     pub found : Held (FileStore D g)
     pub is_found : IsFound image found
     pub alive : desk.failed ≡ false
@@ -57,10 +57,10 @@ module _ {D : Type 0} {g : disk.Ghosts D} where
     pub kept : Survives (file_state found) (file_state desk.conn) (IsMigrated (file_state found))
 
   -- a desk, or how the line ended without one
-  abbrev pub OpensAs : Image → Result (Standing (Held (FileStore D g))) (Ended D g) → Type 0
+  abbrev pub OpensAs : Image → Result (DeskState (Held (FileStore D g))) (Ended D g) → Type 0
   OpensAs image (Ok desk) = IsOpened image desk
   OpensAs image (Err ended) = IsNotOpened image ended.exit ended.closed
 
   -- the register is not opened, and the streams stay as they were; or this comes of a desk that has it
-  abbrev pub Opens : Image → Type 0 → Result Exit Fault → Result (Files D) (Error × FileStore D g) → (Standing (Held (FileStore D g)) → Type 0) → Type 0
-  Opens image Stays e closed Comes = (IsNotOpened image e closed × Stays) ⊎ ((desk : Standing (Held (FileStore D g))) × IsOpened image desk × Comes desk)
+  abbrev pub Opens : Image → Type 0 → Result Exit Fault → Result (Files D) (Error × FileStore D g) → (DeskState (Held (FileStore D g)) → Type 0) → Type 0
+  Opens image Stays e closed Comes = (IsNotOpened image e closed × Stays) ⊎ ((desk : DeskState (Held (FileStore D g))) × IsOpened image desk × Comes desk)

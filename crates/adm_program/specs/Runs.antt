@@ -13,7 +13,7 @@ use Rattle.adm_register.specs.State.{only_season}
 use Rattle.adm_store.specs.StandsFor.{LeavesOnly, LeavesOldOrNew}
 use Rattle.adm_store.specs.declared.fault.CreateFault.{CreateFault}
 use Rattle.adm_store.specs.declared.fault.CreateFault.TheVariants as create
-use Rattle.adm_desk.specs.Standing.{Standing}
+use Rattle.adm_desk.specs.DeskState.{DeskState}
 use Rattle.adm_desk.specs.Written.{EndsAs}
 use Rattle.adm_desk.specs.declared.answer.LineAnswer.{LineAnswer}
 use Rattle.adm_desk.specs.declared.run.Run.{Run}
@@ -31,16 +31,16 @@ Liner S = S → List ℕ → LineAnswer → S → Type 0
 
 module _ {D : Type 0} {g : disk.Ghosts D} where
   -- the lines are run over the desk, and then its connection is closed
-  pub record Runs (runs : Liner (Standing (Held (FileStore D g)))) (desk : Standing (Held (FileStore D g))) (input output : Stream) (e : Result Exit Fault) (closed : Result (Files D) (Error × FileStore D g)) : Type 0 where
-    pub after : Standing (Held (FileStore D g))
+  pub record Runs (runs : Liner (DeskState (Held (FileStore D g)))) (desk : DeskState (Held (FileStore D g))) (input output : Stream) (e : Result Exit Fault) (closed : Result (Files D) (Error × FileStore D g)) : Type 0 where
+    pub after : DeskState (Held (FileStore D g))
     pub run : Result Run RunFault
     pub ends : EndsAs runs desk after input output run
     pub told : e ≡ of_lines run
     pub closes : Closes after.conn closed
 
   -- a desk has the register that the files stood for, and runs the lines; nothing is read or written before it has
-  abbrev pub Answers : Liner (Standing (Held (FileStore D g))) → Image → Stream → Stream → Result Exit Fault → Result (Files D) (Error × FileStore D g) → Type 0
-  Answers runs image input output e closed = Opens image ((input.new ≡ input.old) × (output.new ≡ output.old)) e closed (λ desk. Runs runs desk input output e closed)
+  abbrev pub OpensAndRuns : Liner (DeskState (Held (FileStore D g))) → Image → Stream → Stream → Result Exit Fault → Result (Files D) (Error × FileStore D g) → Type 0
+  OpensAndRuns runs image input output e closed = Opens image ((input.new ≡ input.old) × (output.new ≡ output.old)) e closed (λ desk. Runs runs desk input output e closed)
 
   -- what a create leaves
   abbrev pub CreatesAs : SeasonFacts → Held (FileStore D g) → Held (FileStore D g) → Result Exit Fault → Type 0

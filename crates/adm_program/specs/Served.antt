@@ -9,7 +9,7 @@ use Rattle.sqlite.specs.declared.error.Error.{Error}
 use Rattle.sqlite.specs.Held.{Held}
 use Rattle.sqlite.specs.Files.{file_state}
 use Rattle.adm_http.specs.Purposes.{RunsBody}
-use Rattle.adm_desk.specs.Standing.{Standing}
+use Rattle.adm_desk.specs.DeskState.{DeskState}
 use Rattle.adm_http.specs.Connections.{AnswersUpTo}
 use Rattle.adm_http.specs.Shows.{Shows}
 use Rattle.adm_wire.specs.Streams.{Stream}
@@ -27,15 +27,15 @@ serving_text port = codes "serving on 127.0.0.1:" ++ (decimal port ++ codes "\n"
 module _ {D : Type 0} {g : disk.Ghosts D} where
   -- How serving ended, from the desk as it was to the desk as it is: the line was printed and at most as many requests were answered, and a store that
   -- failed makes the exit; or the port could not be taken, the line not printed or memory ran out, and no request was answered.
-  abbrev pub ServesAs : Standing (Held (FileStore D g)) → Standing (Held (FileStore D g)) → ℕ → ℕ → Stream → Result Exit Fault → Type 0
+  abbrev pub ServesAs : DeskState (Held (FileStore D g)) → DeskState (Held (FileStore D g)) → ℕ → ℕ → Stream → Result Exit Fault → Type 0
   ServesAs old new port count output (Ok e) = Appends output.old output.new (serving_text port)
       × AnswersUpTo (RunsBody file_state) Shows count old new × (e ≡ (if new.failed then exit.Failed else exit.Done))
   ServesAs old new port count output (Err fault.Listen) = (new ≡ old) × (output.new ≡ output.old)
   ServesAs old new port count output (Err f) = (new ≡ old) × Puts {A = Exit} (serving_text port) output (Err f)
 
   -- connections to the port are served over the desk, and then its own connection is closed
-  pub record Serves (desk : Standing (Held (FileStore D g))) (port count : ℕ) (output : Stream) (e : Result Exit Fault) (closed : Result (Files D) (Error × FileStore D g)) : Type 0 where
-    pub after : Standing (Held (FileStore D g))
+  pub record Serves (desk : DeskState (Held (FileStore D g))) (port count : ℕ) (output : Stream) (e : Result Exit Fault) (closed : Result (Files D) (Error × FileStore D g)) : Type 0 where
+    pub after : DeskState (Held (FileStore D g))
     pub ends : ServesAs desk after port count output e
     pub closes : Closes after.conn closed
 

@@ -11,7 +11,7 @@ use Rattle.adm_register.specs.State.{State}
 use Rattle.adm_letters.specs.Letters.{letter_text}
 use Rattle.adm_letters.specs.Lists.{list_text}
 use Rattle.adm_letters.specs.Pairs.{pairs_text}
-use Rattle.adm_letters.specs.Reports.{round_text}
+use Rattle.adm_letters.specs.Reports.{report_text}
 use Rattle.adm_wire.specs.Streams.{Stream}
 use Rattle.adm_program.specs.Opened.{Closes, Opens}
 use Rattle.adm_program.specs.declared.document.Document.{Document}
@@ -37,7 +37,7 @@ text_or f None = Err f
 abbrev pub text_in : State → Document → Result (List ℕ) Fault
 text_in s (document.Letter child) = text_or fault.UnknownChild (letter_text s child)
 text_in s (document.List school) = text_or fault.UnknownSchool (list_text s school)
-text_in s (document.Report round) = text_or fault.NoRound (round_text s round)
+text_in s (document.Report round) = text_or fault.NoRound (report_text s round)
 text_in s (document.Pairs school) = text_or fault.UnknownSchool (pairs_text s school)
 
 -- the print of a text is done where it was written; where there is none, its fault is told and nothing is written

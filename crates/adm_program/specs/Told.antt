@@ -3,7 +3,7 @@ use Rattle.std.specs.Prelude.{◌≡◌, ◌⊎◌, ℕ, true, List, take, Resul
 use Rattle.std.specs.Io.KnownBytes.{Appends}
 use Rattle.adm_words.specs.Lines.{IsFaultText}
 use Rattle.adm_words.specs.declared.faults.WordsFault.{WordsFault}
-use Rattle.adm_program.specs.Exits.{text_of}
+use Rattle.adm_program.specs.Exits.{fault_line}
 use Rattle.adm_wire.specs.Streams.{Stream}
 use Rattle.adm_program.specs.declared.exit.Exit.{Exit}
 use Rattle.adm_program.specs.declared.fault.Fault.{Fault}
@@ -24,7 +24,7 @@ Tells text errors = Appends errors.old errors.new text ⊎ IsCut text errors
 -- the fault by which a line ended is told, and nothing where there is none
 abbrev pub TellsOutcome : Result Exit Fault → Stream → Type 0
 TellsOutcome (Ok e) errors = errors.new ≡ errors.old
-TellsOutcome (Err fault) errors = Tells (text_of fault) errors
+TellsOutcome (Err fault) errors = Tells (fault_line fault) errors
 
 -- what is wrong with the words is told; the text of clap is its own, so of that this says nothing
 abbrev pub TellsWords : WordsFault → Stream → Type 0

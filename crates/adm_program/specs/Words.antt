@@ -11,7 +11,7 @@ use Rattle.sqlite.specs.declared.error.Error.{Error}
 use Rattle.adm_words.specs.Lines.{ReadsWords}
 use Rattle.adm_words.specs.declared.actions.Action.{Action}
 use Rattle.adm_words.specs.declared.faults.WordsFault.{WordsFault}
-use Rattle.adm_program.specs.Exits.{has_many_holidays, IsCauseIn, ending_of, error_of, told_of, code_of, exit_of_words, text_of}
+use Rattle.adm_program.specs.Exits.{has_many_holidays, IsCauseIn, ending_of, error_of, told_of, exit_code, exit_of_words, fault_line}
 use Rattle.adm_wire.specs.Streams.{Stream}
 use Rattle.adm_program.specs.Told.{Tells, TellsOutcome, TellsWords}
 use Rattle.adm_program.specs.Does.{Does}
@@ -30,7 +30,7 @@ pub record ComesToNothing (action : Action) (input output errors : Stream) (stat
   pub many : IsTrue (has_many_holidays action) → cause ≡ TooManyHolidays
   pub unread : input.new ≡ input.old
   pub unwritten : output.new ≡ output.old
-  pub told : Tells (text_of cause) errors
+  pub told : Tells (fault_line cause) errors
   pub exits : status ≡ 1
 
 -- the words ask for nothing, or could not be read for want of memory, which is told; nothing was read or written
@@ -38,7 +38,7 @@ pub record AskForNothing (fault : WordsFault) (input output errors : Stream) (st
   pub unread : input.new ≡ input.old
   pub unwritten : output.new ≡ output.old
   pub told : TellsWords fault errors
-  pub exits : status ≡ code_of (exit_of_words fault)
+  pub exits : status ≡ exit_code (exit_of_words fault)
 
 module _ {D : Type 0} (g : disk.Ghosts D) where
   -- the action was done, from the files as they were found to the close, and its end is told and makes the status
@@ -48,7 +48,7 @@ module _ {D : Type 0} (g : disk.Ghosts D) where
     pub does : Does image action rows input output ended closed
     pub few : IsTrue (has_many_holidays action) → ⊥
     pub told : TellsOutcome (ending_of ended (error_of closed)) errors
-    pub exits : status ≡ code_of (told_of (ending_of ended (error_of closed)))
+    pub exits : status ≡ exit_code (told_of (ending_of ended (error_of closed)))
 
   -- what comes of words, by what they were read as
   abbrev pub ComesOf : Image → Result Action WordsFault → (List ℕ → Stream) → Stream → Stream → Stream → ℕ → Type 0

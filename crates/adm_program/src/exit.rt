@@ -1,6 +1,6 @@
 // The exit status of a run.
 ghost use Rattle.std.specs.Prelude.{◌≡◌, OnOk};
-ghost use Rattle.adm_program.specs.Exits.{code_of, exit_of, exit_of_answer, exit_of_served, exit_of_words};
+ghost use Rattle.adm_program.specs.Exits.{exit_code, exit_of, exit_of_answer, exit_of_status, exit_of_words};
 
 use adm_desk::{Answer, Run};
 use adm_words::WordsFault;
@@ -47,7 +47,7 @@ impl Exit {
 
     /// The exit of serving, by the status that it gave.
     pub fn of_served(status: u8) -> Exit
-        ensures { result ≡ exit_of_served status }
+        ensures { result ≡ exit_of_status status }
     {
         if status == 4 {
             Exit::Failed
@@ -68,7 +68,7 @@ impl Exit {
 
     /// The exit status.
     pub fn code(self) -> u8
-        ensures { result ≡ code_of self }
+        ensures { result ≡ exit_code self }
     {
         match self {
             Exit::Done => 0,

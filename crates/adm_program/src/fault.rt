@@ -1,6 +1,6 @@
 // Why a line of the command line came to nothing, and what is printed of it.
 ghost use Rattle.std.specs.Prelude.{◌≡◌, MatchResult};
-ghost use Rattle.adm_program.specs.Exits.{text_of, disk_text, row_text, row_fault_end, of_season, of_create, of_open, of_run, of_letter, of_error};
+ghost use Rattle.adm_program.specs.Exits.{fault_line, disk_text, row_text, row_fault_end, of_season, of_create, of_open, of_run, of_letter, of_error};
 ghost use Rattle.adm_wire.specs.Streams.{writer};
 ghost use Rattle.adm_program.specs.Told.{Writes};
 
@@ -41,7 +41,7 @@ impl Fault {
     /// Prints `fault: `, the fault's name and LF; before the name of a fault in the file of an import
     /// its row, and after Disk a line with its cause, where one is known. It takes no memory.
     pub fn print<E: Output>(self, errors: &mut E) -> Result<(), WriteFailed>
-        ensures { Writes (text_of self) (writer E.Output errors.old errors.new) result }
+        ensures { Writes (fault_line self) (writer E.Output errors.old errors.new) result }
     {
         match self.text() {
             Ok(text) => print_text(text, errors),
@@ -51,7 +51,7 @@ impl Fault {
 
     /// The text of the fault; the `Err` is that of a row, whose text has the row in it.
     fn text(self) -> Result<&'static str, RowFault>
-        ensures { MatchResult result (λ text. text.now ≡ text_of self) (λ fault. self ≡ Fault.Row fault) }
+        ensures { MatchResult result (λ text. text.now ≡ fault_line self) (λ fault. self ≡ Fault.Row fault) }
     {
         match self {
             Fault::TooManyHolidays => Ok("fault: TooManyHolidays\n"),

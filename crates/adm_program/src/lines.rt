@@ -4,10 +4,10 @@ ghost use Rattle.sqlite_wal.specs.Files.{image_at};
 ghost use Rattle.sqlite.specs.Files.{file_state};
 ghost use Rattle.adm_desk.specs.Lines.{AnswersLine};
 ghost use Rattle.adm_desk.specs.Questions.{TellsLine};
-ghost use Rattle.adm_desk.specs.Standing.{Handles};
+ghost use Rattle.adm_desk.specs.DeskState.{Handles};
 ghost use Rattle.adm_program.specs.Exits.{IsOpenFault, IsDisk};
 ghost use Rattle.adm_wire.specs.Streams.{reader, writer};
-ghost use Rattle.adm_program.specs.Runs.{Answers, Runs};
+ghost use Rattle.adm_program.specs.Runs.{OpensAndRuns, Runs};
 
 use crate::ended::{Ended, close};
 use crate::exit::Exit;
@@ -27,7 +27,7 @@ pub fn do_lines<S: Start, I: Input, O: Output>(
     input: &mut I,
     output: &mut O,
 ) -> Result<Ended<FileFrom<S>>, Fault>
-    ensures ok { IfOk result (λ ended. Answers (AnswersLine (Handles file_state)) (image_at S.Start)
+    ensures ok { IfOk result (λ ended. OpensAndRuns (AnswersLine (Handles file_state)) (image_at S.Start)
         (reader I.Input input.old input.new)
         (writer O.Output output.old output.new)
         ended.exit ended.closed) }
@@ -67,7 +67,7 @@ pub fn tell_lines<S: Start, I: Input, O: Output>(
     input: &mut I,
     output: &mut O,
 ) -> Result<Ended<FileFrom<S>>, Fault>
-    ensures ok { IfOk result (λ ended. Answers TellsLine (image_at S.Start)
+    ensures ok { IfOk result (λ ended. OpensAndRuns TellsLine (image_at S.Start)
         (reader I.Input input.old input.new)
         (writer O.Output output.old output.new)
         ended.exit ended.closed) }

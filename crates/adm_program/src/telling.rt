@@ -1,6 +1,6 @@
 // What is told of a fault on the standard error, and the exit that goes with it.
 ghost use Rattle.std.specs.Prelude.{◌≡◌};
-ghost use Rattle.adm_program.specs.Exits.{exit_of_words, outcome_of, text_of, told_of};
+ghost use Rattle.adm_program.specs.Exits.{exit_of_words, outcome_of, fault_line, told_of};
 ghost use Rattle.adm_wire.specs.Streams.{writer};
 ghost use Rattle.adm_program.specs.Told.{Tells, TellsOutcome, TellsWords, WritesWords};
 ghost use Rattle.adm_program.specs.declared.fault.Fault.TheVariants.{Memory};
@@ -17,7 +17,7 @@ use std::alloc::Global;
 /// the words. It takes none. A print that fails is passed over.
 pub fn tell_memory<E: Output>(errors: &mut E) -> u8
     ensures status { result ≡ 1 }
-    ensures told { Tells (text_of Memory) (writer E.Output errors.old errors.new) }
+    ensures told { Tells (fault_line Memory) (writer E.Output errors.old errors.new) }
 {
     tell(Err(Fault::Memory), errors).code()
 }

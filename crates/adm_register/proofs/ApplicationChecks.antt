@@ -8,7 +8,7 @@ use Rattle.std.proofs.lemmas.Bool.{and_parts}
 use Rattle.adm_types.specs.declared.rows.Application.{Application}
 use Rattle.adm_types.specs.declared.rows.Child.{Child}
 use Rattle.adm_types.specs.declared.rows.School.{School}
-use Rattle.adm_register.specs.State.{code_cmp}
+use Rattle.adm_types.specs.Limits.{code_cmp}
 use Rattle.adm_register.specs.WellFormed.{ApplicationFits, fits_application, is_application}
 
 pub application_decided : (last_day : ℕ) (schools : FinMap code_cmp School) (children : FinMap nat_cmp Child) (number : ℕ) (application : Application)

@@ -6,7 +6,7 @@ use Rattle.std.specs.FinMap.{FinMap}
 use Rattle.std.proofs.lemmas.Bool.{and_parts}
 use Rattle.adm_types.specs.declared.rows.Child.{Child}
 use Rattle.adm_types.specs.declared.rows.School.{School}
-use Rattle.adm_register.specs.State.{code_cmp}
+use Rattle.adm_types.specs.Limits.{code_cmp}
 use Rattle.adm_register.specs.WellFormed.{ChildFits, fits_child, is_child}
 
 pub child_decided : (schools : FinMap code_cmp School) (number : ℕ) (child : Child) → (fits_child schools number child ≡ true) ↔ ChildFits schools number child

@@ -19,7 +19,7 @@ use Rattle.adm_types.specs.declared.draws.Draw.{Draw}
 use Rattle.adm_types.specs.declared.draws.Outcome.{Outcome}
 use Rattle.adm_types.specs.declared.draws.Lot.{Lot}
 use Rattle.adm_register.specs.declared.draws_so_far.DrawsSoFar.{DrawsSoFar}
-use Rattle.adm_register.specs.State.{code_cmp}
+use Rattle.adm_types.specs.Limits.{code_cmp}
 use Rattle.adm_register.specs.Change.{put_all}
 use Rattle.adm_register.specs.WellFormed.{AllRows}
 use Rattle.adm_register.specs.Draws.{no_draws, with_draw, with_draws, is_next, are_in_order, is_choice, is_known_outcome, is_known_lot, DrawFits}

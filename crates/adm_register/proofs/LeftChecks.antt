@@ -9,7 +9,7 @@ use Rattle.adm_types.specs.declared.rows.LeftPair.{LeftPair}
 use Rattle.adm_types.specs.declared.rows.PlaceRow.{PlaceRow}
 use Rattle.adm_types.specs.declared.rows.School.{School}
 use Rattle.adm_table.specs.Same.{is_same_left}
-use Rattle.adm_register.specs.State.{code_cmp}
+use Rattle.adm_types.specs.Limits.{code_cmp}
 use Rattle.adm_register.specs.WellFormed.{LeftPairFits, fits_left, is_left}
 use Rattle.adm_register.proofs.SameLemmas.{same_left}
 

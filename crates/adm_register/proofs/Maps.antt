@@ -8,7 +8,8 @@ use Rattle.std.specs.Cmp.Lexicographic.{nat_list_cmp_total}
 use Rattle.std.specs.FinMap.{FinMap, empty, get-empty, IsAntisymmetric, nat_cmp-IsAntisymmetric, slice_cmp-IsAntisymmetric}
 use Rattle.std.proofs.lemmas.Option.{none-some}
 use Rattle.adm_types.specs.declared.rows.LeftPair.{LeftPair}
-use Rattle.adm_register.specs.State.{code_cmp, left_cmp}
+use Rattle.adm_types.specs.Limits.{code_cmp}
+use Rattle.adm_register.specs.State.{left_cmp}
 use Rattle.adm_register.specs.WellFormed.{AllRows}
 
 pub code_cmp-IsAntisymmetric : IsAntisymmetric code_cmp

@@ -7,8 +7,9 @@ use Rattle.adm_types.specs.Seasons.{SeasonFacts, IsSeason, lists_end}
 use Rattle.adm_types.specs.declared.rows.School.{School}
 use Rattle.adm_types.specs.declared.rows.Child.{Child}
 use Rattle.adm_types.specs.declared.draws.Draw.{Draw}
-use Rattle.adm_register.specs.State.{code_cmp, left_cmp, only_season}
-use Rattle.adm_register.specs.WellFormed.{WellFormed, SchoolFits, ChildFits, ApplicationFits, PlaceFits, LeftPairFits, ImportFits, has_round, held_at}
+use Rattle.adm_types.specs.Limits.{code_cmp}
+use Rattle.adm_register.specs.State.{left_cmp, only_season}
+use Rattle.adm_register.specs.WellFormed.{WellFormed, SchoolFits, ChildFits, ApplicationFits, PlaceFits, LeftPairFits, ImportFits, has_first_round, places_outside_plans}
 use Rattle.adm_register.specs.Draws.{DrawFits, are_in_order, no_draws}
 use Rattle.adm_register.proofs.Maps.{AllRows-empty}
 
@@ -22,7 +23,7 @@ only_season-WellFormed season is = record {
     children_fit = AllRows-empty nat_cmp (ChildFits empty);
     applications_fit = AllRows-empty nat_cmp (ApplicationFits (lists_end season) empty empty);
   };
-  places = record { each = AllRows-empty nat_cmp (PlaceFits empty empty empty (has_round empty)); room = AllRows-empty code_cmp (λ code (school : School). held_at empty code ≤ school.pan) };
+  places = record { each = AllRows-empty nat_cmp (PlaceFits empty empty empty (has_first_round empty)); room = AllRows-empty code_cmp (λ code (school : School). places_outside_plans empty code ≤ school.pan) };
   left = AllRows-empty left_cmp (LeftPairFits empty empty empty);
   draws = record { each = AllRows-empty nat_cmp (DrawFits empty empty); in_order = ap (are_in_order season no_draws) (values-empty nat_cmp Draw) };
   imported = AllRows-empty nat_cmp (ImportFits (lists_end season) empty empty);

@@ -9,7 +9,7 @@ use Rattle.adm_types.specs.declared.rows.Application.{Application}
 use Rattle.adm_types.specs.declared.rows.Child.{Child}
 use Rattle.adm_types.specs.declared.rows.PlaceRow.{PlaceRow}
 use Rattle.adm_types.specs.declared.rows.School.{School}
-use Rattle.adm_register.specs.State.{code_cmp}
+use Rattle.adm_types.specs.Limits.{code_cmp}
 use Rattle.adm_register.specs.WellFormed.{PlaceFits, fits_place, is_place}
 
 pub place_decided : (schools : FinMap code_cmp School) (children : FinMap nat_cmp Child) (applications : FinMap nat_cmp Application) (held : Bool) (number : ℕ) (row : PlaceRow)

@@ -12,7 +12,7 @@ use Rattle.adm_lists.proofs.Orders.{same_key, tied}
 use Rattle.adm_lists.proofs.Each.{list_all-weaker}
 use Rattle.adm_lists.proofs.Maps.{get_rows, contains_key-insert}
 use Rattle.adm_types.specs.declared.rows.School.{School}
-use Rattle.adm_register.specs.State.{code_cmp}
+use Rattle.adm_types.specs.Limits.{code_cmp}
 use Rattle.adm_table.specs.TableRows.{row_at, put_at, cut_at}
 use Rattle.adm_register.specs.Change.{put_all, cut_all}
 use Rattle.adm_register.specs.WellFormed.{AllRows, are_schools}

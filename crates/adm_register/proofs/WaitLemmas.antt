@@ -19,7 +19,7 @@ use Rattle.adm_types.specs.declared.rows.Child.{Child}
 use Rattle.adm_types.specs.declared.rows.Application.{Application}
 use Rattle.adm_types.specs.declared.rows.PlaceRow.{PlaceRow}
 use Rattle.adm_register.specs.State.{State, is_plan}
-use Rattle.adm_register.specs.WellFormed.{WellFormed, has_round, is_held}
+use Rattle.adm_register.specs.WellFormed.{WellFormed, has_first_round, is_outside_plan}
 use Rattle.adm_register.specs.Wanted.{above, has_left, wanted_of}
 use Rattle.adm_register.specs.Waits.{waits, waiting_child, waiting_at}
 use Rattle.adm_register.proofs.SameRows.{entries_at_own_keys}
@@ -78,19 +78,19 @@ unlisted s application code none =
       | inl higher ↦ absurd (false≢true (sym none ∙ on_list_above place application.list code higher))
       | inr lower ↦ lower
     ] in
-    sym (ap (λ b. has_round s.draws && b) (sym (wanted_parts s application code) ∙ ap (λ b. b && not (has_left s.left application.child code)) apart) ∙ and-false (has_round s.draws))
+    sym (ap (λ b. has_first_round s.draws && b) (sym (wanted_parts s application code) ∙ ap (λ b. b && not (has_left s.left application.child code)) apart) ∙ and-false (has_first_round s.draws))
 
 -- ---- what is known of who waits
 
 -- there was a round, the school is on the list, the child has not left it, and has no place there
 pub record IsWaiting (s : State) (application : Application) (code : List ℕ) : Type 0 where
-  pub held : has_round s.draws ≡ true
+  pub held : has_first_round s.draws ≡ true
   pub lists : is_listed application.list code ≡ true
   pub not_left : has_left s.left application.child code ≡ false
-  pub no_place : is_held (get s.places application.child) code ≡ false
+  pub no_place : is_outside_plan (get s.places application.child) code ≡ false
 
 -- who has a place at a school does not want it
-apart_from : (p : List ℕ → Bool) (place : Option PlaceRow) (list : List (List ℕ)) (code : List ℕ) → is_listed (filter p (above place list)) code ≡ true → is_held place code ≡ false
+apart_from : (p : List ℕ → Bool) (place : Option PlaceRow) (list : List (List ℕ)) (code : List ℕ) → is_listed (filter p (above place list)) code ≡ true → is_outside_plan place code ≡ false
 apart_from p None list code wanted = refl
 apart_from p (Some row) list code wanted =
     by (pointwise nat_eq row.place.school code) (is_plan row.place.state) (own_apart p (Some row) list) refl
@@ -102,7 +102,7 @@ apart_from p (Some row) list code wanted =
 
 pub waits_is : (s : State) → WellFormed s → (application : Application) (code : List ℕ) → waits s application code ≡ true → IsWaiting s application code
 waits_is s well application code waiting =
-    let both = and_parts (has_round s.draws) (is_listed (wanted_of s application) code) waiting in
+    let both = and_parts (has_first_round s.draws) (is_listed (wanted_of s application) code) waiting in
     let wants = wants_is s well application code both.1 in
     record {
       held = both.0;

@@ -11,7 +11,8 @@ use Rattle.adm_types.specs.declared.draws.Draw.{Draw}
 use Rattle.adm_types.specs.declared.draws.Outcome.{Outcome}
 use Rattle.adm_types.specs.declared.draws.Lot.{Lot}
 use Rattle.adm_draws.specs.Draws.{is_draw}
-use Rattle.adm_register.specs.State.{State, code_cmp}
+use Rattle.adm_types.specs.Limits.{code_cmp}
+use Rattle.adm_register.specs.State.{State}
 use Rattle.adm_register.specs.declared.draws_so_far.DrawsSoFar.{DrawsSoFar}
 
 -- ---- how far draws have come

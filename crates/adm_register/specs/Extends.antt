@@ -17,10 +17,10 @@ pub record Extends (old new : State) : Type 0 where
   pub imported : (number : ℕ) (row : ImportRow) → get old.imported number ≡ Some row → get new.imported number ≡ Some row
 
 -- a school then and now: its admission number is not smaller, and all else of it is as it was
-pub record IsKept (was now : School) : Type 0 where
+pub record IsRaised (was now : School) : Type 0 where
   pub number : was.pan ≤ now.pan
   pub others : now ≡ record was { pan = now.pan }
 
 -- each school that both registers have is kept so
 abbrev pub KeepsSchools : State → State → Type 0
-KeepsSchools old new = (code : List ℕ) (was now : School) → get old.schools code ≡ Some was → get new.schools code ≡ Some now → IsKept was now
+KeepsSchools old new = (code : List ℕ) (was now : School) → get old.schools code ≡ Some was → get new.schools code ≡ Some now → IsRaised was now

@@ -15,11 +15,12 @@ use Rattle.adm_types.specs.declared.rows.PlaceRow.{PlaceRow}
 use Rattle.adm_types.specs.declared.rows.LeftPair.{LeftPair}
 use Rattle.adm_types.specs.declared.draws.Draw.{Draw}
 use Rattle.adm_register.specs.declared.difference.Difference.{Difference}
-use Rattle.adm_register.specs.State.{State, code_cmp, left_cmp, is_plan}
+use Rattle.adm_types.specs.Limits.{code_cmp}
+use Rattle.adm_register.specs.State.{State, left_cmp, is_plan}
 use Rattle.adm_register.specs.Change.{after}
-use Rattle.adm_register.specs.Extends.{IsKept}
+use Rattle.adm_register.specs.Extends.{IsRaised}
 use Rattle.adm_register.specs.Draws.{DrawFits, are_in_order, no_draws, with_draws}
-use Rattle.adm_register.specs.WellFormed.{AllRows, has_round, held_at, SchoolFits, ChildFits, ApplicationFits, PlaceFits, LeftPairFits, ImportFits}
+use Rattle.adm_register.specs.WellFormed.{AllRows, has_first_round, places_outside_plans, SchoolFits, ChildFits, ApplicationFits, PlaceFits, LeftPairFits, ImportFits}
 
 -- there are at most so many rows where one was put
 abbrev pub FewAfter : {K V : Type 0} {R : K → K → Ordering} → ℕ → FinMap R V → List V → Type 0
@@ -29,7 +30,7 @@ FewAfter limit rows (row ∷ put) = len rows ≤ limit
 -- what is put into the schools, the children and the applications fits the rows after the change; the schools are new, or what they were but for a number that is not smaller
 pub record BasePut (old : State) (change : Difference) : Type 0 where
   pub schools : AllByRecursion (λ (s : School). SchoolFits s.code s) change.schools
-  pub kept_schools : AllByRecursion (λ (s : School). (was : School) → get old.schools s.code ≡ Some was → IsKept was s) change.schools
+  pub kept_schools : AllByRecursion (λ (s : School). (was : School) → get old.schools s.code ≡ Some was → IsRaised was s) change.schools
   pub few_schools : FewAfter most_schools (after old change).schools change.schools
   pub children : AllByRecursion (λ (c : Child). ChildFits (after old change).schools c.no c) change.children
   pub few_children : FewAfter most_children (after old change).children change.children
@@ -37,9 +38,9 @@ pub record BasePut (old : State) (change : Difference) : Type 0 where
 
 -- What is put into the places fits the rows after the change. A child that keeps its place keeps its application, if it has one. There is room at each school.
 pub record PlacesPut (old : State) (change : Difference) : Type 0 where
-  pub places : AllByRecursion (λ (p : PlaceRow). PlaceFits (after old change).schools (after old change).children (after old change).applications (has_round (after old change).draws) p.child p) change.places
+  pub places : AllByRecursion (λ (p : PlaceRow). PlaceFits (after old change).schools (after old change).children (after old change).applications (has_first_round (after old change).draws) p.child p) change.places
   pub kept : (number : ℕ) (row : PlaceRow) → get old.places number ≡ Some row → get (after old change).places number ≡ Some row → get (after old change).applications number ≡ get old.applications number
-  pub room : AllRows (λ code (school : School). held_at (after old change).places code ≤ school.pan) (after old change).schools
+  pub room : AllRows (λ code (school : School). places_outside_plans (after old change).places code ≤ school.pan) (after old change).schools
 
 -- what is put into the left pairs fits the rows after the change, and each place that is put is that of a plan, or at a school that its child has not left
 pub record LeftPut (old : State) (change : Difference) : Type 0 where

@@ -4,7 +4,7 @@ use Rattle.std.specs.declared.cmp.Ordering.{Ordering}
 use Rattle.std.specs.FinMap.{from_entries, values}
 use Rattle.std.specs.List.Sorted.{IsPermutation, IsStrictlySortedBy}
 use Rattle.std.specs.Map.{keys_of, values_of}
-use Rattle.adm_draws.specs.Draws.{AreRowsOf}
+use Rattle.adm_draws.specs.Draws.{AreDrawRowsOf}
 use Rattle.adm_register.specs.declared.groups.Base.{Base}
 use Rattle.adm_register.specs.declared.groups.Course.{Course}
 use Rattle.adm_register.specs.declared.difference.Difference.{Difference}
@@ -68,7 +68,7 @@ pub record AreBaseRowsOf (rows : BaseRows) (s : State) : Type 0 where
 pub record AreCourseRowsOf (rows : CourseRows) (s : State) : Type 0 where
   pub places : IsPermutation rows.places (values s.places)
   pub left : IsPermutation rows.left (values s.left)
-  pub draws : AreRowsOf rows.drawn.draws rows.drawn.offers rows.drawn.lots (values s.draws)
+  pub draws : AreDrawRowsOf rows.drawn.draws rows.drawn.offers rows.drawn.lots (values s.draws)
   pub imported : IsPermutation rows.imported (values s.imported)
 
 -- a table has just these rows, each at its own key

@@ -8,7 +8,7 @@ use Rattle.std.specs.FinMap.{get, values}
 use Rattle.adm_types.specs.declared.rows.Place.{Place}
 use Rattle.adm_types.specs.declared.draws.Draw.{Draw}
 use Rattle.adm_register.specs.declared.register_rows.Rows.{Rows}
-use Rattle.adm_draws.specs.Draws.{row_of, offers_of, lots_of}
+use Rattle.adm_draws.specs.Draws.{row_of, offer_rows_of, lot_rows_of}
 use Rattle.adm_draws.specs.Draws as drawn
 use Rattle.adm_register.specs.State.{State}
 
@@ -22,8 +22,8 @@ rows_in_order s = record {
   places = values s.places;
   left = values s.left;
   draws = map row_of (values s.draws);
-  offers = flat_map offers_of (values s.draws);
-  lots = flat_map lots_of (values s.draws);
+  offers = flat_map offer_rows_of (values s.draws);
+  lots = flat_map lot_rows_of (values s.draws);
   imported = values s.imported;
 }
 

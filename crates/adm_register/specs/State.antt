@@ -2,10 +2,10 @@
 use Rattle.std.specs.Prelude.{ℕ, Bool, true, false, List, refl}
 use Rattle.std.specs.declared.cmp.Ordering.{Ordering}
 use Rattle.std.specs.Ordering.{nat_cmp, ordering_then}
-use Rattle.std.specs.Cmp.Lexicographic.{slice_cmp}
 use Rattle.std.specs.Coded.{Coded, code_by, coded×, coded_ℕ, coded_list}
 use Rattle.std.specs.FinMap.{FinMap, code, empty}
 use Rattle.adm_types.specs.Seasons.{SeasonFacts}
+use Rattle.adm_types.specs.Limits.{code_cmp}
 use Rattle.adm_types.specs.declared.rows.School.{School}
 use Rattle.adm_types.specs.declared.rows.Child.{Child}
 use Rattle.adm_types.specs.declared.rows.Application.{Application}
@@ -23,10 +23,6 @@ use Rattle.adm_types.specs.contracts.rows.ImportRow.{the_row as import_row}
 use Rattle.adm_types.specs.contracts.rows.PlaceRow.{the_row as place_row}
 use Rattle.adm_types.specs.contracts.rows.LeftPair.{the_row as left_row}
 use Rattle.adm_types.specs.contracts.draws.Draw.{the_row as draw_row}
-
--- codes in the order of their bytes
-abbrev pub code_cmp : List ℕ → List ℕ → Ordering
-code_cmp = slice_cmp nat_cmp
 
 -- pairs by the child's number, and then by the school's code
 abbrev pub left_cmp : LeftPair → LeftPair → Ordering

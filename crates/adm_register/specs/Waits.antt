@@ -11,12 +11,12 @@ use Rattle.adm_waiting.specs.declared.lists.Waiting.{Waiting}
 use Rattle.adm_waiting.specs.Waiting.{entry_of, waiting_list}
 use Rattle.adm_register.specs.declared.standings.Standing.{Standing}
 use Rattle.adm_register.specs.State.{State}
-use Rattle.adm_register.specs.WellFormed.{has_round}
+use Rattle.adm_register.specs.WellFormed.{has_first_round}
 use Rattle.adm_register.specs.Wanted.{wanted_of}
 
 -- after the first round the child of an application waits at each school that it wants; before it nobody waits
 abbrev pub waits : State → Application → List ℕ → Bool
-waits s application code = has_round s.draws && is_listed (wanted_of s application) code
+waits s application code = has_first_round s.draws && is_listed (wanted_of s application) code
 
 -- whether a child waits at the school: it does not where it has no application
 abbrev pub is_waiting : State → ℕ → List ℕ → Bool

@@ -19,7 +19,8 @@ use Rattle.adm_types.specs.declared.rows.PlaceState.TheVariants.{Offered, Accept
 use Rattle.adm_types.specs.declared.rows.PlaceRow.{PlaceRow}
 use Rattle.adm_types.specs.declared.rows.LeftPair.{LeftPair}
 use Rattle.adm_types.specs.declared.draws.Draw.{Draw}
-use Rattle.adm_register.specs.State.{State, code_cmp, left_cmp, is_plan, application_of}
+use Rattle.adm_types.specs.Limits.{code_cmp}
+use Rattle.adm_register.specs.State.{State, left_cmp, is_plan, application_of}
 use Rattle.adm_table.specs.Same.{is_same_left}
 use Rattle.adm_register.specs.Draws.{DrawFits, are_in_order, no_draws}
 
@@ -83,8 +84,8 @@ abbrev pub fits_application : ℕ → FinMap code_cmp School → FinMap nat_cmp 
 fits_application last_day schools children number application = nat_eq application.child number && is_application last_day schools children application
 
 -- whether a round was held: the first draw is a round's
-abbrev pub has_round : FinMap nat_cmp Draw → Bool
-has_round draws = contains_key draws 1
+abbrev pub has_first_round : FinMap nat_cmp Draw → Bool
+has_first_round draws = contains_key draws 1
 
 -- whether the application lists the school
 abbrev pub lists_school : Option Application → List ℕ → Bool
@@ -96,43 +97,43 @@ abbrev pub is_entitled : Bool → Option Application → Place → Bool
 is_entitled held application place = if is_plan place.state then not (is_some application) else held && lists_school application place.school
 
 -- its days are days, and a reminder comes at least 14 days after the offer
-abbrev pub is_state : PlaceState → Bool
-is_state (Offered day None) = is_from first_day last_day day
-is_state (Offered day (Some reminded)) = is_from first_day last_day day && is_from (day + 14) last_day reminded
-is_state Accepted = true
-is_state Plan = true
+abbrev pub has_days_in_order : PlaceState → Bool
+has_days_in_order (Offered day None) = is_from first_day last_day day
+has_days_in_order (Offered day (Some reminded)) = is_from first_day last_day day && is_from (day + 14) last_day reminded
+has_days_in_order Accepted = true
+has_days_in_order Plan = true
 
 -- the child and the school are there, and the child is entitled to its place
 pub record PlaceFits (schools : FinMap code_cmp School) (children : FinMap nat_cmp Child) (applications : FinMap nat_cmp Application) (held : Bool) (number : ℕ) (row : PlaceRow) : Type 0 where
   pub own_number : row.child ≡ number
   pub child : IsTrue (contains_key children row.child)
   pub school : IsTrue (contains_key schools row.place.school)
-  pub state : IsTrue (is_state row.place.state)
+  pub state : IsTrue (has_days_in_order row.place.state)
   pub entitled : IsTrue (is_entitled held (get applications row.child) row.place)
 
 -- the test of all but its key
 abbrev pub is_place : FinMap code_cmp School → FinMap nat_cmp Child → FinMap nat_cmp Application → Bool → PlaceRow → Bool
 is_place schools children applications held row =
-    contains_key children row.child && contains_key schools row.place.school && is_state row.place.state && is_entitled held (get applications row.child) row.place
+    contains_key children row.child && contains_key schools row.place.school && has_days_in_order row.place.state && is_entitled held (get applications row.child) row.place
 
 abbrev pub fits_place : FinMap code_cmp School → FinMap nat_cmp Child → FinMap nat_cmp Application → Bool → ℕ → PlaceRow → Bool
 fits_place schools children applications held number row = nat_eq row.child number && is_place schools children applications held row
 
 -- whether this is a place at the school, and not that of a plan
-abbrev pub is_held : Option PlaceRow → List ℕ → Bool
-is_held None school = false
-is_held (Some row) school = pointwise nat_eq row.place.school school && not (is_plan row.place.state)
+abbrev pub is_outside_plan : Option PlaceRow → List ℕ → Bool
+is_outside_plan None school = false
+is_outside_plan (Some row) school = pointwise nat_eq row.place.school school && not (is_plan row.place.state)
 
 -- the child and the school are there, and the child has no place at the school that it left, but one of a plan
 pub record LeftPairFits (schools : FinMap code_cmp School) (children : FinMap nat_cmp Child) (places : FinMap nat_cmp PlaceRow) (key : LeftPair) (pair : LeftPair) : Type 0 where
   pub own_key : pair ≡ key
   pub child : IsTrue (contains_key children pair.child)
   pub school : IsTrue (contains_key schools pair.school)
-  pub no_place : IsTrue (not (is_held (get places pair.child) pair.school))
+  pub no_place : IsTrue (not (is_outside_plan (get places pair.child) pair.school))
 
 -- the test of all but its key
 abbrev pub is_left : FinMap code_cmp School → FinMap nat_cmp Child → FinMap nat_cmp PlaceRow → LeftPair → Bool
-is_left schools children places pair = contains_key children pair.child && contains_key schools pair.school && not (is_held (get places pair.child) pair.school)
+is_left schools children places pair = contains_key children pair.child && contains_key schools pair.school && not (is_outside_plan (get places pair.child) pair.school)
 
 abbrev pub fits_left : FinMap code_cmp School → FinMap nat_cmp Child → FinMap nat_cmp PlaceRow → LeftPair → LeftPair → Bool
 fits_left schools children places key pair = is_same_left pair key && is_left schools children places pair
@@ -147,17 +148,17 @@ pub record BaseFits (season : SeasonFacts) (schools : FinMap code_cmp School) (c
   pub applications_fit : AllRows (ApplicationFits (lists_end season) schools children) applications
 
 -- how many places at the school are not those of a plan
-abbrev pub held_at : FinMap nat_cmp PlaceRow → List ℕ → ℕ
-held_at places school = count_by (λ row. is_held (Some row) school) (values places)
+abbrev pub places_outside_plans : FinMap nat_cmp PlaceRow → List ℕ → ℕ
+places_outside_plans places school = count_by (λ row. is_outside_plan (Some row) school) (values places)
 
 -- the test of a school beside the places
 abbrev pub fits_school_with : FinMap nat_cmp PlaceRow → List ℕ → School → Bool
-fits_school_with places code school = fits_school code school && nat_le (held_at places code) school.pan
+fits_school_with places code school = fits_school code school && nat_le (places_outside_plans places code) school.pan
 
 -- each place fits the rows that it names, and at each school those that are not a plan's are at most its admission number
 pub record PlacesFit (schools : FinMap code_cmp School) (children : FinMap nat_cmp Child) (applications : FinMap nat_cmp Application) (places : FinMap nat_cmp PlaceRow) (held : Bool) : Type 0 where
   pub each : AllRows (PlaceFits schools children applications held) places
-  pub room : AllRows (λ code school. held_at places code ≤ school.pan) schools
+  pub room : AllRows (λ code school. places_outside_plans places code ≤ school.pan) schools
 
 -- each left pair fits the rows that it names
 abbrev pub LeftFits : FinMap code_cmp School → FinMap nat_cmp Child → FinMap nat_cmp PlaceRow → FinMap left_cmp LeftPair → Type 0
@@ -184,7 +185,7 @@ ImportedFit season schools children imported = AllRows (ImportFits (lists_end se
 -- each group of rows fits, and what they read of the others
 pub record WellFormed (s : State) : Type 0 where
   pub base : BaseFits s.season s.schools s.children s.applications
-  pub places : PlacesFit s.schools s.children s.applications s.places (has_round s.draws)
+  pub places : PlacesFit s.schools s.children s.applications s.places (has_first_round s.draws)
   pub left : LeftFits s.schools s.children s.places s.left
   pub draws : DrawsFit s.season s.schools s.children s.draws
   pub imported : ImportedFit s.season s.schools s.children s.imported

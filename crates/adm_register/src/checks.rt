@@ -5,7 +5,7 @@ ghost use Rattle.std.specs.FinMap.{get, len};
 ghost use Rattle.std.specs.List.Sorted.{IsStrictlySortedBy};
 ghost use Rattle.std.specs.Map.{keys_of};
 ghost use Rattle.adm_types.specs.Limits.{most_schools, most_children};
-ghost use Rattle.adm_register.specs.WellFormed.{WellFormed, fits_school_with, is_school, fits_place, is_place, fits_left, is_left, is_state, is_entitled, has_round};
+ghost use Rattle.adm_register.specs.WellFormed.{WellFormed, fits_school_with, is_school, fits_place, is_place, fits_left, is_left, has_days_in_order, is_entitled, has_first_round};
 ghost use Rattle.adm_register.specs.Draws.{are_in_order, no_draws, fits_known_draw, is_known_draw, is_choice, is_known_outcome, is_known_lot};
 ghost use Rattle.adm_draws.specs.Draws.{is_draw};
 
@@ -112,7 +112,7 @@ impl Checked<SchoolCode> for School {
 
     fn fits_in(&self, tables: &Tables, code: &SchoolCode) -> bool {
         let pan = self.pan as usize;
-        self.code == *code && is_school(self) && tables.held_at(*code) <= pan
+        self.code == *code && is_school(self) && tables.places_outside_plans(*code) <= pan
     }
 }
 
@@ -126,7 +126,7 @@ fn is_school(school: &School) -> bool
 }
 
 impl Checked<ChildNo> for PlaceRow {
-    ghost fits = { λ s. fits_place s.schools s.children s.applications (has_round s.draws) };
+    ghost fits = { λ s. fits_place s.schools s.children s.applications (has_first_round s.draws) };
 
     fn fits_in(&self, tables: &Tables, number: &ChildNo) -> bool {
         self.child == *number && is_place(tables, self)
@@ -135,17 +135,17 @@ impl Checked<ChildNo> for PlaceRow {
 
 /// Whether the child and the school are there, and the child is entitled to its place.
 fn is_place(tables: &Tables, row: &PlaceRow) -> bool
-    ensures { result ≡ is_place tables.now.schools tables.now.children tables.now.applications (has_round tables.now.draws) row.now }
+    ensures { result ≡ is_place tables.now.schools tables.now.children tables.now.applications (has_first_round tables.now.draws) row.now }
 {
     tables.has_child(row.child)
         && tables.has_school(row.place.school)
-        && is_state(&row.place.state)
+        && has_days_in_order(&row.place.state)
         && is_entitled(tables, row)
 }
 
 /// Whether the days of a place are days, and a reminder comes at least 14 days after the offer.
-fn is_state(state: &PlaceState) -> bool
-    ensures { result ≡ is_state state.now }
+fn has_days_in_order(state: &PlaceState) -> bool
+    ensures { result ≡ has_days_in_order state.now }
 {
     match state {
         PlaceState::Offered { day, reminded } => match reminded {
@@ -165,7 +165,7 @@ fn is_state(state: &PlaceState) -> bool
 /// Whether a child with a plan has no application, and any other has its place at a school that it
 /// lists, after a round.
 fn is_entitled(tables: &Tables, row: &PlaceRow) -> bool
-    ensures { result ≡ is_entitled (has_round tables.now.draws) (get tables.now.applications row.now.child) row.now.place }
+    ensures { result ≡ is_entitled (has_first_round tables.now.draws) (get tables.now.applications row.now.child) row.now.place }
 {
     let application = tables.application(row.child);
     if is_plan(&row.place.state) {
@@ -174,7 +174,7 @@ fn is_entitled(tables: &Tables, row: &PlaceRow) -> bool
     match application {
         None => false,
         Some(application) => {
-            tables.has_round() && is_listed(application.list.as_slice(), &row.place.school)
+            tables.has_first_round() && is_listed(application.list.as_slice(), &row.place.school)
         }
     }
 }
@@ -193,7 +193,7 @@ fn is_left(tables: &Tables, pair: &LeftPair) -> bool
 {
     tables.has_child(pair.child)
         && tables.has_school(pair.school)
-        && !tables.is_held(pair.child, pair.school)
+        && !tables.is_outside_plan(pair.child, pair.school)
 }
 
 impl Checked<u32> for Draw {

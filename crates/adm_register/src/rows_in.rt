@@ -5,7 +5,7 @@ ghost use Rattle.std.specs.List.{IsDistinct};
 ghost use Rattle.std.specs.List.Sorted.{IsStrictlySortedBy};
 ghost use Rattle.std.specs.Ordering.{eq_by_cmp};
 ghost use Rattle.std.specs.Ordering.{nat_cmp};
-ghost use Rattle.adm_draws.specs.Draws.{AreRowsOf, AreInOrder};
+ghost use Rattle.adm_draws.specs.Draws.{AreDrawRowsOf, AreByNumber};
 ghost use Rattle.adm_types.specs.declared.draws.Draw.{Draw as DrawValue};
 ghost use Rattle.adm_register.specs.Groups.{IsBaseOf, IsCourseOf, AreBaseRowsOf, AreCourseRowsOf, HasRows, base_part, drawn_part, course_part};
 ghost use Rattle.adm_register.specs.Rows as rows_of;
@@ -26,8 +26,8 @@ impl Tables {
     /// The tables of these rows; `BadRow` where two rows of a table have one key. No other register
     /// than that of the tables has these rows.
     pub(crate) fn of_rows(alloc: Global, rows: Rows) -> Result<Tables, RowsFault>
-        ensures made { IfOk result (λ tables. rows_of.AreRowsOf rows tables × ((state : State) → WellFormed state → rows_of.AreRowsOf rows state → state ≡ tables)) }
-        ensures repeated { result ≡ Err RowsFault.BadRow → (state : State) → WellFormed state → rows_of.AreRowsOf rows state → ⊥ }
+        ensures made { IfOk result (λ tables. rows_of.AreDrawRowsOf rows tables × ((state : State) → WellFormed state → rows_of.AreDrawRowsOf rows state → state ≡ tables)) }
+        ensures repeated { result ≡ Err RowsFault.BadRow → (state : State) → WellFormed state → rows_of.AreDrawRowsOf rows state → ⊥ }
     {
         let Rows {
             season,
@@ -193,9 +193,9 @@ fn shared_table<K: Ord + Exact, V: Keyed<K> + Drop>(
 
 /// The table of the draws that have these rows; `BadRow` where no draws have them.
 fn draws_table(alloc: Global, rows: DrawnRows) -> Result<Table<u32, Shared<Draw>>, RowsFault>
-    ensures made { IfOk result (λ table. AreRowsOf rows.draws rows.offers rows.lots (values_of table) × (map (λ draw. draw.number) (values_of table) ≡ keys_of table) × IsStrictlySortedBy nat_cmp (keys_of table)) }
-    ensures only { IfOk result (λ table. (draws : List DrawValue) → AreInOrder draws → AreRowsOf rows.draws rows.offers rows.lots draws → draws ≡ values_of table) }
-    ensures none { result ≡ Err RowsFault.BadRow → (draws : List DrawValue) → AreInOrder draws → AreRowsOf rows.draws rows.offers rows.lots draws → ⊥ }
+    ensures made { IfOk result (λ table. AreDrawRowsOf rows.draws rows.offers rows.lots (values_of table) × (map (λ draw. draw.number) (values_of table) ≡ keys_of table) × IsStrictlySortedBy nat_cmp (keys_of table)) }
+    ensures only { IfOk result (λ table. (draws : List DrawValue) → AreByNumber draws → AreDrawRowsOf rows.draws rows.offers rows.lots draws → draws ≡ values_of table) }
+    ensures none { result ≡ Err RowsFault.BadRow → (draws : List DrawValue) → AreByNumber draws → AreDrawRowsOf rows.draws rows.offers rows.lots draws → ⊥ }
 {
     let DrawnRows {
         draws,

@@ -6,7 +6,7 @@ ghost use Rattle.std.specs.Cmp.Lexicographic.{pointwise};
 ghost use Rattle.adm_register.specs.Plans.{has_plan};
 ghost use Rattle.adm_register.specs.Rows.{place_of, places_at, vacancies};
 ghost use Rattle.adm_register.specs.State.{only_season, is_plan};
-ghost use Rattle.adm_register.specs.WellFormed.{are_schools, held_at, is_held, has_round};
+ghost use Rattle.adm_register.specs.WellFormed.{are_schools, places_outside_plans, is_outside_plan, has_first_round};
 
 use crate::groups::{Base, Course};
 use adm_table::{Keyed, Piece};
@@ -147,8 +147,8 @@ impl Tables {
     }
 
     /// Whether the child has a place at the school that is not that of a plan.
-    pub fn is_held(&self, child: ChildNo, school: SchoolCode) -> bool
-        ensures { result ≡ is_held (map.get self.now.places child) school }
+    pub fn is_outside_plan(&self, child: ChildNo, school: SchoolCode) -> bool
+        ensures { result ≡ is_outside_plan (map.get self.now.places child) school }
     {
         match self.place_row(child) {
             None => false,
@@ -190,8 +190,8 @@ impl Tables {
     }
 
     /// How many places at the school are not those of a plan.
-    pub fn held_at(&self, code: SchoolCode) -> usize
-        ensures { result ≡ held_at self.now.places code }
+    pub fn places_outside_plans(&self, code: SchoolCode) -> usize
+        ensures { result ≡ places_outside_plans self.now.places code }
     {
         let _all = self.course.places.len();
         let mut count = 0;
@@ -209,8 +209,8 @@ impl Tables {
     }
 
     /// Whether a round was held.
-    pub fn has_round(&self) -> bool
-        ensures { result ≡ has_round self.now.draws }
+    pub fn has_first_round(&self) -> bool
+        ensures { result ≡ has_first_round self.now.draws }
     {
         self.draw(1).is_some()
     }
@@ -242,7 +242,7 @@ fn count_at(places: &Piece<ChildNo, PlaceRow>, code: SchoolCode) -> usize
 
 /// How many of the places of a piece are at the school, and not those of a plan.
 fn held_in(places: &Piece<ChildNo, PlaceRow>, code: SchoolCode) -> usize
-    ensures { result ≡ count_by (λ row. is_held (Some row) code) (values_of places.now.rows.value.entries) }
+    ensures { result ≡ count_by (λ row. is_outside_plan (Some row) code) (values_of places.now.rows.value.entries) }
 {
     places
         .rows()
@@ -253,7 +253,7 @@ fn held_in(places: &Piece<ChildNo, PlaceRow>, code: SchoolCode) -> usize
 
 /// Whether this is a place at the school, and not that of a plan.
 fn is_held_at(row: &PlaceRow, code: SchoolCode) -> bool
-    ensures { result ≡ is_held (Some row.now) code }
+    ensures { result ≡ is_outside_plan (Some row.now) code }
 {
     row.place.school == code && !is_plan(&row.place.state)
 }

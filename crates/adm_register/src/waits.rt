@@ -41,7 +41,7 @@ impl Tables {
         if !is_listed(application.list.as_slice(), &school) {
             return false;
         }
-        self.has_round() && self.wants(application, school)
+        self.has_first_round() && self.wants(application, school)
     }
 
     /// Whether the child waits at the school. It takes no memory.

@@ -25,7 +25,7 @@ use Rattle.adm_round.specs.declared.applicants.Applicant.{Applicant}
 use Rattle.adm_round.specs.declared.applicants.Site.{Site}
 use Rattle.adm_round.specs.declared.applicants.Pair.{Pair}
 use Rattle.adm_round.specs.Round.{code_of, number_of, wants, listed, pair_at, pairs_at, pairs, pair_of, same_lot, is_site, IsListFit, IsPosed}
-use Rattle.adm_round.specs.Ranks.{site_of, lot_at, wishes_for, candidate_of, seats_of, market_of}
+use Rattle.adm_round.specs.Ranks.{site_of, lot_at, wishes_for, candidate_of, seats_of, market_of_round}
 use Rattle.adm_round.specs.declared.directory.Directory.{Directory}
 use Rattle.adm_round.specs.Lookups.{site_in, lot_in, IsDirectory}
 use Rattle.adm_round.proofs.Pairs.{pair_not, no_pair}
@@ -164,7 +164,7 @@ module _ (sites : List Site) (applicants : List Applicant) (lots : List Lot) (h 
   lists_once : list_any (λ e. some_pair same_school e.list) (map entrant applicants) ≡ false
   lists_once = no_entrant (λ e. some_pair same_school e.list) (λ a i. no_repeat (list_of a) a.wanted a.own (its_schools a i) (fit_of a i).once (fit_of a i).own_apart)
 
-  known_seats : names_unknown (market_of sites applicants lots) ≡ false
+  known_seats : names_unknown (market_of_round sites applicants lots) ≡ false
   known_seats =
       no_entrant (λ e. list_any (λ w. not (list_any (λ seat. bytes_eq seat.code w.school) (map seats_of sites))) e.list) (λ a i.
       no_unknown (λ code. list_any (λ seat. bytes_eq seat.code code) (map seats_of sites)) (list_of a) (listed a) (its_schools a i)
@@ -187,14 +187,14 @@ module _ (sites : List Site) (applicants : List Applicant) (lots : List Lot) (h 
       λ i. cond (p i) (Some RepeatedSchool) (cond (q i) (Some UnknownSchool) (cond (r i) (Some RepeatedChild) (cond (s i) (Some TenantNotLast) (cond (t i) (Some EqualRank) None))))
 
   abbrev m : Market
-  m = market_of sites applicants lots
+  m = market_of_round sites applicants lots
 
-  pub faultless : first_fault (market_of sites applicants lots) ≡ None
+  pub faultless : first_fault (market_of_round sites applicants lots) ≡ None
   faultless =
       none_of (repeats_school m) (names_unknown m) (repeats_child m) (has_tenant_not_last m) (has_equal_rank m)
       (or_from (some_pair same_code m.seats) (list_any (λ e. some_pair same_school e.list) m.entrants) seats_once lists_once) known_seats children_once tenants_last ranks_differ
 
 -- the entrants and seats that were made are those of the round
-pub same_market : (sites : List Site) (applicants : List Applicant) (lots : List Lot) (directory : Directory) (entrants : List Candidate) (seats : List Seats) → IsDirectory sites lots directory → entrants ≡ map (candidate_of (site_in sites directory) (lot_in directory)) applicants → seats ≡ map seats_of sites → match.market_of entrants seats ≡ market_of sites applicants lots
+pub same_market : (sites : List Site) (applicants : List Applicant) (lots : List Lot) (directory : Directory) (entrants : List Candidate) (seats : List Seats) → IsDirectory sites lots directory → entrants ≡ map (candidate_of (site_in sites directory) (lot_in directory)) applicants → seats ≡ map seats_of sites → match.market_of entrants seats ≡ market_of_round sites applicants lots
 same_market sites applicants lots directory entrants seats is e s =
     λ i. match.market_of ((e ∙ (λ j. map (candidate_of (λ code. is.sites_found code j) (λ school child. is.lots_found school child j)) applicants)) i) (s i)

@@ -17,8 +17,8 @@ use Rattle.adm_match.specs.Stability.{Allocation, IsBest, IsContent, is_guest, p
 use Rattle.adm_round.specs.declared.applicants.Applicant.{Applicant}
 use Rattle.adm_round.specs.declared.applicants.Site.{Site}
 use Rattle.adm_round.specs.Round.{code_of, number_of, listed, IsListFit, IsPosed}
-use Rattle.adm_round.specs.Ranks.{site_of, lot_at, candidate_of, seats_of, market_of}
-use Rattle.adm_round.specs.Outcomes.{is_fresh, outcome_of, outcomes_of, AreBest, IsListed, KeepsTenant, HasRoom, AllotmentFits, count_at, has_fresh}
+use Rattle.adm_round.specs.Ranks.{site_of, lot_at, candidate_of, seats_of, market_of_round}
+use Rattle.adm_round.specs.Outcomes.{is_fresh, outcome_of, outcomes_of, AreBest, HasListedSchool, KeepsTenant, HasRoom, AllotmentFits, outcomes_at, has_fresh}
 use Rattle.adm_round.proofs.Lists.{school_of_wish, on_list, own_within, code_self}
 use Rattle.adm_round.proofs.Faultless.{its_schools, seats_once}
 
@@ -55,8 +55,8 @@ find_seats (z ∷ zs) seat i h =
 blocked : (a b c : Bool) → a ≡ true → b ≡ true → (a && (b || c)) ≡ false → ⊥
 blocked a b c s t none = false≢true (sym none ∙ (λ i. s i && (t i || c)))
 
-module _ (sites : List Site) (applicants : List Applicant) (lots : List Lot) (h : IsPosed sites applicants lots) (a : Allocation) (outcomes : List Outcome) (best : IsBest (market_of sites applicants lots) a) (given : outcomes ≡ outcomes_of a applicants) where
-  pub are_best : AreBest (market_of sites applicants lots) applicants outcomes
+module _ (sites : List Site) (applicants : List Applicant) (lots : List Lot) (h : IsPosed sites applicants lots) (a : Allocation) (outcomes : List Outcome) (best : IsBest (market_of_round sites applicants lots) a) (given : outcomes ≡ outcomes_of a applicants) where
+  pub are_best : AreBest (market_of_round sites applicants lots) applicants outcomes
   are_best = record { allocation = a; best = best; given = given }
 
   pub in_order : map (λ outcome. outcome.child) outcomes ≡ map number_of applicants
@@ -69,10 +69,10 @@ module _ (sites : List Site) (applicants : List Applicant) (lots : List Lot) (h 
   acceptable x i =
       All_in (λ (e : Candidate). IfSome (a e.child) (λ s. preference_rank e.list s < length e.list)) (map entrant applicants) (entrant x) best.stable.acceptable (in_map entrant applicants x i)
 
-  pub are_listed : AllZip IsListed applicants outcomes
+  pub are_listed : AllZip HasListedSchool applicants outcomes
   are_listed =
-      subst (AllZip IsListed applicants) (sym given)
-      (each_zip IsListed (λ x. outcome_of x (a (number_of x))) applicants (λ x i.
+      subst (AllZip HasListedSchool applicants) (sym given)
+      (each_zip HasListedSchool (λ x. outcome_of x (a (number_of x))) applicants (λ x i.
       listed_if (a (number_of x)) (entrant x).list (listed x) (its_schools sites applicants lots h x i) (acceptable x i)))
 
   -- a tenant without a school would block with its own
@@ -83,7 +83,7 @@ module _ (sites : List Site) (applicants : List Applicant) (lots : List Lot) (h 
       let e : Candidate = entrant x in
       let apart = subst (λ q. IfSome q (λ s. is_listed x.wanted s ≡ false)) o (All_in (IsListFit sites) applicants x h.lists_fit i).own_apart in
       let on : preference_rank e.list own < length e.list = own_within e.list x.wanted own (its_schools sites applicants lots h x i ∙ ap (λ q. x.wanted ++ option_to_list q) o) apart in
-      let content = All_in (IsContent (market_of sites applicants lots) a) (map entrant applicants) e best.stable.unblocked (in_map entrant applicants x i) own in
+      let content = All_in (IsContent (market_of_round sites applicants lots) a) (map entrant applicants) e best.stable.unblocked (in_map entrant applicants x i) own in
       let wished : prefers a e own ≡ true = ap (λ q. nat_lt (preference_rank e.list own) (assigned_rank e.list q)) p ∙ lt-ltb _ _ on in
       let tenant : is_tenant e own ≡ true = ap (λ q. has q own) o ∙ code_self own in
       absurd (blocked _ _ _ wished tenant content)
@@ -97,7 +97,7 @@ module _ (sites : List Site) (applicants : List Applicant) (lots : List Lot) (h 
   fresh_guests s [] = refl
   fresh_guests s (x ∷ xs) = λ i. fresh_is (a (number_of x)) x.own s i || fresh_guests s xs i
 
-  count_guests : (s : Code) (xs : List Applicant) → count_at s (outcomes_of a xs) ≡ count_by (λ (e : Candidate). has (a e.child) s) (map entrant xs)
+  count_guests : (s : Code) (xs : List Applicant) → outcomes_at s (outcomes_of a xs) ≡ count_by (λ (e : Candidate). has (a e.child) s) (map entrant xs)
   count_guests s [] = refl
   count_guests s (x ∷ xs) =
       let one : Outcome → ℕ = λ outcome. cond (has outcome.school s) 1 0 in
@@ -113,7 +113,7 @@ module _ (sites : List Site) (applicants : List Applicant) (lots : List Lot) (h 
   have_room = in_All (HasRoom outcomes) sites (λ site i fresh.
       let s : Code = code_of site in
       let guests : list_any (is_guest a s) (map entrant applicants) ≡ true = sym (ap (has_fresh s) given ∙ fresh_guests s applicants) ∙ fresh in
-      let counted : count_at s outcomes ≡ count_by (λ (e : Candidate). has (a e.child) s) (map entrant applicants) = ap (count_at s) given ∙ count_guests s applicants in
+      let counted : outcomes_at s outcomes ≡ count_by (λ (e : Candidate). has (a e.child) s) (map entrant applicants) = ap (outcomes_at s) given ∙ count_guests s applicants in
       omega (arith, counted, quota_is site i, best.stable.feasible s guests))
 
 pub allotment_fits_law : AllotmentFits

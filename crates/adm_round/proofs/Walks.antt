@@ -21,7 +21,8 @@ use Rattle.adm_round.specs.declared.applicants.Pair.{Pair}
 use Rattle.adm_round.specs.declared.directory.Directory.{Directory}
 use Rattle.adm_round.specs.Round.{code_of, pair_of}
 use Rattle.adm_round.specs.Ranks.{wish_at, site_of, wishes_for}
-use Rattle.adm_round.specs.Lookups.{code_cmp, pair_cmp, first_value, HasFirst, IsDirectory}
+use Rattle.adm_types.specs.Limits.{code_cmp}
+use Rattle.adm_round.specs.Lookups.{pair_cmp, first_value, HasFirst, IsDirectory}
 
 -- one more row, from the last one on
 pub first_more : {K V : Type 0} (cmp : K → K → Ordering) (rows : List (K × V)) (back : ℕ) (row : K × V) (old new : BTreeMap K V) → back < length rows → row ≡ get_or rows (length rows - 1 - back) row → HasFirst cmp (drop (length rows - back) rows) old → Updates cmp old new row.0 (Some row.1) → HasFirst cmp (drop (length rows - (back + 1)) rows) new

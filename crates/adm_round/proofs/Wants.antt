@@ -15,7 +15,8 @@ use Rattle.adm_round.specs.declared.applicants.Applicant.{Applicant}
 use Rattle.adm_round.specs.declared.applicants.Pair.{Pair}
 use Rattle.adm_round.specs.declared.applicants.Site.{Site}
 use Rattle.adm_round.specs.Round.{code_of, number_of, wants, pair_at, pairs_at, pairs}
-use Rattle.adm_round.specs.Lookups.{code_cmp, children_for}
+use Rattle.adm_types.specs.Limits.{code_cmp}
+use Rattle.adm_round.specs.Lookups.{children_for}
 
 -- those of a look-up, or none
 abbrev pub items_of : Option (Vec ℕ Global) → List ℕ

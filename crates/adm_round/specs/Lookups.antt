@@ -2,9 +2,9 @@
 use Rattle.std.specs.Prelude.{◌≡◌, ℕ, Option, option_map, option_and_then, unwrap_or, List, [], find, slice_get, Vec}
 use Rattle.std.specs.declared.alloc.Global.{Global}
 use Rattle.std.specs.Ordering.{nat_cmp, ordering_then, is_eq}
-use Rattle.std.specs.Cmp.Lexicographic.{slice_cmp}
 use Rattle.std.specs.declared.cmp.Ordering.{Ordering}
 use Rattle.std.specs.BTreeMap.{BTreeMap, get}
+use Rattle.adm_types.specs.Limits.{code_cmp}
 use Rattle.adm_types.specs.declared.draws.Lot.{Lot}
 use Rattle.adm_match.specs.Market.{Code}
 use Rattle.adm_round.specs.declared.applicants.Pair.{Pair}
@@ -12,10 +12,7 @@ use Rattle.adm_round.specs.declared.applicants.Site.{Site}
 use Rattle.adm_round.specs.declared.directory.Directory.{Directory}
 use Rattle.adm_round.specs.Ranks.{site_of, lot_at}
 
--- the order of codes, and that of pairs: by the school, and then by the child
-abbrev pub code_cmp : Code → Code → Ordering
-code_cmp = slice_cmp nat_cmp
-
+-- the order of pairs: by the school, and then by the child
 abbrev pub pair_cmp : Pair → Pair → Ordering
 pair_cmp one other = ordering_then (code_cmp one.school other.school) (nat_cmp one.child other.child)
 

@@ -10,7 +10,7 @@ use Rattle.adm_match.specs.Stability.{Allocation, IsBest}
 use Rattle.adm_round.specs.declared.applicants.Applicant.{Applicant}
 use Rattle.adm_round.specs.declared.applicants.Site.{Site}
 use Rattle.adm_round.specs.Round.{code_of, number_of, listed, IsPosed}
-use Rattle.adm_round.specs.Ranks.{market_of}
+use Rattle.adm_round.specs.Ranks.{market_of_round}
 
 -- whether a school is not the one of which the child was a tenant
 abbrev pub is_fresh : Option Code → Option Code → Bool
@@ -32,16 +32,16 @@ pub record AreBest (market : Market) (applicants : List Applicant) (outcomes : L
   pub given : outcomes ≡ outcomes_of allocation applicants
 
 -- the applicant has a school of its list, or none
-abbrev pub IsListed : Applicant → Outcome → Type 0
-IsListed applicant outcome = IfSome outcome.school (λ school. is_listed (listed applicant) school ≡ true)
+abbrev pub HasListedSchool : Applicant → Outcome → Type 0
+HasListedSchool applicant outcome = IfSome outcome.school (λ school. is_listed (listed applicant) school ≡ true)
 
 -- an applicant that is a tenant has a school: its own, or one that it wants more
 abbrev pub KeepsTenant : Applicant → Outcome → Type 0
 KeepsTenant applicant outcome = is_some applicant.own ≡ true → is_some outcome.school ≡ true
 
 -- how many have the school
-abbrev pub count_at : Code → List Outcome → ℕ
-count_at school outcomes = count_by (λ outcome. has outcome.school school) outcomes
+abbrev pub outcomes_at : Code → List Outcome → ℕ
+outcomes_at school outcomes = count_by (λ outcome. has outcome.school school) outcomes
 
 -- some have the school, and had it not before
 abbrev pub has_fresh : Code → List Outcome → Bool
@@ -49,7 +49,7 @@ has_fresh school outcomes = list_any (λ outcome. has outcome.school school && o
 
 -- where some have the site's school who had it not before, at most its quota have it
 abbrev pub HasRoom : List Outcome → Site → Type 0
-HasRoom outcomes site = has_fresh (code_of site) outcomes ≡ true → count_at (code_of site) outcomes ≤ site.quota
+HasRoom outcomes site = has_fresh (code_of site) outcomes ≡ true → outcomes_at (code_of site) outcomes ≤ site.quota
 
 -- what a child has is its place of before
 abbrev pub is_kept : Outcome → Bool
@@ -59,13 +59,13 @@ is_kept outcome = is_some outcome.school && not outcome.fresh
 abbrev pub PosedWithoutFault : Type 0
 PosedWithoutFault =
     (sites : List Site) (applicants : List Applicant) (lots : List Lot)
-    → IsPosed sites applicants lots → first_fault (market_of sites applicants lots) ≡ None
+    → IsPosed sites applicants lots → first_fault (market_of_round sites applicants lots) ≡ None
 
 -- A round has at most one list of best outcomes.
 abbrev pub OneAllotment : Type 0
 OneAllotment =
     (sites : List Site) (applicants : List Applicant) (lots : List Lot) (one other : List Outcome)
-    → AreBest (market_of sites applicants lots) applicants one → AreBest (market_of sites applicants lots) applicants other
+    → AreBest (market_of_round sites applicants lots) applicants one → AreBest (market_of_round sites applicants lots) applicants other
     → one ≡ other
 
 -- Besides, each applicant has a school of its list or none, and a tenant has one; there is room where some have a school
@@ -74,5 +74,5 @@ abbrev pub AllotmentFits : Type 0
 AllotmentFits =
     (sites : List Site) (applicants : List Applicant) (lots : List Lot) (outcomes : List Outcome)
     → IsPosed sites applicants lots
-    → AreBest (market_of sites applicants lots) applicants outcomes
-    → AllZip IsListed applicants outcomes × AllZip KeepsTenant applicants outcomes × All (HasRoom outcomes) sites × (map (λ outcome. outcome.child) outcomes ≡ map number_of applicants)
+    → AreBest (market_of_round sites applicants lots) applicants outcomes
+    → AllZip HasListedSchool applicants outcomes × AllZip KeepsTenant applicants outcomes × All (HasRoom outcomes) sites × (map (λ outcome. outcome.child) outcomes ≡ map number_of applicants)

@@ -40,6 +40,6 @@ abbrev pub seats_of : Site → Seats
 seats_of site = record { code = code_of site; quota = site.quota }
 
 -- the problem of the round
-abbrev pub market_of : List Site → List Applicant → List Lot → Market
-market_of sites applicants lots =
+abbrev pub market_of_round : List Site → List Applicant → List Lot → Market
+market_of_round sites applicants lots =
     match.market_of (map (candidate_of (site_of sites) (lot_at lots)) applicants) (map seats_of sites)

@@ -2,8 +2,8 @@
 ghost use Rattle.std.specs.Prelude.{◌≡◌, IfOk, All, map};
 ghost use Rattle.std.specs.List.{AllZip};
 ghost use Rattle.adm_round.specs.Round.{IsPosed, number_of};
-ghost use Rattle.adm_round.specs.Ranks.{market_of};
-ghost use Rattle.adm_round.specs.Outcomes.{AreBest, IsListed, HasRoom};
+ghost use Rattle.adm_round.specs.Ranks.{market_of_round};
+ghost use Rattle.adm_round.specs.Outcomes.{AreBest, HasListedSchool, HasRoom};
 
 use crate::applicants::{Applicant, Site};
 use crate::outcomes::outcomes_of;
@@ -22,8 +22,8 @@ pub fn allot(
     lots: &[Lot],
 ) -> Result<Vec<Outcome>, AllocError>
     requires posed { IsPosed sites.now applicants.now lots.now }
-    ensures best { IfOk result (λ outcomes. AreBest (market_of sites.now applicants.now lots.now) applicants.now outcomes.items) }
-    ensures listed { IfOk result (λ outcomes. AllZip IsListed applicants.now outcomes.items) }
+    ensures best { IfOk result (λ outcomes. AreBest (market_of_round sites.now applicants.now lots.now) applicants.now outcomes.items) }
+    ensures listed { IfOk result (λ outcomes. AllZip HasListedSchool applicants.now outcomes.items) }
     ensures room { IfOk result (λ outcomes. All (HasRoom outcomes.items) sites.now) }
     ensures children { IfOk result (λ outcomes. map (λ outcome. outcome.child) outcomes.items ≡ map number_of applicants.now) }
 {

@@ -3,7 +3,7 @@ ghost use Rattle.std.specs.Prelude.{◌≡◌, ◌++◌, ◌∷◌, [], IfOk, Is
 ghost use Rattle.std.specs.Option.{option_to_list};
 ghost use Rattle.adm_types.specs.Limits.{is_school_in_range, is_child_in_range};
 ghost use Rattle.adm_round.specs.Round.{IsPosed};
-ghost use Rattle.adm_round.specs.Ranks.{wish_at, wishes_for, candidate_of, seats_of, market_of};
+ghost use Rattle.adm_round.specs.Ranks.{wish_at, wishes_for, candidate_of, seats_of, market_of_round};
 ghost use Rattle.adm_round.specs.Lookups.{site_in, lot_in};
 
 use crate::applicants::{Applicant, Site};
@@ -148,7 +148,7 @@ pub fn problem_of(
     lots: &[Lot],
 ) -> Result<Problem, AllocError>
     requires { IsPosed sites.now applicants.now lots.now }
-    ensures { IfOk result (λ problem. problem ≡ market_of sites.now applicants.now lots.now) }
+    ensures { IfOk result (λ problem. problem ≡ market_of_round sites.now applicants.now lots.now) }
 {
     let directory = directory_of(alloc, sites, lots)?;
     let entrants = entrants_of(alloc, sites, &directory, applicants)?;

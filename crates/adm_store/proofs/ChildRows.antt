@@ -18,9 +18,9 @@ use Rattle.adm_types.specs.declared.rows.LeftPair.{LeftPair}
 use Rattle.adm_types.specs.declared.rows.PlaceState.{PlaceState}
 use Rattle.adm_types.specs.declared.rows.PlaceState.TheVariants.{Offered, Accepted, Plan}
 use Rattle.adm_types.specs.Numbers.{is_from, first_day, last_day}
-use Rattle.adm_register.specs.WellFormed.{is_state}
+use Rattle.adm_register.specs.WellFormed.{has_days_in_order}
 use Rattle.adm_store.specs.Forms.{truth_code, day_value, state_columns, child_row, application_row, imported_row, place_row, left_row}
-use Rattle.adm_store.specs.Faults.{IsChild, IsImportRow, IsImportReadAgain, AreReadAgain, IsPlaceRow, HasPlaceColumns, is_day, is_day_or_none, are_days}
+use Rattle.adm_store.specs.Faults.{IsChild, IsImportRow, IsImportReadAgain, AreReadAgain, IsPlaceRow, HasPlaceColumns, is_day, is_day_or_none, has_days_in_range}
 use Rattle.adm_store.proofs.RowLemmas.{number_in, text_in}
 use Rattle.adm_store.proofs.CodeLemmas.{codes_again}
 
@@ -117,7 +117,7 @@ place_back p = λ k. record { child = p.child; place = record { school = p.place
 later_day : (day reminded : ℕ) → is_from first_day last_day day ≡ true → is_from (day + 14) last_day reminded ≡ true → is_from first_day last_day reminded ≡ true
 later_day day reminded first later = grind (arith, nat_tests)
 
-pub state_days : (state : PlaceState) → is_state state ≡ true → are_days state ≡ true
+pub state_days : (state : PlaceState) → has_days_in_order state ≡ true → has_days_in_range state ≡ true
 state_days (Offered day None) fits = λ k. fits k && true
 state_days (Offered day (Some reminded)) fits =
     let parts = and_parts (is_from first_day last_day day) (is_from (day + 14) last_day reminded) fits in
@@ -130,7 +130,7 @@ pub has_place_columns : (row : Row) (x : PlaceRow) → IsPlaceRow x → row ≡ 
     × (state_columns x.place.state ≡ Int (pos kind) ∷ day_value day ∷ day_value reminded ∷ [])
 has_place_columns row x fits is = go x.place.state fits.days is
   where
-    go : (state : PlaceState) → are_days state ≡ true → row ≡ Int (pos x.child) ∷ Text x.place.school ∷ state_columns state → (kind : ℕ) × (day reminded : Option ℕ) × HasPlaceColumns row x.child x.place.school kind day reminded
+    go : (state : PlaceState) → has_days_in_range state ≡ true → row ≡ Int (pos x.child) ∷ Text x.place.school ∷ state_columns state → (kind : ℕ) × (day reminded : Option ℕ) × HasPlaceColumns row x.child x.place.school kind day reminded
         × (state_columns state ≡ Int (pos kind) ∷ day_value day ∷ day_value reminded ∷ [])
     go (Offered day reminded) days is =
         let parts = and_parts (is_day day) (is_day_or_none reminded) days in

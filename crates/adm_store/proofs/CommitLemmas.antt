@@ -7,7 +7,7 @@ use Rattle.std.specs.FinMap.{values, nat_cmp-IsAntisymmetric}
 use Rattle.sqlite.specs.declared.types.Value.TheVariants.{Int}
 use Rattle.adm_types.specs.declared.draws.Draw.{Draw}
 use Rattle.adm_types.specs.declared.draws.DrawRow.{DrawRow}
-use Rattle.adm_draws.specs.Draws.{row_of, offers_of, lots_of}
+use Rattle.adm_draws.specs.Draws.{row_of, offer_rows_of, lot_rows_of}
 use Rattle.adm_register.specs.Draws.{no_draws, are_in_order}
 use Rattle.adm_register.specs.WellFormed.{WellFormed}
 use Rattle.std.specs.List.Sorted.{IsPermutation}
@@ -133,9 +133,9 @@ new_trees was now old new changes step held sound moves = let are = step.changes
                         (added_rows nat_cmp_total nat_cmp-IsAntisymmetric (λ (d : Draw). d.number) old.draws new.draws (λ k v is. (step.formed.draws.each k v is).own_number) step.extends.draws _ differs.draws (λ d. draw_row (row_of d)) _ _ _ (ap (map draw_row) are.draws ∙ map-map draw_row row_of _)
                         (subst (λ rows. IsPermutation rows (rows_of draw was)) (map-map draw_row row_of (values old.draws)) had) (turn (keyed_moved _ _ had (rows_keyed (λ (d : DrawRow). d.draw) draw_row (λ _. refl) (map row_of (values old.draws)))))),
                     (
-                      λ had turn. added_parts nat_cmp_total nat_cmp-IsAntisymmetric (λ (d : Draw). d.number) old.draws new.draws (λ k v is. (step.formed.draws.each k v is).own_number) step.extends.draws _ differs.draws offers_of offer_row _ _ _ (ap (map offer_row) are.offers) had (turn refl),
+                      λ had turn. added_parts nat_cmp_total nat_cmp-IsAntisymmetric (λ (d : Draw). d.number) old.draws new.draws (λ k v is. (step.formed.draws.each k v is).own_number) step.extends.draws _ differs.draws offer_rows_of offer_row _ _ _ (ap (map offer_row) are.offers) had (turn refl),
                       (
-                        λ had turn. added_parts nat_cmp_total nat_cmp-IsAntisymmetric (λ (d : Draw). d.number) old.draws new.draws (λ k v is. (step.formed.draws.each k v is).own_number) step.extends.draws _ differs.draws lots_of lot_row _ _ _ (ap (map lot_row) are.lots) had (turn refl),
+                        λ had turn. added_parts nat_cmp_total nat_cmp-IsAntisymmetric (λ (d : Draw). d.number) old.draws new.draws (λ k v is. (step.formed.draws.each k v is).own_number) step.extends.draws _ differs.draws lot_rows_of lot_row _ _ _ (ap (map lot_row) are.lots) had (turn refl),
                         (
                           λ had turn. added_rows nat_cmp_total nat_cmp-IsAntisymmetric (λ (r : ImportRow). r.child.no) old.imported new.imported (λ k v is. (step.formed.imported k v is).child.own_number) step.extends.imported _ differs.imported imported_row _ _ _ are.imported had
                               (turn (keyed_moved _ _ had (rows_keyed (λ (r : ImportRow). r.child.no) imported_row (λ _. refl) (values old.imported)))),

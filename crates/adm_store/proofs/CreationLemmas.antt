@@ -16,7 +16,8 @@ use Rattle.adm_lists.proofs.Maps.{values-empty}
 use Rattle.adm_types.specs.Seasons.{SeasonFacts, IsSeason}
 use Rattle.adm_types.specs.declared.rows.School.{School}
 use Rattle.adm_types.specs.declared.rows.Child.{Child}
-use Rattle.adm_register.specs.State.{only_season, code_cmp, left_cmp}
+use Rattle.adm_types.specs.Limits.{code_cmp}
+use Rattle.adm_register.specs.State.{only_season, left_cmp}
 use Rattle.adm_register.specs.WellFormed.{WellFormed, AllRows}
 use Rattle.adm_schema.specs.declared.version.Version.TheVariants.{Second}
 use Rattle.adm_schema.specs.Rows.{columns_of, rows_of}
@@ -25,7 +26,7 @@ use Rattle.adm_schema.specs.Schema.{meta, no_schema, register_schema}
 use Rattle.adm_register.specs.Rows.{rows_in_order}
 use Rattle.adm_register.specs.Draws.{no_draws, are_in_order}
 use Rattle.adm_register.specs.declared.register_rows.Rows.{Rows}
-use Rattle.adm_draws.specs.Draws.{row_of, offers_of, lots_of}
+use Rattle.adm_draws.specs.Draws.{row_of, offer_rows_of, lot_rows_of}
 use Rattle.adm_store.specs.declared.rows.SeasonRow.{SeasonRow}
 use Rattle.adm_store.specs.Changes.{IsRowOf, written_season}
 use Rattle.adm_store.specs.StandsFor.{StandsAs, HasRows, written_in, written_tables}
@@ -60,7 +61,7 @@ abbrev season_alone : SeasonFacts → Rows
 season_alone season = record { season = season; schools = []; children = []; applications = []; places = []; left = []; draws = []; offers = []; lots = []; imported = [] }
 
 only_rows : (season : SeasonFacts) → rows_in_order (only_season season) ≡ season_alone season
-only_rows season = λ k. record { season = season; schools = values-empty code_cmp _ k; children = values-empty nat_cmp _ k; applications = values-empty nat_cmp _ k; places = values-empty nat_cmp _ k; left = values-empty left_cmp _ k; draws = map row_of (values-empty nat_cmp _ k); offers = flat_map offers_of (values-empty nat_cmp _ k); lots = flat_map lots_of (values-empty nat_cmp _ k); imported = values-empty nat_cmp _ k }
+only_rows season = λ k. record { season = season; schools = values-empty code_cmp _ k; children = values-empty nat_cmp _ k; applications = values-empty nat_cmp _ k; places = values-empty nat_cmp _ k; left = values-empty left_cmp _ k; draws = map row_of (values-empty nat_cmp _ k); offers = flat_map offer_rows_of (values-empty nat_cmp _ k); lots = flat_map lot_rows_of (values-empty nat_cmp _ k); imported = values-empty nat_cmp _ k }
 
 pub stands_for_new : (made last : State) (season : SeasonFacts) (row : SeasonRow) → IsRowOf season row → SeesNoRows register_schema made → Leaves (write_of Adds meta written_season (row ∷ []) ∷ []) made last → StandsAs Second last.now.trees (only_season season)
 stands_for_new made last season row it none wrote = record {

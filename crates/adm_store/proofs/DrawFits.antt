@@ -13,7 +13,7 @@ use Rattle.adm_types.specs.Seasons.{SeasonFacts, lists_end}
 use Rattle.adm_types.specs.declared.draws.Draw.{Draw}
 use Rattle.adm_types.specs.declared.draws.Outcome.{Outcome}
 use Rattle.adm_types.specs.declared.draws.Lot.{Lot}
-use Rattle.adm_draws.specs.Draws.{row_of, offers_of, lots_of, offer_row, lot_row}
+use Rattle.adm_draws.specs.Draws.{row_of, offer_rows_of, lot_rows_of, offer_row, lot_row}
 use Rattle.adm_register.specs.State.{State as Register}
 use Rattle.adm_register.specs.Draws.{DrawFits, no_draws, with_draw, is_round, is_due, is_numbered, is_next, are_in_order, is_choice, is_known_outcome, is_known_lot}
 use Rattle.adm_register.specs.WellFormed.{WellFormed}
@@ -92,12 +92,12 @@ module _ (r : Register) (formed : WellFormed r) where
     day = λ k. it.0.1.day k && subst (λ (l : ℕ). nat_le d.day l ≡ true) (sym same) it.1.day k;
   }
 
-  pub offers_fit : AllByRecursion IsOfferRow (flat_map offers_of (values r.draws))
-  offers_fit = all-flat_map IsOfferRow offers_of (values r.draws)
+  pub offers_fit : AllByRecursion IsOfferRow (flat_map offer_rows_of (values r.draws))
+  offers_fit = all-flat_map IsOfferRow offer_rows_of (values r.draws)
       (each_weaker FitsInTurn _ (λ d it. outcomes_fit d.number (low_number d.number it.1.number) d.outcomes it.0.1.outcomes) (values r.draws) each_draw)
 
-  pub lots_fit : AllByRecursion IsLotRow (flat_map lots_of (values r.draws))
-  lots_fit = all-flat_map IsLotRow lots_of (values r.draws)
+  pub lots_fit : AllByRecursion IsLotRow (flat_map lot_rows_of (values r.draws))
+  lots_fit = all-flat_map IsLotRow lot_rows_of (values r.draws)
       (each_weaker FitsInTurn _ (λ d it. drawn_fit d.number (low_number d.number it.1.number) d.lots it.0.1.lots) (values r.draws) each_draw)
 
 pub draws_fit : (r : Register) (last : ℕ) → WellFormed r → last ≡ lists_end r.season → AllByRecursion (IsDrawRow last) (map row_of (values r.draws))

@@ -21,7 +21,7 @@ use Rattle.adm_schema.specs.Schema.{meta, schema_of}
 use Rattle.adm_schema.specs.Texts.{select_meta}
 use Rattle.adm_store.specs.declared.fault.OpenFault.{OpenFault}
 use Rattle.adm_store.specs.declared.fault.OpenFault.TheVariants.{NotOurs}
-use Rattle.adm_store.specs.FirstFault.{first_fault, Answers, IsAnswered, IsNotAsked, IsFirstFault}
+use Rattle.adm_store.specs.FirstFault.{first_fault, AnswersRows, IsAnswered, IsNotAsked, IsFirstFault}
 
 -- ---- what a query tells, under any schema
 
@@ -89,7 +89,7 @@ pub first_by_rows : (db : Database) (rows : List Row) (fault : OpenFault) → Is
 first_by_rows db rows fault asked own is = record {
   no_table = λ why refused. absurd (let wrong = sym asked.1 ∙ refused in cc);
   by_rows = λ c understood plain. let same : asked.0 ≡ c = ok_is asked.0 c _ asked.1 understood in
-      (rows, subst (λ k. Answers db select_meta k rows) same (asked.2 (ap (λ (k : Compiled). k.returning) same ∙ plain)), is);
+      (rows, subst (λ k. AnswersRows db select_meta k rows) same (asked.2 (ap (λ (k : Compiled). k.returning) same ∙ plain)), is);
   own_rows = λ v has. is ∙ first_permuted rows (rows_of meta db.trees) (IsPermutation-sym _ _ (own v has));
 }
 

@@ -7,7 +7,7 @@ use Rattle.std.proofs.lemmas.Bool.{and_parts}
 use Rattle.adm_types.specs.Code.{is_code}
 use Rattle.adm_types.specs.Limits.{is_child_number}
 use Rattle.adm_types.specs.declared.rows.School.{School}
-use Rattle.adm_register.specs.State.{code_cmp}
+use Rattle.adm_types.specs.Limits.{code_cmp}
 use Rattle.adm_register.specs.State.{State as Register}
 use Rattle.adm_register.specs.WellFormed.{WellFormed, AllRows, SchoolFits, are_schools}
 use Rattle.adm_store.proofs.MapRows.{row_there}

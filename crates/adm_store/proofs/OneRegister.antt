@@ -19,7 +19,7 @@ use Rattle.adm_store.specs.StandsFor.{OneRegister, HoldsRegister}
 use Rattle.adm_store.proofs.FaultLemmas.{one_version}
 use Rattle.adm_store.proofs.Entries.{has_value, value_at}
 use Rattle.adm_store.proofs.SameDraws.{same_draws}
-use Rattle.adm_draws.specs.Draws.{is_draw, are_ordered, repeats_lot, is_fresh_at_school, is_round_or_fill}
+use Rattle.adm_draws.specs.Draws.{is_draw, are_ordered, repeats_lot, fresh_has_school, is_round_or_fill}
 use Rattle.adm_types.specs.declared.draws.Draw.{Draw}
 use Rattle.std.specs.List.{list_all}
 use Rattle.std.proofs.lemmas.Bool.{and_parts}
@@ -44,7 +44,7 @@ module _ {K V : Type 0} {R : K → K → Ordering} (total : IsTotalOrder R) (exa
 draw_ordered : (d : Draw) → is_draw d ≡ true → are_ordered d ≡ true
 draw_ordered d form =
     let fresh = and_parts _ (is_round_or_fill d.round d.school d.outcomes) form in
-    let lots = and_parts _ (list_all is_fresh_at_school d.outcomes) fresh.0 in
+    let lots = and_parts _ (list_all fresh_has_school d.outcomes) fresh.0 in
     (and_parts (are_ordered d) (not (repeats_lot d.lots)) lots.0).0
 
 one_in : (v w : Version) (db : Trees) (r s : Register) → HoldsRegister v db r → HoldsRegister w db s → v ≡ w → r ≡ s

@@ -24,7 +24,8 @@ use Rattle.adm_types.specs.declared.rows.Child.{Child}
 use Rattle.adm_types.specs.declared.rows.Application.{Application}
 use Rattle.adm_types.specs.declared.rows.School.{School}
 use Rattle.adm_types.specs.declared.rows.LeftPair.{LeftPair}
-use Rattle.adm_register.specs.State.{code_cmp, left_cmp, application_of}
+use Rattle.adm_types.specs.Limits.{code_cmp}
+use Rattle.adm_register.specs.State.{left_cmp, application_of}
 use Rattle.adm_register.specs.State.{State as Register}
 use Rattle.adm_register.specs.WellFormed.{WellFormed, ChildFits, ApplicationFits}
 use Rattle.adm_schema.specs.declared.version.Version.{Version}

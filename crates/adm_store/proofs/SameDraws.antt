@@ -22,7 +22,7 @@ use Rattle.adm_types.specs.declared.draws.OfferRow.{OfferRow}
 use Rattle.adm_types.specs.declared.draws.LotRow.{LotRow}
 use Rattle.adm_types.specs.declared.draws.Outcome.{Outcome}
 use Rattle.adm_types.specs.declared.draws.Lot.{Lot}
-use Rattle.adm_draws.specs.Draws.{row_of, offer_row, lot_row, offers_of, lots_of, outcome_cmp, lot_cmp, rises, are_ordered, AreRowsOf}
+use Rattle.adm_draws.specs.Draws.{row_of, offer_row, lot_row, offer_rows_of, lot_rows_of, outcome_cmp, lot_cmp, rises, are_ordered, AreDrawRowsOf}
 use Rattle.adm_store.proofs.Entries.{has_value, value_at}
 
 -- ---- lists in order with the same members
@@ -112,7 +112,7 @@ module _ {I Y : Type 0} (items : Draw → List I) (row : ℕ → I → Y) (numbe
 abbrev AreOrdered : FinMap nat_cmp Draw → Type 0
 AreOrdered draws = (k : ℕ) (d : Draw) → get draws k ≡ Some d → are_ordered d ≡ true
 
-module _ (a b : FinMap nat_cmp Draw) (own : OwnNumbers a) (other : OwnNumbers b) (ordered : AreOrdered a) (ordered_too : AreOrdered b) (rows : AreRowsOf (map row_of (values a)) (flat_map offers_of (values a)) (flat_map lots_of (values a)) (values b)) where
+module _ (a b : FinMap nat_cmp Draw) (own : OwnNumbers a) (other : OwnNumbers b) (ordered : AreOrdered a) (ordered_too : AreOrdered b) (rows : AreDrawRowsOf (map row_of (values a)) (flat_map offer_rows_of (values a)) (flat_map lot_rows_of (values a)) (values b)) where
   same_head : (k : ℕ) (d : Draw) → get a k ≡ Some d → (e : Draw) × (get b k ≡ Some e) × (row_of d ≡ row_of e)
   same_head k d one =
       let here = has_mapped row_of (values a) d (has_value nat_cmp_total nat_cmp-IsAntisymmetric a k d one) in
@@ -133,13 +133,13 @@ module _ (a b : FinMap nat_cmp Draw) (own : OwnNumbers a) (other : OwnNumbers b)
   had_too : (k : ℕ) (d : Draw) → get a k ≡ Some d → get b k ≡ Some d
   had_too k d one = let it = same_head k d one in it.1 ∙ ap Some (sym (same_parts k d it.0 one it.1 it.2))
 
-swapped : (a b : FinMap nat_cmp Draw) → AreRowsOf (map row_of (values a)) (flat_map offers_of (values a)) (flat_map lots_of (values a)) (values b)
-    → AreRowsOf (map row_of (values b)) (flat_map offers_of (values b)) (flat_map lots_of (values b)) (values a)
+swapped : (a b : FinMap nat_cmp Draw) → AreDrawRowsOf (map row_of (values a)) (flat_map offer_rows_of (values a)) (flat_map lot_rows_of (values a)) (values b)
+    → AreDrawRowsOf (map row_of (values b)) (flat_map offer_rows_of (values b)) (flat_map lot_rows_of (values b)) (values a)
 swapped a b rows = record { heads = IsPermutation-sym _ _ rows.heads; offers = IsPermutation-sym _ _ rows.offers; lots = IsPermutation-sym _ _ rows.lots }
 
 -- draws at their own numbers, each in order, whose rows are the same, are the same
 pub same_draws : (a b : FinMap nat_cmp Draw) → OwnNumbers a → OwnNumbers b → AreOrdered a → AreOrdered b
-    → AreRowsOf (map row_of (values a)) (flat_map offers_of (values a)) (flat_map lots_of (values a)) (values b) → a ≡ b
+    → AreDrawRowsOf (map row_of (values a)) (flat_map offer_rows_of (values a)) (flat_map lot_rows_of (values a)) (values b) → a ≡ b
 same_draws a b own other ordered ordered_too rows = same_map nat_cmp_total nat_cmp-IsAntisymmetric a b (λ k. go k (get a k) refl (get b k) refl)
   where
     go : (k : ℕ) (x : Option Draw) → get a k ≡ x → (y : Option Draw) → get b k ≡ y → get a k ≡ get b k

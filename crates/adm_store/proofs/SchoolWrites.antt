@@ -12,7 +12,7 @@ use Rattle.adm_types.specs.contracts.rows.School.{the_row as school_code}
 use Rattle.adm_types.specs.declared.rows.School.{School}
 use Rattle.adm_schema.specs.Effects.{begins_with, drop_of}
 use Rattle.adm_register.specs.Difference.{AreNew}
-use Rattle.adm_register.specs.State.{code_cmp}
+use Rattle.adm_types.specs.Limits.{code_cmp}
 use Rattle.adm_store.specs.Forms.{school_row}
 use Rattle.adm_store.specs.Schools.{code_row, replaced_by, replaced_of}
 use Rattle.adm_store.proofs.MapLemmas.{coded_stable}

@@ -3,7 +3,7 @@ use Rattle.std.specs.Prelude.{◌≡◌, ℕ, ◌+◌, ◌-◌, pos, List, [], �
 use Rattle.std.specs.List.{flat_map}
 use Rattle.adm_types.specs.Seasons.{SeasonFacts, IsSeason}
 use Rattle.adm_types.specs.declared.draws.DrawRow.{DrawRow}
-use Rattle.adm_draws.specs.Draws.{row_of, offers_of, lots_of}
+use Rattle.adm_draws.specs.Draws.{row_of, offer_rows_of, lot_rows_of}
 use Rattle.adm_register.specs.State.{only_season}
 use Rattle.adm_register.specs.State.{State as Register}
 use Rattle.adm_register.specs.WellFormed.{WellFormed}
@@ -22,7 +22,7 @@ use Rattle.adm_store.specs.declared.rows.Changes.{Changes}
 use Rattle.adm_store.specs.Forms.{phase_code, season_row, school_row, child_row, application_row, imported_row, truth_code}
 use Rattle.adm_schema.specs.declared.version.Version.TheVariants.{Second}
 use Rattle.sqlite.specs.Tree.{Trees}
-use Rattle.adm_store.specs.Present.{moved_of, arrived_of}
+use Rattle.adm_store.specs.Present.{present_gone_of, present_come_of}
 use Rattle.adm_store.specs.Schools.{replaced_of}
 use Rattle.adm_store.specs.StandsFor.{StandsAs, LeavesOnly, LeavesEither}
 
@@ -74,11 +74,11 @@ pub record IsChanges (old new : Register) (changes : Changes) : Type 0 where
   pub places : changes.places ≡ difference.places
   pub left : changes.left ≡ difference.left
   pub draws : changes.draws ≡ map row_of difference.draws
-  pub offers : changes.offers ≡ flat_map offers_of difference.draws
-  pub lots : changes.lots ≡ flat_map lots_of difference.draws
+  pub offers : changes.offers ≡ flat_map offer_rows_of difference.draws
+  pub lots : changes.lots ≡ flat_map lot_rows_of difference.draws
   pub imported : map written_imported changes.imported ≡ map imported_row difference.imported
-  pub moved : changes.moved ≡ moved_of old.children difference.children
-  pub present : changes.present ≡ arrived_of old.children difference.children difference.imported
+  pub moved : changes.moved ≡ present_gone_of old.children difference.children
+  pub present : changes.present ≡ present_come_of old.children difference.children difference.imported
   pub ended : changes.ended ≡ difference.ended
   pub vacated : changes.vacated ≡ difference.vacated
 

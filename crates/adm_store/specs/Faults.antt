@@ -111,16 +111,16 @@ is_day_or_none None = true
 is_day_or_none (Some day) = is_day day
 
 -- the days of an offer are in their range
-abbrev pub are_days : PlaceState → Bool
-are_days (Offered day reminded) = is_day day && is_day_or_none reminded
-are_days Accepted = true
-are_days Plan = true
+abbrev pub has_days_in_range : PlaceState → Bool
+has_days_in_range (Offered day reminded) = is_day day && is_day_or_none reminded
+has_days_in_range Accepted = true
+has_days_in_range Plan = true
 
 -- a place of any kind, with a child's number, a code, and days in their range
 pub record IsPlaceRow (row : PlaceRow) : Type 0 where
   pub number_form : IsTrue (is_child_number row.child)
   pub code_form : IsTrue (is_code row.place.school)
-  pub days : IsTrue (are_days row.place.state)
+  pub days : IsTrue (has_days_in_range row.place.state)
 
 -- the row has a child's number, a code, a kind of 32 bits, and days or NULL
 pub record HasPlaceColumns (row : Row) (child : ℕ) (code : List ℕ) (kind : ℕ) (day reminded : Option ℕ) : Type 0 where

@@ -27,12 +27,12 @@ first_fault (cells ∷ []) = if is_known (column cells 1) then BadRow else Versi
 first_fault (row ∷ next ∷ rows) = BadRow
 
 -- the text, which `sqlite` understands so, answers these rows
-abbrev pub Answers : Database → List ℕ → Compiled → List Row → Type 0
-Answers db sql c rows = (source : Database) × (params : Row) × IsSourceOf (reads_listing db.schema sql) db source × Reads c.command source params rows
+abbrev pub AnswersRows : Database → List ℕ → Compiled → List Row → Type 0
+AnswersRows db sql c rows = (source : Database) × (params : Row) × IsSourceOf (reads_listing db.schema sql) db source × Reads c.command source params rows
 
 -- `sqlite` understands the text, and these are the rows that it answers, where it is a query
 abbrev pub IsAnswered : Database → List ℕ → List Row → Type 0
-IsAnswered db sql rows = (c : Compiled) × (understood db.schema sql ≡ Ok c) × (c.returning ≡ None → Answers db sql c rows)
+IsAnswered db sql rows = (c : Compiled) × (understood db.schema sql ≡ Ok c) × (c.returning ≡ None → AnswersRows db sql c rows)
 
 -- the text is no query that `sqlite` understands, as where a table or a column is missing
 abbrev pub IsNotAsked : Database → List ℕ → Type 0
@@ -43,6 +43,6 @@ pub record IsFirstFault (db : Database) (fault : OpenFault) : Type 0 where
   -- there is no table `meta` with its columns, by their names
   pub no_table : (why : CompileError) → understood db.schema select_meta ≡ Err why → fault ≡ NotOurs
   -- else its rows tell
-  pub by_rows : (c : Compiled) → understood db.schema select_meta ≡ Ok c → c.returning ≡ None → (rows : List Row) × Answers db select_meta c rows × (fault ≡ first_fault rows)
+  pub by_rows : (c : Compiled) → understood db.schema select_meta ≡ Ok c → c.returning ≡ None → (rows : List Row) × AnswersRows db select_meta c rows × (fault ≡ first_fault rows)
   -- in a file with the tables of a register these are the rows of its table `meta`
   pub own_rows : (v : FileVersion) → db.schema ≡ schema_of v → fault ≡ first_fault (rows_of meta db.trees)

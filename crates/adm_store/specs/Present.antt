@@ -33,19 +33,19 @@ abbrev pub moved_from : Option (List ℕ) → Child → List ℕ
 moved_from None child = []
 moved_from (Some school) child = if is_same_present (Some school) child.present then [] else child.no ∷ []
 
-abbrev pub moved_by : FinMap nat_cmp Child → Child → List ℕ
-moved_by before child = moved_from (was_present before child.no) child
+abbrev pub present_gone_by : FinMap nat_cmp Child → Child → List ℕ
+present_gone_by before child = moved_from (was_present before child.no) child
 
 -- a child has a present school that it had not: its row
 abbrev pub arrived_from : Option (List ℕ) → Child → List PresentRow
 arrived_from before child = if is_same_present before child.present then [] else present_of_child child
 
-abbrev pub arrived_by : FinMap nat_cmp Child → Child → List PresentRow
-arrived_by before child = arrived_from (was_present before child.no) child
+abbrev pub present_come_by : FinMap nat_cmp Child → Child → List PresentRow
+present_come_by before child = arrived_from (was_present before child.no) child
 
 -- of the children that changed, those whose row goes, and the rows that come; those of imported rows only come
-abbrev pub moved_of : FinMap nat_cmp Child → List Child → List ℕ
-moved_of before = flat_map (moved_by before)
+abbrev pub present_gone_of : FinMap nat_cmp Child → List Child → List ℕ
+present_gone_of before = flat_map (present_gone_by before)
 
-abbrev pub arrived_of : FinMap nat_cmp Child → List Child → List ImportRow → List PresentRow
-arrived_of before children imported = flat_map (arrived_by before) children ++ flat_map present_of_import imported
+abbrev pub present_come_of : FinMap nat_cmp Child → List Child → List ImportRow → List PresentRow
+present_come_of before children imported = flat_map (present_come_by before) children ++ flat_map present_of_import imported

@@ -3,7 +3,7 @@ use Rattle.std.specs.Prelude.{ℕ, List, [], ◌∷◌, if◌then◌else◌}
 use Rattle.std.specs.List.{flat_map}
 use Rattle.std.specs.FinMap.{FinMap, contains_key}
 use Rattle.adm_types.specs.declared.rows.School.{School}
-use Rattle.adm_register.specs.State.{code_cmp}
+use Rattle.adm_types.specs.Limits.{code_cmp}
 use Rattle.sqlite.specs.declared.types.Value.TheVariants.{Text}
 use Rattle.sqlite.specs.Order.{Row}
 

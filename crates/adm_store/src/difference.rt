@@ -7,7 +7,7 @@ ghost use Rattle.adm_register.specs.State.{State as Facts};
 ghost use Rattle.adm_register.specs.Difference.{IsDifference};
 ghost use Rattle.adm_schema.specs.declared.version.Version.TheVariants.{Second};
 ghost use Rattle.adm_store.specs.Changes.{written_season, written_school, written_child, written_application, written_imported, IsChanges};
-ghost use Rattle.adm_store.specs.Present.{was_present, moved_from, moved_of, arrived_from, arrived_by};
+ghost use Rattle.adm_store.specs.Present.{was_present, moved_from, present_gone_of, arrived_from, present_come_by};
 ghost use Rattle.adm_store.specs.Schools.{replaced_of};
 ghost use Rattle.adm_store.specs.Forms.{season_row, school_row, child_row, application_row, imported_row};
 
@@ -205,7 +205,7 @@ fn moved(
     old: &Register,
     children: &[Shared<Child>],
 ) -> Result<Vec<ChildNo>, AllocError>
-    ensures { IfOk result (λ moved. moved.items ≡ moved_of old.now.children children.now) }
+    ensures { IfOk result (λ moved. moved.items ≡ present_gone_of old.now.children children.now) }
 {
     let mut moved = Vec::new(alloc);
     'children: for row in children {
@@ -235,7 +235,7 @@ fn arrived(
     old: &Register,
     children: &[Shared<Child>],
 ) -> Result<Vec<PresentRow>, AllocError>
-    ensures { IfOk result (λ rows. rows.items ≡ flat_map (arrived_by old.now.children) children.now) }
+    ensures { IfOk result (λ rows. rows.items ≡ flat_map (present_come_by old.now.children) children.now) }
 {
     let mut rows = Vec::new(alloc);
     'children: for row in children {

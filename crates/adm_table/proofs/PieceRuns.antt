@@ -10,7 +10,7 @@ use Rattle.std.specs.List.Sorted.{IsStrictlySortedBy}
 use Rattle.std.proofs.lemmas.List.{take-append-drop, drop_more, take_at, drop_at, length-take-le, take_more, drop_all}
 use Rattle.adm_lists.proofs.Each.{each_weaker, each_append}
 use Rattle.adm_table.specs.declared.pieces.Piece.{Piece}
-use Rattle.adm_table.specs.Pieces.{ArePieces, StartsRight, IsFirst, rows_of_pieces, first_rows}
+use Rattle.adm_table.specs.Pieces.{ArePieces, StartsRight, FirstHasKey, rows_of_pieces, first_rows}
 use Rattle.adm_table.proofs.Runs.{all-first, all-second, keys-both, sorted-before, sorted-after, sorted-inserted, sorted-removed, below, below_both}
 use Rattle.adm_table.proofs.Runs.{lookup-after, lookup-before, insert-after, insert-before, remove-after, remove-before}
 
@@ -47,7 +47,7 @@ module _ {K V : Type 0} where
   from-place : (place : ℕ) (pieces : List (Piece K V)) (piece : Piece K V) → place < length pieces → piece ≡ get_or pieces place piece → drop place pieces ≡ piece ∷ drop (place + 1) pieces
   from-place place pieces piece within at = drop_more pieces place piece within ∙ ap (λ p. p ∷ drop (place + 1) pieces) (sym at)
 
-  first-key : (key : K) (rows : List (K × V)) → IsFirst key rows → (ks : List K) × (keys_of rows ≡ key ∷ ks)
+  first-key : (key : K) (rows : List (K × V)) → FirstHasKey key rows → (ks : List K) × (keys_of rows ≡ key ∷ ks)
   first-key key [] first = absurd first
   first-key key (row ∷ rows) first = (keys_of rows, ap (λ k. k ∷ keys_of rows) (sym first))
 
@@ -109,8 +109,8 @@ module _ {K V : Type 0} where
   rows-missed zero (first ∷ pieces) e = cc
   rows-missed (suc place) (first ∷ pieces) e = rows-missed place pieces e
 
-  same-first : (key : K) (first : K) (rows others : List (K × V)) → first ≡ key → others ≡ rows → IsFirst key rows → IsFirst first others
-  same-first key first rows others e same right = subst (λ es. IsFirst first es) (sym same) (subst (λ k. IsFirst k rows) (sym e) right)
+  same-first : (key : K) (first : K) (rows others : List (K × V)) → first ≡ key → others ≡ rows → FirstHasKey key rows → FirstHasKey first others
+  same-first key first rows others e same right = subst (λ es. FirstHasKey first es) (sym same) (subst (λ k. FirstHasKey k rows) (sym e) right)
 
   -- one more copy of a piece, which has its rows
   pub copied-more : (place : ℕ) (pieces copies more : List (Piece K V)) (piece copy : Piece K V) → place < length pieces → piece ≡ get_or pieces place piece → AllByRecursion StartsRight pieces

@@ -17,13 +17,13 @@ first_rows [] = []
 first_rows (piece ∷ pieces) = piece.rows.value.entries
 
 -- there are rows, and the first has this key
-abbrev pub IsFirst : {K V : Type 0} → K → List (K × V) → Type 0
-IsFirst key [] = ⊥
-IsFirst key (row ∷ rows) = key ≡ row.0
+abbrev pub FirstHasKey : {K V : Type 0} → K → List (K × V) → Type 0
+FirstHasKey key [] = ⊥
+FirstHasKey key (row ∷ rows) = key ≡ row.0
 
 -- the piece has rows, and knows the key of the first
 abbrev pub StartsRight : {K V : Type 0} → Piece K V → Type 0
-StartsRight piece = IsFirst piece.first piece.rows.value.entries
+StartsRight piece = FirstHasKey piece.first piece.rows.value.entries
 
 -- the pieces have rows in the order of their keys, and know where they start
 pub record ArePieces {K V : Type 0} (cmp : K → K → Ordering) (pieces : List (Piece K V)) : Type 0 where

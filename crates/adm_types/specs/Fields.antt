@@ -1,13 +1,14 @@
 -- The texts of numbers, codes and criteria, as commands, rows of a file and letters share them.
 use Rattle.std.specs.Prelude.{ℕ, ◌^◌, Bool, not, ◌&&◌, ◌||◌, ◌==◌, nat_lt, nat_eq, List, ◌++◌, drop, length, slice_index, codes, Option, Some, None, if◌then◌else◌}
 use Rattle.std.specs.List.{starts_with, list_all}
-use Rattle.std.specs.Option.{option_map}
+use Rattle.std.specs.Option.{option_map, option_and_then}
 use Rattle.std.specs.Fmt.{decimal}
 use Rattle.std.specs.Char.{is_ascii_digit}
 use Rattle.std.specs.Str.Parse.{digits_value}
 use Rattle.std.specs.Cmp.Lexicographic.{pointwise}
 use Rattle.adm_types.specs.Code.{code_of}
 use Rattle.adm_types.specs.Limits.{is_from}
+use Rattle.adm_types.specs.Numbers.{child_of}
 use Rattle.adm_types.specs.declared.rows.Criterion.{Criterion}
 use Rattle.adm_types.specs.declared.rows.Criterion.TheVariants.{Sibling, Within, Flag, Feeder}
 
@@ -49,3 +50,7 @@ criterion_text Sibling = codes "sibling"
 criterion_text (Within metres) = codes "within:" ++ decimal metres
 criterion_text (Flag flag) = codes "flag:" ++ decimal flag
 criterion_text (Feeder school) = codes "feeder:" ++ school
+
+-- the child number that a text writes, as a plain number from 1 to 9,999,999
+abbrev pub child_named : List ℕ → Option ℕ
+child_named text = option_and_then child_of (plain_of text)

@@ -5,7 +5,9 @@ use Rattle.std.specs.Str.{chars}
 use Rattle.std.specs.Char.{is_control}
 use Rattle.adm_types.specs.Code.{is_code}
 pub use Rattle.adm_types.specs.Numbers.{is_from, is_child_number, first_day, last_day}
-use Rattle.std.specs.Cmp.Lexicographic.{pointwise}
+use Rattle.std.specs.Cmp.Lexicographic.{pointwise, slice_cmp}
+use Rattle.std.specs.Ordering.{nat_cmp}
+use Rattle.std.specs.declared.cmp.Ordering.{Ordering}
 use Rattle.adm_types.specs.declared.rows.Point.{Point}
 use Rattle.adm_types.specs.declared.rows.Criterion.{Criterion}
 use Rattle.adm_types.specs.declared.rows.Criterion.TheVariants.{Sibling, Within, Flag, Feeder}
@@ -53,6 +55,10 @@ is_pan = is_from 1 500
 abbrev pub is_school_in_range : School → Bool
 is_school_in_range s =
     is_pan s.pan && is_on_map s.at && nat_le (length s.criteria) 8 && list_all is_criterion s.criteria
+
+-- codes in the order of their bytes
+abbrev pub code_cmp : List ℕ → List ℕ → Ordering
+code_cmp = slice_cmp nat_cmp
 
 -- the code is one of the codes
 abbrev pub is_listed : List (List ℕ) → List ℕ → Bool

@@ -34,54 +34,54 @@ reply_text (Filled child) = filled_text child
 reply_text (Imported added known) = imported_text added known
 
 -- the number of a refusal
-abbrev pub number_of : Refusal → ℕ
-number_of r.UnknownSchool = 1
-number_of r.UnknownChild = 2
-number_of r.SchoolKnown = 3
-number_of r.ChildKnown = 4
-number_of r.BadText = 5
-number_of r.OutOfRange = 6
-number_of r.RegisterFull = 7
-number_of r.BadPreferences = 8
-number_of r.HasPlan = 9
-number_of r.AlreadyApplied = 10
-number_of r.TooSoon = 11
-number_of r.WrongDraw = 12
-number_of r.LotCount = 13
-number_of r.LotsRepeated = 14
-number_of r.NotOffered = 15
-number_of r.NotWaiting = 16
-number_of r.NoVacancy = 17
-number_of r.EmptyList = 18
-number_of r.ListClosed = 19
-number_of r.RowDiffers = 20
-number_of r.AlreadyReminded = 21
-number_of r.NotReminded = 22
+abbrev pub refusal_number : Refusal → ℕ
+refusal_number r.UnknownSchool = 1
+refusal_number r.UnknownChild = 2
+refusal_number r.SchoolKnown = 3
+refusal_number r.ChildKnown = 4
+refusal_number r.BadText = 5
+refusal_number r.OutOfRange = 6
+refusal_number r.RegisterFull = 7
+refusal_number r.BadPreferences = 8
+refusal_number r.HasPlan = 9
+refusal_number r.AlreadyApplied = 10
+refusal_number r.TooSoon = 11
+refusal_number r.WrongDraw = 12
+refusal_number r.LotCount = 13
+refusal_number r.LotsRepeated = 14
+refusal_number r.NotOffered = 15
+refusal_number r.NotWaiting = 16
+refusal_number r.NoVacancy = 17
+refusal_number r.EmptyList = 18
+refusal_number r.ListClosed = 19
+refusal_number r.RowDiffers = 20
+refusal_number r.AlreadyReminded = 21
+refusal_number r.NotReminded = 22
 
 -- the name of a refusal
-abbrev pub name_of : Refusal → List ℕ
-name_of r.UnknownSchool = codes "UnknownSchool"
-name_of r.UnknownChild = codes "UnknownChild"
-name_of r.SchoolKnown = codes "SchoolKnown"
-name_of r.ChildKnown = codes "ChildKnown"
-name_of r.BadText = codes "BadText"
-name_of r.OutOfRange = codes "OutOfRange"
-name_of r.RegisterFull = codes "RegisterFull"
-name_of r.BadPreferences = codes "BadPreferences"
-name_of r.HasPlan = codes "HasPlan"
-name_of r.AlreadyApplied = codes "AlreadyApplied"
-name_of r.TooSoon = codes "TooSoon"
-name_of r.WrongDraw = codes "WrongDraw"
-name_of r.LotCount = codes "LotCount"
-name_of r.LotsRepeated = codes "LotsRepeated"
-name_of r.NotOffered = codes "NotOffered"
-name_of r.NotWaiting = codes "NotWaiting"
-name_of r.NoVacancy = codes "NoVacancy"
-name_of r.EmptyList = codes "EmptyList"
-name_of r.ListClosed = codes "ListClosed"
-name_of r.RowDiffers = codes "RowDiffers"
-name_of r.AlreadyReminded = codes "AlreadyReminded"
-name_of r.NotReminded = codes "NotReminded"
+abbrev pub name_of_refusal : Refusal → List ℕ
+name_of_refusal r.UnknownSchool = codes "UnknownSchool"
+name_of_refusal r.UnknownChild = codes "UnknownChild"
+name_of_refusal r.SchoolKnown = codes "SchoolKnown"
+name_of_refusal r.ChildKnown = codes "ChildKnown"
+name_of_refusal r.BadText = codes "BadText"
+name_of_refusal r.OutOfRange = codes "OutOfRange"
+name_of_refusal r.RegisterFull = codes "RegisterFull"
+name_of_refusal r.BadPreferences = codes "BadPreferences"
+name_of_refusal r.HasPlan = codes "HasPlan"
+name_of_refusal r.AlreadyApplied = codes "AlreadyApplied"
+name_of_refusal r.TooSoon = codes "TooSoon"
+name_of_refusal r.WrongDraw = codes "WrongDraw"
+name_of_refusal r.LotCount = codes "LotCount"
+name_of_refusal r.LotsRepeated = codes "LotsRepeated"
+name_of_refusal r.NotOffered = codes "NotOffered"
+name_of_refusal r.NotWaiting = codes "NotWaiting"
+name_of_refusal r.NoVacancy = codes "NoVacancy"
+name_of_refusal r.EmptyList = codes "EmptyList"
+name_of_refusal r.ListClosed = codes "ListClosed"
+name_of_refusal r.RowDiffers = codes "RowDiffers"
+name_of_refusal r.AlreadyReminded = codes "AlreadyReminded"
+name_of_refusal r.NotReminded = codes "NotReminded"
 
 -- a name and a number
 abbrev pub named_text : List ℕ → ℕ → List ℕ
@@ -93,7 +93,7 @@ row_text name refused row = codes "{\"name\":\"" ++ (name ++ (codes "\",\"refuse
 
 -- a refusal, with its row; 0 is no row
 abbrev pub refusal_text : Refusal → ℕ → List ℕ
-refusal_text refusal row = if row == 0 then named_text (name_of refusal) (number_of refusal) else row_text (name_of refusal) (number_of refusal) row
+refusal_text refusal row = if row == 0 then named_text (name_of_refusal refusal) (refusal_number refusal) else row_text (name_of_refusal refusal) (refusal_number refusal) row
 
 -- the text of an answer for want of memory
 abbrev pub memory_text : List ℕ

@@ -1,7 +1,7 @@
 // The texts of answers: compact JSON, to the byte.
 ghost use Rattle.std.specs.Prelude.{◌≡◌, IfOk, string_bytes};
 ghost use Rattle.serde_json.specs.View.{view};
-ghost use Rattle.adm_wire.specs.Texts.{reply_text, round_data, round_text, filled_text, imported_text, named_text, row_text, refusal_text, fault_text, memory_text, failed_text, name_of};
+ghost use Rattle.adm_wire.specs.Texts.{reply_text, round_data, round_text, filled_text, imported_text, named_text, row_text, refusal_text, fault_text, memory_text, failed_text, name_of_refusal};
 
 use crate::WireFault;
 use adm_types::{ChildNo, Refusal, Reply};
@@ -125,7 +125,7 @@ pub fn failed_text() -> &'static str
 }
 
 fn refusal_name(refusal: Refusal) -> &'static str
-    ensures { result.now ≡ name_of refusal }
+    ensures { result.now ≡ name_of_refusal refusal }
 {
     match refusal {
         Refusal::UnknownSchool => "UnknownSchool",

@@ -8,7 +8,7 @@ use Rattle.std.specs.Result.{OkIff, result_ok}
 use Rattle.std.specs.Str.Parse.{ParsesUnsigned, IsNumeral, digits_value, without_leading_plus}
 use Rattle.std.proofs.lemmas.Bool.Decides.{Decides-ltb, Decides-and}
 use Rattle.adm_lists.proofs.Numerals.{digits}
-use Rattle.adm_words.specs.Lines.{number_of}
+use Rattle.adm_words.specs.Lines.{number_in}
 
 pub decided : (ds : List ℕ) → Decides (nat_lt 0 (length ds) && (list_all is_ascii_digit ds && nat_lt (digits_value 10 ds) (2 ^ 32))) (IsNumeral 10 ds × (digits_value 10 ds < 2 ^ 32))
 decided ds =
@@ -20,5 +20,5 @@ read_where P v b (Ok x) d h = rw (d.1 h.0, h.1) refl
 read_where P v true (Err e) d h = absurd (h (d.0 refl))
 read_where P v false (Err e) d h = refl
 
-pub number_read : {E : Type 0} (text : List ℕ) (r : Result ℕ E) → ParsesUnsigned 32 10 text r → result_ok r ≡ number_of text
+pub number_read : {E : Type 0} (text : List ℕ) (r : Result ℕ E) → ParsesUnsigned 32 10 text r → result_ok r ≡ number_in text
 number_read text r parsed = read_where _ _ _ r (decided (without_leading_plus text)) parsed

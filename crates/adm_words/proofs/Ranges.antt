@@ -6,7 +6,7 @@ use Rattle.clap.specs.Walk.{Text}
 use Rattle.clap.specs.ValueTests.{accepts, fits_i64, is_numeral}
 use Rattle.clap.specs.declared.builder.value_parser.ValueParser.TheVariants as parser
 use Rattle.clap.proofs.ValueTestLemmas.{accepts-Accepts}
-use Rattle.adm_words.specs.Lines.{number_of, number_from, within}
+use Rattle.adm_words.specs.Lines.{number_in, number_from, within}
 use Rattle.adm_words.proofs.Numbers.{decided}
 
 -- a number that is no less than 1 is none with a minus
@@ -16,7 +16,7 @@ not_minus least zero some e =
     absurd (omega arith)
 not_minus least (suc n) some e = true≢false (sym e)
 
-read : (least most : ℕ) (v : Text) (d : ℕ) → number_of v ≡ Some d → nat_le least d ≡ true → nat_le d most ≡ true → (n : ℕ) × (number_from least most v ≡ Some n)
+read : (least most : ℕ) (v : Text) (d : ℕ) → number_in v ≡ Some d → nat_le least d ≡ true → nat_le d most ≡ true → (n : ℕ) × (number_from least most v ≡ Some n)
 read least most v d is above below = (d, ap (option_and_then (within least most)) is ∙ rw (above, below) refl)
 
 pub number_named : (least most : ℕ) → 1 ≤ least → most < 2 ^ 32 → (v : Text) → accepts false (parser.Signed (pos least) (pos most)) v ≡ true

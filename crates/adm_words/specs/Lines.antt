@@ -7,8 +7,7 @@ use Rattle.std.specs.Option.{option_map_or}
 use Rattle.std.specs.Str.Parse.{digits_value, without_leading_plus}
 use Rattle.adm_types.specs.Code.{code_of}
 use Rattle.adm_types.specs.DayText.{IsDayText}
-use Rattle.adm_types.specs.Fields.{plain_of}
-use Rattle.adm_types.specs.Numbers.{child_of}
+use Rattle.adm_types.specs.Fields.{plain_of, child_named}
 use Rattle.adm_types.specs.declared.seasons.Phase.{Phase}
 use Rattle.adm_types.specs.declared.seasons.Phase.TheVariants.{Primary, Secondary}
 use Rattle.clap.specs.Words.{Row, Text, first_of, all_of, fault_of, subcommand_of, IsAmong, kind_of}
@@ -43,8 +42,8 @@ abbrev pub digits_number : List ℕ → Option ℕ
 digits_number digits = if nat_lt 0 (length digits) && (list_all is_ascii_digit digits && nat_lt (digits_value 10 digits) (2 ^ 32)) then Some (digits_value 10 digits) else None
 
 -- a plus may stand before the digits
-abbrev pub number_of : Text → Option ℕ
-number_of text = digits_number (without_leading_plus text)
+abbrev pub number_in : Text → Option ℕ
+number_in text = digits_number (without_leading_plus text)
 
 -- a number that is no less than the least and no more than the most
 abbrev pub within : ℕ → ℕ → ℕ → Option ℕ
@@ -52,7 +51,7 @@ within least most n = if nat_le least n && nat_le n most then Some n else None
 
 -- the number that a text writes, from the least to the most
 abbrev pub number_from : ℕ → ℕ → Text → Option ℕ
-number_from least most text = option_and_then (within least most) (number_of text)
+number_from least most text = option_and_then (within least most) (number_in text)
 
 -- the year that a text writes, from 2000 to 2100
 abbrev pub year_of : Text → Option ℕ
@@ -65,10 +64,6 @@ port_of text = number_from 1 65535 text
 -- how many connections a text writes, from 1 to 1,000,000
 abbrev pub count_of : Text → Option ℕ
 count_of text = number_from 1 1000000 text
-
--- the child number that a text writes, as a plain number
-abbrev pub child_named : Text → Option ℕ
-child_named text = option_and_then child_of (plain_of text)
 
 -- the school of a code, if a code is written
 abbrev pub school_named : Option Text → Option (Option Text)
@@ -207,8 +202,8 @@ abbrev pub ReadsLine : Option Line → Result Action WordsFault → Type 0
 ReadsLine found result = (line : Line) × (found ≡ Some line) × Reads line result
 
 -- clap takes the words, and this is what the line that it found asks for
-abbrev pub Takes : List Text → Result Action WordsFault → Type 0
-Takes words result = (phases : ValueParser) × IsPhases phases × (fault_of (program_app phases) words ≡ []) × (name : Text) × (rows : List Row) × (subcommand_of (program_app phases) words ≡ Some (name, rows)) × ReadsLine (line_in name rows) result
+abbrev pub TakesWords : List Text → Result Action WordsFault → Type 0
+TakesWords words result = (phases : ValueParser) × IsPhases phases × (fault_of (program_app phases) words ≡ []) × (name : Text) × (rows : List Row) × (subcommand_of (program_app phases) words ≡ Some (name, rows)) × ReadsLine (line_in name rows) result
 
 -- clap refuses the words, and this is the kind of its error
 abbrev pub Refuses : List Text → ErrorKind → Type 0
@@ -216,10 +211,10 @@ Refuses words kind = (phases : ValueParser) × IsPhases phases × IsAmong kind (
 
 -- what the words ask for, or that clap refuses them, unless memory ran out
 abbrev pub ReadsWords : List Text → Result Action WordsFault → Type 0
-ReadsWords words (Ok a) = Takes words (Ok a)
+ReadsWords words (Ok a) = TakesWords words (Ok a)
 ReadsWords words (Err (Words e)) = Refuses words (kind_of e)
-ReadsWords words (Err BadDate) = Takes words (Err BadDate)
-ReadsWords words (Err BadWord) = Takes words (Err BadWord)
+ReadsWords words (Err BadDate) = TakesWords words (Err BadDate)
+ReadsWords words (Err BadWord) = TakesWords words (Err BadWord)
 ReadsWords words (Err Memory) = Unit {0}
 
 -- a season's year is from 2000 to 2100, a port from 1 to 65535, and a number of connections from 1 to 1,000,000

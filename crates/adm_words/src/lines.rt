@@ -1,7 +1,7 @@
 // One line of the command line, read from the values that clap found.
 ghost use Rattle.std.specs.Prelude.{◌≡◌, ◌≤◌, map, option_map, IfOk, IfSome};
 ghost use Rattle.clap.specs.Words.{first_of, all_of, found_of, rows_of};
-ghost use Rattle.adm_words.specs.Lines.{IsLine, ReadsLine, ReadsDays, IsInRange, phase_of, number_of, number_from, year_of, phase_in, year_in, holidays_in, init_in, do_in, what_if_in, line_in};
+ghost use Rattle.adm_words.specs.Lines.{IsLine, ReadsLine, ReadsDays, IsInRange, phase_of, number_in, number_from, year_of, phase_in, year_in, holidays_in, init_in, do_in, what_if_in, line_in};
 
 use crate::pairs::{import, reading};
 use crate::serving::serve;
@@ -39,7 +39,7 @@ fn read_phase(text: &str) -> Option<Phase>
 
 /// The number that a text writes: decimal digits, and a plus or none before them.
 fn read_number(text: &str) -> Option<u32>
-    ensures { result ≡ number_of text.now }
+    ensures { result ≡ number_in text.now }
 {
     text.parse().ok()
 }

@@ -1,7 +1,8 @@
 // Lines of a file and one more word, or none, read from the values that clap found.
 ghost use Rattle.std.specs.Prelude.{◌≡◌, IfOk, option_map};
 ghost use Rattle.clap.specs.Words.{found_of, rows_of};
-ghost use Rattle.adm_words.specs.Lines.{IsLine, ReadsLine, ReadsWord, IsInRange, child_named, school_named, import_in, letter_in, list_in, report_in, pairs_in, reading_in};
+ghost use Rattle.adm_types.specs.Fields.{child_named};
+ghost use Rattle.adm_words.specs.Lines.{IsLine, ReadsLine, ReadsWord, IsInRange, school_named, import_in, letter_in, list_in, report_in, pairs_in, reading_in};
 
 use crate::lines::text_of;
 use crate::{Action, WordsFault};

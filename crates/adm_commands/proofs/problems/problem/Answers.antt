@@ -1,5 +1,5 @@
 use Rattle.std.proofs.Common.{◌≡◌, ◌∙◌, ap, sym, inl, cond, true, false, None, Some}
-use Rattle.adm_round.specs.Ranks.{market_of}
+use Rattle.adm_round.specs.Ranks.{market_of_round}
 use Rattle.adm_register.specs.State.{State}
 use Rattle.adm_commands.specs.Problem.{lots_fault}
 use Rattle.adm_commands.specs.Round.{sites, entrants, round_lots, is_lot_count, are_lots_apart}
@@ -42,4 +42,4 @@ returns-clause-problem c =
     let at_sites = c.deref.ensures.value ∙ parts.sites ∙ ap sites same in
     let at_entrants = c.deref-2.ensures.value ∙ parts.applicants ∙ ap entrants same in
     let at_lots = c.deref-3.ensures.value ∙ parts.drawn ∙ ap (λ (s : State). round_lots s numbers) same in
-    c.in_ok-problem_of.ensures ∙ (λ i. market_of (at_sites i) (at_entrants i) (at_lots i))
+    c.in_ok-problem_of.ensures ∙ (λ i. market_of_round (at_sites i) (at_entrants i) (at_lots i))

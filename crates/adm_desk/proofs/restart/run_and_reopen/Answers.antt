@@ -2,7 +2,7 @@ use Rattle.std.proofs.Common.{◌∙◌, ap, sym, subst, inl, inr, Some, Err}
 use Rattle.std.proofs.lemmas.Option.{IfSome_then}
 use Rattle.sqlite.specs.Held.{Held, state}
 use Rattle.adm_store.specs.StandsFor.{LeavesOnly}
-use Rattle.adm_desk.specs.Standing.{Standing}
+use Rattle.adm_desk.specs.DeskState.{DeskState}
 use Rattle.adm_desk.proofs.RestartLemmas.{none_answered}
 use Rattle.adm_desk.proofs.RoundLemmas.{found_rounds, held_or_not}
 use Rattle.adm_store.specs.declared.fault.OpenFault.TheVariants.{Memory}
@@ -10,7 +10,7 @@ use Rattle.adm_desk.proofs.restart.run_and_reopen.Goals as goal
 
 pub returns-in-Err-clause-kept : goal.returns-in-Err-clause-kept
 returns-in-Err-clause-kept g c = λ alive.
-    let same = c.into_connection.ensures.same ∙ ap (λ (s : Standing _). s.conn) c.in-Err.ensures.err in
+    let same = c.into_connection.ensures.same ∙ ap (λ (s : DeskState _). s.conn) c.in-Err.ensures.err in
     none_answered (state g.S.Store c.into_connection.result) c.args.desk.register c.args.commands.now c.new.result.items c.new.ensures.items
     (subst (λ (h : Held _). LeavesOnly c.args.desk.register (state g.S.Store h)) (sym same) (c.register-register.ensures.leaves alive))
 
@@ -39,7 +39,7 @@ returns-in-Ok-reopen-clause-round g c = λ alive clean.
 
 pub returns-in-Err-clause-run : goal.returns-in-Err-clause-run
 returns-in-Err-clause-run g c =
-    let same = c.into_connection.ensures.same ∙ ap (λ (s : Standing _). s.conn) c.in-Err.ensures.err in
+    let same = c.into_connection.ensures.same ∙ ap (λ (s : DeskState _). s.conn) c.in-Err.ensures.err in
     inr (c.new.ensures.items, ap (λ (h : Held _). Err (Memory, Some h)) same)
 
 pub returns-in-Ok-reopen-clause-run : goal.returns-in-Ok-reopen-clause-run

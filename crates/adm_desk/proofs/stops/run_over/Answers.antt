@@ -4,7 +4,7 @@ use Rattle.std.proofs.lemmas.Result.{IfOk-weaker, IfErr-weaker}
 use Rattle.adm_register.specs.State.{State as Register}
 use Rattle.sqlite.specs.Files.{file_state}
 use Rattle.adm_desk.specs.Acknowledged.{FindsAfter, LeavesAfter}
-use Rattle.adm_desk.specs.Rounds.{HoldsRounds, HoldsRoundInWork}
+use Rattle.adm_desk.specs.Rounds.{RecordsRounds, RecordsRoundInWork}
 use Rattle.adm_desk.proofs.StopLemmas.{is_clean, never_bad}
 use Rattle.adm_desk.proofs.stops.run_over.Goals as goal
 
@@ -19,14 +19,14 @@ pub returns-in-Ok-clause-rounds : goal.returns-in-Ok-clause-rounds
 returns-in-Ok-clause-rounds g c = λ r disks.
     let same = c.in-Ok.ensures.register r disks in
     IfOk-weaker c.run_and_reopen.result.opened _ _ (λ new found.
-    subst (λ (s : Register). HoldsRounds s c.args.commands.now c.run_and_reopen.result.answers.items new.register) same (found (is_clean {g = g.D.Disk} disks.honest new.conn)))
+    subst (λ (s : Register). RecordsRounds s c.args.commands.now c.run_and_reopen.result.answers.items new.register) same (found (is_clean {g = g.D.Disk} disks.honest new.conn)))
     (c.run_and_reopen.ensures.rounds c.in-Ok.ensures.alive)
 
 pub returns-in-Ok-clause-round : goal.returns-in-Ok-clause-round
 returns-in-Ok-clause-round g c = λ r disks.
     let same = c.in-Ok.ensures.register r disks in
     IfOk-weaker c.run_and_reopen.result.opened _ _ (λ new found.
-    subst (λ (s : Register). HoldsRoundInWork s c.args.commands.now c.run_and_reopen.result.answers.items new.register) same (found (is_clean {g = g.D.Disk} disks.honest new.conn)))
+    subst (λ (s : Register). RecordsRoundInWork s c.args.commands.now c.run_and_reopen.result.answers.items new.register) same (found (is_clean {g = g.D.Disk} disks.honest new.conn)))
     (c.run_and_reopen.ensures.round c.in-Ok.ensures.alive)
 
 pub returns-in-Ok-clause-alive : goal.returns-in-Ok-clause-alive

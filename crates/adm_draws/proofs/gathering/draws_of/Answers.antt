@@ -3,7 +3,7 @@ use Rattle.std.specs.List.{flat_map}
 use Rattle.std.proofs.lemmas.Result.{IfOk-weaker}
 use Rattle.std.proofs.lemmas.Option.{IfSome_then}
 use Rattle.adm_lists.proofs.Options.{if_none_weaker}
-use Rattle.adm_draws.specs.Draws.{row_of, offers_of, lots_of}
+use Rattle.adm_draws.specs.Draws.{row_of, offer_rows_of, lot_rows_of}
 use Rattle.adm_draws.specs.Grouped.{draws_after}
 use Rattle.adm_draws.proofs.RowOrder.{heads_rise, offers_rise, lots_rise}
 use Rattle.adm_draws.proofs.FromRows.{are_rows, are_in_order, gathered_from, one_answer, no_answer}
@@ -13,10 +13,10 @@ pub returns-in_default-clause-none : goal.returns-in_default-clause-none
 returns-in_default-clause-none c = λ list rows order. c.in_default.ensures.none (map row_of list) rows.heads (heads_rise list order)
 
 pub returns-in_default-in_order-clause-none : goal.returns-in_default-in_order-clause-none
-returns-in_default-in_order-clause-none c = λ list rows order. c.in_default-in_order.ensures.none (flat_map offers_of list) rows.offers (offers_rise list order)
+returns-in_default-in_order-clause-none c = λ list rows order. c.in_default-in_order.ensures.none (flat_map offer_rows_of list) rows.offers (offers_rise list order)
 
 pub returns-in_default-in_order-2-clause-none : goal.returns-in_default-in_order-2-clause-none
-returns-in_default-in_order-2-clause-none c = λ list rows order. c.in_default-in_order-2.ensures.none (flat_map lots_of list) rows.lots (lots_rise list order)
+returns-in_default-in_order-2-clause-none c = λ list rows order. c.in_default-in_order-2.ensures.none (flat_map lot_rows_of list) rows.lots (lots_rise list order)
 
 pub returns-clause-made : goal.returns-clause-made
 returns-clause-made c =

@@ -1,7 +1,7 @@
 use Rattle.std.proofs.Common.{◌≡◌, take}
 use Rattle.std.specs.List.{flat_map}
-use Rattle.adm_draws.specs.Draws.{offers_of}
+use Rattle.adm_draws.specs.Draws.{offer_rows_of}
 use Rattle.adm_draws.proofs.rows.offer_rows.Given as goal
 
 abbrev pub invariant-loop-draw : goal.invariant-loop-draw
-invariant-loop-draw l = l.rows.items ≡ flat_map offers_of (take l.draw-index l.draws)
+invariant-loop-draw l = l.rows.items ≡ flat_map offer_rows_of (take l.draw-index l.draws)

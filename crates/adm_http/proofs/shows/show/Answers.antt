@@ -17,4 +17,4 @@ returns-in-WaitingList c =
 
 pub returns-in-RoundReport : goal.returns-in-RoundReport
 returns-in-RoundReport c =
-    rw c.in-RoundReport.is (given_shown _ NoRound _ c.shown-in-RoundReport.result (λ e. absurd (cc e)) c.round_text.ensures c.shown-in-RoundReport.ensures)
+    rw c.in-RoundReport.is (given_shown _ NoRound _ c.shown-in-RoundReport.result (λ e. absurd (cc e)) c.report_text.ensures c.shown-in-RoundReport.ensures)

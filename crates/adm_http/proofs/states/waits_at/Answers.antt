@@ -2,14 +2,14 @@ use Rattle.std.proofs.Common.{ap, sym, ◌∙◌, map, take, [], ◌∷◌, ◌+
 use Rattle.std.specs.Prelude.{string_bytes, option_map}
 use Rattle.std.specs.List.{filter_map}
 use Rattle.std.proofs.lemmas.List.{map-append}
-use Rattle.adm_http.specs.States.{wait_json, wait_at}
+use Rattle.adm_http.specs.States.{wait_json, queue_position_at}
 use Rattle.adm_http.proofs.StateLemmas.{next_found, next_not_found}
 use Rattle.adm_http.proofs.states.waits_at.Goals as goal
 use Rattle.adm_http.proofs.states.waits_at.Goals.{in-Some+in_ok-wait_text+in_ok-push, in_default}
 
 pub loop-school-preserved : goal.loop-school-preserved
 loop-school-preserved c =
-    let find = wait_at c.args.register.now c.args.child in
+    let find = queue_position_at c.args.register.now c.args.child in
     let schools = c.args.schools.now in
     let school = c.school-item.result in
     elim c.match-branch-2.branch [

@@ -1,14 +1,14 @@
 use Rattle.std.proofs.Common.{◌≡◌, ℕ, List, [], ◌∷◌, ◌++◌, map, length}
 use Rattle.adm_types.specs.declared.rows.School.{School}
 use Rattle.adm_waiting.specs.declared.lists.Waiting.{Waiting}
-use Rattle.adm_letters.specs.Lines.{text_of}
+use Rattle.adm_letters.specs.Lines.{lines_text}
 use Rattle.adm_letters.specs.Lists.{list_head, columns, list_row, list_foot, list_lines}
 use Rattle.adm_letters.proofs.Joined.{after_lines}
 use Rattle.adm_letters.proofs.lists.list.Goals as goal
 
 whole : (start head names rows all : List ℕ) (school : School) (waiting : List Waiting) (vacancies : ℕ) → start ≡ []
-    → head ≡ start ++ text_of (list_head school.code school.name ∷ []) → names ≡ head ++ text_of (columns ∷ []) → rows ≡ names ++ text_of (map list_row waiting)
-    → all ≡ rows ++ text_of (list_foot (length waiting) vacancies ∷ []) → all ≡ text_of (list_lines school waiting vacancies)
+    → head ≡ start ++ lines_text (list_head school.code school.name ∷ []) → names ≡ head ++ lines_text (columns ∷ []) → rows ≡ names ++ lines_text (map list_row waiting)
+    → all ≡ rows ++ lines_text (list_foot (length waiting) vacancies ∷ []) → all ≡ lines_text (list_lines school waiting vacancies)
 unfolding list_lines
 whole start head names rows all school waiting vacancies none first second middle last =
     let line = list_head school.code school.name in

@@ -1,13 +1,13 @@
 use Rattle.std.proofs.Common.{◌≡◌, ℕ, List, [], ◌∷◌, ◌++◌, map}
 use Rattle.adm_types.specs.declared.draws.Draw.{Draw}
-use Rattle.adm_letters.specs.Lines.{text_of}
+use Rattle.adm_letters.specs.Lines.{lines_text}
 use Rattle.adm_letters.specs.Days.{day_text}
 use Rattle.adm_letters.specs.Reports.{report_head, outcome_text, counted, report_lines}
 use Rattle.adm_letters.proofs.Joined.{after_lines}
 use Rattle.adm_letters.proofs.reports.report.Goals as goal
 
-whole : (start head outcomes all : List ℕ) (draw : Draw) → start ≡ [] → head ≡ start ++ text_of (report_head draw.round draw.number (day_text draw.day) ∷ [])
-    → outcomes ≡ head ++ text_of (map outcome_text draw.outcomes) → all ≡ outcomes ++ text_of (counted draw.outcomes ∷ []) → all ≡ text_of (report_lines draw)
+whole : (start head outcomes all : List ℕ) (draw : Draw) → start ≡ [] → head ≡ start ++ lines_text (report_head draw.round draw.number (day_text draw.day) ∷ [])
+    → outcomes ≡ head ++ lines_text (map outcome_text draw.outcomes) → all ≡ outcomes ++ lines_text (counted draw.outcomes ∷ []) → all ≡ lines_text (report_lines draw)
 unfolding report_lines
 whole start head outcomes all draw none first middle last =
     let line = report_head draw.round draw.number (day_text draw.day) in

@@ -1,5 +1,5 @@
 use Rattle.std.proofs.Common.{ℕ, Ok, Err, refl, ap, ◌∙◌, sym, subst}
-use Rattle.adm_program.specs.Exits.{ExitsBy, code_of}
+use Rattle.adm_program.specs.Exits.{ExitsBy, exit_code}
 use Rattle.adm_wire.specs.Streams.{Stream}
 use Rattle.adm_program.proofs.Doing.{exits, refused}
 use Rattle.adm_program.proofs.Wording.{taken}
@@ -23,10 +23,10 @@ returns-in-Err-clause-does g c =
     record {
       read = Err c.in-Err.fault;
       reads = c.in-Err.ensures.reads;
-      comes = record { unread = refl; unwritten = refl; told = c.refuse_words.ensures.told; exits = c.code-in-Err.ensures ∙ ap code_of c.refuse_words.ensures.exit };
+      comes = record { unread = refl; unwritten = refl; told = c.refuse_words.ensures.told; exits = c.code-in-Err.ensures ∙ ap exit_code c.refuse_words.ensures.exit };
     }
 
 pub returns-in-Err-clause-status : goal.returns-in-Err-clause-status
 returns-in-Err-clause-status g c =
-    let told = c.code-in-Err.ensures ∙ ap code_of c.refuse_words.ensures.exit in
+    let told = c.code-in-Err.ensures ∙ ap exit_code c.refuse_words.ensures.exit in
     (Err c.in-Err.fault, c.in-Err.ensures.reads, subst (λ (status : ℕ). ExitsBy (Err c.in-Err.fault) status) (sym told) (refused c.in-Err.fault))

@@ -6,7 +6,7 @@ use Rattle.std.specs.FinMap.{values, nat_cmp-IsAntisymmetric}
 use Rattle.std.specs.List.{list_all}
 use Rattle.std.proofs.lemmas.Bool.{and_parts}
 use Rattle.adm_types.specs.Seasons.{IsSeason, lists_end}
-use Rattle.adm_register.specs.WellFormed.{fits_school_with, held_at, has_round, SchoolFits, fits_child, ChildFits, fits_application, ApplicationFits, fits_place, PlaceFits, fits_left, LeftPairFits, fits_import, ImportFits}
+use Rattle.adm_register.specs.WellFormed.{fits_school_with, places_outside_plans, has_first_round, SchoolFits, fits_child, ChildFits, fits_application, ApplicationFits, fits_place, PlaceFits, fits_left, LeftPairFits, fits_import, ImportFits}
 use Rattle.adm_register.proofs.ApplicationChecks.{application_decided}
 use Rattle.adm_register.proofs.ChildChecks.{child_decided}
 use Rattle.adm_register.proofs.EachRow.{rows_decided}
@@ -28,10 +28,10 @@ returns c =
     let rows = c.tables.inside in
     let view = c.tables.view_is in
     let last = lists_end s.season in
-    let schools = rows_decided (fits_school_with s.places) (λ code school. SchoolFits code school × (held_at s.places code ≤ school.pan)) nat_list_cmp_total code_cmp-IsAntisymmetric (school_decided_with s.places) rows.base.schools s.schools c.all_fit.result (ap (λ s. s.schools) view) c.all_fit.ensures.ordered c.all_fit.ensures.tested in
+    let schools = rows_decided (fits_school_with s.places) (λ code school. SchoolFits code school × (places_outside_plans s.places code ≤ school.pan)) nat_list_cmp_total code_cmp-IsAntisymmetric (school_decided_with s.places) rows.base.schools s.schools c.all_fit.result (ap (λ s. s.schools) view) c.all_fit.ensures.ordered c.all_fit.ensures.tested in
     let children = rows_decided (fits_child s.schools) (ChildFits s.schools) nat_cmp_total nat_cmp-IsAntisymmetric (child_decided s.schools) rows.base.children s.children c.all_fit-2.result (ap (λ s. s.children) view) c.all_fit-2.ensures.ordered c.all_fit-2.ensures.tested in
     let applications = rows_decided (fits_application last s.schools s.children) (ApplicationFits last s.schools s.children) nat_cmp_total nat_cmp-IsAntisymmetric (application_decided last s.schools s.children) rows.base.applications s.applications c.all_fit-3.result (ap (λ s. s.applications) view) c.all_fit-3.ensures.ordered c.all_fit-3.ensures.tested in
-    let places = rows_decided (fits_place s.schools s.children s.applications (has_round s.draws)) (PlaceFits s.schools s.children s.applications (has_round s.draws)) nat_cmp_total nat_cmp-IsAntisymmetric (place_decided s.schools s.children s.applications (has_round s.draws)) rows.course.places s.places c.all_fit-4.result (ap (λ s. s.places) view) c.all_fit-4.ensures.ordered c.all_fit-4.ensures.tested in
+    let places = rows_decided (fits_place s.schools s.children s.applications (has_first_round s.draws)) (PlaceFits s.schools s.children s.applications (has_first_round s.draws)) nat_cmp_total nat_cmp-IsAntisymmetric (place_decided s.schools s.children s.applications (has_first_round s.draws)) rows.course.places s.places c.all_fit-4.result (ap (λ s. s.places) view) c.all_fit-4.ensures.ordered c.all_fit-4.ensures.tested in
     let left = rows_decided (fits_left s.schools s.children s.places) (LeftPairFits s.schools s.children s.places) left_cmp-total left_cmp-IsAntisymmetric (left_decided s.schools s.children s.places) rows.course.left s.left c.all_fit-5.result (ap (λ s. s.left) view) c.all_fit-5.ensures.ordered c.all_fit-5.ensures.tested in
     let known = rows_decided (fits_known_draw s.schools s.children) (IsKnown s.schools s.children) nat_cmp_total nat_cmp-IsAntisymmetric (draw_known s.schools s.children) rows.course.draws s.draws c.all_fit-6.result (ap (λ s. s.draws) view) c.all_fit-6.ensures.ordered c.all_fit-6.ensures.tested in
     let imported = rows_decided (fits_import last s.schools s.children) (ImportFits last s.schools s.children) nat_cmp_total nat_cmp-IsAntisymmetric (import_decided last s.schools s.children) rows.course.imported s.imported c.all_fit-7.result (ap (λ s. s.imported) view) c.all_fit-7.ensures.ordered c.all_fit-7.ensures.tested in

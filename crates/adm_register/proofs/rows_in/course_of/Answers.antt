@@ -11,7 +11,7 @@ use Rattle.adm_types.specs.declared.rows.ImportRow.{ImportRow}
 use Rattle.adm_types.specs.declared.rows.LeftPair.{LeftPair}
 use Rattle.adm_types.specs.declared.rows.PlaceRow.{PlaceRow}
 use Rattle.adm_types.specs.declared.draws.Draw.{Draw}
-use Rattle.adm_draws.specs.Draws.{AreRowsOf, AreInOrder, are_ordered}
+use Rattle.adm_draws.specs.Draws.{AreDrawRowsOf, AreByNumber, are_ordered}
 use Rattle.adm_register.specs.Groups.{HasRows}
 use Rattle.adm_register.specs.State.{State, left_cmp}
 use Rattle.adm_register.specs.WellFormed.{WellFormed}
@@ -39,7 +39,7 @@ returns-in_err-left-clause-repeated c =
     (distinct_keys left_cmp-total left_cmp-IsAntisymmetric (λ (p : LeftPair). p) s.left c.args.rows.left (λ key row there. (well.left key row there).own_key) same.left)))
 
 -- the draws of a register are in order
-in_order : (state : State) → WellFormed state → AreInOrder (values state.draws)
+in_order : (state : State) → WellFormed state → AreByNumber (values state.draws)
 in_order state well =
     let own = entries_at_own_keys nat_cmp_total nat_cmp-IsAntisymmetric (λ (d : Draw). d.number) state.draws (λ key row there. (well.draws.each key row there).own_number) in
     record {
@@ -69,8 +69,8 @@ returns-clause-made c s of =
     record {
       places = subst (λ m. IsPermutation c.args.rows.places (values m)) of.places (rows_of_table nat_cmp_total nat_cmp-IsAntisymmetric (λ (p : PlaceRow). p.child) c.args.rows.places c.in_ok-places.places places);
       left = subst (λ m. IsPermutation c.args.rows.left (values m)) of.left (rows_of_table left_cmp-total left_cmp-IsAntisymmetric (λ (p : LeftPair). p) c.args.rows.left c.in_ok-left.left left);
-      draws = subst (λ m. AreRowsOf c.args.rows.drawn.draws c.args.rows.drawn.offers c.args.rows.drawn.lots (values m)) of.draws
-          (subst (AreRowsOf c.args.rows.drawn.draws c.args.rows.drawn.offers c.args.rows.drawn.lots) (sym (values_rows nat_cmp_total c.in_ok-draws.draws drawn.2)) drawn.0);
+      draws = subst (λ m. AreDrawRowsOf c.args.rows.drawn.draws c.args.rows.drawn.offers c.args.rows.drawn.lots (values m)) of.draws
+          (subst (AreDrawRowsOf c.args.rows.drawn.draws c.args.rows.drawn.offers c.args.rows.drawn.lots) (sym (values_rows nat_cmp_total c.in_ok-draws.draws drawn.2)) drawn.0);
       imported = subst (λ m. IsPermutation c.args.rows.imported (values m)) of.imported
           (rows_of_table nat_cmp_total nat_cmp-IsAntisymmetric (λ (r : ImportRow). r.child.no) c.args.rows.imported c.in_ok-imported.imported c.in_ok-imported.ensures.made);
     }

@@ -9,15 +9,15 @@ use Rattle.adm_types.specs.declared.draws.Draw.{Draw}
 use Rattle.adm_types.specs.declared.draws.DrawRow.{DrawRow}
 use Rattle.adm_types.specs.declared.draws.OfferRow.{OfferRow}
 use Rattle.adm_types.specs.declared.draws.LotRow.{LotRow}
-use Rattle.adm_draws.specs.Draws.{AreRowsOf}
+use Rattle.adm_draws.specs.Draws.{AreDrawRowsOf}
 use Rattle.adm_register.specs.Groups.{HasRows}
 use Rattle.adm_register.proofs.RowsAgain.{same_order}
 use Rattle.adm_register.proofs.SameFault.{same_fault}
 use Rattle.adm_register.proofs.rows_in.draws_table.Goals as goal
 
-rows_of : {a b : List DrawRow} {d e : List OfferRow} {f g : List LotRow} {draws : List Draw} → a ≡ b → d ≡ e → f ≡ g → AreRowsOf a d f draws → AreRowsOf b e g draws
+rows_of : {a b : List DrawRow} {d e : List OfferRow} {f g : List LotRow} {draws : List Draw} → a ≡ b → d ≡ e → f ≡ g → AreDrawRowsOf a d f draws → AreDrawRowsOf b e g draws
 rows_of {b = b} {d = d} {e = e} {f = f} {draws = draws} heads offers lots rows =
-    subst (λ x. AreRowsOf b e x draws) lots (subst (λ x. AreRowsOf b x f draws) offers (subst (λ x. AreRowsOf x d f draws) heads rows))
+    subst (λ x. AreDrawRowsOf b e x draws) lots (subst (λ x. AreDrawRowsOf b x f draws) offers (subst (λ x. AreDrawRowsOf x d f draws) heads rows))
 
 abbrev number : Draw → ℕ
 number = λ draw. draw.number
@@ -36,7 +36,7 @@ returns-clause-made c =
     let shown = c.in_ok-table.table in
     let table = subst (λ r. HasRows nat_cmp number r shown) c.from_vec.ensures c.in_ok-table.ensures.made in
     let same = same_order nat_cmp_total nat_cmp-IsAntisymmetric number c.in-Some.draws.items shown table rows.1.rising in
-    (subst (AreRowsOf c.args.rows.draws c.args.rows.offers c.args.rows.lots) (sym same) (rows_of c.into_vec.ensures c.into_vec-2.ensures c.into_vec-3.ensures rows.0), table.1, table.2)
+    (subst (AreDrawRowsOf c.args.rows.draws c.args.rows.offers c.args.rows.lots) (sym same) (rows_of c.into_vec.ensures c.into_vec-2.ensures c.into_vec-3.ensures rows.0), table.1, table.2)
 
 pub returns-clause-only : goal.returns-clause-only
 returns-clause-only c draws ordered same_rows =

@@ -3,7 +3,7 @@ use Rattle.std.specs.Option.{option_copied}
 use Rattle.std.specs.BTreeMap.{get}
 use Rattle.adm_types.specs.Limits.{is_school_in_range}
 use Rattle.adm_round.specs.declared.applicants.Site.{Site}
-use Rattle.adm_round.specs.Lookups.{code_cmp}
+use Rattle.adm_types.specs.Limits.{code_cmp}
 use Rattle.adm_round.proofs.Walks.{fits_in}
 use Rattle.adm_round.proofs.problems.add_wish.Goals as goal
 

@@ -4,7 +4,7 @@ use Rattle.std.proofs.lemmas.Result.{err_from_is_err_and}
 use Rattle.std.specs.FinMap.{values}
 use Rattle.sqlite.specs.Held.{state}
 use Rattle.adm_types.specs.Seasons.{lists_end}
-use Rattle.adm_draws.specs.Draws.{row_of, offers_of, lots_of}
+use Rattle.adm_draws.specs.Draws.{row_of, offer_rows_of, lot_rows_of}
 use Rattle.adm_schema.specs.Schema.{meta}
 use Rattle.adm_schema.proofs.Listed.{school_in, child_in, application_in, place_in, left_list_in, draw_in, offer_in, lot_in, imported_in}
 use Rattle.adm_store.specs.Forms.{season_row}
@@ -33,7 +33,7 @@ returns-in_err-schools-clause-bad g c =
     let each = held.rows.each in
     let last = c.lists_end-last.ensures ∙ sym (ap lists_end same.0) in
     c.in_err-schools.ensures.bad structural
-    (values r.schools, (values r.children, (values r.applications, (values r.places, (values r.left, (map row_of (values r.draws), (flat_map offers_of (values r.draws), (flat_map lots_of (values r.draws), (values r.imported, tt)))))))))
+    (values r.schools, (values r.children, (values r.applications, (values r.places, (values r.left, (map row_of (values r.draws), (flat_map offer_rows_of (values r.draws), (flat_map lot_rows_of (values r.draws), (values r.imported, tt)))))))))
     (schools_fit r held.formed, (children_fit r held.formed, (applications_fit r _ held.formed last, (places_fit r held.formed, (left_fit r held.formed, (draws_fit r _ held.formed last, (offers_fit r held.formed, (lots_fit r held.formed, (imported_fit r _ held.formed last, tt)))))))))
     c.args.first.version clean has
     (each _ (school_in c.args.first.version), (each _ (child_in c.args.first.version), (each _ (application_in c.args.first.version), (each _ (place_in c.args.first.version), (each _ (left_list_in c.args.first.version), (each _ (draw_in c.args.first.version), (each _ (offer_in c.args.first.version), (each _ (lot_in c.args.first.version), (each _ (imported_in c.args.first.version), tt))))))))))

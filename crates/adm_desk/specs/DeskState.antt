@@ -11,13 +11,13 @@ use Rattle.adm_desk.specs.declared.answer.Answer.{Answer}
 use Rattle.adm_desk.specs.declared.answer.Answer.TheVariants.{Done, Refused, Memory, Failed}
 
 -- the register of the acknowledged commands, whether a commit has failed, and the connection
-pub record Standing (C : Type 0) : Type 0 where
+pub record DeskState (C : Type 0) : Type 0 where
   pub register : Register
   pub failed : Bool
   pub conn : C
 
 -- a standing is stored as the tuple of its fields
-abbrev pub coded_standing : {C : Type 0} → Coded C → Coded (Standing C)
+abbrev pub coded_standing : {C : Type 0} → Coded C → Coded (DeskState C)
 coded_standing {C} conn =
     code_by (Register × (Bool × C)) (coded× coded_state (coded× coded_bool conn))
     (λ s. (s.register, (s.failed, s.conn)))
@@ -36,7 +36,7 @@ pub record InWork (register : Register) (command : Command) (left : Disk) : Type
 -- Refused: by the first test that fails, with the row of an import and 0 for a command without rows, and nothing changes.
 -- Memory: nothing changes.
 -- Failed: the register stays that of the acknowledged commands; from then on each answer is Failed, and the connection stays.
-abbrev pub Handles : {C : Type 0} → (C → Disk) → Standing C → Command → Answer → Standing C → Type 0
+abbrev pub Handles : {C : Type 0} → (C → Disk) → DeskState C → Command → Answer → DeskState C → Type 0
 Handles disk old command (Done reply) new = (old.failed ≡ false) × Step old.register command (Ok reply) new.register × (new.failed ≡ false) × LeavesOnly new.register (disk new.conn)
 Handles disk old command (Refused refusal row) new = (old.failed ≡ false) × Step old.register command (Err (refusal, row)) old.register × (new ≡ old)
 Handles disk old command Memory new = (old.failed ≡ false) × (new ≡ old)
@@ -45,7 +45,7 @@ Handles disk old command Failed new = (new.failed ≡ true) × (new.register ≡
 -- ---- for a private clause
 
 -- the new register was written, or memory ran out before, or the commit failed
-abbrev pub Keeps : {C : Type 0} → (C → Disk) → Standing C → Register → Reply → Answer → Standing C → Type 0
+abbrev pub Keeps : {C : Type 0} → (C → Disk) → DeskState C → Register → Reply → Answer → DeskState C → Type 0
 Keeps disk old next reply (Done r) new = (r ≡ reply) × (new.register ≡ next) × (new.failed ≡ false) × LeavesOnly next (disk new.conn)
 Keeps disk old next reply (Refused refusal row) new = ⊥
 Keeps disk old next reply Memory new = new ≡ old
