@@ -26,8 +26,8 @@ impl Tables {
     /// The tables of these rows; `BadRow` where two rows of a table have one key. No other register
     /// than that of the tables has these rows.
     pub(crate) fn of_rows(alloc: Global, rows: Rows) -> Result<Tables, RowsFault>
-        ensures made { IfOk result (λ tables. rows_of.AreDrawRowsOf rows tables × ((state : State) → WellFormed state → rows_of.AreDrawRowsOf rows state → state ≡ tables)) }
-        ensures repeated { result ≡ Err RowsFault.BadRow → (state : State) → WellFormed state → rows_of.AreDrawRowsOf rows state → ⊥ }
+        ensures made { IfOk result (λ tables. rows_of.AreRowsOf rows tables × ((state : State) → WellFormed state → rows_of.AreRowsOf rows state → state ≡ tables)) }
+        ensures repeated { result ≡ Err RowsFault.BadRow → (state : State) → WellFormed state → rows_of.AreRowsOf rows state → ⊥ }
     {
         let Rows {
             season,

@@ -11,7 +11,7 @@ use Rattle.clap.specs.Simple.{Shape}
 use Rattle.clap.specs.Walk as w
 use Rattle.clap.specs.Walk.{Row, Rule, Text, Held, Outcome, Step, Waiting, Walk, Names, has_row, first_of}
 use Rattle.clap.specs.Faults as f
-use Rattle.clap.specs.TakesWords.{is_given}
+use Rattle.clap.specs.Takes.{is_given}
 use Rattle.clap.specs.declared.error.kind.ErrorKind.TheVariants as kind
 use Rattle.adm_words.proofs.FoundRows.{branch, both_empty, row_in, head_passes, row_passes, Good, used_other}
 

@@ -22,7 +22,7 @@ use Rattle.adm_words.proofs.FoundRows.{both_empty, either_false}
 use Rattle.adm_words.proofs.PairLines.{import_there, letter_there, list_there, report_there, pairs_there}
 use Rattle.adm_words.proofs.Ranges.{number_named}
 use Rattle.adm_words.proofs.ServeLine.{serve_there}
-use Rattle.clap.specs.TakesWords.{is_given}
+use Rattle.clap.specs.Takes.{is_given}
 use Rattle.adm_words.proofs.NoHelp.{IsNoHelp, no_help_met}
 use Rattle.adm_words.proofs.Faultless.{level_good, given_first}
 

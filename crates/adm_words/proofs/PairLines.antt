@@ -3,7 +3,7 @@ use Rattle.std.proofs.Common.{◌≡◌, ◌∙◌, false, refl, ap, List, [], O
 use Rattle.std.specs.Prelude.{codes, not, option_map}
 use Rattle.clap.specs.Faults.{level_fault}
 use Rattle.clap.specs.Walk.{Text, first_of, rows_after, nothing_held}
-use Rattle.clap.specs.TakesWords.{is_given}
+use Rattle.clap.specs.Takes.{is_given}
 use Rattle.clap.specs.declared.builder.value_parser.ValueParser.{ValueParser}
 use Rattle.clap.specs.declared.builder.value_parser.ValueParser.TheVariants as parser
 use Rattle.adm_words.specs.Lines.{Line, IsLine, import_line, letter_line, list_line, report_line, pairs_line, pair_of, import_in, letter_in, list_in, report_in, pairs_in}

@@ -4,7 +4,7 @@ use Rattle.std.specs.Prelude.{codes, not, pos, option_and_then}
 use Rattle.std.specs.Option.{option_map_or}
 use Rattle.clap.specs.Faults.{level_fault}
 use Rattle.clap.specs.Walk.{Text, rows_after, nothing_held}
-use Rattle.clap.specs.TakesWords.{is_given}
+use Rattle.clap.specs.Takes.{is_given}
 use Rattle.clap.specs.ValueTests.{accepts}
 use Rattle.clap.specs.declared.builder.value_parser.ValueParser.{ValueParser}
 use Rattle.clap.specs.declared.builder.value_parser.ValueParser.TheVariants as parser
