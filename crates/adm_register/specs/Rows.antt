@@ -35,7 +35,7 @@ pub record AreRowsOf (rows : Rows) (s : State) : Type 0 where
   pub applications : IsPermutation rows.applications (values s.applications)
   pub places : IsPermutation rows.places (values s.places)
   pub left : IsPermutation rows.left (values s.left)
-  pub draws : drawn.AreRowsOf rows.draws rows.offers rows.lots (values s.draws)
+  pub draws : drawn.AreDrawRowsOf rows.draws rows.offers rows.lots (values s.draws)
   pub imported : IsPermutation rows.imported (values s.imported)
 
 -- the child's place
