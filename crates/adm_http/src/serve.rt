@@ -121,7 +121,8 @@ fn read_to<R: Input>(reader: &mut R, input: &mut Vec<u8>, total: usize) -> Resul
 // Reads up to 8,192 bytes more: none only at the end. Room for them is made first.
 fn read_more<R: Input>(reader: &mut R, input: &mut Vec<u8>) -> Result<usize, ServeFault>
     ensures ok { IfOk result (λ n. (more : List ℕ) × Consumes (R.remaining reader.old) (R.remaining reader.new) more
-        × (input.new.items ≡ input.old.items ++ more) × (n ≡ length more) × (n ≤ 8192) × (n ≡ 0 → IsAtEnd (R.remaining reader.new))) }
+        × (input.new.items ≡ input.old.items ++ more) × (n ≡ length more) × (n ≤ 8192)) }
+    ensures end { IfOk result (λ n. n ≡ 0 → IsAtEnd (R.remaining reader.new)) }
     ensures err { IfErr result (λ fault. (fault ≢ ServeFault.Write) × (input.new.items ≡ input.old.items) × Keeps (R.remaining reader.old) (R.remaining reader.new)) }
     ensures reader { R.has_failed reader.new ≡ (R.has_failed reader.old || is_read_fault result) }
 {

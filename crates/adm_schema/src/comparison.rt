@@ -1,21 +1,16 @@
 // Whether a schema is the register's: its tables and indexes compared with those that are expected, one by one.
-ghost use Rattle.std.specs.Prelude.{◌≡◌, ◌↔◌, ℕ, suc, Bool, List, [], ◌∷◌, Some, None, map, drop, false, IsTrue, IfSome, pos};
-ghost use Rattle.sqlite.specs.Term.{op2, col, lit};
-ghost use Rattle.sqlite.specs.declared.types.Value.TheVariants.{Null, Int};
-ghost use Rattle.sqlite_schema.specs.Code.{term_to};
-ghost use Rattle.sqlite_sql.specs.declared.ops.BinaryOp.TheVariants.{Compare};
-ghost use Rattle.sqlite_sql.specs.declared.ops.CompareOp.TheVariants.{Eq};
-ghost use Rattle.sqlite.specs.Collation.TheVariants.{Binary};
+ghost use Rattle.std.specs.Prelude.{◌≡◌, ◌↔◌, [], ◌∷◌, Some, None, map, false, IsTrue, IfSome};
+ghost use Rattle.sqlite.specs.declared.types.Value.TheVariants.{Null};
 ghost use Rattle.adm_schema.specs.Schema.{column_of, schema_of};
 ghost use Rattle.adm_schema.specs.Expected.{columns_of, places_of, ascending, no_stamps, rowid_table, one_row_table, keyed_table, table_is, index_is};
 
 use crate::Version;
 use crate::expected::{ColumnIs, INDEXES, IndexIs, KeysAre, TABLES, TableIs};
+use crate::one_test::is_one_test;
 use sqlite_items::Items;
-use sqlite_schema::code::{Op, Terms};
+use sqlite_schema::code::Terms;
 use sqlite_schema::schema::{Column, Index, Kind, Schema, Stamps, Table};
-use sqlite_sql::ops::{BinaryOp, CompareOp};
-use sqlite_value::keys::{Collation, Order};
+use sqlite_value::keys::Order;
 use sqlite_value::value::Value;
 
 fn is_null(value: &Value) -> bool
@@ -163,63 +158,6 @@ fn is_keyed_table(
         && has_keys(table, primary, uniques)
         && has_no_terms(&table.checks)
         && is_bare(table)
-}
-
-/// Whether the one term is that the first column is 1.
-fn is_one_test(terms: &Terms) -> bool
-    ensures { IsTrue result ↔ (terms.now ≡ op2 (Compare Eq Binary) (col 1 0) (lit (Int (pos 1))) ∷ []) }
-{
-    let nodes = terms.nodes.as_slice();
-    let roots = terms.roots.as_slice();
-    if nodes.len() < 2 {
-        return false;
-    }
-    if roots.len() != 1 {
-        return false;
-    }
-    is_test_at(nodes, roots[0])
-}
-
-fn is_test_at(nodes: &[Op], at: usize) -> bool
-    ensures { (depth : ℕ) → IsTrue result ↔ (term_to nodes.now (suc (suc depth)) at ≡ op2 (Compare Eq Binary) (col 1 0) (lit (Int (pos 1)))) }
-{
-    match nodes.get(at) {
-        Some(Op::Binary(op, first, second)) => is_test_of(nodes, op, *first, *second),
-        _ => false,
-    }
-}
-
-fn is_test_of(nodes: &[Op], op: &BinaryOp, first: usize, second: usize) -> bool
-    ensures { (depth : ℕ) → IsTrue result ↔ (op2 op.now (term_to nodes.now (suc depth) first) (term_to nodes.now (suc depth) second) ≡ op2 (Compare Eq Binary) (col 1 0) (lit (Int (pos 1)))) }
-{
-    let equality = is_equality(op);
-    let column = is_first_column(nodes, first);
-    let one = is_one(nodes, second);
-    equality && column && one
-}
-
-fn is_equality(op: &BinaryOp) -> bool
-    ensures { IsTrue result ↔ (op.now ≡ Compare Eq Binary) }
-{
-    *op == BinaryOp::Compare(CompareOp::Eq, Collation::Binary)
-}
-
-fn is_first_column(nodes: &[Op], at: usize) -> bool
-    ensures { (depth : ℕ) → IsTrue result ↔ (term_to nodes.now (suc depth) at ≡ col 1 0) }
-{
-    match nodes.get(at) {
-        Some(Op::Column(1, 0)) => true,
-        _ => false,
-    }
-}
-
-fn is_one(nodes: &[Op], at: usize) -> bool
-    ensures { (depth : ℕ) → IsTrue result ↔ (term_to nodes.now (suc depth) at ≡ lit (Int (pos 1))) }
-{
-    match nodes.get(at) {
-        Some(Op::Literal(Value::Int(1))) => true,
-        _ => false,
-    }
 }
 
 /// Whether it is this table.

@@ -23,6 +23,7 @@ mod schools;
 mod season;
 mod statement;
 mod store;
+mod to_rows;
 
 pub use difference::changes;
 pub use fault::{CreateFault, Failed, OpenFault};

@@ -16,7 +16,6 @@ ghost use Rattle.adm_store.specs.Writes.{count_of, base_writes, place_writes, dr
 
 use crate::applications::{CutApplication, PutApplication};
 use crate::children::PutChild;
-use crate::difference::ToRow;
 use crate::draws::AddDraw;
 use crate::imported::AddImported;
 use crate::left_list::AddLeft;
@@ -29,6 +28,7 @@ use crate::rows::{Changes, last_draw};
 use crate::schools::{AddSchool, CutSchool};
 use crate::season::SetDraws;
 use crate::statement::run_each;
+use crate::to_rows::ToRow;
 use crate::{CreateFault, Failed, OpenFault, creation, reading};
 use adm_register::Register;
 use adm_schema::{Version, version_of};

@@ -1,5 +1,5 @@
 use Rattle.std.proofs.Common.{◌≡◌, map, take}
-use Rattle.adm_store.proofs.difference.to_rows.Given as goal
+use Rattle.adm_store.proofs.to_rows.to_rows.Given as goal
 
 -- the rows so far
 abbrev pub invariant-values : goal.invariant-values

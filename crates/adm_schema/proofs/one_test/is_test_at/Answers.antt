@@ -7,7 +7,7 @@ use Rattle.sqlite_sql.specs.declared.ops.CompareOp.TheVariants.{Eq}
 use Rattle.sqlite.specs.Collation.TheVariants.{Binary}
 use Rattle.sqlite_schema.specs.declared.code.Op.TheVariants as op
 use Rattle.sqlite_schema.specs.Code.{op_term, term_to}
-use Rattle.adm_schema.proofs.comparison.is_test_at.Goals as goal
+use Rattle.adm_schema.proofs.one_test.is_test_at.Goals as goal
 
 pub returns-in-Some-Binary : goal.returns-in-Some-Binary
 returns-in-Some-Binary c depth =

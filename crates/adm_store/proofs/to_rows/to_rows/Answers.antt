@@ -1,6 +1,6 @@
 use Rattle.std.proofs.Common.{◌≡◌, ◌∙◌, ap, [], ◌∷◌, ◌++◌, rules}
 use Rattle.adm_store.proofs.LoopLemmas.{written_more}
-use Rattle.adm_store.proofs.difference.to_rows.Goals as goal
+use Rattle.adm_store.proofs.to_rows.to_rows.Goals as goal
 
 pub values-preserved : goal.values-preserved
 values-preserved g c =

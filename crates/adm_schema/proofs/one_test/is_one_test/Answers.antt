@@ -1,7 +1,7 @@
 use Rattle.std.proofs.Common.{◌≡◌, ◌∙◌, sym, true≢false}
 use Rattle.sqlite_schema.specs.Code.{terms_in}
 use Rattle.adm_schema.proofs.OneTest.{too_few, more_roots, of_terms}
-use Rattle.adm_schema.proofs.comparison.is_one_test.Goals as goal
+use Rattle.adm_schema.proofs.one_test.is_one_test.Goals as goal
 
 pub returns-then-nodes-lt2 : goal.returns-then-nodes-lt2
 returns-then-nodes-lt2 c =

@@ -1,0 +1,134 @@
+// The values of a register as rows of the tables, as statements take them.
+ghost use Rattle.std.specs.Prelude.{◌≡◌, map, IfOk};
+ghost use Rattle.adm_schema.specs.declared.version.Version.TheVariants.{Second};
+ghost use Rattle.adm_store.specs.Changes.{written_season, written_school, written_child, written_application, written_imported};
+ghost use Rattle.adm_store.specs.Forms.{season_row, school_row, child_row, application_row, imported_row};
+
+use crate::lists;
+use crate::rows::{ApplicationRow, ChildRow, ImportedRow, SchoolRow, SeasonRow};
+use adm_table::Shared;
+use adm_types::{Application, Child, ImportRow, School, Season, Text};
+use std::alloc::{AllocError, Global};
+
+/// A value of a register, which is written as a row of a table.
+pub(crate) trait ToRow {
+    ghost use Rattle.sqlite.specs.Order.{Row as Columns};
+
+    /// The row as a statement takes it.
+    type Row: Drop;
+
+    ghost columns: { Self.Row → Columns };
+
+    ghost row_of: { Self → Columns };
+
+    fn to_row(&self, alloc: Global) -> Result<Self::Row, AllocError>
+        ensures { IfOk result (λ row. columns row ≡ row_of self.now) };
+}
+
+impl ToRow for Season {
+    type Row = SeasonRow;
+
+    ghost columns = { written_season };
+
+    // before the first draw
+    ghost row_of = { λ season. season_row Second season 0 };
+
+    fn to_row(&self, alloc: Global) -> Result<SeasonRow, AllocError> {
+        let holidays = lists::days_text(alloc, self.holidays())?;
+        Ok(SeasonRow {
+            phase: self.phase(),
+            year: self.year(),
+            holidays: Text::from_string(holidays),
+        })
+    }
+}
+
+impl ToRow for School {
+    type Row = SchoolRow;
+
+    ghost columns = { written_school };
+
+    ghost row_of = { school_row };
+
+    fn to_row(&self, alloc: Global) -> Result<SchoolRow, AllocError> {
+        let criteria = lists::criteria_text(alloc, self.criteria.as_slice())?;
+        Ok(SchoolRow {
+            code: self.code,
+            name: self.name.clone()?,
+            pan: self.pan,
+            east: self.at.east,
+            north: self.at.north,
+            criteria: Text::from_string(criteria),
+        })
+    }
+}
+
+impl ToRow for Child {
+    type Row = ChildRow;
+
+    ghost columns = { written_child };
+
+    ghost row_of = { child_row };
+
+    fn to_row(&self, alloc: Global) -> Result<ChildRow, AllocError> {
+        let siblings = lists::codes_text(alloc, self.siblings.as_slice())?;
+        Ok(ChildRow {
+            child: self.no,
+            name: self.name.clone()?,
+            east: self.home.east,
+            north: self.home.north,
+            looked_after: self.looked_after,
+            flags: self.flags,
+            siblings: Text::from_string(siblings),
+        })
+    }
+}
+
+impl ToRow for Application {
+    type Row = ApplicationRow;
+
+    ghost columns = { written_application };
+
+    ghost row_of = { application_row };
+
+    fn to_row(&self, alloc: Global) -> Result<ApplicationRow, AllocError> {
+        let preferences = lists::codes_text(alloc, self.list.as_slice())?;
+        Ok(ApplicationRow {
+            child: self.child,
+            day: self.day,
+            preferences: Text::from_string(preferences),
+        })
+    }
+}
+
+impl ToRow for ImportRow {
+    type Row = ImportedRow;
+
+    ghost columns = { written_imported };
+
+    ghost row_of = { imported_row };
+
+    fn to_row(&self, alloc: Global) -> Result<ImportedRow, AllocError> {
+        let child = self.child.to_row(alloc)?;
+        let preferences = lists::codes_text(alloc, self.preferences.as_slice())?;
+        Ok(ImportedRow {
+            child,
+            day: self.day,
+            preferences: Text::from_string(preferences),
+        })
+    }
+}
+
+/// The rows of these values, in their order.
+pub(crate) fn to_rows<T: ToRow>(
+    alloc: Global,
+    values: &[Shared<T>],
+) -> Result<Vec<T::Row>, AllocError>
+    ensures { IfOk result (λ rows. map T.columns rows.items ≡ map T.row_of values.now) }
+{
+    let mut rows = Vec::new(alloc);
+    'values: for value in values {
+        rows.push(value.as_ref().to_row(alloc)?)?;
+    }
+    Ok(rows)
+}
