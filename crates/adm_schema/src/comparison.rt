@@ -10,7 +10,7 @@ use crate::one_test::is_one_test;
 use sqlite_items::Items;
 use sqlite_schema::code::Terms;
 use sqlite_schema::schema::{Column, Index, Kind, Schema, Stamps, Table};
-use sqlite_value::keys::Order;
+use sqlite_value::keys::{Collation, Order};
 use sqlite_value::value::Value;
 
 fn is_null(value: &Value) -> bool
