@@ -7,8 +7,8 @@ use Rattle.std.proofs.lemmas.Option.{same_Some, slice_get_within}
 use Rattle.adm_match.specs.declared.problem.Seats.{Seats}
 use Rattle.adm_match.specs.Market.{Code, Candidate, Market, has, preference_rank, is_tenant, key_at, both_precede, ranks_before, quota_of}
 use Rattle.adm_match.specs.Stability.{Allocation, count_at, is_guest, prefers, ranks_after, blocks, IsContent, IsStable}
-use Rattle.adm_match.proofs.Side.{count_beside}
-use Rattle.adm_match.proofs.Words.{has_tells, at_All, All_at}
+use Rattle.adm_match.proofs.SideBySide.{count_beside}
+use Rattle.adm_match.proofs.RanksAndBlocks.{has_tells, at_All, All_at}
 
 -- two problems that differ in the entrant at one index
 pub record Differs (m m' : Market) (k : ℕ) (e e' : Candidate) : Type 0 where

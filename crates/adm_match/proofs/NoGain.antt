@@ -9,7 +9,7 @@ use Rattle.adm_match.specs.declared.problem.Wish.{Wish}
 use Rattle.adm_match.specs.declared.problem.Seats.{Seats}
 use Rattle.adm_match.specs.Market.{Code, Candidate, Market, preference_rank, assigned_rank, is_tenant, key_at, some_pair, same_code}
 use Rattle.adm_match.specs.Stability.{Allocation, prefers, blocks, IsContent, IsStable, IsBest}
-use Rattle.adm_match.proofs.Words.{at_All, wish_at_rank}
+use Rattle.adm_match.proofs.RanksAndBlocks.{at_All, wish_at_rank}
 use Rattle.adm_match.proofs.Beginning.{rank_take, key_take, rank_taken, at_take}
 use Rattle.adm_match.proofs.FirstBlock.{rank_within}
 use Rattle.adm_match.specs.Distinct.{Distinct}

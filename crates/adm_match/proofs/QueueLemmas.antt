@@ -13,7 +13,7 @@ use Rattle.adm_match.specs.Market.{Code, Candidate, Market}
 use Rattle.adm_match.specs.Turns.{held_at, IsFree, AllDone, Sound, start_of}
 use Rattle.adm_match.specs.Holding.{Holding, guests_of, nobody_held}
 use Rattle.adm_match.specs.Queue.{FindsMarket, IsMirror, Turned, Queued, BetweenTurns}
-use Rattle.adm_match.proofs.Words.{at_All, All_at}
+use Rattle.adm_match.proofs.RanksAndBlocks.{at_All, All_at}
 use Rattle.adm_match.proofs.Turn.{starts}
 
 -- all of the rest of a list
