@@ -1,4 +1,4 @@
--- What the sets and lists of keys say of a problem.
+-- What the tests of a problem by sets and lists of keys say of it.
 use Rattle.std.proofs.Common.{◌≡◌, ℕ, ◌+◌, ◌<◌, List, [], ◌∷◌, ◌++◌, length, get_or, take, map, Bool, true, cond, not, sym, ap, ◌∙◌, add-one, bytes_eq}
 use Rattle.std.specs.Prelude.{Result, Ok, Err, IfOk}
 use Rattle.std.specs.List.{list_any}

@@ -1,4 +1,4 @@
--- What the rows give each child.
+-- What the rows of the progress give each child at the end.
 use Rattle.std.proofs.Common.{◌≡◌, ℕ, zero, suc, ◌+◌, ◌<◌, ◌≤◌, List, [], ◌∷◌, length, Option, None, Some, Bool, true, false, cond, inl, inr, refl, sym, ap, ◌∙◌, subst, arith}
 use Rattle.std.specs.Prelude.{option_map, unwrap_or, ◌==◌, is_some, Result, Ok, Err, IfOk}
 use Rattle.std.specs.List.{slice_get, find, sum_by}

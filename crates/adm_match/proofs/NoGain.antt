@@ -1,4 +1,4 @@
--- No gain by listing otherwise.
+-- No child gains by listing its schools otherwise.
 use Rattle.std.proofs.Common.{◌≡◌, ◌⊎◌, ℕ, zero, suc, ◌+◌, ◌<◌, ◌≤◌, List, [], ◌∷◌, length, take, Option, None, Some, true, false, cond, not, inl, inr, refl, sym, ap, ◌∙◌, subst, arith, add-one}
 use Rattle.std.specs.Prelude.{is_some, bytes_eq, option_map}
 use Rattle.std.specs.List.{slice_get, list_any}

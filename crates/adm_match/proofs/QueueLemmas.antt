@@ -1,4 +1,4 @@
--- The queue from turn to turn.
+-- The queue of entrants without a school, from turn to turn.
 use Rattle.std.proofs.Common.{◌≡◌, ◌≢◌, ◌⊎◌, ℕ, zero, suc, ◌+◌, ◌<◌, List, [], ◌∷◌, ◌++◌, length, map, take, drop, append-nil, Option, None, Some, true, false, ◌&&◌, inl, inr, refl, sym, ap, ◌∙◌, subst, arith, ◌==◌}
 use Rattle.std.specs.Prelude.{All, is_none, nat_lt, option_map}
 use Rattle.std.specs.List.{slice_get, list_any, count_by}

@@ -1,4 +1,4 @@
--- Writes of statements, one after another.
+-- What statements that write one after another leave of each table.
 use Rattle.std.proofs.Common.{◌≡◌, ◌==◌, ◌⊎◌, ◌<◌, ◌+◌, ℕ, ℤ, zero, suc, inl, inr, Bool, true, false, not, List, [], ◌∷◌, ◌++◌, map, length, refl, sym, ap, ◌∙◌, subst, IsTrue, arith, append_assoc, append-nil, pos, take, get_or, ◌≤◌}
 use Rattle.std.specs.Prelude.{◌&&◌, is_some, fold, if◌then◌else◌}
 use Rattle.std.specs.List.{list_all}
