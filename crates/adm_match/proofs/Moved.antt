@@ -1,4 +1,4 @@
--- A stable allocation, where one entrant hands in another list.
+-- Two problems that differ in one entrant's list: what is stable in one stays stable in the other.
 use Rattle.std.proofs.Common.{◌≡◌, ◌≢◌, ℕ, zero, suc, ◌<◌, List, [], ◌∷◌, length, set, Option, None, Some, Bool, true, false, not, ◌||◌, ◌&&◌, inl, inr, refl, sym, ap, ◌∙◌, subst, arith, length-set}
 use Rattle.std.specs.Prelude.{IfSome, nat_lt}
 use Rattle.std.specs.List.{slice_get, list_any}

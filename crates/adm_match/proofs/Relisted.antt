@@ -1,4 +1,4 @@
--- The problem in which one child hands in another list, and the laws.
+-- The problem in which one child hands in another list, and the laws of stable allocations.
 use Rattle.std.proofs.Common.{◌≡◌, ℕ, ◌+◌, ◌<◌, ◌≤◌, List, [], ◌∷◌, ◌++◌, length, Option, None, Some, true, false, cond, not, inl, inr, refl, sym, ap, ◌∙◌, subst, arith}
 use Rattle.std.specs.Prelude.{is_some, bytes_eq, option_map, find, ◌==◌}
 use Rattle.std.specs.List.{slice_get, list_any, cons_option}

@@ -1,4 +1,4 @@
--- The problem in which a child lists others of its schools: it is one that can be allotted.
+-- What a child is told that lists others of its schools: the problem with that list can be allotted, and no gain comes of it.
 use Rattle.std.proofs.Common.{◌≡◌, ℕ, zero, suc, ◌+◌, ◌<◌, List, [], ◌∷◌, ◌++◌, length, get_or, take, map, Option, None, Some, Bool, true, false, cond, not, ◌||◌, inl, inr, refl, sym, ap, ◌∙◌, subst, add-one, append_assoc, append-nil, bytes_eq, ◌==◌}
 use Rattle.std.specs.Prelude.{find}
 use Rattle.std.specs.List.{slice_get, list_any, list_all, cons_option}
