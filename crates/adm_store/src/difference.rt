@@ -1,4 +1,4 @@
-// The rows by which a new register differs from the one before, as they are written.
+// The rows by which a new register differs from the one before, and each value as the row that is written of it.
 ghost use Rattle.std.specs.Prelude.{◌≡◌, ◌++◌, [], ◌∷◌, if◌then◌else◌, map, IfOk, OnOk};
 ghost use Rattle.std.specs.FinMap.{contains_key};
 ghost use Rattle.std.specs.List.{flat_map};
