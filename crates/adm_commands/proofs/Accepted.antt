@@ -1,4 +1,4 @@
--- What the commands of schools, children, plans and applications put fits.
+-- What the commands of schools, children, plans and applications put fits the register.
 use Rattle.std.proofs.Common.{◌≡◌, ◌∙◌, ◌+◌, ◌≤◌, ap, sym, subst, refl, cond, true, false, arith, ℕ, List, [], ◌∷◌, Some, None}
 use Rattle.std.specs.Prelude.{IsTrue, nat_le, nat_eq, is_some, not, ◌&&◌, if◌then◌else◌}
 use Rattle.std.specs.Cmp.{nat_cmp_total}

@@ -1,4 +1,4 @@
--- A change that puts no draw, or the next.
+-- The draws of a register stay, where a change puts no draw, or the next.
 use Rattle.std.proofs.Common.{◌≡◌, ◌∙◌, ap, sym, true, [], ◌∷◌}
 use Rattle.std.specs.Cmp.{nat_cmp_total}
 use Rattle.std.specs.FinMap.{get, insert, values, nat_cmp-IsAntisymmetric}

@@ -1,4 +1,4 @@
--- What each command shows.
+-- What each command shows of what it changes, case by case.
 use Rattle.adm_types.specs.declared.commands.Command.{Command}
 use Rattle.adm_types.specs.declared.commands.Command.TheVariants.{AddSchool, RaisePan, AddChild, Amend, NamePlan, Apply, Round, Accept, Decline, Remind, Lapse, LeaveList, Fill, Import}
 use Rattle.adm_commands.proofs.Shows.{Shows}

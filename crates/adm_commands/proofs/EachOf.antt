@@ -1,4 +1,4 @@
--- What holds of each element of a list.
+-- What holds of each element of a list, also in another order and of what a function makes of them.
 use Rattle.std.proofs.Common.{◌≡◌, refl, List, [], ◌∷◌}
 use Rattle.std.specs.Prelude.{map}
 use Rattle.std.specs.List.{All, AllByRecursion}

@@ -1,4 +1,4 @@
--- What rounds leave stays.
+-- What rounds leave stays: draws are kept, and the draw of a round is recorded.
 use Rattle.std.proofs.Common.{◌∙◌, ap}
 use Rattle.std.specs.Cmp.{nat_cmp_total}
 use Rattle.std.specs.FinMap.{get}

@@ -1,4 +1,4 @@
--- Rows that were imported stay, whatever commands come after.
+-- Rows that were imported stay, whatever commands come after, so no import does its work twice.
 use Rattle.std.proofs.Common.{◌∙◌, ap, sym, subst, refl, ◌-◌, List, [], ◌∷◌, length, arith}
 use Rattle.std.specs.List.{AllByRecursion}
 use Rattle.std.specs.List.Sorted.{IsPermutation, IsStrictlySortedBy}

@@ -1,4 +1,4 @@
--- A change that puts no imported row, or new ones.
+-- Imported rows stay, where a change puts none, or new ones.
 use Rattle.std.proofs.Common.{◌≡◌, sym, subst, true, ℕ, [], Some}
 use Rattle.std.specs.Prelude.{not}
 use Rattle.std.specs.List.{AllByRecursion}

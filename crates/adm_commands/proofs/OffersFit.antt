@@ -1,4 +1,4 @@
--- What the answers to offers put fits.
+-- What the answers to offers put fits: accept, decline, lapse and remind.
 use Rattle.std.proofs.Common.{◌≡◌, ◌∙◌, ◌+◌, ap, sym, subst, refl, cond, Bool, true, false, arith, ℕ, List, [], ◌∷◌, Some, None}
 use Rattle.std.specs.Prelude.{nat_le, nat_eq, is_some, not, ◌&&◌, ◌||◌, Option, if◌then◌else◌}
 use Rattle.std.specs.Cmp.{nat_cmp_total}

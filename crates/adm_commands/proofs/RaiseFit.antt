@@ -1,4 +1,4 @@
--- A school whose admission number is raised fits.
+-- A school whose admission number is raised fits the register.
 use Rattle.std.proofs.Common.{◌≡◌, ◌∙◌, ◌+◌, ◌≤◌, ap, sym, subst, refl, cond, true, arith, ℕ, List, [], ◌∷◌, Some, None}
 use Rattle.std.specs.Prelude.{◌&&◌, nat_le, is_some, length, Option}
 use Rattle.std.specs.List.{list_all}

@@ -1,4 +1,4 @@
--- What rounds, fills and imports show.
+-- What rounds, fills and imports show of what they change.
 use Rattle.std.proofs.Common.{◌≡◌, ◌∙◌, ap, sym, subst, refl, ℕ, ◌+◌, ◌-◌, length, List, [], ◌∷◌, None, arith}
 use Rattle.std.specs.List.{AllByRecursion}
 use Rattle.std.specs.Cmp.{nat_cmp_total, unsigned_Decides}

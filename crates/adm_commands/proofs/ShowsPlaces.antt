@@ -1,4 +1,4 @@
--- What the commands of places show.
+-- What the commands of places show of what they change: plans, answers to offers, reminders, left lists.
 use Rattle.std.proofs.Common.{◌≡◌, ◌∙◌, ap, subst, refl, Bool, true, false, ℕ, List, [], Some, None}
 use Rattle.std.specs.Prelude.{is_some, nat_eq, Option, if◌then◌else◌}
 use Rattle.std.specs.Cmp.{nat_cmp_total}

@@ -1,4 +1,4 @@
--- What the commands of schools, children and applications show.
+-- What the commands of schools, children and applications show of what they change.
 use Rattle.std.proofs.Common.{refl, ℕ, List}
 use Rattle.std.specs.Cmp.{nat_cmp_total}
 use Rattle.std.specs.Cmp.Lexicographic.{nat_list_cmp_total}

@@ -1,4 +1,4 @@
--- Rows of different numbers have an order in which their numbers rise.
+-- Rows of different numbers, put in order: the same rows, whose numbers rise, and no other order does.
 use Rattle.std.proofs.Common.{◌≡◌, refl, true, false, cond, ℕ, List, [], ◌∷◌, map, arith}
 use Rattle.std.specs.Prelude.{nat_lt, if◌then◌else◌}
 use Rattle.std.specs.declared.cmp.Ordering.TheVariants.{Less}

@@ -1,4 +1,4 @@
--- To apply.
+-- To apply: a child's list of schools, in its order of preference.
 use Rattle.std.specs.Prelude.{Bool, not, ◌&&◌, nat_le, List, [], ◌∷◌, length}
 use Rattle.std.specs.FinMap.{contains_key}
 use Rattle.adm_types.specs.declared.rows.Application.{Application}

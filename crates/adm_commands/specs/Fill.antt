@@ -1,5 +1,6 @@
--- To fill a vacancy (School Admissions Code 2021, section 2: who waits ranks by the oversubscription criteria, and not by the day of joining
--- the list; the lots of a vacancy are this profile's).
+-- To fill a vacancy: of the children that wait, the one that ranks first with its lot is offered the place.
+-- School Admissions Code 2021, section 2: who waits ranks by the oversubscription criteria, and not by the day of joining
+-- the list; the lots of a vacancy are this profile's.
 use Rattle.std.specs.Prelude.{ℕ, ◌+◌, Bool, true, false, not, ◌&&◌, nat_eq, nat_le, nat_lt, List, [], ◌∷◌, map, length, Option, Some, None}
 use Rattle.std.specs.FinMap.{contains_key}
 use Rattle.adm_types.specs.Limits.{most_draws, most_lots}

@@ -1,4 +1,4 @@
--- What the types of values keep.
+-- What the types of a command's values keep.
 use Rattle.std.specs.Prelude.{ℕ, List, IsTrue, nat_le, nat_lt}
 use Rattle.std.specs.List.{list_all}
 use Rattle.std.specs.Str.{is_utf8}

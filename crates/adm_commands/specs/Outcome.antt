@@ -1,4 +1,4 @@
--- What a command leaves and answers.
+-- What a command leaves and answers: one step of the register.
 use Rattle.std.specs.Prelude.{◌≡◌, ⊤, ℕ, Bool, List, [], Option, Some, None, Result, Ok, Err, IsTrue, nat_le}
 use Rattle.std.specs.List.{AllByRecursion}
 use Rattle.adm_types.specs.Limits.{first_day, last_day}

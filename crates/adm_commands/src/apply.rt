@@ -1,4 +1,4 @@
-// To apply.
+// To apply: a child's list of schools, in its order of preference.
 ghost use Rattle.std.specs.Prelude.{◌≡◌, ◌&&◌, length, IfOk};
 ghost use Rattle.adm_types.specs.Limits.{is_from, is_without_repeat, most_preferences};
 ghost use Rattle.adm_commands.specs.Tests.{first_failing};

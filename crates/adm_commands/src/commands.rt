@@ -1,4 +1,4 @@
-// What comes of each command.
+// What comes of each command, by its own module, and what the types of its values keep.
 ghost use Rattle.std.specs.Prelude.{IfOk};
 ghost use Rattle.adm_register.specs.WellFormed.{WellFormed};
 ghost use Rattle.adm_commands.specs.Outcome.{Comes, refused, Changes, KeptByTypes};

@@ -1,4 +1,4 @@
-// Tests in their order.
+// The first test that fails, of tests in their order.
 ghost use Rattle.std.specs.Prelude.{◌≡◌};
 ghost use Rattle.adm_commands.specs.Tests.{first_failing};
 

@@ -1,4 +1,4 @@
-// Laws of the steps of a register.
+// Laws of the steps of a register: repeats, rounds, imports, other lists.
 ghost use Rattle.adm_commands.specs.History.{DrawsKept, RoundIsRecorded};
 ghost use Rattle.adm_commands.specs.Imports.{ImportOnce};
 ghost use Rattle.adm_commands.specs.Outcome.{OneStep, RepeatSafe, SomeStep};

@@ -1,4 +1,4 @@
-// What comes of a command that is tried.
+// What comes of a command that is tried: it is done, or refused.
 ghost use Rattle.std.specs.Prelude.{◌≡◌, Ok, Err};
 ghost use Rattle.adm_types.specs.declared.commands.Reply.TheVariants.{Done};
 

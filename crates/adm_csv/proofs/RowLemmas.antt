@@ -1,4 +1,4 @@
--- Rows one after another.
+-- Rows of a file read one after another, up to the first fault.
 use Rattle.std.proofs.Common.{◌≡◌, ◌∙◌, ◌+◌, ℕ, List, [], ◌∷◌, ◌++◌, length, take, Result, Ok, Err, ap, refl, sym, append_assoc, length-append, add-one, arith}
 use Rattle.std.specs.Result.{is_ok}
 use Rattle.std.proofs.Math.Seq.{take-append_seam}

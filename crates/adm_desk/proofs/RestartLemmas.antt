@@ -1,4 +1,4 @@
--- What a start after a crash finds.
+-- What a start after a crash finds: the file that was left, and the register for which it stands.
 use Rattle.std.proofs.Common.{◌≡◌, inl, inr, Option, Some, None, List, [], ◌∷◌, zip, refl, ap, sym, subst, arith}
 use Rattle.std.proofs.Math.Logic.{∥∥₁_elim}
 use base.Stored.{Coded-set}

@@ -1,4 +1,4 @@
--- The rounds of a run.
+-- What the rounds of a run leave: recorded outcomes stay, also after a crash.
 use Rattle.std.proofs.Common.{◌≡◌, ◌∙◌, refl, ap, sym, subst, ℕ, ◌+◌, ◌≤◌, Bool, true, false, List, [], ◌∷◌, ◌++◌, arith}
 use Rattle.std.specs.Prelude.{Option, Some, None, ◌&&◌, nat_eq}
 use Rattle.std.specs.Cmp.{nat_cmp_total, unsigned_Decides}

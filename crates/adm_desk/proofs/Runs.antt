@@ -1,4 +1,4 @@
--- A run goes on by one step.
+-- A run of commands goes on by one step.
 use Rattle.std.proofs.Common.{◌≡◌, ℕ, List, [], ◌∷◌, ◌++◌, subst, refl, ◌+◌, ◌<◌, length, get_or, take}
 use Rattle.std.proofs.lemmas.List.{take_more}
 use Rattle.adm_types.specs.declared.commands.Command.{Command}

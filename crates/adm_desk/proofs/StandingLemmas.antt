@@ -1,4 +1,4 @@
--- What a kept command answers.
+-- What a command is answered whose change was kept, or was not.
 use Rattle.std.proofs.Common.{◌≡◌, ◌∙◌, false, sym, subst, Ok}
 use Rattle.sqlite.specs.State.{State as Disk}
 use Rattle.std.proofs.lemmas.Bool.{true≢false}

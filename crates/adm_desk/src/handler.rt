@@ -1,4 +1,4 @@
-// What answers commands, one after another.
+// What answers commands, one after another: a trait that the desk has.
 ghost use Rattle.std.specs.Prelude.{◌≡◌, IfOk, OnErr};
 ghost use Rattle.adm_desk.specs.Steps.{IsRun};
 

@@ -1,4 +1,4 @@
-// Laws of accepted commands, one after another.
+// Laws of accepted commands and of rounds, one after another.
 ghost use Rattle.adm_desk.specs.Acknowledged.{OneAfter};
 ghost use Rattle.adm_desk.specs.Rounds.{RoundsAreRecorded, RoundsStay};
 

@@ -1,4 +1,4 @@
-// A run of commands, a crash, and the start after it.
+// A run of commands over any store, a crash that comes to its disk, and the start after it.
 ghost use Rattle.std.specs.Prelude.{◌≡◌, ◌⊎◌, false, [], Option, IfOk, IfErr, IfSome, MatchOption};
 ghost use Rattle.sqlite.specs.Held.{Held, state};
 ghost use Rattle.sqlite.specs.State.{HasCleanDisk};

@@ -1,4 +1,4 @@
-// Commands over two disks that stop, a crash, and the start after it.
+// A run of commands over two disks that each stop after so many calls, a crash, and the start after it.
 ghost use Rattle.std.specs.Prelude.{◌≡◌, false, IsTrue, IfOk, IfErr, IfSome};
 ghost use Rattle.sqlite.specs.Files.{file_state};
 ghost use Rattle.adm_register.specs.State.{State as Register};

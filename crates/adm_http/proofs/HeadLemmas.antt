@@ -1,4 +1,4 @@
--- What a parsed head says.
+-- What a parsed head says of the bytes in which it was found.
 use Rattle.std.proofs.Common.{◌≡◌, ℕ, ◌≤◌, List, length, take, drop, map, ap, ◌∙◌, subst, arith}
 use Rattle.std.specs.List.{slice_range}
 use Rattle.std.proofs.lemmas.List.{length-map, length-take}

@@ -1,4 +1,4 @@
--- Texts of values, one after another, and joined.
+-- Texts of values, one after another, and joined: for the state of a child.
 use Rattle.std.proofs.Common.{◌≡◌, ◌∙◌, ap, refl, ℕ, ◌+◌, ◌<◌, List, [], ◌∷◌, ◌++◌, map, take, get_or, length, Option, Some, None}
 use Rattle.std.specs.Prelude.{Result, Ok, Err, IfOk}
 use Rattle.std.specs.List.{filter_map, flat_map, join_by}

@@ -1,4 +1,4 @@
--- Steps of the loops that read.
+-- Steps of the loops that read a request.
 use Rattle.std.proofs.Common.{◌≡◌, ℕ, ◌+◌, ◌<◌, ◌≤◌, List, [], ◌∷◌, ◌++◌, length, drop, sym, ap, ◌∙◌, subst, arith, append_assoc, append-nil}
 use Rattle.std.specs.Prelude.{Option, Bool, true, false, ◌||◌}
 use Rattle.std.specs.Io.KnownBytes.{Consumes, Keeps}

@@ -1,4 +1,4 @@
--- What serving connections, one after the other, leaves.
+-- What serving connections, one after the other, leaves, and what is printed of a fault.
 use Rattle.std.specs.Prelude.{◌≡◌, ℕ, zero, suc, ◌⊎◌, List, codes}
 use Rattle.adm_desk.specs.declared.answer.LineAnswer.{LineAnswer}
 use Rattle.adm_http.specs.Responses.{Responds}

@@ -1,4 +1,4 @@
--- What a body is run as over a desk.
+-- What a body is run as over a desk: as a command, or as a question.
 use Rattle.std.specs.Prelude.{ℕ, List}
 use Rattle.sqlite.specs.State.{State as Disk}
 use Rattle.adm_desk.specs.Lines.{AnswersLine}

@@ -1,4 +1,4 @@
--- The response to a request.
+-- The response to a request: what is carried out, and which bytes come of it.
 use Rattle.std.specs.Prelude.{◌≡◌, ℕ, List, [], ◌∷◌, length, take, drop, nat_le, MatchBool, string_bytes}
 use Rattle.adm_http.specs.Heads.{IsJudgement, verdict_at_end}
 use Rattle.adm_wire.specs.Texts.{memory_text, failed_text}

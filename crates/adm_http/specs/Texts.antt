@@ -1,4 +1,4 @@
--- The bytes of a response.
+-- The bytes of a response: its status, header fields and body.
 use Rattle.std.specs.Prelude.{ℕ, List, [], ◌++◌, length, Option, Some, None, codes, decimal}
 use Rattle.httparse.specs.Ascii.{crlf_bytes}
 use Rattle.http.specs.StatusCode.{status_text}

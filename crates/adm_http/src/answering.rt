@@ -1,4 +1,4 @@
-// What requests are asked of.
+// What requests are asked of: a trait that runs bodies and shows texts, which the desk has.
 ghost use Rattle.std.specs.Prelude.{◌≡◌, List, ℕ};
 
 use crate::targets::{Purpose, Resource};

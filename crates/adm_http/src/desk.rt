@@ -1,4 +1,4 @@
-// Requests answered and served over a desk.
+// Requests answered and served over a desk: it runs bodies and shows texts.
 ghost use Rattle.std.specs.Prelude.{◌≡◌, ◌||◌, IfOk, ℕ, List};
 ghost use Rattle.sqlite.specs.Held.{Held, state};
 ghost use Rattle.adm_desk.specs.DeskState.{DeskState};

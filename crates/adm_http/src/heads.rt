@@ -1,4 +1,4 @@
-// What the head of a request decides.
+// What the head of a request decides: its method, target and length of body.
 ghost use Rattle.std.specs.Prelude.{◌≡◌, ◌≤◌, length, map, IsUtf8, All};
 ghost use Rattle.httparse.specs.Spans.{IsHeaderWithin, header_bytes};
 ghost use Rattle.adm_http.specs.Heads.{window, verb_of, by_length as verdict_by_length, values_of, AreCounted, is_named, body_verdict, verdict_of, IsJudgement, IsInside, IsSmall};

@@ -1,4 +1,4 @@
-// Laws of the definitions.
+// The law that the same bytes are judged in one way.
 ghost use Rattle.adm_http.specs.Heads.{JudgedInOneWay};
 
 /// The same bytes are judged in one way, save where their first 8,192, or all where there are fewer,

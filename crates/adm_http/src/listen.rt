@@ -1,4 +1,4 @@
-// The loop over connections.
+// The loop over connections, one after the other, and how long each may take.
 ghost use Rattle.std.specs.Prelude.{◌≡◌, if◌then◌else◌};
 ghost use Rattle.sqlite.specs.Held.{state};
 ghost use Rattle.adm_desk.specs.DeskState.{Handles};

@@ -1,4 +1,4 @@
-// The response to the request that some bytes are.
+// The response to the request that some bytes are, and its status.
 ghost use Rattle.std.specs.Prelude.{◌≡◌, IfOk, ℕ, List, nat_le, ◌≤◌, drop, length, if◌then◌else◌};
 ghost use Rattle.adm_http.specs.Texts.{Response, response_bytes, json};
 ghost use Rattle.adm_http.specs.Replies.{status_of, status_of_command, status_of_told, status_of_fault};

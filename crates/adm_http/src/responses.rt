@@ -1,4 +1,4 @@
-// The bytes of a response.
+// The bytes of a response: its status, header fields and body.
 ghost use Rattle.std.specs.Prelude.{◌≡◌, IfOk, Some};
 ghost use Rattle.adm_http.specs.Texts.{verb_text, media_text, allow_line, response_bytes, bare as bare_response};
 

@@ -1,4 +1,4 @@
--- Texts that grow by lines.
+-- Texts that grow by lines, one call after another.
 use Rattle.std.proofs.Common.{◌≡◌, ◌∙◌, ap, sym, refl, ℕ, ◌+◌, ◌<◌, List, [], ◌∷◌, ◌++◌, append_assoc, take, get_or, length, map}
 use Rattle.std.proofs.lemmas.List.{take_more, map_push}
 use Rattle.adm_letters.specs.Lines.{lines_text}

@@ -1,4 +1,4 @@
-// Why there is no such text.
+// Why there is no such letter, list, report or list of pairs.
 ghost use Rattle.std.specs.Prelude.{◌≡◌};
 ghost use Rattle.adm_letters.specs.declared.fault.LetterFault.TheVariants.{Memory};
 ghost use Rattle.adm_letters.specs.Answers.{fault_of};

@@ -1,4 +1,4 @@
-// The lines of a letter to a child.
+// The lines of a letter to a child, one function each.
 ghost use Rattle.std.specs.Prelude.{◌≡◌, IfOk, [], ◌∷◌};
 ghost use Rattle.adm_letters.specs.Lines.{AddsLines};
 ghost use Rattle.adm_letters.specs.LetterLines.{head_line, child_line, no_place, offered_line, reminded_line, accepted_line, plan_line, withdrawal_line, waiting_line, waits_nowhere, phase_text};

@@ -1,4 +1,4 @@
--- What may be missing.
+-- Options: what may be missing.
 use Rattle.std.proofs.Common.{◌≡◌, refl, true, not, List, ◌++◌, Option, Some, None, is_some, option_map, IfNone}
 
 -- what is not there is missing

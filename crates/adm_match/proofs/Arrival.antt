@@ -7,8 +7,8 @@ use Rattle.adm_match.specs.declared.problem.Wish.{Wish}
 use Rattle.adm_match.specs.declared.progress.Progress.{Progress}
 use Rattle.adm_match.specs.Market.{Code, Candidate, Market, has, assigned_rank, is_tenant, ranks_before, quota_of}
 use Rattle.adm_match.specs.Turns.{held_at, IsHeldByNext, Shaped, NoneLost, IsGuestAt, IsRejected, Sound}
-use Rattle.adm_match.proofs.Side.{after_set, count_set}
-use Rattle.adm_match.proofs.Words.{has_true, has_false, not_has, same_or_not}
+use Rattle.adm_match.proofs.SideBySide.{after_set, count_set}
+use Rattle.adm_match.proofs.RanksAndBlocks.{has_true, has_false, not_has, same_or_not}
 
 -- what holds once the entrant at i has come to the school s, and s may hold one too many
 pub record Arrived (m : Market) (rows : List Progress) (i : ℕ) (s : Code) : Type 0 where

@@ -17,9 +17,9 @@ use Rattle.adm_match.specs.declared.problem.Wish.{Wish}
 use Rattle.adm_match.specs.declared.claims.Claim.{Claim}
 use Rattle.adm_match.specs.Market.{Code, Candidate, is_tenant, key_at, is_key, some_pair, same_school, shares, share_rank}
 use Rattle.adm_match.specs.Claims.{claim_of, asked, claims_of, all_claims}
-use Rattle.adm_match.proofs.Words.{list_any_of, list_any_gives}
+use Rattle.adm_match.proofs.RanksAndBlocks.{list_any_of, list_any_gives}
 use Rattle.adm_match.proofs.Posed.{list_any_not, key_is}
-use Rattle.adm_match.proofs.Twice.{pair_append, pair_same}
+use Rattle.adm_match.proofs.RepeatedElements.{pair_append, pair_same}
 
 asked_append : (e : Candidate) (xs ys : List Wish) → asked e (xs ++ ys) ≡ asked e xs ++ asked e ys
 asked_append e [] ys = refl

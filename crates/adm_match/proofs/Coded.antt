@@ -1,4 +1,4 @@
--- What the sets and lists of keys say of a problem.
+-- What the tests of a problem by sets and lists of keys say of it.
 use Rattle.std.proofs.Common.{◌≡◌, ℕ, ◌+◌, ◌<◌, List, [], ◌∷◌, ◌++◌, length, get_or, take, map, Bool, true, cond, not, sym, ap, ◌∙◌, add-one, bytes_eq}
 use Rattle.std.specs.Prelude.{Result, Ok, Err, IfOk}
 use Rattle.std.specs.List.{list_any}
@@ -13,7 +13,7 @@ use Rattle.adm_lists.proofs.Orders.{eq_number}
 use Rattle.adm_match.specs.declared.problem.Wish.{Wish}
 use Rattle.adm_match.specs.declared.problem.Seats.{Seats}
 use Rattle.adm_match.specs.Market.{Code, Candidate, market_of, some_pair, same_code, same_school, same_child, names_unknown}
-use Rattle.adm_match.proofs.Twice.{pair_map, pair_same}
+use Rattle.adm_match.proofs.RepeatedElements.{pair_map, pair_same}
 
 pub answer_as : {E : Type 0} (r : Result Bool E) (a b : Bool) → a ≡ b → IfOk r (λ answer. answer ≡ a) → IfOk r (λ answer. answer ≡ b)
 answer_as (Ok x) a b same h = h ∙ same

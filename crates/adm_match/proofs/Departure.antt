@@ -9,8 +9,8 @@ use Rattle.adm_match.specs.declared.progress.Progress.{Progress}
 use Rattle.adm_match.specs.Market.{Code, Candidate, Market, has, preference_rank, assigned_rank, is_tenant, ranks_before, quota_of}
 use Rattle.adm_match.specs.Stability.{Allocation, count_at, is_guest, blocks, IsStable}
 use Rattle.adm_match.specs.Turns.{held_at, WellListed, IsHeldByNext, Shaped, NoneLost, IsGuestAt, IsRejected, Sound}
-use Rattle.adm_match.proofs.Side.{more_pass, after_set}
-use Rattle.adm_match.proofs.Words.{has_true, has_tells, not_has, same_or_not, at_All, list_any_of, same_rank, ranks_before_trans, guest_from}
+use Rattle.adm_match.proofs.SideBySide.{more_pass, after_set}
+use Rattle.adm_match.proofs.RanksAndBlocks.{has_true, has_tells, not_has, same_or_not, at_All, list_any_of, same_rank, ranks_before_trans, guest_from}
 use Rattle.adm_match.proofs.Arrival.{Arrived, held_set_other, held_set_less, other_has, same_entrant, held_fact, shaped_set, guest_before}
 
 -- the wish by which a school holds an entrant

@@ -8,8 +8,8 @@ use Rattle.adm_match.specs.declared.progress.Progress.{Progress}
 use Rattle.adm_match.specs.Market.{Code, Candidate, Market, has, preference_rank, assigned_rank, is_tenant, ranks_before, quota_of}
 use Rattle.adm_match.specs.Stability.{Allocation, count_at, is_guest, blocks, IsBest}
 use Rattle.adm_match.specs.Turns.{held_at, WellListed, Shaped, IsGuestAt, IsRejected, Sound, AllDone, AllotsWhatIsHeld}
-use Rattle.adm_match.proofs.Side.{count_beside, element_at}
-use Rattle.adm_match.proofs.Words.{All_at, list_any_gives, wish_at_rank, ranks_before_asym, guest_gives}
+use Rattle.adm_match.proofs.SideBySide.{count_beside, element_at}
+use Rattle.adm_match.proofs.RanksAndBlocks.{All_at, list_any_gives, wish_at_rank, ranks_before_asym, guest_gives}
 
 -- what an entrant has stands after the schools that rejected it
 pub rejections_is : (m : Market) (rows : List Progress) → WellListed m → Shaped m rows → AllDone m.entrants rows → (k : ℕ) (e : Candidate) (r : Progress) → slice_get m.entrants k ≡ Some e → slice_get rows k ≡ Some r → assigned_rank e.list r.school ≡ r.rejections

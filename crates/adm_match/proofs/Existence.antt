@@ -6,14 +6,14 @@ use Rattle.adm_match.specs.declared.progress.Progress.{Progress}
 use Rattle.adm_match.specs.Market.{Code, Candidate, Market, has, is_tenant, ranks_before, quota_of}
 use Rattle.adm_match.specs.Stability.{Allocation, IsBest}
 use Rattle.adm_match.specs.Turns.{held_at, Sound, AllDone, IsFree, IsLast, NoGuest, AreRanked, turns_left, start_of, held_by, with_rejection, found_in}
-use Rattle.adm_match.proofs.Side.{element_at}
+use Rattle.adm_match.proofs.SideBySide.{element_at}
 use Rattle.adm_match.proofs.Arrival.{stay}
 use Rattle.adm_match.proofs.Departure.{leave}
 use Rattle.adm_match.proofs.LastGuest.{NoGuestBelow, IsLastBelow, none_more, last_more, last_first, last_takes, last_stays, guest_at, no_guest_at}
 use Rattle.adm_match.proofs.Turn.{came, starts, turns_left_leave}
 use Rattle.adm_match.specs.Distinct.{Distinct}
 use Rattle.adm_match.proofs.Distinct.{ranked_of}
-use Rattle.adm_match.proofs.Given.{gives_by}
+use Rattle.adm_match.proofs.GivenByRows.{gives_by}
 use Rattle.adm_match.proofs.Ending.{ends_best}
 
 free_or_done : (es : List Candidate) (rows : List Progress) → ((k : ℕ) × IsFree es rows k) ⊎ AllDone es rows

@@ -10,7 +10,7 @@ use Rattle.adm_match.specs.declared.problem.Wish.{Wish}
 use Rattle.adm_match.specs.Market.{Code, Candidate, Market, preference_rank, assigned_rank}
 use Rattle.adm_match.specs.Stability.{Allocation, prefers, blocks, IsContent, IsFirstOfList, IsFirstBlock}
 use Rattle.adm_match.specs.Blocks.{earlier}
-use Rattle.adm_match.proofs.Words.{wish_at_rank, All_at}
+use Rattle.adm_match.proofs.RanksAndBlocks.{wish_at_rank, All_at}
 
 -- what `find` says
 pub found_at : {X : Type 0} (p : X → Bool) (xs : List X) (x : X) → find p xs ≡ Some x → (k : ℕ) × (slice_get xs k ≡ Some x) × (p x ≡ true) × ((j : ℕ) (y : X) → j < k → slice_get xs j ≡ Some y → p y ≡ false)

@@ -6,7 +6,7 @@ use Rattle.std.proofs.lemmas.Option.{same_Some, slice_get_within}
 use Rattle.adm_match.specs.declared.progress.Progress.{Progress}
 use Rattle.adm_match.specs.Market.{Code, Candidate, has, is_tenant, ranks_before}
 use Rattle.adm_match.specs.Turns.{IsGuestAt, AreRanked, IsLast, NoGuest}
-use Rattle.adm_match.proofs.Words.{has_tells, has_true, ranks_before_trans}
+use Rattle.adm_match.proofs.RanksAndBlocks.{has_tells, has_true, ranks_before_trans}
 
 -- the school has no guest before the index i
 abbrev pub NoGuestBelow : List Candidate → List Progress → Code → ℕ → Type 0

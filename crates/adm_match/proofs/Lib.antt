@@ -1,5 +1,5 @@
-pub mod Side
-pub mod Words
+pub mod SideBySide
+pub mod RanksAndBlocks
 pub mod Arrival
 pub mod Departure
 pub mod Ending
@@ -7,7 +7,7 @@ pub mod LastGuest
 pub mod Posed
 pub mod Turn
 pub mod Offered
-pub mod Given
+pub mod GivenByRows
 pub mod FirstBlock
 pub mod Distinct
 pub mod Existence
@@ -18,11 +18,11 @@ pub mod NoGain
 pub mod Relisted
 pub mod Heap
 pub mod Mirror
-pub mod Looking
+pub mod DirectoryLemmas
 pub mod Turning
-pub mod Line
+pub mod QueueLemmas
 pub mod Ready
-pub mod Twice
+pub mod RepeatedElements
 pub mod Asking
 pub mod Coded
 pub mod WhatIfs

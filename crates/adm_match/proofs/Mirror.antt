@@ -18,14 +18,14 @@ use Rattle.adm_match.specs.Holding.{guest_entry, guests_of, RanksLast, SameBag}
 use Rattle.adm_match.proofs.Departure.{held_wish}
 use Rattle.adm_match.specs.Distinct.{Distinct}
 use Rattle.adm_match.proofs.Distinct.{ranked_of}
-use Rattle.adm_match.proofs.Words.{has_tells, has_true}
+use Rattle.adm_match.proofs.RanksAndBlocks.{has_tells, has_true}
 use Rattle.std.specs.Prelude.{◌==◌, ◌≤◌}
 use Rattle.std.specs.List.{count_by}
 use Rattle.std.proofs.lemmas.Bool.{eqb-true, cases_Bool}
 use Rattle.std.proofs.lemmas.Bool.Decides.{nat_tests}
 use Rattle.std.proofs.lemmas.List.Sorted.{sum_by-IsPermutation}
 use Rattle.std.proofs.lemmas.List.Sums.{sum_by-cons, get_or-le-sum_by}
-use Rattle.adm_match.proofs.Side.{count_no}
+use Rattle.adm_match.proofs.SideBySide.{count_no}
 
 -- the entry of a guest, and of one that is none
 pub entry_is : (e : Candidate) (r : Progress) (s : Code) (key : RankKey) → r.school ≡ Some s → is_tenant e s ≡ false → key_at e.list s ≡ Some key → guest_entry e r s ≡ (record { key = key; child = e.child } ∷ [])

@@ -1,4 +1,4 @@
--- A stable allocation, where one entrant hands in another list.
+-- Two problems that differ in one entrant's list: what is stable in one stays stable in the other.
 use Rattle.std.proofs.Common.{◌≡◌, ◌≢◌, ℕ, zero, suc, ◌<◌, List, [], ◌∷◌, length, set, Option, None, Some, Bool, true, false, not, ◌||◌, ◌&&◌, inl, inr, refl, sym, ap, ◌∙◌, subst, arith, length-set}
 use Rattle.std.specs.Prelude.{IfSome, nat_lt}
 use Rattle.std.specs.List.{slice_get, list_any}
@@ -7,8 +7,8 @@ use Rattle.std.proofs.lemmas.Option.{same_Some, slice_get_within}
 use Rattle.adm_match.specs.declared.problem.Seats.{Seats}
 use Rattle.adm_match.specs.Market.{Code, Candidate, Market, has, preference_rank, is_tenant, key_at, both_precede, ranks_before, quota_of}
 use Rattle.adm_match.specs.Stability.{Allocation, count_at, is_guest, prefers, ranks_after, blocks, IsContent, IsStable}
-use Rattle.adm_match.proofs.Side.{count_beside}
-use Rattle.adm_match.proofs.Words.{has_tells, at_All, All_at}
+use Rattle.adm_match.proofs.SideBySide.{count_beside}
+use Rattle.adm_match.proofs.RanksAndBlocks.{has_tells, at_All, All_at}
 
 -- two problems that differ in the entrant at one index
 pub record Differs (m m' : Market) (k : ℕ) (e e' : Candidate) : Type 0 where

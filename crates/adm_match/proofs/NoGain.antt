@@ -1,4 +1,4 @@
--- No gain by listing otherwise.
+-- No child gains by listing its schools otherwise.
 use Rattle.std.proofs.Common.{◌≡◌, ◌⊎◌, ℕ, zero, suc, ◌+◌, ◌<◌, ◌≤◌, List, [], ◌∷◌, length, take, Option, None, Some, true, false, cond, not, inl, inr, refl, sym, ap, ◌∙◌, subst, arith, add-one}
 use Rattle.std.specs.Prelude.{is_some, bytes_eq, option_map}
 use Rattle.std.specs.List.{slice_get, list_any}
@@ -9,7 +9,7 @@ use Rattle.adm_match.specs.declared.problem.Wish.{Wish}
 use Rattle.adm_match.specs.declared.problem.Seats.{Seats}
 use Rattle.adm_match.specs.Market.{Code, Candidate, Market, preference_rank, assigned_rank, is_tenant, key_at, some_pair, same_code}
 use Rattle.adm_match.specs.Stability.{Allocation, prefers, blocks, IsContent, IsStable, IsBest}
-use Rattle.adm_match.proofs.Words.{at_All, wish_at_rank}
+use Rattle.adm_match.proofs.RanksAndBlocks.{at_All, wish_at_rank}
 use Rattle.adm_match.proofs.Beginning.{rank_take, key_take, rank_taken, at_take}
 use Rattle.adm_match.proofs.FirstBlock.{rank_within}
 use Rattle.adm_match.specs.Distinct.{Distinct}

@@ -11,9 +11,9 @@ use Rattle.adm_match.specs.declared.problem.Seats.{Seats}
 use Rattle.adm_match.specs.Market.{Code, Candidate, Market, has, preference_rank, assigned_rank, is_tenant, quota_of, some_pair, same_code}
 use Rattle.adm_match.specs.Distinct.{Seated}
 use Rattle.adm_match.specs.Stability.{Allocation, IsAcceptable, count_at, is_guest, prefers, ranks_after, blocks, IsContent, IsStable, IsBest}
-use Rattle.adm_match.proofs.Side.{more_pass, count_yes, count_no}
+use Rattle.adm_match.proofs.SideBySide.{more_pass, count_yes, count_no}
 use Rattle.adm_match.proofs.Turn.{sum_beside}
-use Rattle.adm_match.proofs.Words.{has_tells, not_has, at_All, list_any_of, wish_at_rank, same_rank, guest_from}
+use Rattle.adm_match.proofs.RanksAndBlocks.{has_tells, not_has, at_All, list_any_of, wish_at_rank, same_rank, guest_from}
 
 -- what an entrant has in an allocation is on its list
 pub on_list : (m : Market) (a : Allocation) (k : ℕ) (e : Candidate) (s : Code) → IsAcceptable m a → slice_get m.entrants k ≡ Some e → a e.child ≡ Some s → preference_rank e.list s < length e.list

@@ -13,7 +13,7 @@ use Rattle.adm_match.specs.declared.progress.Progress.{Progress}
 use Rattle.adm_rank.specs.Ranking.{precedes}
 use Rattle.adm_match.specs.Market.{Code, Candidate, Market, preference_rank, is_tenant, key_at, both_precede, some_pair, same_code, same_child, same_school, repeats_school, names_unknown, repeats_child, has_tenant_not_last, is_key, share_rank, has_equal_rank, first_fault}
 use Rattle.adm_match.specs.Turns.{WellListed, Shaped, AreRanked}
-use Rattle.adm_match.proofs.Words.{list_any_of}
+use Rattle.adm_match.proofs.RanksAndBlocks.{list_any_of}
 use Rattle.adm_match.proofs.Departure.{held_wish}
 
 some_or_none : (b : Bool) (x : BadProblem) (o : Option BadProblem) → cond b (Some x) o ≡ None → (b ≡ false) × (o ≡ None)

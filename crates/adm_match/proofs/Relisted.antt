@@ -1,4 +1,4 @@
--- The problem in which one child hands in another list, and the laws.
+-- The problem in which one child hands in another list, and the laws of stable allocations.
 use Rattle.std.proofs.Common.{◌≡◌, ℕ, ◌+◌, ◌<◌, ◌≤◌, List, [], ◌∷◌, ◌++◌, length, Option, None, Some, true, false, cond, not, inl, inr, refl, sym, ap, ◌∙◌, subst, arith}
 use Rattle.std.specs.Prelude.{is_some, bytes_eq, option_map, find, ◌==◌}
 use Rattle.std.specs.List.{slice_get, list_any, cons_option}
@@ -11,7 +11,7 @@ use Rattle.adm_match.specs.declared.problem.Wish.{Wish}
 use Rattle.adm_match.specs.Market.{Code, Candidate, Market, preference_rank, assigned_rank, is_tenant, key_at, is_not_last, some_pair, same_code, same_school}
 use Rattle.adm_match.specs.Stability.{Allocation, IsStable}
 use Rattle.adm_match.specs.Relisting.{wishes_among, with_list, relist, relisted, NoGain, SamePlaced, OneBest}
-use Rattle.adm_match.proofs.Words.{has_tells, at_All, All_at, same_rank, wish_at_rank}
+use Rattle.adm_match.proofs.RanksAndBlocks.{has_tells, at_All, All_at, same_rank, wish_at_rank}
 use Rattle.adm_match.proofs.FirstBlock.{found_at, rank_upto}
 use Rattle.adm_match.proofs.Posed.{Posed, posed, list_any_not}
 use Rattle.adm_match.specs.Distinct.{Distinct}

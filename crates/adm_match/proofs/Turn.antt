@@ -10,7 +10,7 @@ use Rattle.adm_match.specs.declared.problem.Wish.{Wish}
 use Rattle.adm_match.specs.declared.progress.Progress.{Progress}
 use Rattle.adm_match.specs.Market.{Code, Candidate, Market, first_fault, quota_of}
 use Rattle.adm_match.specs.Turns.{held_at, Shaped, Sound, IsGuestAt, IsFree, IsLast, turns_left, start_of, held_by, with_rejection}
-use Rattle.adm_match.proofs.Side.{count_set}
+use Rattle.adm_match.proofs.SideBySide.{count_set}
 use Rattle.adm_match.proofs.Arrival.{Arrived, arrive}
 use Rattle.adm_match.proofs.Departure.{leave, held_wish}
 use Rattle.adm_match.proofs.Posed.{posed, well_listed}

@@ -16,14 +16,14 @@ use Rattle.adm_match.specs.Turns.{held_at, Shaped, Sound, IsFree, IsLast, NoGues
 use Rattle.adm_match.specs.Distinct.{Distinct, Seated, ChildrenOnce}
 use Rattle.adm_match.specs.Holding.{Holding, tenants_with, guests_with, HoldsAll, Rejects, Considers, guest_entry, guests_of, SameBag}
 use Rattle.adm_match.specs.Queue.{StandsAt, SeatedAt, IsMirror, Mirrored, Turned}
-use Rattle.adm_match.proofs.Side.{after_set}
-use Rattle.adm_match.proofs.Words.{has_true, list_any_gives}
+use Rattle.adm_match.proofs.SideBySide.{after_set}
+use Rattle.adm_match.proofs.RanksAndBlocks.{has_true, list_any_gives}
 use Rattle.adm_match.proofs.Arrival.{stay, held_set_more, held_set_less, held_set_other, none_has, other_has}
 use Rattle.adm_match.proofs.Departure.{leave, held_wish}
 use Rattle.adm_match.proofs.Posed.{some_pair_not}
 use Rattle.adm_match.proofs.Turn.{came, turns_left_leave, last_listed}
 use Rattle.adm_rank.specs.declared.keys.RankKey.{RankKey}
-use Rattle.adm_match.proofs.Given.{find_is}
+use Rattle.adm_match.proofs.GivenByRows.{find_is}
 use Rattle.adm_match.proofs.Mirror.{entry_is, entry_none, guests_set, entry_behind, bag_of, bag_rest, bag_contains, last_from_heap}
 
 -- two seats at different indices have different codes

@@ -1,4 +1,4 @@
--- The problem in which a child lists others of its schools: it is one that can be allotted.
+-- What a child is told that lists others of its schools: the problem with that list can be allotted, and no gain comes of it.
 use Rattle.std.proofs.Common.{◌≡◌, ℕ, zero, suc, ◌+◌, ◌<◌, List, [], ◌∷◌, ◌++◌, length, get_or, take, map, Option, None, Some, Bool, true, false, cond, not, ◌||◌, inl, inr, refl, sym, ap, ◌∙◌, subst, add-one, append_assoc, append-nil, bytes_eq, ◌==◌}
 use Rattle.std.specs.Prelude.{find}
 use Rattle.std.specs.List.{slice_get, list_any, list_all, cons_option}
@@ -24,7 +24,7 @@ use Rattle.adm_match.proofs.Posed.{posed, rank_is, key_is}
 use Rattle.adm_match.proofs.Distinct.{distinct}
 use Rattle.adm_match.proofs.NoGain.{Part, part_distinct, part_seated}
 use Rattle.adm_match.proofs.Relisted.{differs_relisted, seated, no_gain_law}
-use Rattle.adm_match.proofs.Twice.{pair_pushed, pair_same}
+use Rattle.adm_match.proofs.RepeatedElements.{pair_pushed, pair_same}
 
 pub codes_same : (schools : List Code) → some_pair (λ a b. is_eq (slice_cmp nat_cmp a b)) schools ≡ some_pair bytes_eq schools
 codes_same schools = pair_same (λ a b. is_eq (slice_cmp nat_cmp a b)) bytes_eq schools (λ a b. is_eq-slice_cmp a b)

@@ -1,5 +1,5 @@
--- A problem of allocation: entrants with their lists, and the seats of the schools (Gale and Shapley 1962; tenants and
--- the tests of a problem are this profile's).
+-- A problem of allocation: entrants with their lists, the seats of the schools, and what is wrong with a problem.
+-- Gale and Shapley 1962; tenants and the tests of a problem are this profile's.
 use Rattle.std.specs.Prelude.{ℕ, ◌+◌, Bool, false, not, ◌||◌, ◌&&◌, ◌==◌, if◌then◌else◌, List, [], ◌∷◌, length, Option, None, Some, option_map, unwrap_or, bytes_eq}
 use Rattle.std.specs.List.{list_any, position_or_len, find}
 use Rattle.adm_rank.specs.declared.keys.RankKey.{RankKey}

@@ -1,6 +1,5 @@
--- Allocations of a problem: which are feasible, which pairs block, which are stable, and which is child-optimal (Gale and
--- Shapley 1962).
--- The cases of a free place, of a child without a place and of a tenant are this profile's.
+-- Allocations of a problem: which are feasible, which pairs block, which are stable, and which is child-optimal.
+-- Gale and Shapley 1962. The cases of a free place, of a child without a place and of a tenant are this profile's.
 use Rattle.std.specs.Prelude.{◌≡◌, ℕ, ◌+◌, ◌<◌, ◌≤◌, Bool, true, false, not, ◌||◌, ◌&&◌, ◌==◌, nat_lt, List, length, Option, None, Some, unwrap_or, option_map, IfSome, All, Any, count_by, sum_by, find}
 use Rattle.std.specs.List.{list_any}
 use Rattle.adm_match.specs.declared.problem.Wish.{Wish}

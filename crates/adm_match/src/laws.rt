@@ -1,4 +1,4 @@
-// The laws of stable allocations.
+// The laws of stable allocations: no gain, the same placed, one best.
 ghost use Rattle.adm_match.specs.Relisting.{NoGain, SamePlaced, OneBest};
 
 /// A child never gains by listing its wanted schools in another order, or by leaving some out.

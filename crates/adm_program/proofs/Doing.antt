@@ -1,4 +1,4 @@
--- What an action comes to, from the clauses of what it calls.
+-- What each action comes to, and the exit status of its line, from the clauses of what it calls.
 use Rattle.std.proofs.Common.{◌≡◌, ◌≢◌, ◌⊎◌, ℕ, Bool, true, false, if◌then◌else◌, nat_lt, refl, List, Option, None, Some, Result, Ok, Err, inl, inr, Bor, sym, subst}
 use Rattle.std.specs.Prelude.{IfOk, IsTrue}
 use Rattle.sqlite_disk.specs.declared.Disk as disk

@@ -1,4 +1,4 @@
--- What serving connections comes to, from the clauses of what it calls.
+-- What serving connections over a desk comes to, from the clauses of what it calls.
 use Rattle.std.proofs.Common.{◌≡◌, ℕ, Bool, true, false, if◌then◌else◌, refl, Err, subst}
 use Rattle.sqlite_disk.specs.declared.Disk as disk
 use Rattle.sqlite_store.specs.declared.store.FileStore.{FileStore}

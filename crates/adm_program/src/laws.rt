@@ -1,4 +1,4 @@
-// Two runs of the program, one after the other.
+// The law of two runs of the program, one after the other.
 ghost use Rattle.adm_program.specs.NextRun.{GoesOnAfterStop, GoesOnAfterClose};
 
 use adm_desk::Desk;

@@ -12,7 +12,7 @@ use Rattle.adm_types.specs.Limits.{is_listed}
 use Rattle.adm_rank.specs.Distance.{distance_of}
 
 -- whether a child meets a criterion of the school: a sibling there, a home at most so many metres away, a verified flag,
--- this present school
+-- or a feeder school that is the child's present school
 abbrev pub meets : School → Child → Criterion → Bool
 meets school child Sibling = is_listed child.siblings school.code
 meets school child (Within metres) = nat_le (distance_of school.at child.home) metres

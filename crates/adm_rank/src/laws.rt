@@ -1,4 +1,4 @@
-// The law of the order of keys.
+// The law of the order of keys: it is strict and total.
 ghost use Rattle.adm_rank.specs.Ranking.{IsStrictOrder};
 
 /// The order of keys is strict, and of two keys with different lots one ranks before the other.

@@ -1,4 +1,4 @@
--- Draws in their order.
+-- Draws in the order of their numbers: the next one, and those that a change puts after others.
 use Rattle.std.proofs.Common.{◌≡◌, ◌∙◌, ap, sym, refl, cond, true, false, ℕ, ◌+◌, ◌≤◌, ◌<◌, List, [], ◌∷◌, ◌++◌, Some, None, arith}
 use Rattle.std.specs.Prelude.{map, ◌&&◌, not, is_some, Option, All}
 use Rattle.std.specs.declared.cmp.Ordering.TheVariants.{Greater}

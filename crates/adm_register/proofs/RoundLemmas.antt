@@ -1,4 +1,4 @@
--- Codes that are listed stand in the list, and rows whose keys rise do.
+-- Codes that are listed stand in the list, and a list whose keys rise is one that rises.
 use Rattle.std.proofs.Common.{◌≡◌, inl, inr, ap, refl, Bool, true, false, ℕ, List, [], ◌∷◌, map}
 use Rattle.std.specs.Prelude.{◌&&◌, ◌||◌, nat_eq}
 use Rattle.std.specs.declared.cmp.Ordering.{Ordering}

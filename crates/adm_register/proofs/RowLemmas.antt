@@ -1,4 +1,4 @@
--- What is read off the rows of a table.
+-- What is read off the rows of a table: how many places a school has given.
 use Rattle.std.proofs.Common.{◌≡◌, ◌∙◌, ap, sym, List, ℕ}
 use Rattle.std.specs.Prelude.{count_by, nat_eq, Some}
 use Rattle.std.specs.Map.{keys_of, values_of}

@@ -1,4 +1,4 @@
--- Changes in the order of their keys.
+-- Changes whose rows are in the order of their keys: none, one, or a list that rises.
 use Rattle.std.proofs.Common.{refl, List, [], ◌∷◌, map}
 use Rattle.std.specs.declared.cmp.Ordering.{Ordering}
 use Rattle.std.specs.List.Sorted.{IsStrictlySortedBy}

@@ -1,4 +1,4 @@
--- Children with a plan.
+-- Children with a plan: which rows of places are of a plan.
 use Rattle.std.specs.Prelude.{ℕ, Bool, false, Option, Some, None}
 use Rattle.std.specs.Ordering.{nat_cmp}
 use Rattle.std.specs.FinMap.{FinMap, get}

@@ -1,5 +1,6 @@
--- Who waits at which school (School Admissions Code 2021, section 2: waiting lists; a child waits at each school that it wants more than
--- its place, from when it does, and which it left, are this profile's).
+-- Who waits at which school, and the waiting lists that this makes.
+-- School Admissions Code 2021, section 2: waiting lists; a child waits at each school that it wants more than its place, from when
+-- it does, and which it left, are this profile's.
 use Rattle.std.specs.Prelude.{ℕ, Bool, false, ◌&&◌, List, length, Option, Some, None, if◌then◌else◌}
 use Rattle.std.specs.List.{filter_map}
 use Rattle.std.specs.FinMap.{get, values}

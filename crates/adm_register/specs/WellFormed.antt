@@ -1,4 +1,4 @@
--- Which states are registers.
+-- Which states are registers: what each row must fit, table by table.
 use Rattle.std.specs.Prelude.{◌≡◌, ℕ, ◌+◌, ◌≤◌, Bool, true, false, not, is_some, nat_le, count_by, if◌then◌else◌, ◌&&◌, nat_eq, nat_lt, List, length, IsTrue, Option, Some, None}
 use Rattle.std.specs.List.{list_all}
 use Rattle.std.specs.Cmp.Lexicographic.{pointwise}

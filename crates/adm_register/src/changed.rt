@@ -1,4 +1,4 @@
-// The rows after a change.
+// The rows after a change, and what of a change differs from the rows before.
 ghost use Rattle.std.specs.Prelude.{◌≡◌, IfOk};
 ghost use Rattle.adm_register.specs.Change.{after};
 ghost use Rattle.adm_register.specs.Difference.{differing};

@@ -1,4 +1,4 @@
-// Whether rows are a register's.
+// Whether rows are a register's: the tests of schools, places and draws, and of all tables.
 ghost use Rattle.std.specs.Prelude.{◌≡◌, ◌≤◌, ◌↔◌, IsTrue, IfOk};
 ghost use Rattle.std.specs.List.{list_all};
 ghost use Rattle.std.specs.FinMap.{get, len};

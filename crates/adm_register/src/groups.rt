@@ -1,4 +1,5 @@
-// The tables of a register in two groups, so that no function makes all of them: one that makes many values, each of which may fail, lets go at each of those before it.
+// The tables of a register in two groups, so that no function makes all of them.
+// One that makes many values, each of which may fail, lets go at each of those before it.
 ghost use Rattle.std.specs.Prelude.{◌≡◌, [], IfOk};
 
 use adm_table::{Shared, Table};

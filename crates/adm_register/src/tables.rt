@@ -1,4 +1,4 @@
-// The rows of a register, of which nothing is asked.
+// The rows of a register as tables, of which nothing is asked, and what is read off them.
 ghost use Rattle.std.specs.Prelude.{◌≡◌, IfOk, Some, option_copied, count_by, nat_eq};
 ghost use Rattle.std.specs.FinMap as map;
 ghost use Rattle.std.specs.Map.{values_of};

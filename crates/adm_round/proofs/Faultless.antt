@@ -29,7 +29,7 @@ use Rattle.adm_round.specs.Ranks.{site_of, lot_at, wishes_for, candidate_of, sea
 use Rattle.adm_round.specs.declared.directory.Directory.{Directory}
 use Rattle.adm_round.specs.Lookups.{site_in, lot_in, IsDirectory}
 use Rattle.adm_round.proofs.Pairs.{pair_not, no_pair}
-use Rattle.adm_round.proofs.Lists.{code_swap, code_self, site_known, school_of_wish, schools_are, wish_is, no_repeat, none_any, no_unknown, own_last}
+use Rattle.adm_round.proofs.ListedSchools.{code_swap, code_self, site_known, school_of_wish, schools_are, wish_is, no_repeat, none_any, no_unknown, own_last}
 
 less_apart : (s t : Code) → slice_cmp nat_cmp s t ≡ Less → bytes_eq s t ≡ false
 less_apart s t h = sym (is_eq-slice_cmp s t) ∙ ap is_eq h

@@ -1,7 +1,7 @@
 pub mod Pairs
 pub mod Walks
 pub mod Wants
-pub mod Lists
+pub mod ListedSchools
 pub mod Faultless
-pub mod Given
+pub mod GivenToApplicants
 pub mod OneBest

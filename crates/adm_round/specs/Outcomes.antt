@@ -1,5 +1,5 @@
--- What a round comes to: for each applicant a school or none (School Admissions Code 2021, section 2: an offer for each
--- child; what is fresh is this profile's).
+-- What a round comes to: for each applicant a school or none.
+-- School Admissions Code 2021, section 2: an offer for each child; what is fresh is this profile's.
 use Rattle.std.specs.Prelude.{◌≡◌, ℕ, ◌≤◌, Bool, true, false, not, ◌&&◌, List, map, Option, None, Some, is_some, IfSome, All, count_by}
 use Rattle.std.specs.List.{list_any, AllZip}
 use Rattle.adm_types.specs.declared.draws.Lot.{Lot}

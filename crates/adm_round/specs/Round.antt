@@ -1,5 +1,5 @@
--- Who takes part in a round, which lots are drawn for it, and when all that fits together (School Admissions Code 2021,
--- section 1: a tie is broken by lot; rounds and tenants are this profile's).
+-- Who takes part in a round, which lots are drawn for it, and when all that fits together.
+-- School Admissions Code 2021, section 1: a tie is broken by lot; rounds and tenants are this profile's.
 use Rattle.std.specs.Prelude.{◌≡◌, ℕ, Bool, true, false, ◌==◌, ◌&&◌, List, ◌++◌, map, filter, IfSome, All, bytes_eq}
 use Rattle.std.specs.List.{flat_map, list_any, zip}
 use Rattle.std.specs.List.Sorted.{IsStrictlySortedBy}

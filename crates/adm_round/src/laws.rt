@@ -1,4 +1,4 @@
-// The laws of rounds.
+// The laws of rounds: no fault, one allotment, and it fits.
 ghost use Rattle.adm_round.specs.Outcomes.{AllotmentFits, OneAllotment, PosedWithoutFault};
 
 /// The problem that a round poses has no fault: no child and no school of a list comes twice, each

@@ -1,4 +1,4 @@
--- What a statement inside a transaction leaves.
+-- What a statement inside a transaction leaves of the tables.
 use Rattle.std.specs.Prelude.{◌≡◌, ◌≢◌, ◌⊎◌, ◌<◌, ℕ, ℤ, pos, List, ◌∷◌, [], ◌++◌, map, take, drop, filter, fold, Bool, true, not, ◌&&◌, IsTrue, IsPermutation}
 use Rattle.std.specs.List.{AllByRecursion}
 use Rattle.std.specs.Ordering.{is_eq}

@@ -1,4 +1,4 @@
--- The file of a new register.
+-- The file of a new register: it stands for the register that has its season alone.
 use Rattle.std.proofs.Common.{◌≡◌, ◌≤◌, true, inl, [], ◌∷◌, map, flat_map, refl, sym, ap, ◌∙◌, subst, arith, IsTrue}
 use Rattle.std.specs.List.Sorted.{IsPermutation}
 use Rattle.std.specs.declared.cmp.Ordering.{Ordering}

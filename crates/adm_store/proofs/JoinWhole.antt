@@ -1,4 +1,4 @@
--- What all rows together come to, once each child and each imported row has been given its own.
+-- What all joined rows together come to, once each child and each imported row has been given its own.
 use Rattle.std.proofs.Common.{◌≡◌, ◌∙◌, inl, inr, ap, sym, subst, refl, Bool, true, false, ℕ, ◌≤◌, length, take, drop, append-nil, List, [], ◌∷◌, ◌++◌, map, IsPermutation, arith}
 use Rattle.std.specs.List.{AllByRecursion, flat_map}
 use Rattle.std.proofs.lemmas.List.{nil_from_length, take-append-le, take_all}

@@ -1,4 +1,4 @@
--- Writes of statements, one after another.
+-- A list of writes, one statement after another: what it leaves of each table, and what one write more leaves.
 use Rattle.std.proofs.Common.{◌≡◌, ◌==◌, ◌⊎◌, ◌<◌, ◌+◌, ℕ, ℤ, zero, suc, inl, inr, Bool, true, false, not, List, [], ◌∷◌, ◌++◌, map, length, refl, sym, ap, ◌∙◌, subst, IsTrue, arith, append_assoc, append-nil, pos, take, get_or, ◌≤◌}
 use Rattle.std.specs.Prelude.{◌&&◌, is_some, fold, if◌then◌else◌}
 use Rattle.std.specs.List.{list_all}

@@ -1,4 +1,4 @@
--- Children and imported rows that are read without their present schools, and the table of these.
+-- Children and imported rows that are read bare, without their present schools, and the table of these.
 use Rattle.std.proofs.Common.{◌≡◌, ◌∙◌, inl, inr, Bool, true, false, List, [], ◌∷◌, map, ℕ, Some, None, Option, refl, sym, ap, subst, subst₂}
 use Rattle.std.specs.Prelude.{nat_eq}
 use Rattle.std.specs.Ordering.{nat_cmp}

@@ -1,4 +1,4 @@
-// Why a call of the store failed.
+// Why a register was not created or opened, or a commit failed.
 /// Why a register was not created.
 #[derive(Clone, Copy, Debug, PartialEq, Eq)]
 pub enum CreateFault {

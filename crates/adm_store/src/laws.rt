@@ -1,4 +1,4 @@
-// Laws of what a file stands for.
+// The law that a file stands for one register at most.
 ghost use Rattle.adm_store.specs.StandsFor.{OneRegister};
 
 /// A file stands for at most one register.

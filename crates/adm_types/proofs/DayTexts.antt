@@ -1,4 +1,4 @@
--- Texts of days.
+-- Texts of days: what each is read as, and that a day that was written is read back.
 use Rattle.std.proofs.Common.{◌≡◌, ◌∙◌, ap, sym, refl, arith, ℕ, ◌≤◌, ℤ, pos, negsuc, ◌≤ℤ◌, ◌<ℤ◌, Bool, true, false, true≢false, List, Some, None, Ok, Err}
 use Rattle.std.specs.Prelude.{Option, Result, IfSome, IsSome, ◌↔◌, ◌&&◌, int_le, unsigned_abs, if◌then◌else◌}
 use Rattle.std.specs.Str.{bytes_eq}

@@ -1,4 +1,4 @@
--- Flags as bits.
+-- Flags as bits of a number: one more, and all of a list.
 use Rattle.std.proofs.Common.{◌≡◌, ◌≢◌, ◌∙◌, ℕ, ◌+◌, ◌*◌, ◌%◌, ◌<◌, ◌≤◌, ◌^◌, Bool, true, false, true≢false, List, [], ◌∷◌, drop, length, get_or, refl, sym, ap, arith}
 use Rattle.std.specs.Prelude.{bit_or, ◌==◌, ◌||◌}
 use Rattle.std.specs.Int.{bit_at}

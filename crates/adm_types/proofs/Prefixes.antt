@@ -1,4 +1,4 @@
--- What follows a prefix of a text.
+-- What follows a prefix of a text, as a value.
 use Rattle.std.proofs.Common.{◌≡◌, ◌∙◌, ℕ, ap, sym, subst, refl, true, false, List, length, drop, Some, None}
 use Rattle.std.specs.Prelude.{nat_eq}
 use Rattle.std.specs.List.{starts_with}

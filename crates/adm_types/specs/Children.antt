@@ -1,4 +1,4 @@
--- Children and their present schools.
+-- Children and imported rows, with their present schools and bare.
 use Rattle.std.specs.Prelude.{ℕ, List, [], ◌∷◌, ◌++◌, Bool, true, false, Option, Some, None}
 use Rattle.std.specs.List.{flat_map}
 use Rattle.adm_types.specs.declared.rows.Child.{Child}

@@ -1,4 +1,4 @@
--- Ranges of numbers.
+-- Ranges of numbers: those of children, and of days.
 use Rattle.std.specs.Prelude.{ℕ, Bool, ◌&&◌, nat_le, Option, Some, None, if◌then◌else◌}
 
 -- the greatest number of a child

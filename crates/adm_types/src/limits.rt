@@ -1,4 +1,4 @@
-// The limits that the tests of commands name.
+// The limits that the tests of commands name: of names, points, schools, children and lists.
 ghost use Rattle.std.specs.Prelude.{◌≡◌};
 ghost use Rattle.std.specs.List.{list_any, list_all};
 ghost use Rattle.std.specs.Str.{chars};

@@ -1,5 +1,5 @@
--- The waiting list of a school, and who of it comes first by lot (School Admissions Code 2021, section 2; positions and lots
--- are this profile's).
+-- The waiting list of a school, and who of it comes first by lot.
+-- School Admissions Code 2021, section 2; positions and lots are this profile's.
 use Rattle.std.specs.Prelude.{◌≡◌, ℕ, ◌+◌, ◌<◌, ◌≤◌, Bool, true, false, ◌&&◌, ◌||◌, ◌==◌, nat_lt, nat_eq, if◌then◌else◌, List, [], ◌∷◌, map, length, find, count_by, Contains, Option, option_map, is_some}
 use Rattle.std.specs.List.{zip, list_all, list_any}
 use Rattle.adm_types.specs.declared.rows.School.{School}

@@ -1,4 +1,4 @@
-// The law of vacancies.
+// The law of vacancies: one of those that wait ranks first.
 ghost use Rattle.adm_waiting.specs.Waiting.{OneIsFirst};
 
 /// Where as many lots are drawn as children wait, and no two of them are equal, one ranks first.

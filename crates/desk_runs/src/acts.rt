@@ -1,4 +1,4 @@
-// What is done to a register, and how far it comes where a disk stops.
+// An act as work over a database, and how far it came where a disk stopped.
 ghost use Rattle.std.specs.Prelude.{◌≡◌, false};
 ghost use Rattle.sqlite.specs.Held.{state};
 ghost use Rattle.adm_store.specs.StandsFor.{IsStarted};

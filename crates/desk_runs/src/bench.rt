@@ -1,4 +1,4 @@
-// The disks and the input as the steps before left them, and what each step does.
+// Each step of the input as it is done, over the disks and the input as the steps before left them.
 use crate::acts::{Came, Doing};
 use crate::crashes::crash;
 use crate::desks::Ran;

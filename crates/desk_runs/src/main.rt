@@ -1,5 +1,7 @@
-//! Runs of a desk over disks in memory. Each line of the input is a step, a remark (`#`) or empty; it is
-//! printed as it stands, and below it, set in, what the step came to.
+//! Runs of a desk over disks in memory, step by step as the input says.
+//!
+//! Each line of the input is a step, a remark (`#`) or empty; it is printed as it stands, and below it, set in,
+//! what the step came to.
 #![tactic(auto)]
 
 mod acts;

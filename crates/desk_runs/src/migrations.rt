@@ -1,5 +1,5 @@
-// An open of a file of the first version, over disks that stop at each of their calls in turn. Opened again, also after a loss of power, they have
-// the same register, and their tables are those of one version, whole.
+// An open of a file of the first version, over disks that stop at each of their calls in turn.
+// Opened again, also after a loss of power, they have the same register, and their tables are those of one version, whole.
 use adm_register::Register;
 use adm_store::OpenFault;
 use run_disks::{Disks, Kept, Migration, NotFound};

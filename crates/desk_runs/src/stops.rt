@@ -1,5 +1,6 @@
-// An act over disks that stop at each of their calls in turn. Opened again, also after a loss of power,
-// they have the register before the act or the one after it, and the same act comes to what it comes to there.
+// An act over disks that stop at each of their calls in turn, and sent again after that.
+// Opened again, also after a loss of power, they have the register before the act or the one after it, and the same act
+// comes to what it comes to there.
 use crate::acts::{Came, Doing};
 use adm_store::{CreateFault, OpenFault};
 use run_disks::{Disks, Ends, Left};

@@ -1,5 +1,5 @@
-// The lines of an input over a reader or a writer that stops at each of its calls in turn. What is left is compared with a
-// run that nothing stops, and with runs of the first lines alone.
+// The lines of an input over a reader or a writer that stops at each of its calls in turn.
+// What is left is compared with a run that nothing stops, and with runs of the first lines alone.
 use crate::desks::Ran;
 use crate::lines::{Outcome, outcome_of};
 use adm_desk::RunFault;

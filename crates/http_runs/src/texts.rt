@@ -1,5 +1,5 @@
-// Bytes as the steps write them: `\r`, `\n` and `\xHH` are a byte each, `<N*TEXT>` is the text N times, and any
-// other character stands for itself.
+// Bytes as the steps write them, with escapes and repetitions.
+// `\r`, `\n` and `\xHH` are a byte each, `<N*TEXT>` is the text N times, and any other character stands for itself.
 use std::alloc::Global;
 use std::io::{self, ErrorKind};
 

@@ -1,5 +1,6 @@
-// Allots places. Without arguments it goes through every small problem, and then allots a market of 100 entrants. With a
-// size as its arguments (entrants, wishes, schools) it allots that market alone, and prints the microseconds that it took.
+// Allots places in all small problems and in one market, or in a market of a given size alone.
+// Without arguments it goes through every small problem, and then allots a market of 100 entrants. With a size as its arguments
+// (entrants, wishes, schools) it allots that market alone, and prints the microseconds that it took.
 #![tactic(auto)]
 
 mod cases;

@@ -1,5 +1,7 @@
-//! Two disks in memory, a database's and its log's: made of bytes, stopped after some calls, opened as a database and
-//! as a register, and compared with the registers before and after an act. No desk is needed for it.
+//! Two disks in memory, a database's and its log's, opened as a database and as a register.
+//!
+//! They are made of bytes, stopped after some calls, and compared with the registers before and after an act. No desk is
+//! needed for it.
 #![tactic(auto)]
 
 mod counts;

@@ -1,4 +1,4 @@
-// What is done to a register, and how it is written.
+// An act: what is done to a register, read from the words of a step.
 use adm_csv::read_rows;
 use adm_types::{Command, ImportRow, Phase, Season, Seq};
 use adm_wire::{Watched, read_command};

@@ -1,5 +1,6 @@
-//! What a run over disks in memory needs beside files and desks: its steps as they are written, readers
-//! and writers that stop, and registers compared and printed.
+//! What a run over disks in memory needs beside files and desks: its steps, its streams, and registers compared.
+//!
+//! The steps as they are written, readers and writers that stop, and registers compared and printed.
 #![tactic(auto)]
 
 mod act;

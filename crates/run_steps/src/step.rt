@@ -1,4 +1,4 @@
-// The steps of a run, as they are written.
+// The steps of a run, read from the lines in which they are written.
 use crate::act::{Act, act_of, creation, importing};
 use crate::streams::Limits;
 use crate::sweep::{Side, Sweep};

@@ -1,6 +1,6 @@
 -- What the rows give is the best allocation.
 use Rattle.adm_match.specs.Market.{market_of}
-use Rattle.adm_match.proofs.Given.{Settled, given_if, best_if, none_if, proposals_if}
+use Rattle.adm_match.proofs.GivenByRows.{Settled, given_if, best_if, none_if, proposals_if}
 use Rattle.adm_match.proofs.acceptance.allot.Goals as goal
 
 pub returns-clause-best : goal.returns-clause-best

@@ -4,7 +4,7 @@ use Rattle.std.proofs.lemmas.Option.{slice_get_within}
 use Rattle.adm_match.specs.Market.{market_of, is_tenant}
 use Rattle.adm_match.specs.Holding.{Holding}
 use Rattle.adm_match.specs.Queue.{Turned}
-use Rattle.adm_match.proofs.Side.{element_at}
+use Rattle.adm_match.proofs.SideBySide.{element_at}
 use Rattle.adm_match.proofs.Turning.{ahead_of, coming_of, considers_as, leaving, rejected_stands, row_listed, turn_holds, turn_rejects}
 use Rattle.adm_match.proofs.acceptance.propose.Goals as goal
 

@@ -1,5 +1,5 @@
 use Rattle.std.proofs.Common.{length}
-use Rattle.adm_match.proofs.Line.{line_more}
+use Rattle.adm_match.proofs.QueueLemmas.{line_more}
 use Rattle.adm_match.proofs.acceptance.queue_of.Goals as goal
 
 pub loop-index-preserved : goal.loop-index-preserved

@@ -5,7 +5,7 @@ use Rattle.adm_match.specs.declared.progress.Progress.{Progress}
 use Rattle.adm_match.specs.Market.{market_of}
 use Rattle.adm_match.specs.Turns.{IsFree}
 use Rattle.adm_match.specs.Queue.{Turned}
-use Rattle.adm_match.proofs.Line.{free_if, not_free_if, skipped, some_back, queued_within, empty_done, between_turns_first, between_turns_as, empty_if, written}
+use Rattle.adm_match.proofs.QueueLemmas.{free_if, not_free_if, skipped, some_back, queued_within, empty_done, between_turns_first, between_turns_as, empty_if, written}
 use Rattle.adm_match.proofs.acceptance.settle.Goals as goal
 
 pub loop-index-init : goal.loop-index-init

@@ -1,6 +1,6 @@
 use Rattle.std.proofs.Common.{◌∙◌}
 use Rattle.std.proofs.lemmas.Option.{slice_get_within}
-use Rattle.adm_match.proofs.Looking.{some_copied, school_found, school_stands}
+use Rattle.adm_match.proofs.DirectoryLemmas.{some_copied, school_found, school_stands}
 use Rattle.adm_match.proofs.directory.index_of_school.Goals as goal
 
 pub unwrap-requires : goal.unwrap-requires

@@ -1,5 +1,5 @@
 use Rattle.std.proofs.Common.{ap, arith}
-use Rattle.adm_match.proofs.Looking.{children_more, children_all}
+use Rattle.adm_match.proofs.DirectoryLemmas.{children_more, children_all}
 use Rattle.adm_match.proofs.directory.indices_of_children.Goals as goal
 
 pub loop-index-init : goal.loop-index-init

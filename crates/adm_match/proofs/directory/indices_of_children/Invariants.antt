@@ -1,4 +1,4 @@
-use Rattle.adm_match.proofs.Looking.{ChildrenBelow}
+use Rattle.adm_match.proofs.DirectoryLemmas.{ChildrenBelow}
 use Rattle.adm_match.proofs.directory.indices_of_children.Given as goal
 
 abbrev pub invariant-loop-index : goal.invariant-loop-index

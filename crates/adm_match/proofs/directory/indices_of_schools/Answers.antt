@@ -1,5 +1,5 @@
 use Rattle.std.proofs.Common.{arith}
-use Rattle.adm_match.proofs.Looking.{schools_more, schools_all}
+use Rattle.adm_match.proofs.DirectoryLemmas.{schools_more, schools_all}
 use Rattle.adm_match.proofs.directory.indices_of_schools.Goals as goal
 
 pub loop-index-init : goal.loop-index-init

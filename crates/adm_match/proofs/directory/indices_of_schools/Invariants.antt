@@ -1,4 +1,4 @@
-use Rattle.adm_match.proofs.Looking.{SchoolsBelow}
+use Rattle.adm_match.proofs.DirectoryLemmas.{SchoolsBelow}
 use Rattle.adm_match.proofs.directory.indices_of_schools.Given as goal
 
 abbrev pub invariant-loop-index : goal.invariant-loop-index

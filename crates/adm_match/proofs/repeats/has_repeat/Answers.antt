@@ -1,4 +1,4 @@
-use Rattle.adm_match.proofs.Twice.{seen_more, seen_twice}
+use Rattle.adm_match.proofs.RepeatedElements.{seen_more, seen_twice}
 use Rattle.adm_match.proofs.repeats.has_repeat.Goals as goal
 
 pub returns-then-not-added : goal.returns-then-not-added

@@ -1,4 +1,4 @@
-use Rattle.adm_match.proofs.Twice.{SeenAll}
+use Rattle.adm_match.proofs.RepeatedElements.{SeenAll}
 use Rattle.adm_match.proofs.repeats.has_repeat.Given as goal
 
 abbrev pub invariant-loop-index : goal.invariant-loop-index

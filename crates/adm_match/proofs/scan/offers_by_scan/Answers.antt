@@ -1,5 +1,5 @@
 -- What the rows give is the best allocation.
-use Rattle.adm_match.proofs.Given.{settled, given_if, best_if, none_if, proposals_if}
+use Rattle.adm_match.proofs.GivenByRows.{settled, given_if, best_if, none_if, proposals_if}
 use Rattle.adm_match.proofs.scan.offers_by_scan.Goals as goal
 
 pub returns-clause-best : goal.returns-clause-best

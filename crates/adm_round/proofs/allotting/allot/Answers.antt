@@ -2,7 +2,7 @@ use Rattle.std.proofs.Common.{subst}
 use Rattle.std.proofs.lemmas.Result.{MatchResult-weaker}
 use Rattle.adm_match.specs.Market.{Market}
 use Rattle.adm_match.specs.Stability.{IsBest, school_of}
-use Rattle.adm_round.proofs.Given.{are_best, are_listed, have_room, in_order}
+use Rattle.adm_round.proofs.GivenToApplicants.{are_best, are_listed, have_room, in_order}
 use Rattle.adm_round.proofs.allotting.allot.Goals as goal
 
 pub returns-clause-best : goal.returns-clause-best

@@ -1,4 +1,4 @@
-use Rattle.adm_round.proofs.Given.{allotment_fits_law}
+use Rattle.adm_round.proofs.GivenToApplicants.{allotment_fits_law}
 use Rattle.adm_round.proofs.laws.allotment_fits.Goals as goal
 
 pub returns : goal.returns

@@ -1,6 +1,6 @@
 use Rattle.std.proofs.Common.{◌≡◌, ◌∙◌, ap, length, bytes_eq, arith}
 use Rattle.std.specs.Prelude.{unwrap_or}
-use Rattle.adm_match.proofs.Words.{unwrap_or-position}
+use Rattle.adm_match.proofs.RanksAndBlocks.{unwrap_or-position}
 use Rattle.adm_match.specs.declared.problem.Wish.{Wish}
 use Rattle.adm_match.proofs.problem.Entrant.preference_rank.Goals as goal
 

@@ -1,4 +1,4 @@
--- What the directory finds.
+-- What the directory of children and schools finds.
 use Rattle.std.proofs.Common.{◌≡◌, ℕ, ◌+◌, ◌<◌, List, length, get_or, Option, None, Some, false, inl, inr, refl, sym, ap, ◌∙◌, subst, arith, rules, Bor, ◌==◌}
 use Rattle.std.specs.Prelude.{IsSome, bytes_eq}
 use Rattle.std.specs.List.{slice_get}

@@ -1,4 +1,4 @@
--- What the rows give each child.
+-- What the rows of the progress give each child at the end.
 use Rattle.std.proofs.Common.{◌≡◌, ℕ, zero, suc, ◌+◌, ◌<◌, ◌≤◌, List, [], ◌∷◌, length, Option, None, Some, Bool, true, false, cond, inl, inr, refl, sym, ap, ◌∙◌, subst, arith}
 use Rattle.std.specs.Prelude.{option_map, unwrap_or, ◌==◌, is_some, Result, Ok, Err, IfOk}
 use Rattle.std.specs.List.{slice_get, find, sum_by}
@@ -12,8 +12,8 @@ use Rattle.adm_match.specs.Market.{Candidate, Market, market_of, first_fault, pr
 use Rattle.adm_match.specs.Stability.{Allocation, Allotment, IsBest, school_of, gone_through, proposals_of, is_entrant}
 use Rattle.adm_match.specs.Distinct.{Distinct}
 use Rattle.adm_match.specs.Turns.{Shaped, Sound, AllDone, AllotsWhatIsHeld, IsHeldByNext, WellListed, reached, found_in}
-use Rattle.adm_match.proofs.Side.{element_at}
-use Rattle.adm_match.proofs.Words.{list_any_of}
+use Rattle.adm_match.proofs.SideBySide.{element_at}
+use Rattle.adm_match.proofs.RanksAndBlocks.{list_any_of}
 use Rattle.adm_match.proofs.Posed.{posed}
 use Rattle.adm_match.proofs.Distinct.{distinct}
 use Rattle.adm_match.proofs.Ending.{ends_best}

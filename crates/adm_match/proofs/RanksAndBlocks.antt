@@ -1,4 +1,4 @@
--- What the words of a problem say: `has`, `preference_rank`, `ranks_before`, `blocks`.
+-- What ranks and blocks say of a problem: `has`, `preference_rank`, `ranks_before`, `blocks`.
 use Rattle.std.proofs.Common.{◌≡◌, ◌≢◌, ◌⊎◌, ℕ, ◌<◌, List, [], ◌∷◌, length, Option, None, Some, Bool, true, false, not, Decides, inl, inr, sym, ap, ◌∙◌, subst, arith}
 use Rattle.std.specs.Prelude.{All, bytes_eq, unwrap_or}
 use Rattle.std.specs.List.{slice_get, list_any, position, position_or_len}

@@ -19,7 +19,7 @@ use Rattle.adm_round.specs.declared.applicants.Site.{Site}
 use Rattle.adm_round.specs.Round.{code_of, number_of, listed, IsListFit, IsPosed}
 use Rattle.adm_round.specs.Ranks.{site_of, lot_at, candidate_of, seats_of, market_of_round}
 use Rattle.adm_round.specs.Outcomes.{is_fresh, outcome_of, outcomes_of, AreBest, HasListedSchool, KeepsTenant, HasRoom, AllotmentFits, outcomes_at, has_fresh}
-use Rattle.adm_round.proofs.Lists.{school_of_wish, on_list, own_within, code_self}
+use Rattle.adm_round.proofs.ListedSchools.{school_of_wish, on_list, own_within, code_self}
 use Rattle.adm_round.proofs.Faultless.{its_schools, seats_once}
 
 children_are : (a : Allocation) (xs : List Applicant) → map (λ outcome. outcome.child) (outcomes_of a xs) ≡ map number_of xs

@@ -1,4 +1,4 @@
--- The queue from turn to turn.
+-- The queue of entrants without a school, from turn to turn.
 use Rattle.std.proofs.Common.{◌≡◌, ◌≢◌, ◌⊎◌, ℕ, zero, suc, ◌+◌, ◌<◌, List, [], ◌∷◌, ◌++◌, length, map, take, drop, append-nil, Option, None, Some, true, false, ◌&&◌, inl, inr, refl, sym, ap, ◌∙◌, subst, arith, ◌==◌}
 use Rattle.std.specs.Prelude.{All, is_none, nat_lt, option_map}
 use Rattle.std.specs.List.{slice_get, list_any, count_by}
@@ -13,7 +13,7 @@ use Rattle.adm_match.specs.Market.{Code, Candidate, Market}
 use Rattle.adm_match.specs.Turns.{held_at, IsFree, AllDone, Sound, start_of}
 use Rattle.adm_match.specs.Holding.{Holding, guests_of, nobody_held}
 use Rattle.adm_match.specs.Queue.{FindsMarket, IsMirror, Turned, Queued, BetweenTurns}
-use Rattle.adm_match.proofs.Words.{at_All, All_at}
+use Rattle.adm_match.proofs.RanksAndBlocks.{at_All, All_at}
 use Rattle.adm_match.proofs.Turn.{starts}
 
 -- all of the rest of a list
