@@ -10,7 +10,7 @@
 #   make audits   admissions-audit on the rounds of 200 random registers, on files that were changed by hand, and on all allocations of small ones
 #   make bench    what commands cost, beside a baseline in the same run
 #   make deploy-check  what is deployed (site, desk in its own network, page), on this machine alone; needs nginx, openssl, curl and chromium, no part of test
-#   make install  the program and the office's tools beside it (docs/OPERATIONS.md lists them); PREFIX=/usr/local by default
+#   make install  the program and the office's tools beside it (docs/OPERATIONS.md lists them), the manual page and what an office reads; PREFIX=/usr/local by default
 PREFIX ?= /usr/local
 EXAMPLES := first_path applications season
 
@@ -63,3 +63,6 @@ install: build
 	for tool in lots query letters audit; do install -D -m 755 tools/$$tool $(DESTDIR)$(PREFIX)/bin/admissions-$$tool || exit 1; done
 	install -d $(DESTDIR)$(PREFIX)/share/admissions/queries
 	install -m 644 queries/*.sql $(DESTDIR)$(PREFIX)/share/admissions/queries
+	install -D -m 644 docs/admissions.1 $(DESTDIR)$(PREFIX)/share/man/man1/admissions.1
+	install -d $(DESTDIR)$(PREFIX)/share/doc/admissions
+	install -m 644 docs/FORMATS.md docs/OPERATIONS.md docs/SERVING.md docs/serving.png $(DESTDIR)$(PREFIX)/share/doc/admissions

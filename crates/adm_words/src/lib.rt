@@ -5,10 +5,14 @@
 mod actions;
 mod command;
 mod faults;
+mod help;
+mod joining;
 mod lines;
 mod pairs;
 mod reading;
+mod rules;
 mod serving;
+mod subcommands;
 
 pub use actions::Action;
 pub use faults::{WordsFault, fault_text};

@@ -1,6 +1,6 @@
 use Rattle.clap.specs.Words.{new_app, with_rule}
 use Rattle.adm_words.specs.Program.{file_rule, required_rule}
-use Rattle.adm_words.proofs.command.pair_command.Goals as goal
+use Rattle.adm_words.proofs.subcommands.pair_command.Goals as goal
 
 pub returns : goal.returns
 returns c =

@@ -1,7 +1,7 @@
 use Rattle.std.proofs.Common.{codes}
 use Rattle.clap.specs.Words.{App, new_app, with_rule}
 use Rattle.adm_words.specs.Program.{file_rule, port_rule, count_rule}
-use Rattle.adm_words.proofs.command.serve_command.Goals as goal
+use Rattle.adm_words.proofs.subcommands.serve_command.Goals as goal
 
 pub returns : goal.returns
 returns c =

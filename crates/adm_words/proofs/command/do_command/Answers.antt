@@ -1,4 +1,0 @@
-use Rattle.adm_words.proofs.command.do_command.Goals as goal
-
-pub returns : goal.returns
-returns c = c.file_command.ensures

@@ -1,4 +1,0 @@
-use Rattle.adm_words.proofs.command.what_if_command.Goals as goal
-
-pub returns : goal.returns
-returns c = c.file_command.ensures

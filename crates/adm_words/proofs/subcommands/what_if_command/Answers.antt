@@ -1,0 +1,4 @@
+use Rattle.adm_words.proofs.subcommands.what_if_command.Goals as goal
+
+pub returns : goal.returns
+returns c = c.file_command.ensures
