@@ -10,7 +10,7 @@
 #   make audits   admissions-audit on the rounds of 200 random registers, on files that were changed by hand, and on all allocations of small ones
 #   make bench    what commands cost, beside a baseline in the same run
 #   make deploy-check  what is deployed (site, desk in its own network, page), on this machine alone; needs nginx, openssl, curl and chromium, no part of test
-#   make install  the program and the office's tools beside it (docs/OPERATIONS.md lists them), the manual page and what an office reads; PREFIX=/usr/local by default
+#   make install  the program, the office's tools, the manual page and three documents (docs/OPERATIONS.md); PREFIX=/usr/local by default
 PREFIX ?= /usr/local
 EXAMPLES := first_path applications season
 
