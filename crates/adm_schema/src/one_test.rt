@@ -1,5 +1,5 @@
 // Whether a table has the one test that it has one row: that its first column is 1.
-ghost use Rattle.std.specs.Prelude.{◌≡◌, ◌↔◌, suc, [], ◌∷◌, IsTrue, pos};
+ghost use Rattle.std.specs.Prelude.{◌≡◌, ◌↔◌, ℕ, suc, [], ◌∷◌, IsTrue, pos};
 ghost use Rattle.sqlite.specs.Term.{op2, col, lit};
 ghost use Rattle.sqlite.specs.declared.types.Value.TheVariants.{Int};
 ghost use Rattle.sqlite_schema.specs.Code.{term_to};

@@ -1,5 +1,5 @@
 // The rows by which a new register differs from the one before, as they are written.
-ghost use Rattle.std.specs.Prelude.{◌≡◌, ◌++◌, [], ◌∷◌, IfOk, OnOk};
+ghost use Rattle.std.specs.Prelude.{◌≡◌, ◌++◌, [], ◌∷◌, if◌then◌else◌, IfOk, OnOk};
 ghost use Rattle.std.specs.FinMap.{contains_key};
 ghost use Rattle.std.specs.List.{flat_map};
 ghost use Rattle.adm_types.specs.Children.{present_row, present_of_import};
