@@ -62,8 +62,8 @@ module _ (old : State) (well : WellFormed old) where
       }
 
   -- each application of an entrant is that of an applicant
-  pub takes_part : (number : ℕ) (application : Application) → get old.applications number ≡ Some application → takes_part old application ≡ true → (applicant : Applicant) × In applicant (entrants old) × (number_of applicant ≡ number)
-  takes_part number application there part =
+  pub applicant_there : (number : ℕ) (application : Application) → get old.applications number ≡ Some application → takes_part old application ≡ true → (applicant : Applicant) × In applicant (entrants old) × (number_of applicant ≡ number)
+  applicant_there number application there part =
       let fits = well.base.applications_fit number application there in
       elim (get old.children application.child) as (λ o. get old.children application.child ≡ o → (applicant : Applicant) × In applicant (entrants old) × (number_of applicant ≡ number)) [
         | None ↦ λ e. absurd (false≢true (sym (ap is_some e) ∙ fits.child))

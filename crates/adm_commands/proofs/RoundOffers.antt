@@ -26,7 +26,7 @@ use Rattle.adm_commands.specs.Round.{entrants, sites, round_lots, AreOutcomes, o
 use Rattle.adm_register.specs.Wanted.{has_left, own_school}
 use Rattle.adm_register.specs.WellFormed.{WellFormed, PlaceFits, has_first_round, has_days_in_order, lists_school}
 use Rattle.adm_register.proofs.RoundLemmas.{listed_in, in_listed}
-use Rattle.adm_commands.proofs.RoundEntrants.{entrant_is, takes_part, school_there}
+use Rattle.adm_commands.proofs.RoundEntrants.{entrant_is, applicant_there, school_there}
 use Rattle.adm_register.proofs.WaitLemmas.{wants_is}
 
 -- what is offered is the school of a fresh outcome
@@ -168,7 +168,7 @@ module _ {old : State} {numbers : List ℕ} {outcomes : List Outcome} (facts : I
       elim (get old.applications row.child) as (λ o. get old.applications row.child ≡ o → lists_school o row.place.school ≡ true → (applicant : Applicant) × In applicant (entrants old) × (number_of applicant ≡ number) × (applicant.own ≡ Some row.place.school)) [
         | None ↦ λ is lists. absurd (false≢true lists)
         | Some application ↦ λ is lists.
-            let found = takes_part old facts.well number application (ap (get old.applications) (sym fits.own_number) ∙ is) (ap (λ b. b || nat_le application.day (closing old.season)) entitled.0) in
+            let found = applicant_there old facts.well number application (ap (get old.applications) (sym fits.own_number) ∙ is) (ap (λ b. b || nat_le application.day (closing old.season)) entitled.0) in
             let entrant = entrant_is old facts.well found.0 found.1 in
             (found.0, found.1, found.2, entrant.own ∙ ap (λ n. own_school (get old.places n)) found.2 ∙ ap own_school there ∙ ap (λ b. cond b None (Some row.place.school)) other)
       ] refl entitled.1
