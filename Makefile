@@ -50,6 +50,7 @@ bench: build
 	bench/imports/run bin/admissions
 	bench/versions/run bin/admissions
 	bench/http/run bin/admissions
+	bench/season/run bin/admissions
 	bench/match/run.sh
 
 # With bin/admissions as it is there, or another: make deploy-check PROGRAM=..
