@@ -50,6 +50,7 @@ bench: build
 	bench/imports/run bin/admissions
 	bench/versions/run bin/admissions
 	bench/http/run bin/admissions
+	bench/season/run bin/admissions
 	bench/match/run.sh
 
 # With bin/admissions as it is there, or another: make deploy-check PROGRAM=..
@@ -65,4 +66,5 @@ install: build
 	install -m 644 queries/*.sql $(DESTDIR)$(PREFIX)/share/admissions/queries
 	install -D -m 644 docs/admissions.1 $(DESTDIR)$(PREFIX)/share/man/man1/admissions.1
 	install -d $(DESTDIR)$(PREFIX)/share/doc/admissions
-	install -m 644 docs/FORMATS.md docs/OPERATIONS.md docs/SERVING.md docs/serving.png $(DESTDIR)$(PREFIX)/share/doc/admissions
+	for page in OPERATIONS ANSWERS KEEPING LOTS REPORTS SERVING FORMATS; do install -m 644 docs/$$page.md $(DESTDIR)$(PREFIX)/share/doc/admissions || exit 1; done
+	install -m 644 docs/serving.png $(DESTDIR)$(PREFIX)/share/doc/admissions

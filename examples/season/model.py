@@ -42,6 +42,8 @@ def meets(school, child, criterion):
     if criterion == "sibling":
         return school["school"] in child["siblings"]
     kind, value = criterion.split(":")
+    if kind == "feeder":
+        return child.get("present") == value
     if kind == "within":
         return metres(school, child) <= int(value)
     return int(value) in child["flags"]
@@ -214,7 +216,7 @@ class Season:
         rows = []
         for at, (draw, day, outcomes, _) in enumerate(self.rounds, 1):
             places = [str(1 + self.children[child]["preferences"].index(school)) if school else "none" for child, school in outcomes.items()]
-            for place in sorted(set(places)):
+            for place in sorted(set(places), key=lambda it: (len(it), it)):
                 tenths = (2000 * places.count(place) + len(places)) // (2 * len(places))
                 rows.append((at, day, place, places.count(place), f"{tenths // 10}.{tenths % 10}"))
         return csv_lines(("round", "day", "preference", "children", "percent"), *rows)
@@ -446,4 +448,5 @@ def main():
     write("expected", [*shown, "files: before-1.db before-2.db reg.db reg.db-wal"])
 
 
-main()
+if __name__ == "__main__":
+    main()

@@ -25,7 +25,7 @@ macro_rules! with_store {
         with_statuses!(
             $text
             $(, $further)*,
-            "\n  4  the register's file failed, as on a full disk (see OPERATIONS.md)"
+            "\n  4  the register's file failed, as on a full disk (see ANSWERS.md)"
         )
     };
 }
