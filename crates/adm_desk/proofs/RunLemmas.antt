@@ -123,5 +123,5 @@ pub ends_from : {D : Type 0} (runs : D → List ℕ → LineAnswer → D → Typ
     → IfErr r OfWriter → WriterFailsBy r had_failed output.has_failed → EndsAs runs old new input output r
 ends_from runs old new input output had_failed (Ok run) ok stopped fault left = ok
 ends_from runs old new input output had_failed (Err Read) ok stopped fault left = absurd fault
-ends_from runs old new input output had_failed (Err Write) ok stopped fault left = (left, stopped)
+ends_from runs old new input output had_failed (Err Write) ok stopped fault left = (left, stopped.0, stopped.1, stopped.2)
 ends_from runs old new input output had_failed (Err Memory) ok stopped fault left = stopped
