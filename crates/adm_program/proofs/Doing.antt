@@ -124,6 +124,11 @@ refused words.BadDate = refl
 refused words.BadWord = refl
 refused words.Memory = refl
 
+-- a run over lines never ends with 2
+ran : (run : Result Run RunFault) (e : Result Exit Fault) (closed : Option Error) → e ≡ of_lines run → status e closed ≢ 2
+ran (Err f) e closed told = subst (λ (y : Result Exit Fault). status y closed ≢ 2) (sym told) (λ e. cc)
+ran (Ok run) e closed told = subst (λ (y : Result Exit Fault). status y closed ≢ 2) (sym told) (run_exit run.failed (nat_lt 0 run.refused) closed)
+
 module _ {D : Type 0} {g : disk.Ghosts D} where
   pub season_made : (image : Image) (a : Action) (file : Bor (List ℕ)) (phase : Phase) (year : ℕ) (days given : List ℕ) (rows : List ℕ → Stream) (input output : Stream)
       (e : Result Exit Fault) (closed : Result (Files D) (Error × FileStore D g)) (s : SeasonFacts) → a ≡ action.Init file phase year days → given ≡ days
@@ -137,10 +142,6 @@ module _ {D : Type 0} {g : disk.Ghosts D} where
       → (status e closed ≡ 0) ⊎ (status e closed ≡ 1)
   created season found left (Err f) closed made = inr refl
   created season found left (Ok x) closed made = done_exit x closed made.0
-
-  ran : (run : Result Run RunFault) (e : Result Exit Fault) (closed : Option Error) → e ≡ of_lines run → status e closed ≢ 2
-  ran (Err f) e closed told = subst (λ (y : Result Exit Fault). status y closed ≢ 2) (sym told) (λ e. cc)
-  ran (Ok run) e closed told = subst (λ (y : Result Exit Fault). status y closed ≢ 2) (sym told) (run_exit run.failed (nat_lt 0 run.refused) closed)
 
   imported : (old new : DeskState (Held (FileStore D g))) (file output : Stream) (e : Result Exit Fault) (closed : Option Error) → ImportsAs old new file output e
       → status e closed ≢ 2
