@@ -22,11 +22,11 @@ use Rattle.adm_types.specs.declared.draws.Draw.{Draw}
 use Rattle.adm_types.specs.declared.rows.PlaceState.TheVariants.{Plan}
 use Rattle.adm_register.specs.State.{State, is_plan}
 use Rattle.adm_register.specs.declared.difference.Difference.{Difference}
-use Rattle.adm_register.specs.Change.{no_change, put_child, after}
+use Rattle.adm_register.specs.Change.{no_change, change_of_child, after}
 use Rattle.adm_register.specs.Plans.{has_plan, is_plan_row}
 use Rattle.adm_commands.specs.KeptByTypes.{KeptBySchool, KeptByChild}
-use Rattle.adm_register.specs.WellFormed.{AllRows, WellFormed, ChildFits, has_first_round, places_outside_plans, is_outside_plan, lists_school}
-use Rattle.adm_register.specs.Draws.{DrawFits, are_in_order, no_draws, with_draws}
+use Rattle.adm_register.specs.WellFormed.{AllRows, WellFormed, ChildFits, has_first_round, places_outside_plans, is_unplanned_at, lists_school}
+use Rattle.adm_register.specs.Draws.{DrawFits, are_in_order, no_draws, count_draws}
 use Rattle.adm_commands.specs.Tests.{first_failing}
 use Rattle.adm_commands.specs.AddSchool as add_school
 use Rattle.adm_commands.specs.AddChild as add_child
@@ -52,11 +52,11 @@ places_stay old children well = record { places = tt; kept = λ number row there
 abbrev pub draws_stay : (old : State) (change : Difference) → change.draws ≡ [] → DrawsPut old change
 draws_stay old change none = record {
   each = subst (AllByRecursion (λ (d : Draw). DrawFits (after old change).schools (after old change).children d.number d)) (sym none) tt;
-  in_order = ap (are_in_order old.season (with_draws no_draws (values old.draws))) none;
+  in_order = ap (are_in_order old.season (count_draws no_draws (values old.draws))) none;
 }
 
 -- no place is held at a school that is not there
-pub none_there : (old : State) (code : List ℕ) → WellFormed old → not (contains_key old.schools code) ≡ true → AllRows (λ number row. is_outside_plan (Some row) code ≡ false) old.places
+pub none_there : (old : State) (code : List ℕ) → WellFormed old → not (contains_key old.schools code) ≡ true → AllRows (λ number row. is_unplanned_at (Some row) code ≡ false) old.places
 none_there old code well gone number row there =
     elim (pointwise nat_eq row.place.school code) as (λ b. pointwise nat_eq row.place.school code ≡ b → (b && not (is_plan row.place.state)) ≡ false) [
       | true ↦ λ is. let here = subst (λ c. contains_key old.schools c ≡ true) ((bytes_decides row.place.school code).0 is) (well.places.each number row there).school in let none = not-true _ gone in cc (here, none)
@@ -91,24 +91,24 @@ add_school-fit old school kept well passes =
     }
 
 -- a child that fits is put
-pub put_child-fit : (old : State) (child : Child) → WellFormed old → ChildFits old.schools child.no child → len (insert old.children child.no child) ≤ most_children → Fit old (put_child child)
+pub put_child-fit : (old : State) (child : Child) → WellFormed old → ChildFits old.schools child.no child → len (insert old.children child.no child) ≤ most_children → Fit old (change_of_child child)
 put_child-fit old child well fits few = record {
   base = record { schools = tt; kept_schools = tt; few_schools = tt; children = (fits, tt); few_children = few; applications = tt };
   places = places_stay old (child ∷ []) well;
   left = record { left = tt; places = tt };
-  draws = draws_stay old (put_child child) refl;
+  draws = draws_stay old (change_of_child child) refl;
   imported = record { each = tt; new_rows = tt };
   tidy = record { schools = tidy_none _ _; children = tidy_put _ _ child; applications = tidy_none _ _; places = tidy_none _ _; left = tidy_none _ _; draws = tidy_none _ _; imported = tidy_none _ _ };
 }
 
-pub add_child-fit : (old : State) (child : Child) → KeptByChild child → WellFormed old → first_failing (add_child.tests old child) ≡ None → Fit old (put_child child)
+pub add_child-fit : (old : State) (child : Child) → KeptByChild child → WellFormed old → first_failing (add_child.tests old child) ≡ None → Fit old (change_of_child child)
 unfolding add_child.tests
 add_child-fit old child kept well passes =
     let pass = all_pass (add_child.tests old child) passes in
     put_child-fit old child well (record { own_number = refl; number_form = kept.number_form; text = kept.text; name = pass.1.0; in_range = pass.1.1.0; flags = kept.flags; siblings = pass.1.1.1.0 })
     (len-insert_room nat_cmp_total old.children child.no child most_children (ltb-true _ _ pass.1.1.1.1.0))
 
-pub amend-fit : (old : State) (child : Child) → KeptByChild child → WellFormed old → first_failing (amend.tests old child) ≡ None → Fit old (put_child child)
+pub amend-fit : (old : State) (child : Child) → KeptByChild child → WellFormed old → first_failing (amend.tests old child) ≡ None → Fit old (change_of_child child)
 unfolding amend.tests
 amend-fit old child kept well passes =
     let pass = all_pass (amend.tests old child) passes in
@@ -134,14 +134,14 @@ name_plan-fit old child school well passes =
             ] refl;
         room = λ code s there.
             let less = held_le code old.places (insert old.places child row) (λ number other now held.
-            elim (eq_by_cmp nat_cmp number child) as (λ b. eq_by_cmp nat_cmp number child ≡ b → is_outside_plan (get old.places number) code ≡ true) [
+            elim (eq_by_cmp nat_cmp number child) as (λ b. eq_by_cmp nat_cmp number child ≡ b → is_unplanned_at (get old.places number) code ≡ true) [
               | true ↦ λ tie.
                   let it : Some row ≡ Some other = sym (get-insert nat_cmp_total old.places child row number ∙ ap (λ b. cond b (Some row) (get old.places number)) tie) ∙ now in
-                  let free : is_outside_plan (Some other) code ≡ false = ap (λ o. is_outside_plan o code) (sym it) ∙ and-false (pointwise nat_eq school code) in
+                  let free : is_unplanned_at (Some other) code ≡ false = ap (λ o. is_unplanned_at o code) (sym it) ∙ and-false (pointwise nat_eq school code) in
                   cc (held, free)
               | false ↦ λ tie.
                   let it : get old.places number ≡ Some other = sym (get-insert nat_cmp_total old.places child row number ∙ ap (λ b. cond b (Some row) (get old.places number)) tie) ∙ now in
-                  ap (λ o. is_outside_plan o code) it ∙ held
+                  ap (λ o. is_unplanned_at o code) it ∙ held
             ] refl) in
             let room = well.places.room code s there in
             omega (arith, less, room);

@@ -6,7 +6,7 @@ use Rattle.adm_types.specs.declared.draws.Draw.{Draw}
 use Rattle.adm_register.specs.declared.difference.Difference.{Difference}
 use Rattle.adm_register.specs.State.{State}
 use Rattle.adm_register.specs.Change.{after, put_all}
-use Rattle.adm_register.specs.Draws.{no_draws, with_draws, are_in_order}
+use Rattle.adm_register.specs.Draws.{no_draws, count_draws, are_in_order}
 use Rattle.adm_commands.specs.History.{DrawsInOrder, DrawsStay}
 use Rattle.adm_register.proofs.DrawLemmas.{own-put, values_put, new_draws, are_in_order-append}
 use Rattle.adm_register.proofs.Puts.{all_stay}
@@ -25,7 +25,7 @@ unchanged old new change none is ordered =
 
 -- where the next is put
 pub one_more : (old new : State) (change : Difference) (draw : Draw) → change.draws ≡ draw ∷ [] → new ≡ after old change → DrawsInOrder old
-    → are_in_order old.season (with_draws no_draws (values old.draws)) (draw ∷ []) ≡ true → DrawsInOrder new × DrawsStay old new
+    → are_in_order old.season (count_draws no_draws (values old.draws)) (draw ∷ []) ≡ true → DrawsInOrder new × DrawsStay old new
 one_more old new change draw one is ordered next =
     let draws : new.draws ≡ insert old.draws draw.number draw = ap (λ s. s.draws) is ∙ ap (put_all (λ (d : Draw). d.number) old.draws) one in
     let season : new.season ≡ old.season = ap (λ s. s.season) is in

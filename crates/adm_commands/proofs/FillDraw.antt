@@ -24,7 +24,7 @@ use Rattle.adm_round.specs.Round.{pair_of, lot_of_draw}
 use Rattle.adm_round.specs.Lookups.{pair_cmp}
 use Rattle.adm_register.specs.declared.draws_so_far.DrawsSoFar.{DrawsSoFar}
 use Rattle.adm_register.specs.State.{State}
-use Rattle.adm_register.specs.Draws.{DrawFits, no_draws, with_draw, with_draws, is_round, is_next, are_in_order, is_known_lot, draws_so_far}
+use Rattle.adm_register.specs.Draws.{DrawFits, no_draws, count_draw, count_draws, is_round, is_next, are_in_order, is_known_lot, draws_so_far}
 use Rattle.adm_commands.specs.KeptByTypes.{KeptByRound}
 use Rattle.adm_commands.specs.Tests.{first_failing}
 use Rattle.adm_register.specs.WellFormed.{WellFormed, has_first_round}
@@ -39,10 +39,10 @@ use Rattle.adm_register.proofs.WaitLemmas.{chosen, waiter_is, waiters_rise}
 
 -- ---- there was a round
 
-more_rounds : (before : DrawsSoFar) (draws : List Draw) → before.rounds ≤ (with_draws before draws).rounds
+more_rounds : (before : DrawsSoFar) (draws : List Draw) → before.rounds ≤ (count_draws before draws).rounds
 more_rounds before [] = omega arith
 more_rounds before (draw ∷ draws) =
-    let rest = more_rounds (with_draw before draw) draws in
+    let rest = more_rounds (count_draw before draw) draws in
     let one = one_more (is_round draw) before.rounds in
     omega (arith, rest, one)
   where
@@ -51,7 +51,7 @@ more_rounds before (draw ∷ draws) =
     one_more false rounds = omega arith
 
 -- the first draw is a round's
-first_round : (season : SeasonFacts) (draw : Draw) → is_next season no_draws draw ≡ true → (with_draw no_draws draw).rounds ≡ 1
+first_round : (season : SeasonFacts) (draw : Draw) → is_next season no_draws draw ≡ true → (count_draw no_draws draw).rounds ≡ 1
 first_round season draw next =
     let a = and_parts _ _ next in
     let b = and_parts _ _ a.0 in
@@ -71,11 +71,11 @@ some_round s ordered held =
       | Some draw ↦ λ there some. by draw (values s.draws) (in_values nat_cmp_total nat_cmp-IsAntisymmetric s.draws 1 draw there) ordered
     ] refl held
   where
-    by : (draw : Draw) (draws : List Draw) → In draw draws → are_in_order s.season no_draws draws ≡ true → 0 < (with_draws no_draws draws).rounds
+    by : (draw : Draw) (draws : List Draw) → In draw draws → are_in_order s.season no_draws draws ≡ true → 0 < (count_draws no_draws draws).rounds
     by draw [] at ordered = absurd at
     by draw (first ∷ draws) at ordered =
         let one = first_round s.season first (and_parts (is_next s.season no_draws first) _ ordered).0 in
-        let more = more_rounds (with_draw no_draws first) draws in
+        let more = more_rounds (count_draw no_draws first) draws in
         omega (arith, one, more)
 
 -- ---- the lots of a fill rise

@@ -9,19 +9,19 @@ use Rattle.std.proofs.lemmas.Bool.{ltb-true, not-true}
 use Rattle.std.proofs.lemmas.Option.{same_Some, none-some}
 use Rattle.adm_lists.proofs.Members.{In, from_zip}
 use Rattle.adm_lists.proofs.Maps.{contains_key-insert}
+use Rattle.adm_types.specs.Lots.{repeats_lot, is_same_lot}
 use Rattle.adm_types.specs.declared.rows.School.{School}
 use Rattle.adm_types.specs.declared.rows.Child.{Child}
 use Rattle.adm_types.specs.declared.rows.PlaceRow.{PlaceRow}
 use Rattle.adm_types.specs.declared.rows.PlaceState.TheVariants.{Offered}
 use Rattle.adm_types.specs.declared.draws.Draw.{Draw}
-use Rattle.adm_draws.specs.Draws.{is_same_lot, repeats_lot}
 use Rattle.adm_round.specs.Round.{lots_of}
 use Rattle.adm_waiting.specs.Waiting.{first_by_lot, is_first, repeats}
 use Rattle.adm_register.specs.declared.draws_so_far.DrawsSoFar.{DrawsSoFar}
 use Rattle.adm_register.specs.State.{State}
 use Rattle.adm_register.specs.Change.{after}
 use Rattle.adm_commands.specs.KeptByTypes.{KeptByRound}
-use Rattle.adm_register.specs.Draws.{no_draws, with_draws}
+use Rattle.adm_register.specs.Draws.{no_draws, count_draws}
 use Rattle.adm_commands.specs.Tests.{first_failing}
 use Rattle.adm_register.specs.WellFormed.{WellFormed, has_first_round, lists_school}
 use Rattle.adm_register.specs.Wanted.{has_left}
@@ -128,13 +128,13 @@ fill_again old new draw school day numbers child well first is passes =
     let tests = subst (λ s. first_failing (fill.tests s draw school day numbers) ≡ None) is passes in
     let next = all_pass (fill.tests (after old (fill.change_of old draw school day numbers child)) draw school day numbers) tests in
     let one = (unsigned_Decides draw (so_far.draws + 1)).0 made.1.0 in
-    let two = (unsigned_Decides draw ((with_draws no_draws (values (after old (fill.change_of old draw school day numbers child)).draws)).draws + 1)).0 next.1.0 in
-    let here = ap (λ ds. (with_draws no_draws ds).draws) (values_put old.draws old.season (row ∷ []) (λ number d there. (well.draws.each number d there).own_number) well.draws.in_order (fill-next old draw school day numbers first child well.draws.in_order)) in
+    let two = (unsigned_Decides draw ((count_draws no_draws (values (after old (fill.change_of old draw school day numbers child)).draws)).draws + 1)).0 next.1.0 in
+    let here = ap (λ ds. (count_draws no_draws ds).draws) (values_put old.draws old.season (row ∷ []) (λ number d there. (well.draws.each number d there).own_number) well.draws.in_order (fill-next old draw school day numbers first child well.draws.in_order)) in
     let count = ap (λ (b : DrawsSoFar). b.draws) (with_draws-append no_draws (values old.draws) (row ∷ [])) in
     omega (arith, one, two, here, count)
   where
     so_far : DrawsSoFar
-    so_far = with_draws no_draws (values old.draws)
+    so_far = count_draws no_draws (values old.draws)
 
     row : Draw
     row = filled_draw old draw school day numbers child

@@ -15,7 +15,7 @@ use Rattle.adm_types.specs.declared.rows.School.{School}
 use Rattle.adm_types.specs.declared.rows.PlaceRow.{PlaceRow}
 use Rattle.adm_register.specs.State.{State, is_plan}
 use Rattle.adm_register.specs.Rows.{places_at, vacancies}
-use Rattle.adm_register.specs.WellFormed.{WellFormed, AllRows, is_outside_plan, places_outside_plans}
+use Rattle.adm_register.specs.WellFormed.{WellFormed, AllRows, is_unplanned_at, places_outside_plans}
 use Rattle.adm_commands.specs.Fill.{is_vacant}
 use Rattle.adm_commands.proofs.HeldLemmas.{held_le}
 
@@ -57,7 +57,7 @@ module _ (p : PlaceRow → Bool) (key : ℕ) (row : PlaceRow) where
 
 held_more : (places : FinMap nat_cmp PlaceRow) (key : ℕ) (row : PlaceRow) (code : List ℕ) → places_outside_plans (insert places key row) code ≤ places_outside_plans places code + 1
 held_more places key row code =
-    let test : PlaceRow → Bool = λ it. is_outside_plan (Some it) code in
+    let test : PlaceRow → Bool = λ it. is_unplanned_at (Some it) code in
     subst (λ es. count_by test (values_of es) ≤ places_outside_plans places code + 1) (sym (entries-insert nat_cmp_total places key row)) (count-put test key row (entries places))
 
 -- where there is a vacancy fewer places are held than the admission number
@@ -65,7 +65,7 @@ held_fewer : (s : State) (code : List ℕ) (school : School) → get s.schools c
 held_fewer s code school there vacant =
     let free : nat_lt 0 (school.pan - places_at s code) ≡ true = ap (λ o. is_vacant (option_map (λ (it : School). it.pan - places_at s code) o)) (sym there) ∙ vacant in
     let more = ltb-true 0 (school.pan - places_at s code) free in
-    let fewer = count-weaker (λ row. is_outside_plan (Some row) code) (λ row. pointwise nat_eq row.place.school code) (λ row held. (and_parts (pointwise nat_eq row.place.school code) (not (is_plan row.place.state)) held).0) (values_of (entries s.places)) in
+    let fewer = count-weaker (λ row. is_unplanned_at (Some row) code) (λ row. pointwise nat_eq row.place.school code) (λ row held. (and_parts (pointwise nat_eq row.place.school code) (not (is_plan row.place.state)) held).0) (values_of (entries s.places)) in
     omega (arith, more, fewer)
 
 -- so one more is held at the school, and no more than before elsewhere
@@ -78,14 +78,14 @@ room_filled s well child row vacant code school there = elim (cases_Bool (pointw
       omega (arith, fewer, more)
   | inr apart ↦
       let less = held_le code s.places (insert s.places child row) (λ number it now is.
-      elim (eq_by_cmp nat_cmp number child) as (λ b. eq_by_cmp nat_cmp number child ≡ b → is_outside_plan (get s.places number) code ≡ true) [
+      elim (eq_by_cmp nat_cmp number child) as (λ b. eq_by_cmp nat_cmp number child ≡ b → is_unplanned_at (get s.places number) code ≡ true) [
         | true ↦ λ tie.
             let same : Some row ≡ Some it = sym (get-insert nat_cmp_total s.places child row number ∙ ap (λ b. cond b (Some row) (get s.places number)) tie) ∙ now in
-            let at : is_outside_plan (Some row) code ≡ true = ap (λ o. is_outside_plan o code) same ∙ is in
+            let at : is_unplanned_at (Some row) code ≡ true = ap (λ o. is_unplanned_at o code) same ∙ is in
             absurd (false≢true (sym apart ∙ (and_parts (pointwise nat_eq row.place.school code) _ at).0))
         | false ↦ λ tie.
             let same : get s.places number ≡ Some it = sym (get-insert nat_cmp_total s.places child row number ∙ ap (λ b. cond b (Some row) (get s.places number)) tie) ∙ now in
-            ap (λ o. is_outside_plan o code) same ∙ is
+            ap (λ o. is_unplanned_at o code) same ∙ is
       ] refl) in
       let room = well.places.room code school there in
       omega (arith, less, room)

@@ -12,13 +12,13 @@ use Rattle.std.proofs.lemmas.Map.Entries.{sum_by-remove_entry}
 use Rattle.adm_lists.proofs.Orders.{tied, same_key}
 use Rattle.adm_lists.proofs.Maps.{values-empty, apart, entries_in_order, map_of_entries, get_rows}
 use Rattle.adm_types.specs.declared.rows.PlaceRow.{PlaceRow}
-use Rattle.adm_register.specs.WellFormed.{AllRows, is_outside_plan, places_outside_plans}
+use Rattle.adm_register.specs.WellFormed.{AllRows, is_unplanned_at, places_outside_plans}
 
 abbrev Entries : Type 0
 Entries = List (ℕ × PlaceRow)
 
 abbrev weight : List ℕ → PlaceRow → ℕ
-weight code row = cond (is_outside_plan (Some row) code) 1 0
+weight code row = cond (is_unplanned_at (Some row) code) 1 0
 
 total-cons : (f : PlaceRow → ℕ) (e : ℕ × PlaceRow) (es : Entries) → sum_by f (values_of (e ∷ es)) ≡ f e.1 + sum_by f (values_of es)
 total-cons f e es = sum_by-cons f e.1 (values_of es)
@@ -38,14 +38,14 @@ module _ (code : List ℕ) where
 
   -- the places of one list are at most as many as those of another where each of them stands for one of the other with its key
   sums : (es fs : Entries) → IsStrictlySortedBy nat_cmp (keys_of es)
-      → ((q : ℕ) (row : PlaceRow) → lookup (is_at (nat_cmp q)) es ≡ Some row → is_outside_plan (Some row) code ≡ true → is_outside_plan (lookup (is_at (nat_cmp q)) fs) code ≡ true)
+      → ((q : ℕ) (row : PlaceRow) → lookup (is_at (nat_cmp q)) es ≡ Some row → is_unplanned_at (Some row) code ≡ true → is_unplanned_at (lookup (is_at (nat_cmp q)) fs) code ≡ true)
       → sum_by f (values_of es) ≤ sum_by f (values_of fs)
   unfolding IsStrictlySortedBy
   sums [] fs sorted stand = omega arith
   sums (e ∷ es) fs sorted stand =
       let later : (q : ℕ) (row : PlaceRow) → lookup (is_at (nat_cmp q)) es ≡ Some row → lookup (is_at (nat_cmp q)) (e ∷ es) ≡ Some row =
       λ q row there. ap (λ b. cond b (Some e.1) (lookup (is_at (nat_cmp q)) es)) (apart nat_cmp-IsAntisymmetric e.0 es sorted.0 q row there) ∙ there in
-      elim (is_outside_plan (Some e.1) code) as (λ b. is_outside_plan (Some e.1) code ≡ b → sum_by f (values_of (e ∷ es)) ≤ sum_by f (values_of fs)) [
+      elim (is_unplanned_at (Some e.1) code) as (λ b. is_unplanned_at (Some e.1) code ≡ b → sum_by f (values_of (e ∷ es)) ≤ sum_by f (values_of fs)) [
         | false ↦ λ free.
             let rest = sums es fs sorted.1 (λ q row there held. stand q row (later q row there) held) in
             let none : f e.1 ≡ 0 = ap (λ b. cond b 1 0) free in
@@ -57,13 +57,13 @@ module _ (code : List ℕ) where
             let rest = sums es others sorted.1
             (λ q row there here.
             let other : is_at (nat_cmp q) e.0 ≡ false = apart nat_cmp-IsAntisymmetric e.0 es sorted.0 q row there in
-            ap (λ o. is_outside_plan o code) (lookup-remove e.0 q fs other) ∙ stand q row (later q row there) here) in
+            ap (λ o. is_unplanned_at o code) (lookup-remove e.0 q fs other) ∙ stand q row (later q row there) here) in
             let all = sum_by-remove_entry f (is_at (nat_cmp e.0)) fs in
             let gone = taken (lookup (is_at (nat_cmp e.0)) fs) first in
             omega (arith, rest, one, all, gone, total-cons f e es)
       ] refl
     where
-      taken : (o : Option PlaceRow) → is_outside_plan o code ≡ true → unwrap_or (option_map f o) 0 ≡ 1
+      taken : (o : Option PlaceRow) → is_unplanned_at o code ≡ true → unwrap_or (option_map f o) 0 ≡ 1
       taken None held = cc
       taken (Some row) held = ap (λ b. cond b 1 0) held
 
@@ -71,13 +71,13 @@ module _ (code : List ℕ) where
   at_entries places q = sym (ap (λ m. get m q) (map_of_entries nat_cmp_total nat_cmp-IsAntisymmetric places)) ∙ get_rows nat_cmp_total (entries places) q
 
   -- at most as many are held as before where each that is held was held
-  pub held_le : (places new : FinMap nat_cmp PlaceRow) → ((number : ℕ) (row : PlaceRow) → get new number ≡ Some row → is_outside_plan (Some row) code ≡ true → is_outside_plan (get places number) code ≡ true)
+  pub held_le : (places new : FinMap nat_cmp PlaceRow) → ((number : ℕ) (row : PlaceRow) → get new number ≡ Some row → is_unplanned_at (Some row) code ≡ true → is_unplanned_at (get places number) code ≡ true)
       → places_outside_plans new code ≤ places_outside_plans places code
   held_le places new stand = sums (entries new) (entries places) (entries_in_order new)
-      (λ q row there held. ap (λ o. is_outside_plan o code) (sym (at_entries places q)) ∙ stand q row (at_entries new q ∙ there) held)
+      (λ q row there held. ap (λ o. is_unplanned_at o code) (sym (at_entries places q)) ∙ stand q row (at_entries new q ∙ there) held)
 
   -- none is held where none of the places is
-  pub none_held : (places : FinMap nat_cmp PlaceRow) → AllRows (λ number row. is_outside_plan (Some row) code ≡ false) places → places_outside_plans places code ≡ 0
+  pub none_held : (places : FinMap nat_cmp PlaceRow) → AllRows (λ number row. is_unplanned_at (Some row) code ≡ false) places → places_outside_plans places code ≡ 0
   none_held places free =
       let less = held_le empty places (λ q row there held. let none = free q row there in cc (none, held)) in
       let zero : places_outside_plans empty code ≡ 0 = ap (sum_by f) (values-empty nat_cmp PlaceRow) in

@@ -8,7 +8,7 @@ use Rattle.adm_types.specs.declared.rows.Application.{Application}
 use Rattle.adm_types.specs.declared.rows.LeftPair.{LeftPair}
 use Rattle.adm_register.specs.State.{State}
 use Rattle.adm_register.specs.Change.{after}
-use Rattle.adm_register.specs.WellFormed.{WellFormed, is_outside_plan}
+use Rattle.adm_register.specs.WellFormed.{WellFormed, is_unplanned_at}
 use Rattle.adm_register.specs.Wanted.{has_left}
 use Rattle.adm_commands.specs.Tests.{first_failing}
 use Rattle.adm_register.specs.Waits.{waits, is_waiting}
@@ -43,7 +43,7 @@ leave_list-fit old child school well passes =
     let found = waiting_application old child school pass.1.1.0 in
     let facts = waits_is old well found.0 school found.2 in
     let number = (well.base.applications_fit child found.0 found.1).own_number in
-    let free : is_outside_plan (get old.places child) school ≡ false = ap (λ n. is_outside_plan (get old.places n) school) (sym number) ∙ facts.no_place in
+    let free : is_unplanned_at (get old.places child) school ≡ false = ap (λ n. is_unplanned_at (get old.places n) school) (sym number) ∙ facts.no_place in
     record {
       base = record { schools = tt; kept_schools = tt; few_schools = tt; children = tt; few_children = tt; applications = tt };
       places = record { places = tt; kept = λ other row there still. refl; room = well.places.room };

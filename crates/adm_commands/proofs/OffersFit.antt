@@ -16,10 +16,10 @@ use Rattle.adm_types.specs.declared.rows.PlaceState.TheVariants.{Offered, Accept
 use Rattle.adm_types.specs.declared.rows.LeftPair.{LeftPair}
 use Rattle.adm_register.specs.State.{State, is_plan}
 use Rattle.adm_register.specs.Change.{no_change}
-use Rattle.adm_register.specs.WellFormed.{WellFormed, has_first_round, is_outside_plan, is_entitled, has_days_in_order, lists_school}
+use Rattle.adm_register.specs.WellFormed.{WellFormed, has_first_round, is_unplanned_at, is_entitled, has_days_in_order, lists_school}
 use Rattle.adm_commands.specs.Tests.{first_failing}
 use Rattle.adm_register.specs.Wanted.{has_left}
-use Rattle.adm_commands.specs.Offered.{days_of, offer_at, is_after_offer}
+use Rattle.adm_commands.specs.Offered.{offer_days, offer_at, is_after_offer}
 use Rattle.adm_commands.specs.Accept as accept
 use Rattle.adm_commands.specs.Decline as decline
 use Rattle.adm_commands.specs.Remind as remind
@@ -32,21 +32,21 @@ use Rattle.adm_register.specs.Fits.{Fit}
 use Rattle.adm_commands.proofs.Accepted.{base_stays, draws_stay}
 
 -- an offer is of a place that is held at the school
-offer-held : (place : Option PlaceRow) (school : List ℕ) → is_some (offer_at place school) ≡ true → is_outside_plan place school ≡ true
+offer-held : (place : Option PlaceRow) (school : List ℕ) → is_some (offer_at place school) ≡ true → is_unplanned_at place school ≡ true
 offer-held None school there = there
 offer-held (Some row) school there = by (pointwise nat_eq row.place.school school) row.place.state there
   where
-    by : (b : Bool) (state : PlaceState) → is_some (if b then days_of state else None) ≡ true → (b && not (is_plan state)) ≡ true
+    by : (b : Bool) (state : PlaceState) → is_some (if b then offer_days state else None) ≡ true → (b && not (is_plan state)) ≡ true
     by true (Offered day reminded) there = refl
     by true Accepted there = cc
     by true Plan there = cc
     by false state there = cc
 
 -- who holds a place at a school has an application that lists it, and there was a round
-held-entitled : (old : State) (child : ℕ) (school : List ℕ) (state : PlaceState) → WellFormed old → is_outside_plan (get old.places child) school ≡ true → is_plan state ≡ false
+held-entitled : (old : State) (child : ℕ) (school : List ℕ) (state : PlaceState) → WellFormed old → is_unplanned_at (get old.places child) school ≡ true → is_plan state ≡ false
     → is_entitled (has_first_round old.draws) (get old.applications child) (record { school = school; state = state }) ≡ true
 held-entitled old child school state well held other =
-    elim (get old.places child) as (λ o. get old.places child ≡ o → is_outside_plan o school ≡ true → is_entitled (has_first_round old.draws) (get old.applications child) (record { school = school; state = state }) ≡ true) [
+    elim (get old.places child) as (λ o. get old.places child ≡ o → is_unplanned_at o school ≡ true → is_entitled (has_first_round old.draws) (get old.applications child) (record { school = school; state = state }) ≡ true) [
       | None ↦ λ there none. cc
       | Some row ↦ λ there here.
           let both = and_parts (pointwise nat_eq row.place.school school) _ here in
@@ -58,20 +58,20 @@ held-entitled old child school state well held other =
     ] refl held
 
 -- a school at which a place is held was not left
-not_left : (old : State) (child : ℕ) (school : List ℕ) → WellFormed old → is_outside_plan (get old.places child) school ≡ true → not (has_left old.left child school) ≡ true
+not_left : (old : State) (child : ℕ) (school : List ℕ) → WellFormed old → is_unplanned_at (get old.places child) school ≡ true → not (has_left old.left child school) ≡ true
 not_left old child school well held =
     let pair : LeftPair = record { child = child; school = school } in
     elim (get old.left pair) as (λ o. get old.left pair ≡ o → not (is_some o) ≡ true) [
       | None ↦ λ is. refl
       | Some other ↦ λ is.
           let fits = well.left pair other is in
-          let none = subst (λ (p : LeftPair). not (is_outside_plan (get old.places p.child) p.school) ≡ true) fits.own_key fits.no_place in
+          let none = subst (λ (p : LeftPair). not (is_unplanned_at (get old.places p.child) p.school) ≡ true) fits.own_key fits.no_place in
           cc (none, held)
     ] refl
 
 -- the place of a child is put again, in another state
 put_again : (old : State) (child : ℕ) (school : List ℕ) (state : PlaceState) → WellFormed old → contains_key old.children child ≡ true → contains_key old.schools school ≡ true
-    → is_outside_plan (get old.places child) school ≡ true → is_plan state ≡ false → has_days_in_order state ≡ true
+    → is_unplanned_at (get old.places child) school ≡ true → is_plan state ≡ false → has_days_in_order state ≡ true
     → Fit old (record no_change { places = record { child = child; place = record { school = school; state = state } } ∷ [] })
 put_again old child school state well there here held other fits =
     let row : PlaceRow = record { child = child; place = record { school = school; state = state } } in
@@ -82,15 +82,15 @@ put_again old child school state well there here held other fits =
         kept = λ number other there still. refl;
         room = λ code s known.
             let less = held_le code old.places (insert old.places child row) (λ number it now is.
-            elim (eq_by_cmp nat_cmp number child) as (λ b. eq_by_cmp nat_cmp number child ≡ b → is_outside_plan (get old.places number) code ≡ true) [
+            elim (eq_by_cmp nat_cmp number child) as (λ b. eq_by_cmp nat_cmp number child ≡ b → is_unplanned_at (get old.places number) code ≡ true) [
               | true ↦ λ tie.
                   let same : Some row ≡ Some it = sym (get-insert nat_cmp_total old.places child row number ∙ ap (λ b. cond b (Some row) (get old.places number)) tie) ∙ now in
-                  let at : is_outside_plan (Some row) code ≡ true = ap (λ o. is_outside_plan o code) same ∙ is in
+                  let at : is_unplanned_at (Some row) code ≡ true = ap (λ o. is_unplanned_at o code) same ∙ is in
                   let code_is : school ≡ code = (bytes_decides school code).0 (and_parts (pointwise nat_eq school code) _ at).0 in
-                  (λ i. is_outside_plan (get old.places (same_key nat_cmp-IsAntisymmetric number child tie i)) (sym code_is i)) ∙ held
+                  (λ i. is_unplanned_at (get old.places (same_key nat_cmp-IsAntisymmetric number child tie i)) (sym code_is i)) ∙ held
               | false ↦ λ tie.
                   let same : get old.places number ≡ Some it = sym (get-insert nat_cmp_total old.places child row number ∙ ap (λ b. cond b (Some row) (get old.places number)) tie) ∙ now in
-                  ap (λ o. is_outside_plan o code) same ∙ is
+                  ap (λ o. is_unplanned_at o code) same ∙ is
             ] refl) in
             let room = well.places.room code s known in
             omega (arith, less, room);
@@ -113,12 +113,12 @@ give_up old child school well there here =
         kept = λ number row was still. refl;
         room = λ code s known.
             let less = held_le code old.places (remove old.places child) (λ number it now is.
-            ap (λ o. is_outside_plan o code) (there_before nat_cmp_total old.places (child ∷ []) number it now) ∙ is) in
+            ap (λ o. is_unplanned_at o code) (there_before nat_cmp_total old.places (child ∷ []) number it now) ∙ is) in
             let room = well.places.room code s known in
             omega (arith, less, room);
       };
       left = record {
-        left = (record { own_key = refl; child = there; school = here; no_place = ap (λ o. not (is_outside_plan o school)) (none_of _ (not_contains_key-removed nat_cmp_total old.places child)) }, tt);
+        left = (record { own_key = refl; child = there; school = here; no_place = ap (λ o. not (is_unplanned_at o school)) (none_of _ (not_contains_key-removed nat_cmp_total old.places child)) }, tt);
         places = tt;
       };
       draws = draws_stay old (decline.change_of child school) refl;
@@ -161,7 +161,7 @@ remind-fit old child school day before well passes =
     offered-day (Some row) offered r there is =
         from (pointwise nat_eq row.place.school school) row.place.state (well.places.each child row there).state is
       where
-        from : (b : Bool) (state : PlaceState) → has_days_in_order state ≡ true → (if b then days_of state else None) ≡ Some (offered, r) → is_from first_day last_day offered ≡ true
+        from : (b : Bool) (state : PlaceState) → has_days_in_order state ≡ true → (if b then offer_days state else None) ≡ Some (offered, r) → is_from first_day last_day offered ≡ true
         from true (Offered on None) fits is = subst (λ d. is_from first_day last_day d ≡ true) (same_day on offered None r is) fits
         from true (Offered on (Some reminded)) fits is = subst (λ d. is_from first_day last_day d ≡ true) (same_day on offered (Some reminded) r is) (and_parts (is_from first_day last_day on) _ fits).0
         from true Accepted fits is = cc
@@ -169,7 +169,7 @@ remind-fit old child school day before well passes =
         from false state fits is = cc
 
     by : (offer : Option (ℕ × Option ℕ)) → offer_at (get old.places child) school ≡ offer → is_some offer ≡ true → is_after_offer (offer_at (get old.places child) school) day ≡ true
-        → contains_key old.children child ≡ true → contains_key old.schools school ≡ true → is_outside_plan (get old.places child) school ≡ true
+        → contains_key old.children child ≡ true → contains_key old.schools school ≡ true → is_unplanned_at (get old.places child) school ≡ true
         → Fit old (remind.reminded_on child school day (offer_at (get old.places child) school))
     by None is some late there here held = cc
     by (Some (offered, r)) is some late there here held =

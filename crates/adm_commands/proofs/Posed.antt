@@ -25,12 +25,10 @@ use Rattle.adm_types.specs.declared.rows.Child.{Child}
 use Rattle.adm_types.specs.declared.rows.Application.{Application}
 use Rattle.adm_types.specs.declared.draws.Lot.{Lot}
 use Rattle.adm_types.specs.declared.draws.Outcome.{Outcome}
-use Rattle.adm_draws.specs.Draws.{repeats_lot}
-use Rattle.adm_match.specs.Market.{some_pair}
 use Rattle.adm_round.specs.declared.applicants.Applicant.{Applicant}
 use Rattle.adm_round.specs.declared.applicants.Site.{Site}
 use Rattle.adm_round.specs.declared.applicants.Pair.{Pair}
-use Rattle.adm_round.specs.Round.{code_of, number_of, lots_of, pair_of, same_lot, is_site, IsListFit, IsPosed}
+use Rattle.adm_round.specs.Round.{code_of_site, number_of, lots_of, pair_of, is_site, IsListFit, IsPosed}
 use Rattle.adm_round.specs.Ranks.{market_of_round}
 use Rattle.adm_round.specs.Outcomes.{AreBest}
 use Rattle.adm_register.specs.State.{State}
@@ -63,7 +61,7 @@ site_there old code well there =
     let found = some_of (get old.schools code) there in
     let own = (well.base.schools_fit code found.0 found.1).own_code in
     let test : School → Bool = λ school. bytes_eq school.code code in
-    any-map (λ site. bytes_eq (code_of site) code) (λ (school : School). record { school = school; quota = quota old school }) (values old.schools)
+    any-map (λ site. bytes_eq (code_of_site site) code) (λ (school : School). record { school = school; quota = quota old school }) (values old.schools)
     ∙ elim (cases_Bool (list_any test (values old.schools))) [
       | inl hit ↦ hit
       | inr miss ↦
@@ -137,17 +135,12 @@ pairs_again [] numbers same = refl
 pairs_again (pair ∷ pairs) [] same = absurd (omega (arith, same))
 pairs_again (pair ∷ pairs) (number ∷ numbers) same = ap (λ ps. pair ∷ ps) (pairs_again pairs numbers (omega (arith, same)))
 
--- the two tests of equal lots are one
-some_same : (lots : List Lot) → some_pair same_lot lots ≡ repeats_lot lots
-some_same [] = refl
-some_same (lot ∷ lots) = ap (λ b. list_any (same_lot lot) lots || b) (some_same lots)
-
 -- ---- the whole
 
-codes_in_order : (old : State) → WellFormed old → IsStrictlySortedBy (slice_cmp nat_cmp) (map code_of (sites old))
+codes_in_order : (old : State) → WellFormed old → IsStrictlySortedBy (slice_cmp nat_cmp) (map code_of_site (sites old))
 codes_in_order old well =
     let own = entries_at_own_keys nat_list_cmp_total code_cmp-IsAntisymmetric (λ (school : School). school.code) old.schools (λ code school there. (well.base.schools_fit code school there).own_code) in
-    subst (IsStrictlySortedBy (slice_cmp nat_cmp)) (sym (map-map code_of (λ (school : School). record { school = school; quota = quota old school }) (values old.schools) ∙ own)) (entries_in_order old.schools)
+    subst (IsStrictlySortedBy (slice_cmp nat_cmp)) (sym (map-map code_of_site (λ (school : School). record { school = school; quota = quota old school }) (values old.schools) ∙ own)) (entries_in_order old.schools)
 
 numbers_in_order : (old : State) → WellFormed old → IsStrictlySortedBy nat_cmp (map number_of (entrants old))
 numbers_in_order old well =
@@ -186,7 +179,7 @@ posed old numbers well passes =
       children_fit = each_entrant old (λ applicant. is_child_in_range applicant.child ≡ true) (λ number application there. child_fits old well application);
       lists_fit = each_entrant old (IsListFit (sites old)) (list_fits old well);
       lots_drawn = pairs_again (round_pairs old) numbers count;
-      lots_differ = some_same (round_lots old numbers) ∙ not-true _ pass.1;
+      lots_differ = not-true _ pass.1;
     }
 
 -- and so it is by whatever names its sites, applicants and lots go

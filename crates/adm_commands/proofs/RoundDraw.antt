@@ -14,22 +14,23 @@ use Rattle.adm_lists.proofs.Orders.{tied}
 use Rattle.adm_lists.proofs.Members.{In, all_in, in_all, list_all_in, passes_in, in_map, from_map, from_filter, from_flat_map, from_zip}
 use Rattle.adm_lists.proofs.Rising.{sorted_append}
 use Rattle.adm_lists.proofs.Maps.{contains_key-insert}
+use Rattle.adm_types.specs.Lots.{repeats_lot}
 use Rattle.adm_types.specs.Limits.{is_listed, first_day, last_day, most_draws, most_lots}
 use Rattle.adm_types.specs.Seasons.{lists_end}
 use Rattle.adm_types.specs.declared.draws.Draw.{Draw}
 use Rattle.adm_types.specs.declared.draws.Outcome.{Outcome}
 use Rattle.adm_types.specs.declared.draws.Lot.{Lot}
-use Rattle.adm_draws.specs.Draws.{rises, outcome_cmp, lot_cmp, is_draw, fresh_has_school, repeats_lot}
+use Rattle.adm_draws.specs.Draws.{rises, outcome_cmp, lot_cmp, is_draw, fresh_has_school}
 use Rattle.adm_match.specs.Market.{Code}
 use Rattle.adm_round.specs.declared.applicants.Applicant.{Applicant}
 use Rattle.adm_round.specs.declared.applicants.Site.{Site}
 use Rattle.adm_round.specs.declared.applicants.Pair.{Pair}
-use Rattle.adm_round.specs.Round.{code_of, number_of, listed, wants, pair_at, pairs_at, pairs, pair_of, lot_of_draw}
+use Rattle.adm_round.specs.Round.{code_of_site, number_of, listed, wants, pair_at, pairs_at, pairs, pair_of, lot_of_draw}
 use Rattle.adm_types.specs.Limits.{code_cmp}
 use Rattle.adm_round.specs.Lookups.{pair_cmp}
 use Rattle.adm_round.specs.Outcomes.{is_fresh, HasListedSchool}
 use Rattle.adm_register.specs.State.{State}
-use Rattle.adm_register.specs.Draws.{DrawFits, is_due, is_next, are_in_order, no_draws, with_draws, is_choice, is_known_outcome, is_known_lot, draws_so_far}
+use Rattle.adm_register.specs.Draws.{DrawFits, is_due, is_next, are_in_order, no_draws, count_draws, is_choice, is_known_outcome, is_known_lot, draws_so_far}
 use Rattle.adm_commands.specs.KeptByTypes.{KeptByRound}
 use Rattle.adm_commands.specs.Round.{entrants, sites, round_pairs, round_lots}
 use Rattle.adm_register.specs.WellFormed.{WellFormed, has_first_round}
@@ -65,21 +66,21 @@ at_one_rise code p (x ∷ xs) sorted = by (p x) (at_one_rise code p xs sorted.1)
 
 -- a pair is of a site's school and of an applicant
 of_pair : (ss : List Site) (applicants : List Applicant) (pair : Pair) → In pair (pairs ss applicants)
-    → (site : Site) × In site ss × (applicant : Applicant) × In applicant applicants × (pair ≡ pair_at (code_of site) applicant)
+    → (site : Site) × In site ss × (applicant : Applicant) × In applicant applicants × (pair ≡ pair_at (code_of_site site) applicant)
 of_pair ss applicants pair at =
     let here = from_flat_map (pairs_at applicants) ss pair at in
-    let found = from_map (pair_at (code_of here.0)) (filter (wants (code_of here.0)) applicants) pair here.2 in
-    (here.0, here.1, found.0, (from_filter (wants (code_of here.0)) applicants found.0 found.1).0, sym found.2)
+    let found = from_map (pair_at (code_of_site here.0)) (filter (wants (code_of_site here.0)) applicants) pair here.2 in
+    (here.0, here.1, found.0, (from_filter (wants (code_of_site here.0)) applicants found.0 found.1).0, sym found.2)
 
-pairs_rise : (ss : List Site) (applicants : List Applicant) → IsStrictlySortedBy code_cmp (map code_of ss) → IsStrictlySortedBy nat_cmp (map number_of applicants) → IsStrictlySortedBy pair_cmp (pairs ss applicants)
+pairs_rise : (ss : List Site) (applicants : List Applicant) → IsStrictlySortedBy code_cmp (map code_of_site ss) → IsStrictlySortedBy nat_cmp (map number_of applicants) → IsStrictlySortedBy pair_cmp (pairs ss applicants)
 unfolding IsStrictlySortedBy
 pairs_rise [] applicants codes numbers = tt
 pairs_rise (s ∷ ss) applicants codes numbers =
-    sorted_append pair_cmp (pairs_at applicants s) (pairs ss applicants) (at_one_rise (code_of s) (wants (code_of s)) applicants numbers) (pairs_rise ss applicants codes.1 numbers)
+    sorted_append pair_cmp (pairs_at applicants s) (pairs ss applicants) (at_one_rise (code_of_site s) (wants (code_of_site s)) applicants numbers) (pairs_rise ss applicants codes.1 numbers)
     (λ x y first second.
-    let one = from_map (pair_at (code_of s)) (filter (wants (code_of s)) applicants) x first in
+    let one = from_map (pair_at (code_of_site s)) (filter (wants (code_of_site s)) applicants) x first in
     let other = of_pair ss applicants y second in
-    let less = all_in (λ k. code_cmp (code_of s) k ≡ Less) (map code_of ss) (code_of other.0) codes.0 (in_map code_of ss other.0 other.1) in
+    let less = all_in (λ k. code_cmp (code_of_site s) k ≡ Less) (map code_of_site ss) (code_of_site other.0) codes.0 (in_map code_of_site ss other.0 other.1) in
     by_school x y ((λ i. code_cmp (sym one.2 i).school (other.4 i).school) ∙ less))
 
 length_pairs : (lots : List Lot) (them : List Pair) → map pair_of lots ≡ them → length lots ≡ length them
@@ -101,7 +102,7 @@ pub round_after : (old : State) (draw : Draw) → WellFormed old → draw.number
 round_after old draw well number =
     elim (values old.draws) as (λ ds. values old.draws ≡ ds → has_first_round (insert old.draws draw.number draw) ≡ true) [
       | [] ↦ λ none.
-          let first : draw.number ≡ 1 = number ∙ ap (λ ds. (with_draws no_draws ds).draws + 1) none in
+          let first : draw.number ≡ 1 = number ∙ ap (λ ds. (count_draws no_draws ds).draws + 1) none in
           ap is_some (get-insert nat_cmp_total old.draws draw.number draw 1 ∙ ap (λ b. cond b (Some draw) (get old.draws 1)) (ap (eq_by_cmp nat_cmp 1) first ∙ tied nat_cmp_total 1))
       | d ∷ ds ↦ λ some.
           let in_order = ap (are_in_order old.season no_draws) (sym some) ∙ well.draws.in_order in

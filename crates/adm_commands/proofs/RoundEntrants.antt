@@ -16,7 +16,7 @@ use Rattle.adm_types.specs.declared.draws.Lot.{Lot}
 use Rattle.adm_match.specs.Market.{Code}
 use Rattle.adm_round.specs.declared.applicants.Applicant.{Applicant}
 use Rattle.adm_round.specs.declared.applicants.Site.{Site}
-use Rattle.adm_round.specs.Round.{code_of, number_of, listed, is_site, IsListFit, IsPosed}
+use Rattle.adm_round.specs.Round.{code_of_site, number_of, listed, is_site, IsListFit, IsPosed}
 use Rattle.adm_register.specs.State.{State}
 use Rattle.adm_commands.specs.Round.{takes_part, applicant_of, entrants, quota, sites}
 use Rattle.adm_register.specs.Wanted.{wanted_of, own_school}
@@ -78,7 +78,7 @@ module _ (old : State) (well : WellFormed old) where
       ] refl
 
   -- a site is one of a school, with its admission number less the places of plans
-  pub site_is : (site : Site) → In site (sites old) → (get old.schools (code_of site) ≡ Some site.school) × (site.quota ≡ quota old site.school)
+  pub site_is : (site : Site) → In site (sites old) → (get old.schools (code_of_site site) ≡ Some site.school) × (site.quota ≡ quota old site.school)
   site_is site at =
       let found = from_map (λ school. record { school = school; quota = quota old school }) (values old.schools) site at in
       let there = from_values nat_list_cmp_total code_cmp-IsAntisymmetric old.schools (λ (s : School). s.code) (λ code row here. (well.base.schools_fit code row here).own_code) found.0 found.1 in (
@@ -94,5 +94,5 @@ module _ (old : State) (well : WellFormed old) where
   pub school_there : (lots : List Lot) → IsPosed (sites old) (entrants old) lots → (applicant : Applicant) (code : Code) → In applicant (entrants old) → is_listed (listed applicant) code ≡ true → contains_key old.schools code ≡ true
   school_there lots posed applicant code at lists =
       let known = All_in (λ other. is_site (sites old) other ≡ true) (listed applicant) code (All_in (IsListFit (sites old)) (entrants old) applicant posed.lists_fit at).known (listed_in (listed applicant) code lists) in
-      let found = any_in (λ site. pointwise nat_eq (code_of site) code) (sites old) known in
-      ap (contains_key old.schools) (sym ((bytes_decides (code_of found.0) code).0 found.2)) ∙ ap is_some (site_is found.0 found.1).0
+      let found = any_in (λ site. pointwise nat_eq (code_of_site site) code) (sites old) known in
+      ap (contains_key old.schools) (sym ((bytes_decides (code_of_site found.0) code).0 found.2)) ∙ ap is_some (site_is found.0 found.1).0

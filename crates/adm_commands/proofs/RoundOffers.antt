@@ -11,13 +11,14 @@ use Rattle.std.proofs.lemmas.Bool.{false≢true, and_parts, not-true}
 use Rattle.std.proofs.lemmas.Option.{same_Some, none-some}
 use Rattle.adm_lists.proofs.Members.{In, in_all, in_map, from_map, from_filter_map, from_append, zip_in}
 use Rattle.adm_lists.proofs.Rising.{sorted_filter_map}
+use Rattle.adm_types.specs.Code.{has}
 use Rattle.adm_types.specs.Limits.{is_listed, is_from, first_day, last_day}
 use Rattle.adm_types.specs.Seasons.{closing}
 use Rattle.adm_types.specs.declared.rows.Application.{Application}
 use Rattle.adm_types.specs.declared.rows.PlaceRow.{PlaceRow}
 use Rattle.adm_types.specs.declared.rows.PlaceState.TheVariants.{Offered}
 use Rattle.adm_types.specs.declared.draws.Outcome.{Outcome}
-use Rattle.adm_match.specs.Market.{Code, has}
+use Rattle.adm_match.specs.Market.{Code}
 use Rattle.adm_round.specs.declared.applicants.Applicant.{Applicant}
 use Rattle.adm_round.specs.Round.{number_of, listed, IsPosed}
 use Rattle.adm_round.specs.Outcomes.{is_fresh, outcome_of, HasListedSchool, KeepsTenant, HasRoom, AllotmentFits}

@@ -14,17 +14,18 @@ use Rattle.adm_lists.proofs.Members.{All_in, none_in}
 use Rattle.adm_lists.proofs.Maps.{entries_in_order, map_of_entries, get_rows}
 use Rattle.adm_lists.proofs.Keys.{by_key, at_key, put_over, in_key, from_key, values_by}
 use Rattle.adm_lists.proofs.Counts.{count_le}
+use Rattle.adm_types.specs.Code.{has}
 use Rattle.adm_types.specs.declared.rows.School.{School}
 use Rattle.adm_types.specs.declared.rows.PlaceRow.{PlaceRow}
 use Rattle.adm_types.specs.declared.draws.Outcome.{Outcome}
-use Rattle.adm_match.specs.Market.{Code, has}
+use Rattle.adm_match.specs.Market.{Code}
 use Rattle.adm_round.specs.declared.applicants.Site.{Site}
 use Rattle.adm_round.specs.Round.{number_of}
 use Rattle.adm_round.specs.Outcomes.{HasRoom, KeepsTenant, outcomes_at, has_fresh}
 use Rattle.adm_register.specs.State.{State, is_plan}
 use Rattle.adm_register.specs.Change.{put_all}
 use Rattle.adm_commands.specs.Round.{quota, sites, offer_of, offers_on}
-use Rattle.adm_register.specs.WellFormed.{AllRows, is_outside_plan, places_outside_plans}
+use Rattle.adm_register.specs.WellFormed.{AllRows, is_unplanned_at, places_outside_plans}
 use Rattle.adm_commands.proofs.HeldLemmas.{held_le}
 use Rattle.adm_register.proofs.Puts.{get-put_all}
 use Rattle.adm_register.proofs.RoundKeys.{put_given}
@@ -53,7 +54,7 @@ module _ {old : State} {numbers : List ℕ} {outcomes : List Outcome} (facts : I
 
   module _ (code : Code) where
     -- the outcome of a child that keeps a place at the school is that school
-    stays : (number : ℕ) (row : PlaceRow) (found : Option Outcome) → at_key child_of outcomes number ≡ found → get old.places number ≡ Some row → is_outside_plan (Some row) code ≡ true
+    stays : (number : ℕ) (row : PlaceRow) (found : Option Outcome) → at_key child_of outcomes number ≡ found → get old.places number ≡ Some row → is_unplanned_at (Some row) code ≡ true
         → ((o : Outcome) → found ≡ Some o → offer_of day o ≡ None) → (o : Outcome) × (found ≡ Some o) × (has o.school code ≡ true)
     stays number row found at there held none =
         let both = and_parts (pointwise nat_eq row.place.school code) (not (is_plan row.place.state)) held in
@@ -68,7 +69,7 @@ module _ {old : State} {numbers : List ℕ} {outcomes : List Outcome} (facts : I
         (it, is, ap (λ o. has o code) school ∙ both.0)
 
     -- each place that is held at the school afterwards is an outcome there
-    has_outcome : (number : ℕ) (row : PlaceRow) → get new number ≡ Some row → is_outside_plan (Some row) code ≡ true → (o : Outcome) × (at_key child_of outcomes number ≡ Some o) × (has o.school code ≡ true)
+    has_outcome : (number : ℕ) (row : PlaceRow) → get new number ≡ Some row → is_unplanned_at (Some row) code ≡ true → (o : Outcome) × (at_key child_of outcomes number ≡ Some o) × (has o.school code ≡ true)
     has_outcome number row there held = by (at_key child_of outcomes number) refl (sym (at_child number) ∙ there)
       where
         offered : (o : Outcome) → at_key child_of outcomes number ≡ Some o → (made : Option PlaceRow) → offer_of day o ≡ made → option_or made (get old.places number) ≡ Some row
@@ -83,19 +84,19 @@ module _ {old : State} {numbers : List ℕ} {outcomes : List Outcome} (facts : I
         by (Some o) at now = offered o at (offer_of day o) refl now
 
     -- where none has the school afresh, each was held there before
-    was_held : has_fresh code outcomes ≡ false → (number : ℕ) (row : PlaceRow) → get new number ≡ Some row → is_outside_plan (Some row) code ≡ true → is_outside_plan (get old.places number) code ≡ true
+    was_held : has_fresh code outcomes ≡ false → (number : ℕ) (row : PlaceRow) → get new number ≡ Some row → is_unplanned_at (Some row) code ≡ true → is_unplanned_at (get old.places number) code ≡ true
     was_held none number row there held = by (at_key child_of outcomes number) refl (sym (at_child number) ∙ there)
       where
-        offered : (o : Outcome) → at_key child_of outcomes number ≡ Some o → (made : Option PlaceRow) → offer_of day o ≡ made → option_or made (get old.places number) ≡ Some row → is_outside_plan (get old.places number) code ≡ true
-        offered o at None is now = ap (λ p. is_outside_plan p code) now ∙ held
+        offered : (o : Outcome) → at_key child_of outcomes number ≡ Some o → (made : Option PlaceRow) → offer_of day o ≡ made → option_or made (get old.places number) ≡ Some row → is_unplanned_at (get old.places number) code ≡ true
+        offered o at None is now = ap (λ p. is_unplanned_at p code) now ∙ held
         offered o at (Some other) is now =
             let parts = offer_made day o row (is ∙ now) in
             let here = (and_parts (pointwise nat_eq row.place.school code) (not (is_plan row.place.state)) held).0 in
             let fresh = none_in (λ (x : Outcome). has x.school code && x.fresh) outcomes o none (from_key child_of outcomes number o at).0 in
             absurd (false≢true (sym fresh ∙ (λ i. has (parts.1 i) code && parts.0 i) ∙ ap (λ b. b && true) here))
 
-        by : (found : Option Outcome) → at_key child_of outcomes number ≡ found → over day found (get old.places number) ≡ Some row → is_outside_plan (get old.places number) code ≡ true
-        by None at now = ap (λ p. is_outside_plan p code) now ∙ held
+        by : (found : Option Outcome) → at_key child_of outcomes number ≡ found → over day found (get old.places number) ≡ Some row → is_unplanned_at (get old.places number) code ≡ true
+        by None at now = ap (λ p. is_unplanned_at p code) now ∙ held
         by (Some o) at now = offered o at (offer_of day o) refl now
 
     at_entries : (number : ℕ) → get new number ≡ lookup (is_at (nat_cmp number)) (entries new)
@@ -104,7 +105,7 @@ module _ {old : State} {numbers : List ℕ} {outcomes : List Outcome} (facts : I
     held_are_outcomes : places_outside_plans new code ≤ outcomes_at code outcomes
     held_are_outcomes =
         subst (λ os. places_outside_plans new code ≤ count_by (λ (o : Outcome). has o.school code) os) (values_by child_of outcomes)
-        (count_le (λ row. is_outside_plan (Some row) code) (λ (o : Outcome). has o.school code) (entries new) (by_key child_of outcomes) (entries_in_order new) (λ number row there held. has_outcome number row (at_entries number ∙ there) held))
+        (count_le (λ row. is_unplanned_at (Some row) code) (λ (o : Outcome). has o.school code) (entries new) (by_key child_of outcomes) (entries_in_order new) (λ number row there held. has_outcome number row (at_entries number ∙ there) held))
 
   -- at each school those that are held are at most its admission number
   pub room_after : AllRows (λ code (school : School). places_outside_plans new code ≤ school.pan) old.schools

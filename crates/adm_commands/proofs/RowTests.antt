@@ -8,7 +8,7 @@ use Rattle.adm_types.specs.declared.rows.ImportRow.{ImportRow}
 use Rattle.adm_types.specs.declared.commands.Refusal.{Refusal}
 use Rattle.adm_types.specs.declared.commands.Refusal.TheVariants.{RowDiffers, UnknownChild}
 use Rattle.adm_register.specs.State.{State, application_of}
-use Rattle.adm_register.specs.Change.{after, put_child}
+use Rattle.adm_register.specs.Change.{after, change_of_child}
 use Rattle.adm_commands.specs.Tests.{first_failing}
 use Rattle.adm_commands.specs.AddChild as add_child
 use Rattle.adm_commands.specs.Apply as apply
@@ -31,6 +31,6 @@ unfolding apply.tests refusal_of_row row_tests
 refusal_of_new s row unknown new =
     let there = ap is_some (get-insert nat_cmp_total s.children row.child.no row.child row.child.no ∙ ap (λ b. cond b (Some row.child) (get s.children row.child.no)) (tied nat_cmp_total row.child.no)) in
     ap (λ b. if b then None else first_failing (row_tests s row)) unknown
-    ∙ ap (λ b. if not b then first_failing (add_child.tests s row.child ++ apply.tests (after s (put_child row.child)) (application_of row)) else Some RowDiffers) new
-    ∙ first_failing-append (add_child.tests s row.child) (apply.tests (after s (put_child row.child)) (application_of row))
+    ∙ ap (λ b. if not b then first_failing (add_child.tests s row.child ++ apply.tests (after s (change_of_child row.child)) (application_of row)) else Some RowDiffers) new
+    ∙ first_failing-append (add_child.tests s row.child) (apply.tests (after s (change_of_child row.child)) (application_of row))
     ∙ ap (λ b. or_next (first_failing (add_child.tests s row.child)) (if b then first_failing (apply.further_tests s (application_of row)) else Some UnknownChild)) there

@@ -18,7 +18,7 @@ use Rattle.adm_register.specs.declared.difference.Difference.{Difference}
 use Rattle.adm_register.specs.declared.draws_so_far.DrawsSoFar.{DrawsSoFar}
 use Rattle.adm_register.specs.State.{State}
 use Rattle.adm_register.specs.Change.{after}
-use Rattle.adm_register.specs.Draws.{no_draws, with_draws}
+use Rattle.adm_register.specs.Draws.{no_draws, count_draws}
 use Rattle.adm_register.specs.Fits.{Fit}
 use Rattle.adm_register.specs.Waits.{waiting_at}
 use Rattle.adm_register.specs.WellFormed.{WellFormed}
@@ -53,13 +53,13 @@ round_again old new draw day numbers outcomes well first is passes =
     let tests = subst (λ s. first_failing (round.tests s draw day numbers) ≡ None) is passes in
     let next = all_pass (round.tests (after old (round.change_of old draw day numbers outcomes)) draw day numbers) tests in
     let one = (unsigned_Decides draw (so_far.draws + 1)).0 made.0 in
-    let two = (unsigned_Decides draw ((with_draws no_draws (values (after old (round.change_of old draw day numbers outcomes)).draws)).draws + 1)).0 next.0 in
-    let here = ap (λ ds. (with_draws no_draws ds).draws) (values_put old.draws old.season (row ∷ []) (λ number d there. (well.draws.each number d there).own_number) well.draws.in_order (round-next old draw day numbers outcomes first)) in
+    let two = (unsigned_Decides draw ((count_draws no_draws (values (after old (round.change_of old draw day numbers outcomes)).draws)).draws + 1)).0 next.0 in
+    let here = ap (λ ds. (count_draws no_draws ds).draws) (values_put old.draws old.season (row ∷ []) (λ number d there. (well.draws.each number d there).own_number) well.draws.in_order (round-next old draw day numbers outcomes first)) in
     let count = ap (λ (b : DrawsSoFar). b.draws) (with_draws-append no_draws (values old.draws) (row ∷ [])) in
     omega (arith, one, two, here, count)
   where
     so_far : DrawsSoFar
-    so_far = with_draws no_draws (values old.draws)
+    so_far = count_draws no_draws (values old.draws)
 
     row : Draw
     row = record { number = draw; round = so_far.rounds + 1; school = None; day = day; outcomes = outcomes; lots = round_lots old numbers }

@@ -10,7 +10,7 @@ use Rattle.adm_types.specs.declared.rows.PlaceState.TheVariants.{Offered, Accept
 use Rattle.adm_register.specs.State.{State}
 use Rattle.adm_register.specs.Change.{after}
 use Rattle.adm_register.specs.Plans.{is_plan_row}
-use Rattle.adm_register.specs.WellFormed.{is_outside_plan}
+use Rattle.adm_register.specs.WellFormed.{is_unplanned_at}
 use Rattle.adm_commands.specs.Tests.{first_failing}
 use Rattle.adm_commands.specs.NamePlan as name_plan
 use Rattle.adm_commands.specs.Accept as accept
@@ -18,7 +18,7 @@ use Rattle.adm_commands.specs.Decline as decline
 use Rattle.adm_commands.specs.Remind as remind
 use Rattle.adm_commands.specs.Lapse as lapse
 use Rattle.adm_commands.specs.LeaveList as leave_list
-use Rattle.adm_commands.specs.Offered.{offer_at, days_of, is_reminded}
+use Rattle.adm_commands.specs.Offered.{offer_at, offer_days, is_reminded}
 use Rattle.adm_commands.proofs.Accepted.{name_plan-fit}
 use Rattle.adm_commands.proofs.Keeps.{all_pass}
 use Rattle.adm_commands.proofs.LeaveFit.{leave_list-fit, leave_again}
@@ -57,7 +57,7 @@ accept_shows child school = shows_only (Accept child school) (λ old. accept.cha
   no_import = λ old. refl;
 })
   where
-    none_accepted : (b : Bool) → is_some (if b then days_of Accepted else None) ≡ false
+    none_accepted : (b : Bool) → is_some (if b then offer_days Accepted else None) ≡ false
     none_accepted true = refl
     none_accepted false = refl
 
@@ -69,7 +69,7 @@ decline_shows child school = shows_only (Decline child school) (λ old. decline.
   fits = λ old kept well accepted. decline-fit old child school well (no_row _ accepted);
   again = λ old well first passes.
       let held = (all_pass (decline.tests (after old (decline.change_of child school)) child school) (no_row _ passes)).1.1.0 in
-      absurd (both_false held (ap (λ o. is_outside_plan o school) (gone nat_cmp_total old.places child)));
+      absurd (both_false held (ap (λ o. is_unplanned_at o school) (gone nat_cmp_total old.places child)));
   no_draw = λ old. refl;
   no_import = λ old. refl;
 })

@@ -7,7 +7,7 @@ use Rattle.adm_types.specs.declared.commands.Command.TheVariants.{AddSchool, Rai
 use Rattle.adm_types.specs.declared.rows.Application.{Application}
 use Rattle.adm_types.specs.declared.rows.Child.{Child}
 use Rattle.adm_types.specs.declared.rows.School.{School}
-use Rattle.adm_register.specs.Change.{after, put_child}
+use Rattle.adm_register.specs.Change.{after, change_of_child}
 use Rattle.adm_commands.specs.AddSchool as add_school
 use Rattle.adm_commands.specs.RaisePan as raise_pan
 use Rattle.adm_commands.specs.AddChild as add_child
@@ -31,17 +31,17 @@ add_school_shows school = shows_only (AddSchool school) (λ old. add_school.chan
 
 pub add_child_shows : (child : Child) → Shows (AddChild child)
 unfolding add_child.tests
-add_child_shows child = shows_only (AddChild child) (λ old. put_child child) (record {
+add_child_shows child = shows_only (AddChild child) (λ old. change_of_child child) (record {
   done = λ old. (refl, refl);
   is = λ old change reply done. done.0;
   fits = λ old kept well accepted. add_child-fit old child kept well (no_row _ accepted);
-  again = λ old well first passes. absurd (not_again nat_cmp_total old.children child.no child (all_pass (add_child.tests (after old (put_child child)) child) (no_row _ passes)).0);
+  again = λ old well first passes. absurd (not_again nat_cmp_total old.children child.no child (all_pass (add_child.tests (after old (change_of_child child)) child) (no_row _ passes)).0);
   no_draw = λ old. refl;
   no_import = λ old. refl;
 })
 
 pub amend_shows : (child : Child) → Shows (Amend child)
-amend_shows child = shows_only (Amend child) (λ old. put_child child) (record {
+amend_shows child = shows_only (Amend child) (λ old. change_of_child child) (record {
   done = λ old. (refl, refl);
   is = λ old change reply done. done.0;
   fits = λ old kept well accepted. amend-fit old child kept well (no_row _ accepted);

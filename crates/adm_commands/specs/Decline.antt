@@ -6,14 +6,14 @@ use Rattle.adm_types.specs.declared.commands.Refusal.TheVariants.{UnknownChild, 
 use Rattle.adm_register.specs.declared.difference.Difference.{Difference}
 use Rattle.adm_register.specs.State.{State}
 use Rattle.adm_register.specs.Change.{no_change}
-use Rattle.adm_register.specs.WellFormed.{is_outside_plan}
+use Rattle.adm_register.specs.WellFormed.{is_unplanned_at}
 
 -- the child and the school are there, and the child has a place at the school that is not that of a plan
 unfoldable pub tests : State → ℕ → List ℕ → List (Bool × Refusal)
 tests old child school =
     (contains_key old.children child, UnknownChild)
     ∷ (contains_key old.schools school, UnknownSchool)
-    ∷ (is_outside_plan (get old.places child) school, NotOffered)
+    ∷ (is_unplanned_at (get old.places child) school, NotOffered)
     ∷ []
 
 -- its place ends, and the school is left

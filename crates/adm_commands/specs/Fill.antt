@@ -3,6 +3,7 @@
 -- the list; the lots of a vacancy are this profile's.
 use Rattle.std.specs.Prelude.{ℕ, ◌+◌, Bool, true, false, not, ◌&&◌, nat_eq, nat_le, nat_lt, List, [], ◌∷◌, map, length, Option, Some, None}
 use Rattle.std.specs.FinMap.{contains_key}
+use Rattle.adm_types.specs.Lots.{repeats_lot}
 use Rattle.adm_types.specs.Limits.{most_draws, most_lots}
 use Rattle.adm_types.specs.Seasons.{lists_end}
 use Rattle.adm_types.specs.declared.rows.PlaceState.TheVariants.{Offered}
@@ -10,7 +11,6 @@ use Rattle.adm_types.specs.declared.draws.Draw.{Draw}
 use Rattle.adm_types.specs.declared.draws.Lot.{Lot}
 use Rattle.adm_types.specs.declared.commands.Refusal.{Refusal}
 use Rattle.adm_types.specs.declared.commands.Refusal.TheVariants.{UnknownSchool, WrongDraw, ListClosed, EmptyList, NoVacancy, TooSoon, LotCount, LotsRepeated, RegisterFull}
-use Rattle.adm_draws.specs.Draws.{repeats_lot}
 use Rattle.adm_round.specs.declared.applicants.Pair.{Pair}
 use Rattle.adm_round.specs.Round.{lots_of}
 use Rattle.adm_register.specs.declared.difference.Difference.{Difference}

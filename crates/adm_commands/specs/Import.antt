@@ -11,7 +11,7 @@ use Rattle.adm_types.specs.declared.commands.Reply.TheVariants.{Imported}
 use Rattle.adm_table.specs.Same.{is_same_import}
 use Rattle.adm_register.specs.declared.difference.Difference.{Difference}
 use Rattle.adm_register.specs.State.{State, application_of}
-use Rattle.adm_register.specs.Change.{after, no_change, put_child}
+use Rattle.adm_register.specs.Change.{after, no_change, change_of_child}
 use Rattle.adm_commands.specs.Tests.{first_failing}
 use Rattle.adm_commands.specs.AddChild as add_child
 use Rattle.adm_commands.specs.Apply as apply
@@ -31,7 +31,7 @@ is_known s row = is_same_as (get s.imported row.child.no) row
 -- the tests of a row that is not known: no such child is there; and those of adding the child, and then of its application
 unfoldable pub row_tests : State → ImportRow → List (Bool × Refusal)
 row_tests s row =
-    (not (contains_key s.children row.child.no), RowDiffers) ∷ (add_child.tests s row.child ++ apply.tests (after s (put_child row.child)) (application_of row))
+    (not (contains_key s.children row.child.no), RowDiffers) ∷ (add_child.tests s row.child ++ apply.tests (after s (change_of_child row.child)) (application_of row))
 
 unfoldable pub refusal_of_row : State → ImportRow → Option Refusal
 refusal_of_row s row = if is_known s row then None else first_failing (row_tests s row)

@@ -1,20 +1,19 @@
 -- Offers of places, and their days.
-use Rattle.std.specs.Prelude.{ℕ, ◌+◌, Bool, true, false, nat_eq, nat_le, List, Option, Some, None, if◌then◌else◌}
-use Rattle.std.specs.Cmp.Lexicographic.{pointwise}
+use Rattle.std.specs.Prelude.{ℕ, ◌+◌, Bool, true, false, nat_le, List, Option, Some, None, if◌then◌else◌, bytes_eq}
 use Rattle.adm_types.specs.declared.rows.PlaceRow.{PlaceRow}
 use Rattle.adm_types.specs.declared.rows.PlaceState.{PlaceState}
 use Rattle.adm_types.specs.declared.rows.PlaceState.TheVariants.{Offered, Accepted, Plan}
 
 -- the day of an offer and that of its reminder, where the place is offered
-abbrev pub days_of : PlaceState → Option (ℕ × Option ℕ)
-days_of (Offered day reminded) = Some (day, reminded)
-days_of Accepted = None
-days_of Plan = None
+abbrev pub offer_days : PlaceState → Option (ℕ × Option ℕ)
+offer_days (Offered day reminded) = Some (day, reminded)
+offer_days Accepted = None
+offer_days Plan = None
 
 -- those of the offer at the school
 abbrev pub offer_at : Option PlaceRow → List ℕ → Option (ℕ × Option ℕ)
 offer_at None school = None
-offer_at (Some row) school = if pointwise nat_eq row.place.school school then days_of row.place.state else None
+offer_at (Some row) school = if bytes_eq row.place.school school then offer_days row.place.state else None
 
 -- whether the offer was reminded
 abbrev pub is_reminded : Option (ℕ × Option ℕ) → Bool

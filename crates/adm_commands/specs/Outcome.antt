@@ -9,7 +9,7 @@ use Rattle.adm_types.specs.declared.commands.Reply.{Reply}
 use Rattle.adm_types.specs.declared.commands.Reply.TheVariants.{Done, Filled}
 use Rattle.adm_register.specs.declared.difference.Difference.{Difference}
 use Rattle.adm_register.specs.State.{State}
-use Rattle.adm_register.specs.Change.{after, put_child}
+use Rattle.adm_register.specs.Change.{after, change_of_child}
 use Rattle.adm_commands.specs.Tests.{first_failing}
 use Rattle.adm_commands.specs.KeptByTypes.{KeptBySchool, KeptByChild, KeptByRound, KeptByImportRow}
 use Rattle.adm_register.specs.WellFormed.{WellFormed}
@@ -100,8 +100,8 @@ IsFillResult old draw school day lots change reply =
 abbrev pub Changes : State → Command → Difference → Reply → Type 0
 Changes old (AddSchool school) = ChangesJust (add_school.change_of school)
 Changes old (RaisePan school pan) = ChangesJust (raise_pan.change_of old school pan)
-Changes old (AddChild child) = ChangesJust (put_child child)
-Changes old (Amend child) = ChangesJust (put_child child)
+Changes old (AddChild child) = ChangesJust (change_of_child child)
+Changes old (Amend child) = ChangesJust (change_of_child child)
 Changes old (NamePlan child school) = ChangesJust (name_plan.change_of child school)
 Changes old (Apply application) = ChangesJust (apply.change_of application)
 Changes old (Round draw day lots) = IsRoundResult old draw day lots

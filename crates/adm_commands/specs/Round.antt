@@ -1,9 +1,9 @@
 -- To hold a round (School Admissions Code 2021, sections 1 and 2; Gale and Shapley 1962; entrants, tenants and lots are this profile's).
-use Rattle.std.specs.Prelude.{ℕ, ◌+◌, ◌-◌, Bool, not, ◌&&◌, ◌||◌, nat_eq, nat_le, nat_lt, List, [], ◌∷◌, map, length, count_by, is_none, Option, None, option_map, if◌then◌else◌}
+use Rattle.std.specs.Prelude.{ℕ, ◌+◌, ◌-◌, Bool, not, ◌&&◌, ◌||◌, nat_eq, nat_le, nat_lt, List, [], ◌∷◌, map, length, count_by, is_none, Option, None, option_map, if◌then◌else◌, bytes_eq}
 use Rattle.std.specs.List.{filter_map}
-use Rattle.std.specs.Cmp.Lexicographic.{pointwise}
 use Rattle.std.specs.Ordering.{nat_cmp}
 use Rattle.std.specs.FinMap.{FinMap, get, values}
+use Rattle.adm_types.specs.Lots.{repeats_lot}
 use Rattle.adm_types.specs.Limits.{most_draws, most_lots}
 use Rattle.adm_types.specs.Seasons.{closing, lists_end}
 use Rattle.adm_types.specs.declared.rows.School.{School}
@@ -16,7 +16,6 @@ use Rattle.adm_types.specs.declared.commands.Refusal.{Refusal}
 use Rattle.adm_types.specs.declared.commands.Refusal.TheVariants.{WrongDraw, ListClosed, TooSoon, LotCount, LotsRepeated, RegisterFull}
 use Rattle.adm_types.specs.declared.commands.Reply.{Reply}
 use Rattle.adm_types.specs.declared.commands.Reply.TheVariants.{Round}
-use Rattle.adm_draws.specs.Draws.{repeats_lot}
 use Rattle.adm_round.specs.declared.applicants.Applicant.{Applicant}
 use Rattle.adm_round.specs.declared.applicants.Site.{Site}
 use Rattle.adm_round.specs.declared.applicants.Pair.{Pair}
@@ -50,7 +49,7 @@ entrants s = filter_map (applicant_of s) (values s.applications)
 
 -- how many places at the school are those of a plan
 abbrev pub plans_at : FinMap nat_cmp PlaceRow → List ℕ → ℕ
-plans_at places code = count_by (λ row. pointwise nat_eq row.place.school code && is_plan row.place.state) (values places)
+plans_at places code = count_by (λ row. bytes_eq row.place.school code && is_plan row.place.state) (values places)
 
 -- the admission number less the places of plans, not below 0
 abbrev pub quota : State → School → ℕ

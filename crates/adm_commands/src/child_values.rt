@@ -1,6 +1,6 @@
 // A child's values: what their types keep, and how they are put.
 ghost use Rattle.std.specs.Prelude.{◌≡◌, IfOk};
-ghost use Rattle.adm_register.specs.Change.{put_child};
+ghost use Rattle.adm_register.specs.Change.{change_of_child};
 ghost use Rattle.adm_commands.specs.KeptByTypes.{KeptByChild};
 
 use crate::one_row::one;
@@ -22,7 +22,7 @@ pub(crate) fn kept_by_child(child: &Child)
 
 /// The child's data are put, in place of those that were there.
 pub(crate) fn put_child(alloc: Global, child: &Child) -> Result<Difference, AllocError>
-    ensures { IfOk result (λ change. change ≡ put_child child.now) }
+    ensures { IfOk result (λ change. change ≡ change_of_child child.now) }
 {
     let row = Shared::new(alloc, child.clone()?)?;
     let mut change = Difference::none(alloc);

@@ -1,7 +1,6 @@
 // Who takes part in a round, and how many places each school has.
-ghost use Rattle.std.specs.Prelude.{◌≡◌, IfOk, filter, map, count_by, nat_eq, ◌-◌};
+ghost use Rattle.std.specs.Prelude.{◌≡◌, IfOk, filter, map, count_by, ◌-◌, bytes_eq};
 ghost use Rattle.std.specs.List.{filter_map};
-ghost use Rattle.std.specs.Cmp.Lexicographic.{pointwise};
 ghost use Rattle.adm_register.specs.State.{is_plan};
 ghost use Rattle.adm_commands.specs.Round.{takes_part, applicant_of, entrants, sites};
 
@@ -92,14 +91,14 @@ fn schools_of_plans(alloc: Global, places: &[PlaceRow]) -> Result<Vec<SchoolCode
 
 /// How many of the codes are that of the school.
 fn count_of(codes: &[SchoolCode], school: SchoolCode) -> usize
-    ensures { result ≡ count_by (λ code. pointwise nat_eq code school) codes.now }
+    ensures { result ≡ count_by (λ code. bytes_eq code school) codes.now }
 {
     codes.iter().filter(|code| **code == school).count()
 }
 
 /// The school's admission number less as many places as the codes name it, not below 0.
 fn quota(school: &School, plans: &[SchoolCode]) -> u32
-    ensures { result ≡ school.now.pan - count_by (λ code. pointwise nat_eq code school.now.code) plans.now }
+    ensures { result ≡ school.now.pan - count_by (λ code. bytes_eq code school.now.code) plans.now }
 {
     let pan = school.pan as usize;
     pan.saturating_sub(count_of(plans, school.code)) as u32
@@ -111,7 +110,7 @@ fn sites_of(
     schools: &[Shared<School>],
     plans: &[SchoolCode],
 ) -> Result<Vec<Site>, AllocError>
-    ensures { IfOk result (λ found. found.items ≡ map (λ school. record { school = school; quota = school.pan - count_by (λ code. pointwise nat_eq code school.code) plans.now }) schools.now) }
+    ensures { IfOk result (λ found. found.items ≡ map (λ school. record { school = school; quota = school.pan - count_by (λ code. bytes_eq code school.code) plans.now }) schools.now) }
 {
     let mut found = Vec::new(alloc);
     for index in 0..schools.len() {

@@ -1,5 +1,6 @@
 // To fill a vacancy.
 ghost use Rattle.std.specs.Prelude.{◌≡◌, ◌∷◌, [], ◌+◌, ◌&&◌, nat_lt, nat_le, IfOk, length, map};
+ghost use Rattle.adm_types.specs.Lots.{repeats_lot};
 ghost use Rattle.adm_types.specs.Limits.{most_draws, most_lots};
 ghost use Rattle.adm_types.specs.Seasons.{lists_end};
 ghost use Rattle.adm_round.specs.Round.{lots_of};
@@ -9,7 +10,6 @@ ghost use Rattle.adm_commands.specs.Tests.{first_failing};
 ghost use Rattle.adm_register.specs.WellFormed.{WellFormed};
 ghost use Rattle.adm_commands.specs.Outcome.{Comes, IsFillResult, without_row};
 ghost use Rattle.adm_register.specs.Rows.{vacancies};
-ghost use Rattle.adm_draws.specs.Draws.{repeats_lot};
 ghost use Rattle.adm_commands.specs.Fill.{tests, is_vacant, fill_lots, draw_of_fill};
 
 use crate::failing::first_failing;

@@ -1,7 +1,7 @@
 // Offers of places, and their days.
 ghost use Rattle.std.specs.Prelude.{◌≡◌};
 ghost use Rattle.std.specs.FinMap.{get};
-ghost use Rattle.adm_commands.specs.Offered.{days_of, offer_at, is_reminded, is_after_offer, is_after_reminder};
+ghost use Rattle.adm_commands.specs.Offered.{offer_days, offer_at, is_reminded, is_after_offer, is_after_reminder};
 
 use adm_register::Tables;
 use adm_types::{ChildNo, Day, PlaceState, SchoolCode};
@@ -28,7 +28,7 @@ pub(crate) fn offer_at(
 
 /// The day of an offer and that of its reminder.
 fn days_of(state: &PlaceState) -> Option<(Day, Option<Day>)>
-    ensures { result ≡ days_of state.now }
+    ensures { result ≡ offer_days state.now }
 {
     match state {
         PlaceState::Offered { day, reminded } => Some((*day, *reminded)),

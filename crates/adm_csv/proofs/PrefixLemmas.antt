@@ -12,7 +12,7 @@ use Rattle.adm_types.specs.declared.rows.ImportRow.{ImportRow}
 use Rattle.adm_csv.specs.declared.fault.Fault.TheVariants.{Header, Memory}
 use Rattle.adm_csv.specs.declared.fault.RowFault.{RowFault}
 use Rattle.adm_csv.specs.Kinds.{Text}
-use Rattle.adm_csv.specs.Rows.{Record, ReadsRows, IsReached, records_of, rows_in, rows_from, row_at, at_row, is_header}
+use Rattle.adm_csv.specs.Rows.{Record, ReadsRows, IsReached, records_of, rows_in, rows_from, import_row_at, at_row, is_header}
 use Rattle.adm_csv.specs.Reading.{◌>>=◌}
 use Rattle.adm_csv.specs.Left.{records_left}
 use Rattle.adm_csv.specs.Ended.{IsEnoughOf, RunsOutAt, ended_by, ended_from, ended_in, enough}
@@ -60,7 +60,7 @@ row_enough : (width k : ℕ) (r : Record) (xs ys : List Record) (t : Bool) → n
 row_enough width k r xs ys true is more = rw is refl
 row_enough width k r xs ys false is more =
     let low : k ≤ 2000 = grind (arith, nat_tests) in
-    ap (λ o. at_row k (row_at width k r) >>= λ x. o >>= λ xs. Ok (x ∷ xs)) (more low)
+    ap (λ o. at_row k (import_row_at width k r) >>= λ x. o >>= λ xs. Ok (x ∷ xs)) (more low)
 
 -- the rows depend on so many records alone
 rows_enough : (width m k : ℕ) (rs : List Record) → 2001 ≤ k + m → rows_from width k (take (suc m) rs) ≡ rows_from width k rs

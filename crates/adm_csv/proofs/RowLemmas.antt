@@ -8,7 +8,7 @@ use Rattle.adm_csv.specs.declared.fault.Fault.{Fault}
 use Rattle.adm_csv.specs.declared.fault.Fault.TheVariants.{Header, FieldCount, BadNumber, BadDate, BadText, TooManyRows, Read, Memory}
 use Rattle.adm_csv.specs.declared.fault.RowFault.{RowFault}
 use Rattle.adm_csv.specs.Reading.{◌>>=◌, Fails}
-use Rattle.adm_csv.specs.Rows.{Record, FailsFrom, IsReachedUnder, row_at, at_row, rows_from}
+use Rattle.adm_csv.specs.Rows.{Record, FailsFrom, IsReachedUnder, import_row_at, at_row, rows_from}
 
 -- what is read, after the rows that were read before
 abbrev pub with_rows : List ImportRow → Result (List ImportRow) RowFault → Result (List ImportRow) RowFault
@@ -20,7 +20,7 @@ more_rows : (front : List ImportRow) (x : ImportRow) (rest : Result (List Import
 more_rows front x (Ok xs) = ap Ok (sym (append_assoc front (x ∷ []) xs))
 more_rows front x (Err e) = refl
 
-pub row_more : (width : ℕ) (front : List ImportRow) (k : ℕ) (left : List Record) (r : Record) (rs : List Record) (x : ImportRow) → left ≡ r ∷ rs → row_at width k r ≡ Ok x
+pub row_more : (width : ℕ) (front : List ImportRow) (k : ℕ) (left : List Record) (r : Record) (rs : List Record) (x : ImportRow) → left ≡ r ∷ rs → import_row_at width k r ≡ Ok x
     → with_rows (front ++ x ∷ []) (rows_from width (k + 1) rs) ≡ with_rows front (rows_from width k left)
 row_more width front k left r rs x is row =
     sym (more_rows front x (rows_from width (k + 1) rs))
@@ -28,13 +28,13 @@ row_more width front k left r rs x is row =
     ∙ sym (ap (λ l. with_rows front (rows_from width k l)) is)
 
 fault_is : (width : ℕ) (front : List ImportRow) (k : ℕ) (left : List Record) (r : Record) (rs all : List Record) (e : Fault) → left ≡ r ∷ rs → with_rows front (rows_from width k left) ≡ rows_from width 1 all
-    → row_at width k r ≡ Err e → rows_from width 1 all ≡ Err (record { row = k; fault = e })
+    → import_row_at width k r ≡ Err e → rows_from width 1 all ≡ Err (record { row = k; fault = e })
 fault_is width front k left r rs all e is so_far row =
     sym so_far ∙ ap (λ l. with_rows front (rows_from width k l)) is ∙ ap (λ o. with_rows front (at_row k o >>= λ x. rows_from width (k + 1) rs >>= λ xs. Ok (x ∷ xs))) row
 
 -- a row with a fault
 pub row_fault : (width : ℕ) (front : List ImportRow) (k : ℕ) (left : List Record) (r : Record) (rs all : List Record) (e : Fault) → left ≡ r ∷ rs → with_rows front (rows_from width k left) ≡ rows_from width 1 all
-    → Fails e (row_at width k r) → FailsFrom width 1 (record { row = k; fault = e }) e all
+    → Fails e (import_row_at width k r) → FailsFrom width 1 (record { row = k; fault = e }) e all
 row_fault width front k left r rs all Memory is so_far row = tt
 row_fault width front k left r rs all Header is so_far row = fault_is width front k left r rs all Header is so_far row
 row_fault width front k left r rs all FieldCount is so_far row = fault_is width front k left r rs all FieldCount is so_far row
@@ -66,7 +66,7 @@ rows_begin width all rows none =
 
 -- one more
 pub rows_read : (width : ℕ) (all : List Record) (number : ℕ) (left rs : List Record) (rows : List ImportRow) (r : Record) (x : ImportRow) → HasRows width all number left rows → left ≡ r ∷ rs
-    → row_at width (number + 1) r ≡ Ok x → HasRows width all (number + 1) rs (rows ++ x ∷ [])
+    → import_row_at width (number + 1) r ≡ Ok x → HasRows width all (number + 1) rs (rows ++ x ∷ [])
 rows_read width all number left rs rows r x has is row =
     let long = length-append has.front (r ∷ []) in
     record {

@@ -57,13 +57,13 @@ RunsOutAt old new row =
 -- ---- for private clauses: what the scan keeps of bytes
 
 -- the state of the reader
-abbrev pub state_of : At → State
-state_of at.RecordStart = st.StartRecord
-state_of at.FieldStart = st.StartField
-state_of at.Field = st.InField
-state_of at.Quoted = st.InQuoted
-state_of at.AfterQuote = st.AfterQuote
-state_of at.AfterReturn = st.AfterCr
+abbrev pub reader_state : At → State
+reader_state at.RecordStart = st.StartRecord
+reader_state at.FieldStart = st.StartField
+reader_state at.Field = st.InField
+reader_state at.Quoted = st.InQuoted
+reader_state at.AfterQuote = st.AfterQuote
+reader_state at.AfterReturn = st.AfterCr
 
 -- the state after bytes
 abbrev pub state_from : State → Text → State
@@ -72,4 +72,4 @@ state_from s (b ∷ text) = state_from (step default_config s b).0 text
 
 -- a scan of these bytes
 abbrev pub IsScanOf : Text → Scan → Type 0
-IsScanOf text scan = (scan.text.items ≡ text) × (state_of scan.at ≡ state_from st.StartRecord (strip_bom text)) × (scan.ended ≡ ended_in text) × (scan.ended ≤ length text)
+IsScanOf text scan = (scan.text.items ≡ text) × (reader_state scan.at ≡ state_from st.StartRecord (strip_bom text)) × (scan.ended ≡ ended_in text) × (scan.ended ≤ length text)

@@ -84,13 +84,13 @@ at_row k (Ok x) = Ok x
 at_row k (Err e) = Err (record { row = k; fault = e })
 
 -- the row of this number, under a header of so many fields
-abbrev pub row_at : ℕ → ℕ → Record → Result ImportRow Fault
-row_at width k r = if nat_lt most_rows k then Err TooManyRows else row_in width r
+abbrev pub import_row_at : ℕ → ℕ → Record → Result ImportRow Fault
+import_row_at width k r = if nat_lt most_rows k then Err TooManyRows else row_in width r
 
 -- the rows from this number on, or the first fault
 abbrev pub rows_from : ℕ → ℕ → List Record → Result (List ImportRow) RowFault
 rows_from width k [] = Ok []
-rows_from width k (r ∷ rs) = at_row k (row_at width k r) >>= λ x. rows_from width (k + 1) rs >>= λ xs. Ok (x ∷ xs)
+rows_from width k (r ∷ rs) = at_row k (import_row_at width k r) >>= λ x. rows_from width (k + 1) rs >>= λ xs. Ok (x ∷ xs)
 
 -- the rows under the header, or the first fault
 unfoldable pub rows_in : List Record → Result (List ImportRow) RowFault

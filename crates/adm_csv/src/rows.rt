@@ -4,7 +4,7 @@ ghost use Rattle.csv.specs.Records.{fields_of};
 ghost use Rattle.adm_csv.specs.Left.{IsPlain, left_of};
 ghost use Rattle.adm_csv.specs.Ended.{ReadsNeeded, RunsOutAt, StopsAfter};
 ghost use Rattle.adm_csv.specs.Reading.{Gives};
-ghost use Rattle.adm_csv.specs.Rows.{FailsAt, IsReached, IsReachedUnder, Record, ReadsRows, ReadsFrom, is_header, is_read_fault, most_rows, records_of, row_at};
+ghost use Rattle.adm_csv.specs.Rows.{FailsAt, IsReached, IsReachedUnder, Record, ReadsRows, ReadsFrom, is_header, is_read_fault, most_rows, records_of, import_row_at};
 
 use crate::header::is_header;
 use crate::input::read_text;
@@ -51,7 +51,7 @@ fn take_header(records: &mut ByteRecordsIntoIter<&[u8]>) -> Result<usize, Fault>
 
 /// The row of this number, under a header of so many fields.
 fn row_at(alloc: Global, width: usize, number: u64, fields: &ByteRecord) -> Result<ImportRow, Fault>
-    ensures reads { Gives result (row_at width number (fields_of fields.now)) }
+    ensures reads { Gives result (import_row_at width number (fields_of fields.now)) }
     ensures upper { OnOk result (number ≤ most_rows) }
 {
     if number > MOST_ROWS {

@@ -2,7 +2,7 @@
 ghost use Rattle.std.specs.Prelude.{◌≡◌, ℕ, [], ◌∷◌, ◌++◌, take, MatchResult};
 ghost use Rattle.csv.specs.Machine.{step, is_end, in_field, start_field, start_record};
 ghost use Rattle.csv.specs.Reading.{default_config};
-ghost use Rattle.adm_csv.specs.Ended.{IsScanOf, state_of};
+ghost use Rattle.adm_csv.specs.Ended.{IsScanOf, reader_state};
 
 use std::alloc::{AllocError, Global};
 
@@ -29,7 +29,7 @@ pub(crate) struct Scan {
 }
 
 fn in_field(byte: u8) -> (At, bool)
-    ensures at { state_of result.0 ≡ (in_field default_config byte).0 }
+    ensures at { reader_state result.0 ≡ (in_field default_config byte).0 }
     ensures ends { result.1 ≡ is_end (in_field default_config byte).1 }
 {
     match byte {
@@ -41,7 +41,7 @@ fn in_field(byte: u8) -> (At, bool)
 }
 
 fn start_field(byte: u8) -> (At, bool)
-    ensures at { state_of result.0 ≡ (start_field default_config byte).0 }
+    ensures at { reader_state result.0 ≡ (start_field default_config byte).0 }
     ensures ends { result.1 ≡ is_end (start_field default_config byte).1 }
 {
     match byte {
@@ -51,7 +51,7 @@ fn start_field(byte: u8) -> (At, bool)
 }
 
 fn start_record(byte: u8) -> (At, bool)
-    ensures at { state_of result.0 ≡ (start_record default_config byte).0 }
+    ensures at { reader_state result.0 ≡ (start_record default_config byte).0 }
     ensures ends { result.1 ≡ is_end (start_record default_config byte).1 }
 {
     match byte {
@@ -63,8 +63,8 @@ fn start_record(byte: u8) -> (At, bool)
 impl At {
     /// Where the byte after this one stands, and whether this one ends a record.
     fn after(self, byte: u8) -> (At, bool)
-        ensures at { state_of result.0 ≡ (step default_config (state_of self) byte).0 }
-        ensures ends { result.1 ≡ is_end (step default_config (state_of self) byte).1 }
+        ensures at { reader_state result.0 ≡ (step default_config (reader_state self) byte).0 }
+        ensures ends { result.1 ≡ is_end (step default_config (reader_state self) byte).1 }
     {
         match self {
             At::RecordStart => start_record(byte),

@@ -10,7 +10,7 @@ use Rattle.adm_lists.proofs.KnownBytes.{Appends-then}
 use Rattle.adm_desk.specs.declared.answer.LineAnswer.{LineAnswer}
 use Rattle.adm_desk.specs.declared.run.Run.{Run}
 use Rattle.adm_desk.specs.Lines.{AnswersLines, line_text, answers_text, is_done, is_refused, is_failed}
-use Rattle.adm_desk.specs.Written.{Answered, Stopped, Counts, counted, IsBeginning, Takes, Breaks, joined, IsPlain}
+use Rattle.adm_desk.specs.Written.{Answered, Stopped, Counts, counted, IsBeginning, Takes, Breaks, joined_lines, HasNoLineFeed}
 use Rattle.adm_desk.proofs.Known.{Appends-nothing}
 use Rattle.adm_desk.proofs.CutLemmas.{Cuts-then, Cuts-nothing, whole-then}
 
@@ -123,7 +123,7 @@ Takes-breaks runs old mid new u v w a b p q xs ys first next = record {
   lines = first.lines ++ next.lines;
   more = next.more;
   whole = whole-then p xs q ys next.more first.lines next.lines first.cut.whole next.whole;
-  plain = λ plain. let before = first.cut.plain plain in each_append IsPlain first.lines next.lines before.0 (next.plain before.1);
+  plain = λ plain. let before = first.cut.plain plain in each_append HasNoLineFeed first.lines next.lines before.0 (next.plain before.1);
   stopped = Answered-stopped runs old mid new u v w a b first.lines next.lines first.answered next.stopped;
 }
 
@@ -133,7 +133,7 @@ pub Breaks-longer : {D : Type 0} (runs : D → List ℕ → LineAnswer → D →
 Breaks-longer runs old new u v p xs ys b = record {
   lines = b.lines;
   more = b.more ++ ys;
-  whole = sym (append_assoc p xs ys) ∙ (ap (λ zs. zs ++ ys) b.whole ∙ append_assoc (joined b.lines) b.more ys);
+  whole = sym (append_assoc p xs ys) ∙ (ap (λ zs. zs ++ ys) b.whole ∙ append_assoc (joined_lines b.lines) b.more ys);
   plain = b.plain;
   stopped = b.stopped;
 }

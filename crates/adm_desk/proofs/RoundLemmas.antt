@@ -14,7 +14,7 @@ use Rattle.adm_types.specs.declared.draws.Draw.{Draw}
 use Rattle.adm_types.specs.declared.commands.Command.{Command}
 use Rattle.adm_types.specs.declared.commands.Command.TheVariants.{Round}
 use Rattle.adm_register.specs.State.{State as Register}
-use Rattle.adm_register.specs.Draws.{no_draws, with_draw, with_draws, draws_so_far, is_next, are_in_order}
+use Rattle.adm_register.specs.Draws.{no_draws, count_draw, count_draws, draws_so_far, is_next, are_in_order}
 use Rattle.adm_register.specs.declared.draws_so_far.DrawsSoFar.{DrawsSoFar}
 use Rattle.adm_commands.specs.Outcome.{Accepts, without_row}
 use Rattle.adm_commands.specs.Tests.{first_failing}
@@ -81,21 +81,21 @@ next_number season before draw next =
     let f = and_parts _ _ e.0 in
     (unsigned_Decides draw.number (before.draws + 1)).0 f.0
 
-more_draws : (before : DrawsSoFar) (draws : List Draw) → before.draws ≤ (with_draws before draws).draws
+more_draws : (before : DrawsSoFar) (draws : List Draw) → before.draws ≤ (count_draws before draws).draws
 more_draws before [] = omega arith
-more_draws before (draw ∷ draws) = let rest = more_draws (with_draw before draw) draws in omega (arith, rest)
+more_draws before (draw ∷ draws) = let rest = more_draws (count_draw before draw) draws in omega (arith, rest)
 
 -- draws in their order are numbered up to their count
-number_within : (season : SeasonFacts) (before : DrawsSoFar) (draws : List Draw) (draw : Draw) → are_in_order season before draws ≡ true → In draw draws → draw.number ≤ (with_draws before draws).draws
+number_within : (season : SeasonFacts) (before : DrawsSoFar) (draws : List Draw) (draw : Draw) → are_in_order season before draws ≡ true → In draw draws → draw.number ≤ (count_draws before draws).draws
 number_within season before [] draw in_order at = absurd at
 number_within season before (first ∷ draws) draw in_order at =
     let both = and_parts (is_next season before first) _ in_order in
     elim at [
       | inl same ↦
           let number = ap (λ (d : Draw). d.number) (sym same) ∙ next_number season before first both.0 in
-          let more = more_draws (with_draw before first) draws in
+          let more = more_draws (count_draw before first) draws in
           omega (arith, number, more)
-      | inr later ↦ number_within season (with_draw before first) draws draw both.1 later
+      | inr later ↦ number_within season (count_draw before first) draws draw both.1 later
     ]
 
 -- so the next number is free

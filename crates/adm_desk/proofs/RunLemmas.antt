@@ -8,8 +8,8 @@ use Rattle.adm_desk.specs.declared.run.Run.{Run}
 use Rattle.adm_desk.specs.declared.run.RunFault.{RunFault}
 use Rattle.adm_desk.specs.declared.run.RunFault.TheVariants.{Read, Write, Memory}
 use Rattle.adm_wire.specs.Streams.{Stream}
-use Rattle.adm_desk.specs.Lines.{lines_of, ended}
-use Rattle.adm_desk.specs.Written.{Answered, Finished, AnsweredUpTo, Stopped, StoppedWithin, EndsAs, ReaderFailsBy, WriterFailsBy, OfWriter, Takes, Breaks, joined, IsPlain, last_line}
+use Rattle.adm_desk.specs.Lines.{lines_of, lines_ended}
+use Rattle.adm_desk.specs.Written.{Answered, Finished, AnsweredUpTo, Stopped, StoppedWithin, EndsAs, ReaderFailsBy, WriterFailsBy, OfWriter, Takes, Breaks, joined_lines, HasNoLineFeed, last_line}
 use Rattle.adm_desk.proofs.CutLemmas.{lines_of-joined, lines_of-piece, ended-joined, ended-more, first_lines}
 use Rattle.adm_desk.proofs.AnswerLemmas.{Answered-then, Answered-stopped}
 
@@ -56,14 +56,14 @@ reader_left (Err Memory) old new same = same
 
 -- ---- whole lines
 
-last_lines : (p : List ℕ) → IsPlain p → lines_of p ≡ last_line p
+last_lines : (p : List ℕ) → HasNoLineFeed p → lines_of p ≡ last_line p
 last_lines [] plain = refl
 last_lines (b ∷ bs) plain = lines_of-piece b bs plain
 
-all_lines : (ls : List (List ℕ)) (p : List ℕ) → AllByRecursion IsPlain ls → IsPlain p → lines_of (joined ls ++ p) ≡ ls ++ last_line p
+all_lines : (ls : List (List ℕ)) (p : List ℕ) → AllByRecursion HasNoLineFeed ls → HasNoLineFeed p → lines_of (joined_lines ls ++ p) ≡ ls ++ last_line p
 all_lines ls p plain rest = lines_of-joined ls p plain ∙ ap (λ zs. ls ++ zs) (last_lines p rest)
 
-ended_lines : (ls : List (List ℕ)) (p : List ℕ) → AllByRecursion IsPlain ls → IsPlain p → take (ended (joined ls ++ p)) (lines_of (joined ls ++ p)) ≡ ls
+ended_lines : (ls : List (List ℕ)) (p : List ℕ) → AllByRecursion HasNoLineFeed ls → HasNoLineFeed p → take (lines_ended (joined_lines ls ++ p)) (lines_of (joined_lines ls ++ p)) ≡ ls
 ended_lines ls p plain rest = rw (ended-joined ls p plain rest) (first_lines ls p plain)
 
 -- ---- the ends of a run
@@ -109,7 +109,7 @@ pub read_failed_from : {D : Type 0} (runs : D → List ℕ → LineAnswer → D 
     → Takes runs old new u v run ran [] p bytes → AnsweredUpTo runs old new u v bytes
 read_failed_from runs old new u v run ran p bytes takes =
     let plain = takes.cut.plain tt in
-    let lines : take (ended bytes) (lines_of bytes) ≡ takes.lines = ap (λ b. take (ended b) (lines_of b)) takes.cut.whole ∙ ended_lines takes.lines p plain.0 plain.1 in
+    let lines : take (lines_ended bytes) (lines_of bytes) ≡ takes.lines = ap (λ b. take (lines_ended b) (lines_of b)) takes.cut.whole ∙ ended_lines takes.lines p plain.0 plain.1 in
     record {
       answers = takes.answered.answers;
       answered = rw lines takes.answered.answered;

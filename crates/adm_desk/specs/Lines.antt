@@ -29,8 +29,8 @@ lines_of [] = []
 lines_of (b ∷ bs) = if b == 10 then [] ∷ lines_of bs else onto_first b (lines_of bs)
 
 -- how many lines end with LF
-abbrev pub ended : List ℕ → ℕ
-ended bytes = count_by (λ b. b == 10) bytes
+abbrev pub lines_ended : List ℕ → ℕ
+lines_ended bytes = count_by (λ b. b == 10) bytes
 
 -- ---- texts
 

@@ -16,22 +16,22 @@ use Rattle.adm_desk.specs.declared.answer.Told.TheVariants.{School, Untold, Fail
 
 -- What a question is told of a register. A school, or none: no test fails, the child has it in the best allocation of the next round's problem in which it lists these schools, and by its own list
 -- it does no worse. Else the first test that fails, or want of memory.
-abbrev pub Answered : Register → WhatIf → ToldAnswer → Type 0
-Answered s asked (School school) =
+abbrev pub AnswersQuestion : Register → WhatIf → ToldAnswer → Type 0
+AnswersQuestion s asked (School school) =
     (told_fault s asked.child asked.lots asked.preferences ≡ None)
     × IsWhatIf (round_market s asked.lots) asked.child asked.preferences school × IsNoGain (round_market s asked.lots) asked.child school
-Answered s asked (Untold untold.Memory) = ⊤
-Answered s asked (Untold why) = told_fault s asked.child asked.lots asked.preferences ≡ Some why
-Answered s asked Failed = ⊥
+AnswersQuestion s asked (Untold untold.Memory) = ⊤
+AnswersQuestion s asked (Untold why) = told_fault s asked.child asked.lots asked.preferences ≡ Some why
+AnswersQuestion s asked Failed = ⊥
 
 -- What bytes are told by a desk: their fault where they ask nothing, that it has failed, or what the question is told of its register. Any may meet want of memory. The desk stays as it is.
-abbrev pub Tells : {C : Type 0} → DeskState C → List ℕ → LineAnswer → Type 0
-Tells desk bytes (Faulty fault.Memory) = ⊤
-Tells desk bytes (Faulty f) = what_if_of bytes ≡ Err f
-Tells desk bytes (Told Failed) = (desk.failed ≡ true) × ((asked : WhatIf) × (what_if_of bytes ≡ Ok asked))
-Tells desk bytes (Told told) = (desk.failed ≡ false) × ((asked : WhatIf) × (what_if_of bytes ≡ Ok asked) × Answered desk.register asked told)
-Tells desk bytes (Handled answer) = ⊥
+abbrev pub DeskTells : {C : Type 0} → DeskState C → List ℕ → LineAnswer → Type 0
+DeskTells desk bytes (Faulty fault.Memory) = ⊤
+DeskTells desk bytes (Faulty f) = what_if_of bytes ≡ Err f
+DeskTells desk bytes (Told Failed) = (desk.failed ≡ true) × ((asked : WhatIf) × (what_if_of bytes ≡ Ok asked))
+DeskTells desk bytes (Told told) = (desk.failed ≡ false) × ((asked : WhatIf) × (what_if_of bytes ≡ Ok asked) × AnswersQuestion desk.register asked told)
+DeskTells desk bytes (Handled answer) = ⊥
 
 -- the same of lines, one after another
 abbrev pub TellsLine : {C : Type 0} → DeskState C → List ℕ → LineAnswer → DeskState C → Type 0
-TellsLine old line answer new = Tells old line answer × (new ≡ old)
+TellsLine old line answer new = DeskTells old line answer × (new ≡ old)

@@ -7,7 +7,7 @@ use Rattle.adm_desk.specs.declared.answer.LineAnswer.{LineAnswer}
 use Rattle.adm_desk.specs.declared.run.Run.{Run}
 use Rattle.adm_desk.specs.declared.run.RunFault.{RunFault}
 use Rattle.adm_desk.specs.declared.run.RunFault.TheVariants.{Read, Write, Memory}
-use Rattle.adm_desk.specs.Lines.{AnswersLines, lines_of, ended, answers_text, is_done, is_refused, is_failed}
+use Rattle.adm_desk.specs.Lines.{AnswersLines, lines_of, lines_ended, answers_text, is_done, is_refused, is_failed}
 
 -- a count that stops at the largest number
 abbrev pub counted : ℕ → ℕ → ℕ
@@ -42,7 +42,7 @@ pub record Finished {D : Type 0} (runs : D → List ℕ → LineAnswer → D →
 -- The reader failed after these bytes: the lines that had ended were answered, and their answers written.
 pub record AnsweredUpTo {D : Type 0} (runs : D → List ℕ → LineAnswer → D → Type 0) (old new : D) (old_text new_text : Option (List ℕ)) (bytes : List ℕ) : Type 0 where
   pub answers : List LineAnswer
-  pub answered : AnswersLines runs old (take (ended bytes) (lines_of bytes)) answers new
+  pub answered : AnswersLines runs old (take (lines_ended bytes) (lines_of bytes)) answers new
   pub written : Appends old_text new_text (answers_text answers)
 
 -- the lines were answered, and the answers were written but for a part of the last one
@@ -56,7 +56,7 @@ pub record Stopped {D : Type 0} (runs : D → List ℕ → LineAnswer → D → 
 -- A fault of the writer or of memory, after these bytes: some first lines of them were answered, and one without LF only at the end of the input.
 pub record StoppedWithin {D : Type 0} (runs : D → List ℕ → LineAnswer → D → Type 0) (old new : D) (old_text new_text : Option (List ℕ)) (bytes : List ℕ) (left : Option (List ℕ)) : Type 0 where
   pub count : ℕ
-  pub within : IsAtEnd left ⊎ (count ≤ ended bytes)
+  pub within : IsAtEnd left ⊎ (count ≤ lines_ended bytes)
   pub stopped : Stopped runs old new old_text new_text (take count (lines_of bytes))
 
 -- How a run over the lines of an input ended. Without a fault the input was read to its end, and each of its lines was answered, written and counted.
@@ -88,8 +88,8 @@ ReaderFailsBy (Err Memory) old new = new ≡ old
 
 -- ---- for private clauses
 
-abbrev pub IsPlain : List ℕ → Type 0
-IsPlain line = AllByRecursion (λ b. b ≢ 10) line
+abbrev pub HasNoLineFeed : List ℕ → Type 0
+HasNoLineFeed line = AllByRecursion (λ b. b ≢ 10) line
 
 -- a last piece, where it is a line
 abbrev pub last_line : List ℕ → List (List ℕ)
@@ -97,13 +97,13 @@ last_line [] = []
 last_line (b ∷ bs) = (b ∷ bs) ∷ []
 
 -- each line, and LF
-abbrev pub joined : List (List ℕ) → List ℕ
-joined lines = flat_map (λ line. line ++ 10 ∷ []) lines
+abbrev pub joined_lines : List (List ℕ) → List ℕ
+joined_lines lines = flat_map (λ line. line ++ 10 ∷ []) lines
 
 -- The bytes pending and these bytes are these lines, and then the bytes pending now.
 pub record Cuts (old_pending bytes : List ℕ) (lines : List (List ℕ)) (pending : List ℕ) : Type 0 where
-  pub whole : old_pending ++ bytes ≡ joined lines ++ pending
-  pub plain : IsPlain old_pending → AllByRecursion IsPlain lines × IsPlain pending
+  pub whole : old_pending ++ bytes ≡ joined_lines lines ++ pending
+  pub plain : HasNoLineFeed old_pending → AllByRecursion HasNoLineFeed lines × HasNoLineFeed pending
 
 -- the bytes were taken, and their lines answered
 pub record Takes {D : Type 0} (runs : D → List ℕ → LineAnswer → D → Type 0) (old new : D) (old_text new_text : Option (List ℕ)) (old_run new_run : Run) (old_pending pending bytes : List ℕ) : Type 0 where
@@ -115,8 +115,8 @@ pub record Takes {D : Type 0} (runs : D → List ℕ → LineAnswer → D → Ty
 pub record Breaks {D : Type 0} (runs : D → List ℕ → LineAnswer → D → Type 0) (old new : D) (old_text new_text : Option (List ℕ)) (old_pending bytes : List ℕ) : Type 0 where
   pub lines : List (List ℕ)
   pub more : List ℕ
-  pub whole : old_pending ++ bytes ≡ joined lines ++ more
-  pub plain : IsPlain old_pending → AllByRecursion IsPlain lines
+  pub whole : old_pending ++ bytes ≡ joined_lines lines ++ more
+  pub plain : HasNoLineFeed old_pending → AllByRecursion HasNoLineFeed lines
   pub stopped : Stopped runs old new old_text new_text lines
 
 -- no fault of a reader

@@ -1,5 +1,5 @@
 // What a desk tells: where a child would be by another list.
-ghost use Rattle.adm_desk.specs.Questions.{Answered, Tells};
+ghost use Rattle.adm_desk.specs.Questions.{AnswersQuestion, DeskTells};
 
 use crate::lines::Liner;
 use crate::{Desk, LineAnswer, Told};
@@ -11,7 +11,7 @@ use std::alloc::Global;
 
 /// What a question is told of a register.
 fn told(alloc: Global, register: &Register, asked: &WhatIf) -> Told
-    ensures { Answered register.now asked.now result }
+    ensures { AnswersQuestion register.now asked.now result }
 {
     let lots = asked.lots.as_slice();
     let schools = asked.preferences.as_slice();
@@ -25,7 +25,7 @@ impl<S: Alter> Desk<S> {
     /// Reads the bytes as a question, where a child would be by another list, and answers it. The
     /// desk stays as it is, and so does its file. It takes memory and time as the next round would.
     pub fn tell(&self, alloc: Global, bytes: &[u8]) -> LineAnswer
-        ensures { Tells self.now bytes.now result }
+        ensures { DeskTells self.now bytes.now result }
     {
         match read_what_if(alloc, bytes) {
             Err(fault) => LineAnswer::Faulty(fault),

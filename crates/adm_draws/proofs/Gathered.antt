@@ -15,7 +15,7 @@ use Rattle.adm_types.specs.declared.draws.Draw.{Draw}
 use Rattle.adm_types.specs.declared.draws.DrawRow.{DrawRow}
 use Rattle.adm_types.specs.declared.draws.OfferRow.{OfferRow}
 use Rattle.adm_types.specs.declared.draws.LotRow.{LotRow}
-use Rattle.adm_draws.specs.Draws.{row_of, offer_row, offer_rows_of, lot_row, lot_rows_of}
+use Rattle.adm_draws.specs.Draws.{row_of, offer_row_of, offer_rows_of, lot_row_of, lot_rows_of}
 use Rattle.adm_draws.specs.Grouped.{front, later, is_offer_of, is_lot_of, draw_of, draws_after}
 
 -- ---- the rows in front
@@ -121,12 +121,12 @@ module _ {I R : Type 0} (items : Draw → List I) (row : ℕ → I → R) (numbe
 pub complete : (done ds : List Draw) → IsStrictlySortedBy nat_cmp (map (λ draw. draw.number) ds) → draws_after done (map row_of ds) (flat_map offer_rows_of ds) (flat_map lot_rows_of ds) ≡ Some (done ++ ds)
 complete done [] sorted = ap Some (sym (append-nil done))
 complete done (d ∷ ds) sorted =
-    let front_offers = first_front (λ e. e.outcomes) offer_row (λ r. r.draw) (λ r. r.outcome) (λ n x. refl) (λ n x. refl) (λ r. refl) d ds sorted in
-    let later_offers = first_later (λ e. e.outcomes) offer_row (λ r. r.draw) (λ r. r.outcome) (λ n x. refl) (λ n x. refl) (λ r. refl) d ds sorted in
-    let front_lots = first_front (λ e. e.lots) lot_row (λ r. r.draw) (λ r. r.lot) (λ n x. refl) (λ n x. refl) (λ r. refl) d ds sorted in
-    let later_lots = first_later (λ e. e.lots) lot_row (λ r. r.draw) (λ r. r.lot) (λ n x. refl) (λ n x. refl) (λ r. refl) d ds sorted in
-    let outcomes : map (λ (r : OfferRow). r.outcome) (offer_rows_of d) ≡ d.outcomes = items_again (λ e. e.outcomes) offer_row (λ r. r.draw) (λ r. r.outcome) (λ n x. refl) (λ n x. refl) (λ r. refl) d.number d.outcomes in
-    let lots : map (λ (r : LotRow). r.lot) (lot_rows_of d) ≡ d.lots = items_again (λ e. e.lots) lot_row (λ r. r.draw) (λ r. r.lot) (λ n x. refl) (λ n x. refl) (λ r. refl) d.number d.lots in
+    let front_offers = first_front (λ e. e.outcomes) offer_row_of (λ r. r.draw) (λ r. r.outcome) (λ n x. refl) (λ n x. refl) (λ r. refl) d ds sorted in
+    let later_offers = first_later (λ e. e.outcomes) offer_row_of (λ r. r.draw) (λ r. r.outcome) (λ n x. refl) (λ n x. refl) (λ r. refl) d ds sorted in
+    let front_lots = first_front (λ e. e.lots) lot_row_of (λ r. r.draw) (λ r. r.lot) (λ n x. refl) (λ n x. refl) (λ r. refl) d ds sorted in
+    let later_lots = first_later (λ e. e.lots) lot_row_of (λ r. r.draw) (λ r. r.lot) (λ n x. refl) (λ n x. refl) (λ r. refl) d ds sorted in
+    let outcomes : map (λ (r : OfferRow). r.outcome) (offer_rows_of d) ≡ d.outcomes = items_again (λ e. e.outcomes) offer_row_of (λ r. r.draw) (λ r. r.outcome) (λ n x. refl) (λ n x. refl) (λ r. refl) d.number d.outcomes in
+    let lots : map (λ (r : LotRow). r.lot) (lot_rows_of d) ≡ d.lots = items_again (λ e. e.lots) lot_row_of (λ r. r.draw) (λ r. r.lot) (λ n x. refl) (λ n x. refl) (λ r. refl) d.number d.lots in
     let itself : draw_of (row_of d) (offer_rows_of d) (lot_rows_of d) ≡ d = λ i. record { number = d.number; round = d.round; school = d.school; day = d.day; outcomes = outcomes i; lots = lots i } in
     (λ i. draws_after (done ++ draw_of (row_of d) (front_offers i) (front_lots i) ∷ []) (map row_of ds) (later_offers i) (later_lots i))
     ∙ ap (λ (x : Draw). draws_after (done ++ x ∷ []) (map row_of ds) (flat_map offer_rows_of ds) (flat_map lot_rows_of ds)) itself
@@ -154,6 +154,6 @@ sound done (head ∷ heads) offers lots draws h =
       more = draw ∷ rest.more;
       all = rest.all ∙ append_assoc done (draw ∷ []) rest.more;
       own_heads = λ i. head ∷ rest.own_heads i;
-      own_offers = all_rows (λ e. e.outcomes) offer_row (λ r. r.draw) (λ r. r.outcome) (λ n x. refl) (λ n x. refl) (λ r. refl) head.draw offers rest.more rest.own_offers;
-      own_lots = all_rows (λ e. e.lots) lot_row (λ r. r.draw) (λ r. r.lot) (λ n x. refl) (λ n x. refl) (λ r. refl) head.draw lots rest.more rest.own_lots;
+      own_offers = all_rows (λ e. e.outcomes) offer_row_of (λ r. r.draw) (λ r. r.outcome) (λ n x. refl) (λ n x. refl) (λ r. refl) head.draw offers rest.more rest.own_offers;
+      own_lots = all_rows (λ e. e.lots) lot_row_of (λ r. r.draw) (λ r. r.lot) (λ n x. refl) (λ n x. refl) (λ r. refl) head.draw lots rest.more rest.own_lots;
     }

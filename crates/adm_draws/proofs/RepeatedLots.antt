@@ -8,9 +8,9 @@ use Rattle.std.specs.Cmp.Lexicographic.{slice_cmp, texts_ties}
 use Rattle.std.specs.List.{IsDistinct, AllByRecursion, list_any}
 use Rattle.std.proofs.lemmas.Map.Keys.{IsDistinct-head, IsDistinct-tail, IsDistinct-cons}
 use Rattle.std.proofs.lemmas.Bool.{true≢false}
+use Rattle.adm_types.specs.Lots.{repeats_lot, is_same_lot}
 use Rattle.adm_types.specs.declared.draws.Lot.{Lot}
 use Rattle.adm_draws.specs.declared.keys.DrawnLot.{DrawnLot}
-use Rattle.adm_draws.specs.Draws.{is_same_lot, repeats_lot}
 use Rattle.adm_draws.specs.Grouped.{drawn_lot}
 
 -- by the school, and then by the lot

@@ -16,7 +16,7 @@ use Rattle.adm_types.specs.declared.draws.Draw.{Draw}
 use Rattle.adm_types.specs.declared.draws.DrawRow.{DrawRow}
 use Rattle.adm_types.specs.declared.draws.OfferRow.{OfferRow}
 use Rattle.adm_types.specs.declared.draws.LotRow.{LotRow}
-use Rattle.adm_draws.specs.Draws.{rises, row_of, offer_row, offer_rows_of, lot_row, lot_rows_of, outcome_cmp, lot_cmp, are_ordered, AreByNumber}
+use Rattle.adm_draws.specs.Draws.{rises, row_of, offer_row_of, offer_rows_of, lot_row_of, lot_rows_of, outcome_cmp, lot_cmp, are_ordered, AreByNumber}
 use Rattle.adm_draws.proofs.Rising.{sorted_rises, rises_sorted}
 
 -- ---- lists on end
@@ -122,18 +122,18 @@ heads_rise ds order = heads_are ds ∙ sorted_rises nat_cmp (map (λ draw. draw.
 
 pub offers_rise : (ds : List Draw) → AreByNumber ds → rises offer_row_cmp (flat_map offer_rows_of ds) ≡ true
 offers_rise ds order =
-    rows_rise (λ d. d.outcomes) offer_row outcome_cmp offer_row_cmp (λ n x y. tied n (outcome_cmp x y)) (λ n m x y h. less n m (outcome_cmp x y) h) ds order.rising
+    rows_rise (λ d. d.outcomes) offer_row_of outcome_cmp offer_row_cmp (λ n x y. tied n (outcome_cmp x y)) (λ n m x y h. less n m (outcome_cmp x y) h) ds order.rising
     (first_of_both ds (both_ordered ds order.each))
 
 pub lots_rise : (ds : List Draw) → AreByNumber ds → rises lot_row_cmp (flat_map lot_rows_of ds) ≡ true
 lots_rise ds order =
-    rows_rise (λ d. d.lots) lot_row lot_cmp lot_row_cmp (λ n x y. tied n (lot_cmp x y)) (λ n m x y h. less n m (lot_cmp x y) h) ds order.rising
+    rows_rise (λ d. d.lots) lot_row_of lot_cmp lot_row_cmp (λ n x y. tied n (lot_cmp x y)) (λ n m x y h. less n m (lot_cmp x y) h) ds order.rising
     (second_of_both ds (both_ordered ds order.each))
 
 pub in_order_by_rows : (ds : List Draw) → rises head_cmp (map row_of ds) ≡ true → rises offer_row_cmp (flat_map offer_rows_of ds) ≡ true → rises lot_row_cmp (flat_map lot_rows_of ds) ≡ true → AreByNumber ds
 in_order_by_rows ds heads offers lots = record {
   rising = rises_sorted nat_cmp (map (λ draw. draw.number) ds) (sym (heads_are ds) ∙ heads);
   each = All-from_recursion (λ draw. are_ordered draw ≡ true) ds (pair ds
-      (each_rises (λ d. d.outcomes) offer_row outcome_cmp offer_row_cmp (λ n x y. tied n (outcome_cmp x y)) (λ n m x y h. less n m (outcome_cmp x y) h) ds offers)
-      (each_rises (λ d. d.lots) lot_row lot_cmp lot_row_cmp (λ n x y. tied n (lot_cmp x y)) (λ n m x y h. less n m (lot_cmp x y) h) ds lots));
+      (each_rises (λ d. d.outcomes) offer_row_of outcome_cmp offer_row_cmp (λ n x y. tied n (outcome_cmp x y)) (λ n m x y h. less n m (outcome_cmp x y) h) ds offers)
+      (each_rises (λ d. d.lots) lot_row_of lot_cmp lot_row_cmp (λ n x y. tied n (lot_cmp x y)) (λ n m x y h. less n m (lot_cmp x y) h) ds lots));
 }

@@ -2,9 +2,11 @@
 use Rattle.std.specs.Prelude.{ℕ, Bool, true, false, not, ◌&&◌, ◌||◌, nat_eq, List, [], ◌∷◌, map, All, IsTrue, IsPermutation, Option, Some, None, is_some}
 use Rattle.std.specs.declared.cmp.Ordering.{Ordering}
 use Rattle.std.specs.Ordering.{nat_cmp, ordering_then, is_lt}
-use Rattle.std.specs.Cmp.Lexicographic.{slice_cmp, pointwise}
-use Rattle.std.specs.List.{flat_map, list_all, list_any}
+use Rattle.std.specs.Cmp.Lexicographic.{slice_cmp}
+use Rattle.std.specs.List.{flat_map, list_all}
 use Rattle.std.specs.List.Sorted.{IsStrictlySortedBy}
+use Rattle.adm_types.specs.Code.{has}
+use Rattle.adm_types.specs.Lots.{repeats_lot}
 use Rattle.adm_types.specs.declared.draws.Draw.{Draw}
 use Rattle.adm_types.specs.declared.draws.DrawRow.{DrawRow}
 use Rattle.adm_types.specs.declared.draws.OfferRow.{OfferRow}
@@ -19,18 +21,18 @@ abbrev pub row_of : Draw → DrawRow
 row_of d = record { draw = d.number; round = d.round; school = d.school; day = d.day }
 
 -- an outcome with the number of its draw
-abbrev pub offer_row : ℕ → Outcome → OfferRow
-offer_row number outcome = record { draw = number; outcome = outcome }
+abbrev pub offer_row_of : ℕ → Outcome → OfferRow
+offer_row_of number outcome = record { draw = number; outcome = outcome }
 
 -- a lot with the number of its draw
-abbrev pub lot_row : ℕ → Lot → LotRow
-lot_row number lot = record { draw = number; lot = lot }
+abbrev pub lot_row_of : ℕ → Lot → LotRow
+lot_row_of number lot = record { draw = number; lot = lot }
 
 abbrev pub offer_rows_of : Draw → List OfferRow
-offer_rows_of d = map (offer_row d.number) d.outcomes
+offer_rows_of d = map (offer_row_of d.number) d.outcomes
 
 abbrev pub lot_rows_of : Draw → List LotRow
-lot_rows_of d = map (lot_row d.number) d.lots
+lot_rows_of d = map (lot_row_of d.number) d.lots
 
 -- these are the rows of the draws, in any order
 pub record AreDrawRowsOf (draw_rows : List DrawRow) (offer_rows : List OfferRow) (lot_rows : List LotRow) (draws : List Draw) : Type 0 where
@@ -64,27 +66,13 @@ pub record AreByNumber (draws : List Draw) : Type 0 where
 
 -- ---- which draws may stand in a register
 
--- the lots are of one school, and equal
-abbrev pub is_same_lot : Lot → Lot → Bool
-is_same_lot x y = pointwise nat_eq x.school y.school && nat_eq x.lot y.lot
-
--- two of the lots are
-abbrev pub repeats_lot : List Lot → Bool
-repeats_lot [] = false
-repeats_lot (lot ∷ lots) = list_any (is_same_lot lot) lots || repeats_lot lots
-
 -- who was moved has a school
 abbrev pub fresh_has_school : Outcome → Bool
 fresh_has_school outcome = is_some outcome.school || not outcome.fresh
 
--- the school is this one
-abbrev pub is_allotted : List ℕ → Option (List ℕ) → Bool
-is_allotted school None = false
-is_allotted school (Some allotted) = pointwise nat_eq allotted school
-
 -- the child was allotted this school, where it was not before
 abbrev pub is_offered_at : List ℕ → Outcome → Bool
-is_offered_at school outcome = outcome.fresh && is_allotted school outcome.school
+is_offered_at school outcome = outcome.fresh && has outcome.school school
 
 -- a round, which is numbered from 1, has no school; a fill has one, and one outcome, at that school
 abbrev pub is_round_or_fill : ℕ → Option (List ℕ) → List Outcome → Bool

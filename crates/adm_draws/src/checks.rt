@@ -1,7 +1,8 @@
 // Whether a draw may stand in a register.
 ghost use Rattle.std.specs.Prelude.{◌≡◌, IfOk};
 ghost use Rattle.std.specs.List.{list_all};
-ghost use Rattle.adm_draws.specs.Draws.{is_draw, are_ordered, fresh_has_school, is_allotted, is_offered_at, is_round_or_fill};
+ghost use Rattle.adm_types.specs.Code.{has};
+ghost use Rattle.adm_draws.specs.Draws.{is_draw, are_ordered, fresh_has_school, is_offered_at, is_round_or_fill};
 
 use crate::order::rises;
 use crate::repeats::has_repeated_lot;
@@ -55,12 +56,12 @@ fn is_round_or_fill(round: u32, school: Option<SchoolCode>, outcomes: &[Outcome]
 fn is_offered_at(school: SchoolCode, outcome: &Outcome) -> bool
     ensures { result ≡ is_offered_at school outcome.now }
 {
-    outcome.fresh && is_allotted(school, outcome.school)
+    outcome.fresh && has(outcome.school, school)
 }
 
-/// Whether the school is this one.
-fn is_allotted(school: SchoolCode, allotted: Option<SchoolCode>) -> bool
-    ensures { result ≡ is_allotted school allotted }
+/// Whether what a child has is that school.
+fn has(allotted: Option<SchoolCode>, school: SchoolCode) -> bool
+    ensures { result ≡ has allotted school }
 {
     match allotted {
         None => false,

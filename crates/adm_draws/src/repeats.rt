@@ -1,6 +1,6 @@
 // Whether two lots of a school are equal.
 ghost use Rattle.std.specs.Prelude.{◌≡◌, map, IfOk};
-ghost use Rattle.adm_draws.specs.Draws.{repeats_lot};
+ghost use Rattle.adm_types.specs.Lots.{repeats_lot};
 ghost use Rattle.adm_draws.specs.Grouped.{drawn_lot};
 
 use crate::keys::DrawnLot;

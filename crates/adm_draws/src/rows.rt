@@ -1,7 +1,7 @@
 // The rows of draws, for the three tables.
 ghost use Rattle.std.specs.Prelude.{◌≡◌, ◌++◌, map, IfOk};
 ghost use Rattle.std.specs.List.{flat_map};
-ghost use Rattle.adm_draws.specs.Draws.{row_of, offer_row, offer_rows_of, lot_row, lot_rows_of};
+ghost use Rattle.adm_draws.specs.Draws.{row_of, offer_row_of, offer_rows_of, lot_row_of, lot_rows_of};
 
 use adm_table::Shared;
 use adm_types::{Draw, DrawRow, Lot, LotRow, OfferRow, Outcome};
@@ -60,7 +60,7 @@ fn push_offers(
     number: u32,
     outcomes: &[Outcome],
 ) -> Result<(), AllocError>
-    ensures { IfOk result (λ _. rows.new.items ≡ rows.old.items ++ map (offer_row number) outcomes.now) }
+    ensures { IfOk result (λ _. rows.new.items ≡ rows.old.items ++ map (offer_row_of number) outcomes.now) }
 {
     for outcome in outcomes {
         rows.push(OfferRow {
@@ -73,7 +73,7 @@ fn push_offers(
 
 /// Adds lots of the draw of this number.
 fn push_lots(rows: &mut Vec<LotRow>, number: u32, lots: &[Lot]) -> Result<(), AllocError>
-    ensures { IfOk result (λ _. rows.new.items ≡ rows.old.items ++ map (lot_row number) lots.now) }
+    ensures { IfOk result (λ _. rows.new.items ≡ rows.old.items ++ map (lot_row_of number) lots.now) }
 {
     for lot in lots {
         rows.push(LotRow {

@@ -11,7 +11,7 @@ use Rattle.matchit.specs.Seek.{has_slash, first}
 use Rattle.matchit.specs.Rows.{RowsOf}
 use Rattle.adm_http.specs.Rows.{six_routes}
 use Rattle.matchit.specs.Router.{RouteOf}
-use Rattle.adm_http.specs.Targets.{after, part_of, tail_of, Found, or_found, at_end, with_part, child_after, route_of}
+use Rattle.adm_http.specs.Targets.{after_prefix, part_of, tail_of, Found, or_found, at_end, with_part, child_after, route_of}
 use Rattle.adm_http.specs.declared.targets.Route.{Route}
 use Rattle.adm_http.specs.declared.targets.Route.TheVariants.{Command, Child, Letter, Waiting, Round, WhatIf}
 use Rattle.adm_http.proofs.RouteLemmas.{route_row, IsBytes, some_found}
@@ -34,12 +34,12 @@ part_flat (b ∷ x) = by (b == 47) refl (part_flat x)
     by true e ih = refl
     by false e ih = rw e ih
 
-after_is : (w t rest : List ℕ) → after w t ≡ Some rest → t ≡ w ++ rest
+after_is : (w t rest : List ℕ) → after_prefix w t ≡ Some rest → t ≡ w ++ rest
 after_is [] t rest e = cc e
 after_is (c ∷ w) [] rest e = absurd (cc e)
 after_is (c ∷ w) (b ∷ t) rest e = by (c == b) refl (after_is w t rest) e
   where
-    by : (v : Bool) → (c == b) ≡ v → (after w t ≡ Some rest → t ≡ w ++ rest) → cond v (after w t) None ≡ Some rest → b ∷ t ≡ c ∷ (w ++ rest)
+    by : (v : Bool) → (c == b) ≡ v → (after_prefix w t ≡ Some rest → t ≡ w ++ rest) → cond v (after_prefix w t) None ≡ Some rest → b ∷ t ≡ c ∷ (w ++ rest)
     by true s ih h =
         let same : c ≡ b = grind (arith, nat_tests) in
         let others = ih h in
@@ -77,33 +77,33 @@ record IsTargetOf (route : Route) (front w t : List ℕ) (x : Route × List ℕ)
   target_is : t ≡ front ++ (x.1 ++ w)
   flat : has_slash x.1 ≡ false
 
-is_target : (route : Route) (front w t rest : List ℕ) (x : Route × List ℕ) → after front t ≡ Some rest → with_part route w rest ≡ Some x
+is_target : (route : Route) (front w t rest : List ℕ) (x : Route × List ℕ) → after_prefix front t ≡ Some rest → with_part route w rest ≡ Some x
     → IsTargetOf route front w t x
 is_target route front w t rest x front_is e =
     let parted = with_part_is route w rest x e in
     record { route_is = parted.route_is; target_is = after_is front t rest front_is ∙ ap (λ l. front ++ l) parted.rest_is; flat = parted.flat }
 
-under : (route : Route) (front w t : List ℕ) (x : Route × List ℕ) → option_and_then (with_part route w) (after front t) ≡ Some x
+under : (route : Route) (front w t : List ℕ) (x : Route × List ℕ) → option_and_then (with_part route w) (after_prefix front t) ≡ Some x
     → IsTargetOf route front w t x
-under route front w t x e = by (after front t) refl e
+under route front w t x e = by (after_prefix front t) refl e
   where
-    by : (m : Option (List ℕ)) → after front t ≡ m → option_and_then (with_part route w) m ≡ Some x → IsTargetOf route front w t x
+    by : (m : Option (List ℕ)) → after_prefix front t ≡ m → option_and_then (with_part route w) m ≡ Some x → IsTargetOf route front w t x
     by None is h = absurd (cc h)
     by (Some rest) is h = is_target route front w t rest x is h
 
-under_child : (t : List ℕ) (x : Route × List ℕ) → option_and_then child_after (after (codes "/child/") t) ≡ Some x
+under_child : (t : List ℕ) (x : Route × List ℕ) → option_and_then child_after (after_prefix (codes "/child/") t) ≡ Some x
     → IsTargetOf Letter (codes "/child/") (codes "/letter") t x ⊎ IsTargetOf Child (codes "/child/") [] t x
-under_child t x e = by (after (codes "/child/") t) refl e
+under_child t x e = by (after_prefix (codes "/child/") t) refl e
   where
-    by : (m : Option (List ℕ)) → after (codes "/child/") t ≡ m → option_and_then child_after m ≡ Some x
+    by : (m : Option (List ℕ)) → after_prefix (codes "/child/") t ≡ m → option_and_then child_after m ≡ Some x
         → IsTargetOf Letter (codes "/child/") (codes "/letter") t x ⊎ IsTargetOf Child (codes "/child/") [] t x
     by None is h = absurd (cc h)
     by (Some rest) is h =
         ⊎_elim (λ l. inl (is_target Letter (codes "/child/") (codes "/letter") t rest x is l)) (λ r. inr (is_target Child (codes "/child/") [] t rest x is r))
         (found_cases (with_part Letter (codes "/letter") rest) (with_part Child [] rest) x h)
 
-under_end : (route : Route) (w t : List ℕ) (x : Route × List ℕ) → option_and_then (at_end route) (after w t) ≡ Some x → x ≡ (route, [])
-under_end route w t x e = by (after w t) e
+under_end : (route : Route) (w t : List ℕ) (x : Route × List ℕ) → option_and_then (at_end route) (after_prefix w t) ≡ Some x → x ≡ (route, [])
+under_end route w t x e = by (after_prefix w t) e
   where
     by : (m : Option (List ℕ)) → option_and_then (at_end route) m ≡ Some x → x ≡ (route, [])
     by None h = absurd (cc h)
@@ -184,19 +184,19 @@ takes_part t x text e =
     (found_cases a (or_found b (or_found d (or_found f h))) x e)
   where
     a : Found
-    a = option_and_then child_after (after (codes "/child/") t)
+    a = option_and_then child_after (after_prefix (codes "/child/") t)
 
     b : Found
-    b = option_and_then (at_end Command) (after (codes "/command") t)
+    b = option_and_then (at_end Command) (after_prefix (codes "/command") t)
 
     d : Found
-    d = option_and_then (with_part Round []) (after (codes "/round/") t)
+    d = option_and_then (with_part Round []) (after_prefix (codes "/round/") t)
 
     f : Found
-    f = option_and_then (with_part Waiting (codes "/waiting")) (after (codes "/school/") t)
+    f = option_and_then (with_part Waiting (codes "/waiting")) (after_prefix (codes "/school/") t)
 
     h : Found
-    h = option_and_then (at_end WhatIf) (after (codes "/what-if") t)
+    h = option_and_then (at_end WhatIf) (after_prefix (codes "/what-if") t)
 
     back : (r : Route) → x.0 ≡ r → Takes (route_row r) t x.1 → TakesPart x t
     back r is takes = inr (subst (λ k. Takes (route_row k) t x.1) (sym is) takes)

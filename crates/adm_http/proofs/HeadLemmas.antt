@@ -6,7 +6,7 @@ use Rattle.httparse.specs.Grammar.{RequestHead, print_request, ReadsRequest}
 use Rattle.httparse.specs.Spans.{IsRequestOf, IsRequestAt, header_bytes}
 use Rattle.httparse.specs.declared.spans.HeaderSpan.{HeaderSpan}
 use Rattle.httparse.specs.declared.spans.RequestSpans.{RequestSpans}
-use Rattle.adm_http.specs.Heads.{Decides, HeadField, window, verdict_of}
+use Rattle.adm_http.specs.Heads.{HeadDecides, HeadField, window, verdict_of}
 use Rattle.adm_http.specs.declared.heads.Verdict.{Verdict}
 
 -- the fields of a head fit the room that they were read in
@@ -20,7 +20,7 @@ fields_fit w headers r h at room =
 pub whole_head : (input w : List ℕ) (headers : List HeaderSpan) (r : RequestSpans) (method target : List ℕ) (v : Verdict)
     → w ≡ window input → IsRequestOf w headers r → length headers ≡ 64
     → method ≡ slice_range w r.method.start r.method.end → target ≡ slice_range w r.path.start r.path.end
-    → v ≡ verdict_of method target (map (header_bytes w) (take r.headers headers)) → Decides input r.len v
+    → v ≡ verdict_of method target (map (header_bytes w) (take r.headers headers)) → HeadDecides input r.len v
 whole_head input w headers r method target v w_is of room method_is target_is v_is =
     let h = of.0 in
     let at = of.1 in

@@ -8,11 +8,11 @@ use Rattle.std.proofs.lemmas.List.Elements.{All-append, All-cons}
 use Rattle.std.proofs.lemmas.Str.{IsUtf8-append, IsUtf8-from_ascii}
 use Rattle.std.proofs.lemmas.Bool.Decides.{nat_tests}
 use Rattle.httparse.proofs.GrammarLemmas.{request_unique, print_request-append}
-use Rattle.adm_http.specs.Heads.{window, Decides, IsAmbiguous, JudgedInOneWay, head_verdict, verdict_at_end}
+use Rattle.adm_http.specs.Heads.{window, HeadDecides, IsAmbiguous, JudgedInOneWay, head_verdict, verdict_at_end}
 use Rattle.adm_http.specs.declared.heads.Verdict.{Verdict}
 use Rattle.adm_http.specs.declared.heads.Judgement.TheVariants.{Whole, Malformed, Unfinished}
 
-same_head : (bytes : List ℕ) (l m : ℕ) (v w : Verdict) → Decides bytes l v → Decides bytes m w → Whole l v ≡ Whole m w
+same_head : (bytes : List ℕ) (l m : ℕ) (v w : Verdict) → HeadDecides bytes l v → HeadDecides bytes m w → Whole l v ≡ Whole m w
 same_head bytes l m v w a b =
     let same = request_unique (window bytes) a.head b.head _ _ a.has.reads b.has.reads in
     let len : l ≡ m = a.len_is ∙ ap (λ h. length (print_request h)) same.0 ∙ sym b.len_is in
@@ -20,7 +20,7 @@ same_head bytes l m v w a b =
     cc (len, verdict)
 
 -- a head that fits is not refused
-not_refused : (bytes : List ℕ) (l : ℕ) (v : Verdict) → Decides bytes l v → RequestOverflows 64 (window bytes) → ⊥
+not_refused : (bytes : List ℕ) (l : ℕ) (v : Verdict) → HeadDecides bytes l v → RequestOverflows 64 (window bytes) → ⊥
 not_refused bytes l v a over =
     let h = a.head in
     let rest = drop (length (print_request h)) (window bytes) in

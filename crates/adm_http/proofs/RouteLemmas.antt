@@ -9,7 +9,7 @@ use Rattle.matchit.specs.Router.{RouteOf, map_key}
 use Rattle.matchit.proofs.SeekLemmas.{seek-empty, or_else-none}
 use Rattle.matchit.proofs.RenameLemmas.{first-rename}
 use Rattle.adm_http.specs.Rows.{six_routes, row}
-use Rattle.adm_http.specs.Targets.{after, part_of, tail_of, Found, or_found, at_end, with_part, child_after, route_of}
+use Rattle.adm_http.specs.Targets.{after_prefix, part_of, tail_of, Found, or_found, at_end, with_part, child_after, route_of}
 use Rattle.adm_http.specs.declared.targets.Route.{Route}
 use Rattle.adm_http.specs.declared.targets.Route.TheVariants.{Command, Child, Letter, Waiting, Round, WhatIf}
 
@@ -152,12 +152,12 @@ IsBytes t = (i : ℕ) → get_or t i 0 < 256
 abbrev StartsSmall : Option (List ℕ) → Type 0
 StartsSmall m = (rest : List ℕ) → m ≡ Some rest → get_or rest 0 0 < 256
 
-after_small : (w t : List ℕ) → IsBytes t → StartsSmall (after w t)
+after_small : (w t : List ℕ) → IsBytes t → StartsSmall (after_prefix w t)
 after_small [] t small rest e = let same : t ≡ rest = cc e in subst (λ (m : List ℕ). get_or m 0 0 < 256) same (small 0)
 after_small (c ∷ w) [] small rest e = absurd (cc e)
 after_small (c ∷ w) (b ∷ t) small rest e = by (c == b) (after_small w t (λ i. small (suc i))) rest e
   where
-    by : (v : Bool) → StartsSmall (after w t) → (rest : List ℕ) → cond v (after w t) None ≡ Some rest → get_or rest 0 0 < 256
+    by : (v : Bool) → StartsSmall (after_prefix w t) → (rest : List ℕ) → cond v (after_prefix w t) None ≡ Some rest → get_or rest 0 0 < 256
     by true ih rest e = ih rest e
     by false ih rest e = absurd (cc e)
 
@@ -191,23 +191,23 @@ after_end route (Some (y ∷ z)) = seek-plain (([], key route) ∷ []) y z refl 
 all_found : (t : List ℕ) → IsBytes t → first all_rows t ≡ key_of (route_of t)
 unfolding route_of
 all_found t small =
-    let question = first-after (codes "/what-if") (([], 5) ∷ []) t (text_by_test (codes "/what-if") refl) ∙ after_end WhatIf (after (codes "/what-if") t) in
+    let question = first-after (codes "/what-if") (([], 5) ∷ []) t (text_by_test (codes "/what-if") refl) ∙ after_end WhatIf (after_prefix (codes "/what-if") t) in
     let school = first-after (codes "/school/") (prepend (param_token ∷ []) school_rows) t (text_by_test (codes "/school/") refl)
-    ∙ after_school (after (codes "/school/") t) (after_small (codes "/school/") t small) in
+    ∙ after_school (after_prefix (codes "/school/") t) (after_small (codes "/school/") t small) in
     let round = first-after (codes "/round/") (prepend (param_token ∷ []) round_rows) t (text_by_test (codes "/round/") refl)
-    ∙ after_round (after (codes "/round/") t) (after_small (codes "/round/") t small) in
-    let command = first-after (codes "/command") (([], 2) ∷ []) t (text_by_test (codes "/command") refl) ∙ after_end Command (after (codes "/command") t) in
+    ∙ after_round (after_prefix (codes "/round/") t) (after_small (codes "/round/") t small) in
+    let command = first-after (codes "/command") (([], 2) ∷ []) t (text_by_test (codes "/command") refl) ∙ after_end Command (after_prefix (codes "/command") t) in
     let child = first-after (codes "/child/") (prepend (param_token ∷ []) child_rows) t (text_by_test (codes "/child/") refl)
-    ∙ after_child (after (codes "/child/") t) (after_small (codes "/child/") t small) in
+    ∙ after_child (after_prefix (codes "/child/") t) (after_small (codes "/child/") t small) in
     let f0 = first-union (codes "/school/") (prepend (param_token ∷ []) school_rows) (prepend (codes "/what-if") (([], 5) ∷ [])) t (lit< tt, refl, refl, refl, (lit< tt, refl, refl, refl, tt)) in
     let f1 = first-union (codes "/round/") (prepend (param_token ∷ []) round_rows) (prepend (codes "/school/") (prepend (param_token ∷ []) school_rows) ++ prepend (codes "/what-if") (([], 5) ∷ [])) t (lit< tt, refl, refl, refl, (lit< tt, refl, refl, refl, tt)) in
     let f2 = first-union (codes "/command") (([], 2) ∷ []) (prepend (codes "/round/") (prepend (param_token ∷ []) round_rows) ++ (prepend (codes "/school/") (prepend (param_token ∷ []) school_rows) ++ prepend (codes "/what-if") (([], 5) ∷ []))) t (lit< tt, refl, refl, refl, (lit< tt, refl, refl, refl, tt)) in
     let f3 = first-union (codes "/child/") (prepend (param_token ∷ []) child_rows) (prepend (codes "/command") (([], 2) ∷ []) ++ (prepend (codes "/round/") (prepend (param_token ∷ []) round_rows) ++ (prepend (codes "/school/") (prepend (param_token ∷ []) school_rows) ++ prepend (codes "/what-if") (([], 5) ∷ [])))) t (lit< tt, refl, refl, refl, (lit< tt, refl, refl, refl, (lit< tt, refl, refl, refl, tt))) in
-    let a = option_and_then child_after (after (codes "/child/") t) in
-    let b = option_and_then (at_end Command) (after (codes "/command") t) in
-    let d = option_and_then (with_part Round []) (after (codes "/round/") t) in
-    let e = option_and_then (with_part Waiting (codes "/waiting")) (after (codes "/school/") t) in
-    let f = option_and_then (at_end WhatIf) (after (codes "/what-if") t) in
+    let a = option_and_then child_after (after_prefix (codes "/child/") t) in
+    let b = option_and_then (at_end Command) (after_prefix (codes "/command") t) in
+    let d = option_and_then (with_part Round []) (after_prefix (codes "/round/") t) in
+    let e = option_and_then (with_part Waiting (codes "/waiting")) (after_prefix (codes "/school/") t) in
+    let f = option_and_then (at_end WhatIf) (after_prefix (codes "/what-if") t) in
     rw (f3, f2, f1, f0, child, command, round, school, question, key_or a (or_found b (or_found d (or_found e f))), key_or b (or_found d (or_found e f)), key_or d (or_found e f), key_or e f) refl
 
 -- the row of a key

@@ -9,7 +9,7 @@ use Rattle.matchit.specs.Rows.{Rows, prepend, param_token, catch_all_token}
 use Rattle.matchit.specs.Seek.{own, step, or_else, seek, first, param_step, has_slash, segment, cuts, longest_suffix, with_suffix}
 use Rattle.matchit.specs.Level.{IsText}
 use Rattle.matchit.proofs.SeekLemmas.{prepend-nil, own-append, step-append, own-prepend, step-hit, step-miss, seek-empty, seek-drop, seek-lit, or_else-none, param_step-empty}
-use Rattle.adm_http.specs.Targets.{after, part_of, tail_of}
+use Rattle.adm_http.specs.Targets.{after_prefix, part_of, tail_of}
 
 -- ---- rows that begin with bytes
 
@@ -54,13 +54,13 @@ first-union (x ∷ w) r (q ∷ s) (b ∷ p) d =
         let n : x ≢ b = λ h. grind (arith, nat_tests) in
         rw (step-miss b x w r n, seek-empty 0 p) refl
 
-pub first-after : (w : List ℕ) (r : Rows) (t : List ℕ) → IsText w → first (prepend w r) t ≡ option_and_then (first r) (after w t)
+pub first-after : (w : List ℕ) (r : Rows) (t : List ℕ) → IsText w → first (prepend w r) t ≡ option_and_then (first r) (after_prefix w t)
 unfolding seek
 first-after [] r t h = ap (λ l. first l t) (prepend-nil r)
 first-after (x ∷ w) r [] h = own-prepend x w r
 first-after (x ∷ w) r (y ∷ p) h = seek-lit x w r y p h.0 ∙ by (x == y) refl (first-after w r p h.1)
   where
-    by : (v : Bool) → (x == y) ≡ v → first (prepend w r) p ≡ option_and_then (first r) (after w p) → seek 0 (step y (prepend (x ∷ w) r)) p ≡ option_and_then (first r) (after (x ∷ w) (y ∷ p))
+    by : (v : Bool) → (x == y) ≡ v → first (prepend w r) p ≡ option_and_then (first r) (after_prefix w p) → seek 0 (step y (prepend (x ∷ w) r)) p ≡ option_and_then (first r) (after_prefix (x ∷ w) (y ∷ p))
     by true e ih =
         let xy : x ≡ y = grind (arith, nat_tests) in
         rw (e, ← xy, step-hit x w r) ih
@@ -200,15 +200,15 @@ cuts_part (x ∷ q) =
     rw (long, some) ends
 
 -- one route, whose text is this
-exact : (w : List ℕ) (k : ℕ) (x : List ℕ) → option_and_then (first (([], k) ∷ [])) (after w x) ≡ cond (bytes_eq x w) (Some k) None
+exact : (w : List ℕ) (k : ℕ) (x : List ℕ) → option_and_then (first (([], k) ∷ [])) (after_prefix w x) ≡ cond (bytes_eq x w) (Some k) None
 unfolding seek
 exact [] k [] = refl
 exact [] k (y ∷ z) = seek-plain (([], k) ∷ []) y z refl refl ∙ seek-empty 0 z
 exact (c ∷ w) k [] = refl
 exact (c ∷ w) k (y ∷ z) = by (c == y) refl (exact w k z)
   where
-    by : (v : Bool) → (c == y) ≡ v → option_and_then (first (([], k) ∷ [])) (after w z) ≡ cond (bytes_eq z w) (Some k) None
-        → option_and_then (first (([], k) ∷ [])) (after (c ∷ w) (y ∷ z)) ≡ cond (bytes_eq (y ∷ z) (c ∷ w)) (Some k) None
+    by : (v : Bool) → (c == y) ≡ v → option_and_then (first (([], k) ∷ [])) (after_prefix w z) ≡ cond (bytes_eq z w) (Some k) None
+        → option_and_then (first (([], k) ∷ [])) (after_prefix (c ∷ w) (y ∷ z)) ≡ cond (bytes_eq (y ∷ z) (c ∷ w)) (Some k) None
     by true e ih =
         let same : nat_eq y c ≡ true = grind (arith, nat_tests) in
         rw (e, same) ih

@@ -19,7 +19,7 @@ module _ {S : Type 0} (runs : Purpose → S → List ℕ → LineAnswer → S �
   AnswersUpTo (suc n) old new = (mid : S) × AnswersUpTo n old mid × AnswersOne mid new
 
 -- what is printed of a connection's fault
-abbrev pub fault_line : ServeFault → List ℕ
-fault_line Read = codes "fault: Read\n"
-fault_line Write = codes "fault: Write\n"
-fault_line Memory = codes "fault: Memory\n"
+abbrev pub connection_fault_line : ServeFault → List ℕ
+connection_fault_line Read = codes "fault: Read\n"
+connection_fault_line Write = codes "fault: Write\n"
+connection_fault_line Memory = codes "fault: Memory\n"

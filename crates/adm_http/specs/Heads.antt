@@ -88,7 +88,7 @@ pub record HasHead (bytes : List ℕ) (h : RequestHead) : Type 0 where
   pub room : length h.fields ≤ 64
 
 -- the window begins with a head of this length, which decides this
-pub record Decides (bytes : List ℕ) (len : ℕ) (verdict : Verdict) : Type 0 where
+pub record HeadDecides (bytes : List ℕ) (len : ℕ) (verdict : Verdict) : Type 0 where
   pub head : RequestHead
   pub has : HasHead (window bytes) head
   pub len_is : len ≡ length (print_request head)
@@ -96,7 +96,7 @@ pub record Decides (bytes : List ℕ) (len : ℕ) (verdict : Verdict) : Type 0 w
 
 -- what the bytes are so far: a whole head; no head, and none of at most 64 fields whatever bytes come; or none yet, and one may come
 abbrev pub IsJudgement : List ℕ → Judgement → Type 0
-IsJudgement bytes (Whole len verdict) = Decides bytes len verdict
+IsJudgement bytes (Whole len verdict) = HeadDecides bytes len verdict
 IsJudgement bytes Malformed = RequestOverflows 64 (window bytes)
 IsJudgement bytes Unfinished = HasNoRequest (window bytes) × MayBecomeRequest (window bytes)
 

@@ -22,6 +22,6 @@ six_routes =
     ∷ []
 
 -- a route's text reads well, and conflicts with none of the rows
-abbrev pub IsFree : Result Scan InsertError → RowsOf (RouteOf Route) → Type 0
-IsFree (Ok scan) rows = nearest scan.pattern rows ≡ None
-IsFree (Err e) rows = ⊥
+abbrev pub IsRouteFree : Result Scan InsertError → RowsOf (RouteOf Route) → Type 0
+IsRouteFree (Ok scan) rows = nearest scan.pattern rows ≡ None
+IsRouteFree (Err e) rows = ⊥

@@ -10,10 +10,10 @@ use Rattle.adm_http.specs.declared.targets.Purpose.TheVariants as purpose
 use Rattle.adm_http.specs.declared.targets.Resource.TheVariants.{ChildState, ChildLetter, WaitingList, RoundReport}
 
 -- what follows the text, where the bytes begin with it
-abbrev pub after : List ℕ → List ℕ → Option (List ℕ)
-after [] bytes = Some bytes
-after (c ∷ text) [] = None
-after (c ∷ text) (b ∷ bytes) = if c == b then after text bytes else None
+abbrev pub after_prefix : List ℕ → List ℕ → Option (List ℕ)
+after_prefix [] bytes = Some bytes
+after_prefix (c ∷ text) [] = None
+after_prefix (c ∷ text) (b ∷ bytes) = if c == b then after_prefix text bytes else None
 
 -- the bytes before the first slash
 abbrev pub part_of : List ℕ → List ℕ
@@ -50,11 +50,11 @@ child_after rest = or_found (with_part Letter (codes "/letter") rest) (with_part
 -- the route of a target: /child/{no}, /child/{no}/letter, /command, /round/{no}, /school/{code}/waiting or /what-if
 unfoldable pub route_of : List ℕ → Found
 route_of target =
-    or_found (option_and_then child_after (after (codes "/child/") target))
-    (or_found (option_and_then (at_end Command) (after (codes "/command") target))
-    (or_found (option_and_then (with_part Round []) (after (codes "/round/") target))
-    (or_found (option_and_then (with_part Waiting (codes "/waiting")) (after (codes "/school/") target))
-    (option_and_then (at_end WhatIf) (after (codes "/what-if") target)))))
+    or_found (option_and_then child_after (after_prefix (codes "/child/") target))
+    (or_found (option_and_then (at_end Command) (after_prefix (codes "/command") target))
+    (or_found (option_and_then (with_part Round []) (after_prefix (codes "/round/") target))
+    (or_found (option_and_then (with_part Waiting (codes "/waiting")) (after_prefix (codes "/school/") target))
+    (option_and_then (at_end WhatIf) (after_prefix (codes "/what-if") target)))))
 
 -- what the part of a route names, where it has the form that the route asks for
 abbrev pub named_by : Route × List ℕ → Option Target

@@ -3,7 +3,7 @@ ghost use Rattle.std.specs.Prelude.{◌≡◌, if◌then◌else◌};
 ghost use Rattle.sqlite.specs.Held.{state};
 ghost use Rattle.adm_desk.specs.DeskState.{Handles};
 ghost use Rattle.adm_http.specs.Purposes.{RunsBody};
-ghost use Rattle.adm_http.specs.Connections.{AnswersOne, AnswersUpTo, fault_line};
+ghost use Rattle.adm_http.specs.Connections.{AnswersOne, AnswersUpTo, connection_fault_line};
 ghost use Rattle.adm_http.specs.Shows.{Shows};
 
 use crate::answering::Answering;
@@ -131,7 +131,7 @@ fn take_rest<C: Clock>(clock: &C, stream: &TcpStream) {
 
 // What is printed of a fault.
 fn fault_line(fault: ServeFault) -> &'static str
-    ensures { result.now ≡ fault_line fault }
+    ensures { result.now ≡ connection_fault_line fault }
 {
     match fault {
         ServeFault::Read => "fault: Read\n",

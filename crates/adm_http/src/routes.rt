@@ -2,7 +2,7 @@
 ghost use Rattle.std.specs.Prelude.{◌≡◌, IfOk, OnOk, Ok, option_map};
 ghost use Rattle.matchit.specs.Route.{parse_route};
 ghost use Rattle.matchit.specs.Router.{InsertsRead};
-ghost use Rattle.adm_http.specs.Rows.{six_routes, IsFree};
+ghost use Rattle.adm_http.specs.Rows.{six_routes, IsRouteFree};
 ghost use Rattle.adm_http.specs.Targets.{route_of, target_of};
 
 use crate::targets::{Route, Target, named};
@@ -62,7 +62,7 @@ fn six(alloc: Global) -> Result<Router<Route>, AllocError>
 
 // Adds a route that conflicts with none.
 fn add(router: &mut Router<Route>, text: &str, route: Route) -> Result<(), AllocError>
-    requires { IsFree (parse_route text.now) router.old }
+    requires { IsRouteFree (parse_route text.now) router.old }
     ensures { OnOk result (InsertsRead (parse_route text.now) route router.old router.new (Ok tt)) }
 {
     match router.insert(text, route) {

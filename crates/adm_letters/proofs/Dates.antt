@@ -15,7 +15,7 @@ use borrow.Author.Differences.{up, down}
 use Rattle.adm_types.specs.Numbers.{first_day, last_day}
 use Rattle.adm_types.specs.Seasons.{day_number}
 use Rattle.adm_types.specs.DayText.{IsDayText, date_form}
-use Rattle.adm_letters.specs.Days.{first_from, year_of, month_of, day_text}
+use Rattle.adm_letters.specs.Days.{first_from, year_of_day, month_of, day_text}
 
 -- ---- the first number that passes a test
 
@@ -62,8 +62,8 @@ end_is_civil y m high low most = ((omega (arith, signed_arith), omega (arith, si
 -- the year, the month and the day of a date in range, by the count of its days
 module _ (year month of_month day : ℕ) (is_civil : IsCivilDate (pos year) month of_month) (low : 1990 ≤ year) (high : year ≤ 2110)
     (count : day + 4_371_953 ≡ day_count (pos year) month of_month) where
-  year_is : year_of day ≡ year
-  unfolding year_of
+  year_is : year_of_day day ≡ year
+  unfolding year_of_day
   year_is =
       first_is (λ y. nat_le day (day_number y 12 31)) 120 1990 year low high
       (le-leb _ _ (omega (arith, number_count year 12 31 low (omega arith), day_count-last_of_year (pos year), day_count-day_of_year (pos year) month of_month is_civil.2.0, day_of_year_bound (pos year) month of_month is_civil)))

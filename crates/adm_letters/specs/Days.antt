@@ -10,8 +10,8 @@ first_from test zero n = n
 first_from test (suc further) n = if test n then n else first_from test further (n + 1)
 
 -- the year of a day, from 1990 to 2110: the first that ends on it or after it
-unfoldable pub year_of : ℕ → ℕ
-year_of day = first_from (λ year. nat_le day (day_number year 12 31)) 120 1990
+unfoldable pub year_of_day : ℕ → ℕ
+year_of_day day = first_from (λ year. nat_le day (day_number year 12 31)) 120 1990
 
 -- the month of a day in its year: the first that ends on it or after it
 unfoldable pub month_of : ℕ → ℕ → ℕ
@@ -23,4 +23,4 @@ day_in_month year month day = date_form year month (day + 1 - day_number year mo
 
 -- the day as YYYY-MM-DD
 unfoldable pub day_text : ℕ → List ℕ
-day_text day = day_in_month (year_of day) (month_of (year_of day) day) day
+day_text day = day_in_month (year_of_day day) (month_of (year_of_day day) day) day

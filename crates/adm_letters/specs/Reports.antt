@@ -17,23 +17,23 @@ unfoldable pub outcome_line : ℕ → List ℕ → List ℕ
 outcome_line child school = right 9 (decimal child) ++ (codes " " ++ school)
 
 -- the code, or a dash where the child was allotted none
-abbrev pub school_text : Option (List ℕ) → List ℕ
-school_text (Some code) = code
-school_text None = codes "-"
+abbrev pub school_or_dash : Option (List ℕ) → List ℕ
+school_or_dash (Some code) = code
+school_or_dash None = codes "-"
 
 abbrev pub outcome_text : Outcome → List ℕ
-outcome_text outcome = outcome_line outcome.child (school_text outcome.school)
+outcome_text outcome = outcome_line outcome.child (school_or_dash outcome.school)
 
 -- how many were offered a school that was not theirs before, how many keep theirs, and how many have none
 unfoldable pub report_foot : ℕ → ℕ → ℕ → List ℕ
 report_foot offers kept unplaced = codes "Offers " ++ (decimal offers ++ (codes ", kept " ++ (decimal kept ++ (codes ", unplaced " ++ decimal unplaced))))
 
-abbrev pub counted : List Outcome → List ℕ
-counted outcomes = report_foot (count_by (λ outcome. outcome.fresh) outcomes) (count_by is_kept outcomes) (count_by (λ outcome. is_none outcome.school) outcomes)
+abbrev pub report_counts : List Outcome → List ℕ
+report_counts outcomes = report_foot (count_by (λ outcome. outcome.fresh) outcomes) (count_by is_kept outcomes) (count_by (λ outcome. is_none outcome.school) outcomes)
 
 -- the report of the round of a draw
 unfoldable pub report_lines : Draw → List (List ℕ)
-report_lines draw = report_head draw.round draw.number (day_text draw.day) ∷ (map outcome_text draw.outcomes ++ counted draw.outcomes ∷ [])
+report_lines draw = report_head draw.round draw.number (day_text draw.day) ∷ (map outcome_text draw.outcomes ++ report_counts draw.outcomes ∷ [])
 
 -- the report of the round of a number, if there was one
 abbrev pub report_text : State → ℕ → Option (List ℕ)

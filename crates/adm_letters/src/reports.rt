@@ -4,7 +4,7 @@ ghost use Rattle.adm_letters.specs.Answers.{GivesText};
 ghost use Rattle.adm_letters.specs.declared.fault.LetterFault.TheVariants.{NoRound};
 ghost use Rattle.adm_letters.specs.Lines.{AddsLines, lines_text};
 ghost use Rattle.adm_letters.specs.Days.{day_text};
-ghost use Rattle.adm_letters.specs.Reports.{report_head, outcome_line, outcome_text, report_foot, counted, report_lines, report_text};
+ghost use Rattle.adm_letters.specs.Reports.{report_head, outcome_line, outcome_text, report_foot, report_counts, report_lines, report_text};
 
 use crate::LetterFault;
 use crate::days::day_text;
@@ -85,7 +85,7 @@ fn outcome_line(text: &mut String, child: u32, school: &str) -> Result<(), Alloc
 }
 
 fn put_foot(text: &mut String, outcomes: &[Outcome]) -> Result<(), AllocError>
-    ensures { IfOk result (λ _. AddsLines text.old (counted outcomes.now ∷ []) text.new) }
+    ensures { IfOk result (λ _. AddsLines text.old (report_counts outcomes.now ∷ []) text.new) }
 {
     let Totals {
         offers,

@@ -2,10 +2,11 @@
 use Rattle.std.proofs.Common.{◌≡◌, ◌≢◌, ◌⊎◌, ℕ, ◌+◌, ◌<◌, ◌≤◌, List, length, set, Option, None, Some, true, false, inl, inr, refl, sym, ap, ◌∙◌, subst, arith, length-set}
 use Rattle.std.specs.List.{slice_get}
 use Rattle.std.proofs.lemmas.Option.{none-some, same_Some}
+use Rattle.adm_types.specs.Code.{has}
 use Rattle.adm_lists.proofs.Counts.{one_if}
 use Rattle.adm_match.specs.declared.problem.Wish.{Wish}
 use Rattle.adm_match.specs.declared.progress.Progress.{Progress}
-use Rattle.adm_match.specs.Market.{Code, Candidate, Market, has, assigned_rank, is_tenant, ranks_before, quota_of}
+use Rattle.adm_match.specs.Market.{Code, Candidate, Market, assigned_rank, is_tenant, ranks_before, quota_of}
 use Rattle.adm_match.specs.Turns.{held_at, IsHeldByNext, Shaped, NoneLost, IsGuestAt, IsRejected, Sound}
 use Rattle.adm_match.proofs.SideBySide.{after_set, count_set}
 use Rattle.adm_match.proofs.RanksAndBlocks.{has_true, has_false, not_has, same_or_not}

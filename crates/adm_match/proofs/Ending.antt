@@ -4,8 +4,9 @@ use Rattle.std.specs.Prelude.{IfSome, nat_lt}
 use Rattle.std.specs.List.{slice_get, list_any}
 use Rattle.std.proofs.lemmas.Bool.{cases_Bool, false≢true, and_parts, or_cases, ltb-true}
 use Rattle.std.proofs.lemmas.Option.{slice_get_within}
+use Rattle.adm_types.specs.Code.{has}
 use Rattle.adm_match.specs.declared.progress.Progress.{Progress}
-use Rattle.adm_match.specs.Market.{Code, Candidate, Market, has, preference_rank, assigned_rank, is_tenant, ranks_before, quota_of}
+use Rattle.adm_match.specs.Market.{Code, Candidate, Market, preference_rank, assigned_rank, is_tenant, ranks_before, quota_of}
 use Rattle.adm_match.specs.Stability.{Allocation, count_at, is_guest, blocks, IsBest}
 use Rattle.adm_match.specs.Turns.{held_at, WellListed, Shaped, IsGuestAt, IsRejected, Sound, AllDone, AllotsWhatIsHeld}
 use Rattle.adm_match.proofs.SideBySide.{count_beside, element_at}

@@ -2,8 +2,9 @@
 use Rattle.std.proofs.Common.{◌≡◌, ◌⊎◌, ℕ, zero, suc, ◌+◌, ◌<◌, ◌≤◌, List, [], ◌∷◌, length, map, set, Option, None, Some, not, ◌&&◌, inl, inr, refl, sym, ap, ◌∙◌, arith, add-one}
 use Rattle.std.proofs.lemmas.Bool.{cases_Bool, cases_lt}
 use Rattle.std.proofs.lemmas.Option.{none-some, same_Some, slice_get_within}
+use Rattle.adm_types.specs.Code.{has}
 use Rattle.adm_match.specs.declared.progress.Progress.{Progress}
-use Rattle.adm_match.specs.Market.{Code, Candidate, Market, has, is_tenant, ranks_before, quota_of}
+use Rattle.adm_match.specs.Market.{Code, Candidate, Market, is_tenant, ranks_before, quota_of}
 use Rattle.adm_match.specs.Stability.{Allocation, IsBest}
 use Rattle.adm_match.specs.Turns.{held_at, Sound, AllDone, IsFree, IsLast, NoGuest, AreRanked, turns_left, start_of, held_by, with_rejection, found_in}
 use Rattle.adm_match.proofs.SideBySide.{element_at}

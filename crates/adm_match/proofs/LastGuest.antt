@@ -3,8 +3,9 @@ use Rattle.std.proofs.Common.{◌≡◌, ◌≢◌, ◌&&◌, not, length, IfSom
 use Rattle.std.specs.List.{slice_get}
 use Rattle.std.proofs.lemmas.Bool.{cases_lt, cases_eq, and_parts, and_from, not-true, not_from_false, false≢true}
 use Rattle.std.proofs.lemmas.Option.{same_Some, slice_get_within}
+use Rattle.adm_types.specs.Code.{has}
 use Rattle.adm_match.specs.declared.progress.Progress.{Progress}
-use Rattle.adm_match.specs.Market.{Code, Candidate, has, is_tenant, ranks_before}
+use Rattle.adm_match.specs.Market.{Code, Candidate, is_tenant, ranks_before}
 use Rattle.adm_match.specs.Turns.{IsGuestAt, AreRanked, IsLast, NoGuest}
 use Rattle.adm_match.proofs.RanksAndBlocks.{has_tells, has_true, ranks_before_trans}
 

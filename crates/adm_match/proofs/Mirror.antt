@@ -6,13 +6,14 @@ use Rattle.std.specs.Option.{option_to_list}
 use Rattle.std.proofs.lemmas.Bool.{cases_order, and_from, and_parts, not-true, not_from_false}
 use Rattle.std.proofs.lemmas.Option.{none-some, same_Some}
 use Rattle.std.proofs.lemmas.List.Sorted.{IsPermutation-trans, IsPermutation-sym, IsPermutation-append_left, IsPermutation-append_right, IsPermutation-append_comm, Contains-permutation}
+use Rattle.adm_types.specs.Code.{has}
 use Rattle.adm_lists.proofs.Counts.{one_if}
 use Rattle.adm_rank.specs.declared.keys.RankKey.{RankKey}
 use Rattle.adm_match.specs.declared.held.Guest.{Guest}
 use Rattle.adm_match.specs.declared.progress.Progress.{Progress}
 use Rattle.std.proofs.lemmas.List.Elements.{Contains-append_cases, Contains-append_left, Contains-append_right, All-contains}
 use Rattle.adm_rank.specs.Ranking.{precedes}
-use Rattle.adm_match.specs.Market.{Code, Candidate, Market, has, is_tenant, key_at, both_precede, ranks_before}
+use Rattle.adm_match.specs.Market.{Code, Candidate, Market, is_tenant, key_at, both_precede, ranks_before}
 use Rattle.adm_match.specs.Turns.{IsGuestAt, Shaped, IsLast}
 use Rattle.adm_match.specs.Holding.{guest_entry, guests_of, RanksLast, SameBag}
 use Rattle.adm_match.proofs.Departure.{held_wish}

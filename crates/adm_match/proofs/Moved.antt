@@ -4,8 +4,9 @@ use Rattle.std.specs.Prelude.{IfSome, nat_lt}
 use Rattle.std.specs.List.{slice_get, list_any}
 use Rattle.std.proofs.lemmas.Bool.{cases_Bool, cases_eq, false≢true, and_from, and_parts, and_left}
 use Rattle.std.proofs.lemmas.Option.{same_Some, slice_get_within}
+use Rattle.adm_types.specs.Code.{has}
 use Rattle.adm_match.specs.declared.problem.Seats.{Seats}
-use Rattle.adm_match.specs.Market.{Code, Candidate, Market, has, preference_rank, is_tenant, key_at, both_precede, ranks_before, quota_of}
+use Rattle.adm_match.specs.Market.{Code, Candidate, Market, preference_rank, is_tenant, key_at, both_precede, ranks_before, quota_of}
 use Rattle.adm_match.specs.Stability.{Allocation, count_at, is_guest, prefers, ranks_after, blocks, IsContent, IsStable}
 use Rattle.adm_match.proofs.SideBySide.{count_beside}
 use Rattle.adm_match.proofs.RanksAndBlocks.{has_tells, at_All, All_at}

@@ -8,10 +8,11 @@ use Rattle.std.proofs.lemmas.Slice.Eq.{bytes_eq-Decides}
 use Rattle.std.proofs.lemmas.Option.{none-some, same_Some, slice_get_within, slice_get-get_or, get_or_from_slice_get}
 use Rattle.std.proofs.lemmas.List.Sums.{passes_at_first, prefix_len-le-length}
 use Rattle.std.proofs.lemmas.List.Folds.{list_any_at, Any-from_list_any}
+use Rattle.adm_types.specs.Code.{has}
 use Rattle.adm_rank.specs.declared.keys.RankKey.{RankKey}
 use Rattle.adm_match.specs.declared.problem.Wish.{Wish}
 use Rattle.adm_rank.specs.Ranking.{precedes}
-use Rattle.adm_match.specs.Market.{Code, Candidate, has, preference_rank, assigned_rank, is_tenant, key_at, both_precede, ranks_before}
+use Rattle.adm_match.specs.Market.{Code, Candidate, preference_rank, assigned_rank, is_tenant, key_at, both_precede, ranks_before}
 use Rattle.adm_match.specs.Stability.{Allocation, is_guest}
 
 pub has_tells : (o : Option Code) (s : Code) → Decides (has o s) (o ≡ Some s)

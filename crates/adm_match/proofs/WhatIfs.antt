@@ -11,11 +11,12 @@ use Rattle.std.proofs.lemmas.Option.{none-some}
 use Rattle.std.proofs.lemmas.Slice.Eq.{bytes_eq-Decides}
 use Rattle.std.proofs.lemmas.List.Elements.{filter_map-append}
 use Rattle.std.proofs.lemmas.Map.Text.{is_eq-slice_cmp}
+use Rattle.adm_types.specs.Code.{has}
 use Rattle.adm_match.specs.declared.problem.Wish.{Wish}
 use Rattle.adm_match.specs.declared.problem.Seats.{Seats}
 use Rattle.adm_match.specs.declared.what_ifs.WhatIfFault.{WhatIfFault}
 use Rattle.adm_match.specs.declared.what_ifs.WhatIfFault.TheVariants.{UnknownChild, NotItsSchools}
-use Rattle.adm_match.specs.Market.{Code, Candidate, Market, market_of, has, is_tenant, some_pair, same_school, first_fault}
+use Rattle.adm_match.specs.Market.{Code, Candidate, Market, market_of, is_tenant, some_pair, same_school, first_fault}
 use Rattle.adm_match.specs.Stability.{Allotment, IsBest, school_of}
 use Rattle.adm_match.specs.Distinct.{Distinct, Seated}
 use Rattle.adm_match.specs.Relisting.{wishes_among, with_list, relist, relisted, is_wanted, may_list, list_fault, what_if_fault, IsWhatIf, IsNoGain}

@@ -3,11 +3,12 @@ use Rattle.std.specs.Prelude.{◌≡◌, ℕ, ◌+◌, ◌<◌, ◌≤◌, Bool,
 use Rattle.std.specs.Ordering.{nat_cmp, ordering_then}
 use Rattle.std.specs.Option.{option_to_list}
 use Rattle.std.specs.declared.cmp.Ordering.{Ordering}
+use Rattle.adm_types.specs.Code.{has}
 use Rattle.adm_rank.specs.declared.keys.RankKey.{RankKey}
 use Rattle.adm_match.specs.declared.held.Guest.{Guest}
 use Rattle.adm_match.specs.declared.problem.Seats.{Seats}
 use Rattle.adm_match.specs.declared.progress.Progress.{Progress}
-use Rattle.adm_match.specs.Market.{Code, Candidate, has, is_tenant, key_at}
+use Rattle.adm_match.specs.Market.{Code, Candidate, is_tenant, key_at}
 use Rattle.adm_rank.specs.Ranking.{precedes}
 
 -- The quota, the tenants, and the guests. The order of the guests says nothing.

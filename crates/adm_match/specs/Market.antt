@@ -2,6 +2,7 @@
 -- Gale and Shapley 1962; tenants and the tests of a problem are this profile's.
 use Rattle.std.specs.Prelude.{ℕ, ◌+◌, Bool, false, not, ◌||◌, ◌&&◌, ◌==◌, if◌then◌else◌, List, [], ◌∷◌, length, Option, None, Some, option_map, unwrap_or, bytes_eq}
 use Rattle.std.specs.List.{list_any, position_or_len, find}
+use Rattle.adm_types.specs.Code.{has}
 use Rattle.adm_rank.specs.declared.keys.RankKey.{RankKey}
 use Rattle.adm_match.specs.declared.problem.Wish.{Wish}
 use Rattle.adm_match.specs.declared.problem.Seats.{Seats}
@@ -26,11 +27,6 @@ pub record Market : Type 0 where
 
 abbrev pub market_of : List Candidate → List Seats → Market
 market_of entrants seats = record { entrants = entrants; seats = seats }
-
--- whether what a child has is that school
-abbrev pub has : Option Code → Code → Bool
-has None school = false
-has (Some other) school = bytes_eq other school
 
 -- The rank of a school among a child's preferences: its index on the list, from 0; the list's length where it is not on
 -- it. The smaller rank is the more wanted.

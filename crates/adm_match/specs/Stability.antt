@@ -2,8 +2,9 @@
 -- Gale and Shapley 1962. The cases of a free place, of a child without a place and of a tenant are this profile's.
 use Rattle.std.specs.Prelude.{◌≡◌, ℕ, ◌+◌, ◌<◌, ◌≤◌, Bool, true, false, not, ◌||◌, ◌&&◌, ◌==◌, nat_lt, List, length, Option, None, Some, unwrap_or, option_map, IfSome, All, Any, count_by, sum_by, find}
 use Rattle.std.specs.List.{list_any}
+use Rattle.adm_types.specs.Code.{has}
 use Rattle.adm_match.specs.declared.problem.Wish.{Wish}
-use Rattle.adm_match.specs.Market.{Code, Candidate, Market, has, preference_rank, assigned_rank, is_tenant, ranks_before, quota_of}
+use Rattle.adm_match.specs.Market.{Code, Candidate, Market, preference_rank, assigned_rank, is_tenant, ranks_before, quota_of}
 
 -- which school each child has, or none (Gale and Shapley 1962: an assignment)
 abbrev pub Allocation : Type 0

@@ -1,8 +1,9 @@
 -- Where the entrants stand between two turns of deferred acceptance.
 use Rattle.std.specs.Prelude.{◌≡◌, ℕ, ◌<◌, ◌≤◌, ◌⊎◌, ◌+◌, ◌-◌, ◌≢◌, true, false, List, length, None, Some, is_none, is_some, if◌then◌else◌, slice_get, count_by, sum_by, unwrap_or, option_map, find, ◌==◌}
+use Rattle.adm_types.specs.Code.{has}
 use Rattle.adm_match.specs.declared.problem.Wish.{Wish}
 use Rattle.adm_match.specs.declared.progress.Progress.{Progress}
-use Rattle.adm_match.specs.Market.{Code, Candidate, Market, has, preference_rank, assigned_rank, is_tenant, ranks_before, quota_of}
+use Rattle.adm_match.specs.Market.{Code, Candidate, Market, preference_rank, assigned_rank, is_tenant, ranks_before, quota_of}
 use Rattle.adm_match.specs.Stability.{Allocation, IsStable}
 
 -- how many of the entrants a school holds, tentatively

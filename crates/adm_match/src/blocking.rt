@@ -1,7 +1,8 @@
 // Which child and school block an allocation.
 ghost use Rattle.std.specs.Prelude.{◌≡◌, ◌&&◌, not, IfSome, IfNone, find, option_map, count_by, All};
 ghost use Rattle.std.specs.List.{list_any};
-ghost use Rattle.adm_match.specs.Market.{market_of, has, ranks_before};
+ghost use Rattle.adm_types.specs.Code.{has};
+ghost use Rattle.adm_match.specs.Market.{market_of, ranks_before};
 ghost use Rattle.adm_match.specs.Stability.{school_of, blocks, prefers, ranks_after, IsFirstOfList, IsContent, IsFirstBlock};
 ghost use Rattle.adm_match.specs.Blocks.{earlier};
 

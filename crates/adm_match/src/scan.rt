@@ -1,7 +1,8 @@
 // Deferred acceptance by a plain scan: the reference to which tests hold the body that runs.
 ghost use Rattle.std.specs.Prelude.{◌≡◌, ◌<◌, ◌≤◌, ◌⊎◌, IfSome, IfNone, IfOk, length, None, not, ◌&&◌, ℕ, false};
+ghost use Rattle.adm_types.specs.Code.{has};
 ghost use Rattle.adm_match.specs.Stability.{IsBest, school_of, is_entrant, proposals_of};
-ghost use Rattle.adm_match.specs.Market.{market_of, has, is_tenant, first_fault, quota_of};
+ghost use Rattle.adm_match.specs.Market.{market_of, is_tenant, first_fault, quota_of};
 ghost use Rattle.adm_match.specs.Turns.{held_at, IsFree, AllDone, IsLast, NoGuest, AreRanked, Sound, turns_left};
 
 use crate::allotment::{Offers, offers_of};

@@ -24,12 +24,12 @@ use Rattle.adm_desk.specs.declared.answer.Answer.{Answer}
 use Rattle.adm_desk.specs.declared.answer.Answer.TheVariants as answer
 use Rattle.adm_desk.specs.declared.run.Run.{Run}
 use Rattle.adm_desk.specs.declared.run.RunFault.{RunFault}
-use Rattle.adm_program.specs.Exits.{of_season, of_lines, has_many_holidays, IsCauseIn, ExitsBy, exit_of_answer, ending_of, error_of, told_of, outcome_of, exit_of_words, exit_code}
+use Rattle.adm_program.specs.Exits.{of_season, of_lines, has_many_holidays, IsCauseIn, ExitsBy, exit_of_answer, ending_of, error_of, told_of, line_outcome, exit_of_words, exit_code}
 use Rattle.adm_wire.specs.Streams.{Stream}
 use Rattle.adm_program.specs.Opened.{IsNotOpened}
 use Rattle.adm_program.specs.Imports.{ImportsAs, ImportsFile, ImportsInto}
 use Rattle.adm_program.specs.Served.{ServesAs, ServesOver}
-use Rattle.adm_program.specs.Texts.{Prints, PrintsAs, text_in}
+use Rattle.adm_program.specs.Texts.{Prints, PrintsAs, document_text}
 use Rattle.adm_program.specs.Runs.{Liner, OpensAndRuns, Creates, CreatesAs}
 use Rattle.adm_program.specs.Does.{Does}
 use Rattle.adm_program.specs.declared.document.Document.{Document}
@@ -171,7 +171,7 @@ module _ {D : Type 0} {g : disk.Ghosts D} where
   document_exit : (image : Image) (wanted : Document) (output : Stream) (e : Result Exit Fault) (closed : Result (Files D) (Error × FileStore D g))
       → Prints image wanted output e closed → (status e (error_of closed) ≡ 0) ⊎ (status e (error_of closed) ≡ 1)
   document_exit image wanted output e closed (inl left) = inr (not_opened image e closed left.0)
-  document_exit image wanted output e closed (inr does) = print_exit (text_in does.0.register wanted) output e (error_of closed) does.2.0
+  document_exit image wanted output e closed (inr does) = print_exit (document_text does.0.register wanted) output e (error_of closed) does.2.0
 
   served : (old new : DeskState (Held (FileStore D g))) (port count : ℕ) (output : Stream) (e : Result Exit Fault) (closed : Option Error)
       → ServesAs old new port count output e → IsOfServing (status e closed)
@@ -199,6 +199,6 @@ module _ {D : Type 0} {g : disk.Ghosts D} where
 
   -- the status of an action
   pub exits : (image : Image) (a : Action) (rows : List ℕ → Stream) (input output : Stream) (r : Result (Ended D g) Fault) (x : Exit)
-      → IfOk r (λ ended. Does image a rows input output ended.exit ended.closed) → x ≡ told_of (outcome_of r) → ExitsBy (Ok a) (exit_code x)
+      → IfOk r (λ ended. Does image a rows input output ended.exit ended.closed) → x ≡ told_of (line_outcome r) → ExitsBy (Ok a) (exit_code x)
   exits image a rows input output (Ok ended) x does told = subst (λ (y : Exit). ExitsBy (Ok a) (exit_code y)) (sym told) (made image a rows input output ended.exit ended.closed does)
   exits image a rows input output (Err f) x does told = subst (λ (y : Exit). ExitsBy (Ok a) (exit_code y)) (sym told) (unmade a)

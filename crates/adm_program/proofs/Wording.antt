@@ -11,9 +11,9 @@ use Rattle.sqlite_disk.specs.declared.start.Start as start
 use Rattle.sqlite_wal.specs.Files.{image_at}
 use Rattle.adm_words.specs.Lines.{ReadsWords}
 use Rattle.adm_words.specs.declared.actions.Action.{Action}
-use Rattle.adm_program.specs.Exits.{has_many_holidays, IsCauseIn, outcome_of, told_of, exit_code}
+use Rattle.adm_program.specs.Exits.{has_many_holidays, IsCauseIn, line_outcome, told_of, exit_code}
 use Rattle.adm_wire.specs.Streams.{Stream}
-use Rattle.adm_program.specs.Told.{IsCut, Writes, Tells, TellsOutcome}
+use Rattle.adm_program.specs.Told.{IsCut, PrintsText, Tells, TellsOutcome}
 use Rattle.adm_program.specs.Does.{Does}
 use Rattle.adm_program.specs.Words.{DoesWords, texts}
 use Rattle.adm_program.specs.declared.ended.Ended.{Ended}
@@ -41,17 +41,17 @@ cut_more xs ys a b c failed first cut =
 
 -- a text was written, and then the next
 pub writes_more : {A B : Type 0} (xs ys : List ℕ) (a b c : Option (List ℕ)) (failed : Bool) (r : Result A B) → Appends a b xs
-    → Writes ys (record { old = b; new = c; has_failed = failed }) r → Writes (xs ++ ys) (record { old = a; new = c; has_failed = failed }) r
+    → PrintsText ys (record { old = b; new = c; has_failed = failed }) r → PrintsText (xs ++ ys) (record { old = a; new = c; has_failed = failed }) r
 writes_more xs ys a b c failed (Ok x) first more = Appends-trans a b c xs ys first more
 writes_more xs ys a b c failed (Err e) first cut = cut_more xs ys a b c failed first cut
 
 -- a print that failed
-pub as_cut : {A B : Type 0} (text : List ℕ) (errors : Stream) (r : Result A B) → IsErr r → IsCut text errors → Writes text errors r
+pub as_cut : {A B : Type 0} (text : List ℕ) (errors : Stream) (r : Result A B) → IsErr r → IsCut text errors → PrintsText text errors r
 as_cut text errors (Ok x) is cut = let none : ⊥ = cc in absurd none
 as_cut text errors (Err e) is cut = cut
 
 -- a print that fails is passed over
-pub tells : {A B : Type 0} (text : List ℕ) (errors : Stream) (r : Result A B) → Writes text errors r → Tells text errors
+pub tells : {A B : Type 0} (text : List ℕ) (errors : Stream) (r : Result A B) → PrintsText text errors r → Tells text errors
 tells text errors (Ok x) writes = inl writes
 tells text errors (Err e) writes = inr writes
 
@@ -59,7 +59,7 @@ tells text errors (Err e) writes = inr writes
 pub taken : {D S : Type 0} {g : disk.Ghosts D} (first : start.Ghosts S) (words : List (Bor (List ℕ))) (a : Action) (rows : List ℕ → Stream) (input output errors : Stream) (r : Result (Ended D g) Fault) (x : Exit)
     → ReadsWords (texts words) (Ok a) → IfOk r (λ ended. Does (image_at first) a rows input output ended.exit ended.closed) → IfErr r (IsCauseIn a)
     → (IsTrue (has_many_holidays a) → r ≡ Err TooManyHolidays) → OnErr r ((input.new ≡ input.old) × (output.new ≡ output.old))
-    → x ≡ told_of (outcome_of r) → TellsOutcome (outcome_of r) errors → DoesWords g first words rows input output errors (exit_code x)
+    → x ≡ told_of (line_outcome r) → TellsOutcome (line_outcome r) errors → DoesWords g first words rows input output errors (exit_code x)
 taken first words a rows input output errors (Ok ended) x reads does cause many kept exits told =
     record {
       read = Ok a;

@@ -45,8 +45,8 @@ row_fault_end csv.Read = codes ": Read\n"
 row_fault_end csv.Memory = codes ": Memory\n"
 
 -- the row, and what follows it
-abbrev pub row_text : ℕ → List ℕ → List ℕ
-row_text row end = codes "fault: row " ++ (decimal row ++ end)
+abbrev pub row_fault_text : ℕ → List ℕ → List ℕ
+row_fault_text row end = codes "fault: row " ++ (decimal row ++ end)
 
 -- the name of the fault, and where its cause is known a second line
 abbrev pub disk_text : Option Cause → List ℕ
@@ -74,7 +74,7 @@ fault_line UnknownChild = codes "fault: UnknownChild\n"
 fault_line UnknownSchool = codes "fault: UnknownSchool\n"
 fault_line NoRound = codes "fault: NoRound\n"
 fault_line Listen = codes "fault: Listen\n"
-fault_line (Row fault) = row_text fault.row (row_fault_end fault.fault)
+fault_line (Row fault) = row_fault_text fault.row (row_fault_end fault.fault)
 
 -- ---- each fault keeps its name
 
@@ -202,9 +202,9 @@ error_of (Ok files) = None
 error_of (Err e) = Some e.0
 
 -- how a line ended that was taken up or came to nothing
-abbrev pub outcome_of : {D : Type 0} {g : disk.Ghosts D} → Result (Ended D g) Fault → Result Exit Fault
-outcome_of (Ok e) = ending_of e.exit (error_of e.closed)
-outcome_of (Err fault) = Err fault
+abbrev pub line_outcome : {D : Type 0} {g : disk.Ghosts D} → Result (Ended D g) Fault → Result Exit Fault
+line_outcome (Ok e) = ending_of e.exit (error_of e.closed)
+line_outcome (Err fault) = Err fault
 
 -- what the words were read as: `init` and what prints a text end with 0 or 1, `do`, `what-if` and `import` never with 2, and `serve` with 0, 1 or 4; 2 where they ask for nothing
 abbrev pub ExitsBy : Result Action WordsFault → ℕ → Type 0

@@ -34,11 +34,11 @@ text_or f (Some text) = Ok text
 text_or f None = Err f
 
 -- the text of a document of a register
-abbrev pub text_in : State → Document → Result (List ℕ) Fault
-text_in s (document.Letter child) = text_or fault.UnknownChild (letter_text s child)
-text_in s (document.List school) = text_or fault.UnknownSchool (list_text s school)
-text_in s (document.Report round) = text_or fault.NoRound (report_text s round)
-text_in s (document.Pairs school) = text_or fault.UnknownSchool (pairs_text s school)
+abbrev pub document_text : State → Document → Result (List ℕ) Fault
+document_text s (document.Letter child) = text_or fault.UnknownChild (letter_text s child)
+document_text s (document.List school) = text_or fault.UnknownSchool (list_text s school)
+document_text s (document.Report round) = text_or fault.NoRound (report_text s round)
+document_text s (document.Pairs school) = text_or fault.UnknownSchool (pairs_text s school)
 
 -- the print of a text is done where it was written; where there is none, its fault is told and nothing is written
 abbrev pub PrintsAs : Result (List ℕ) Fault → Stream → Result Exit Fault → Type 0
@@ -47,7 +47,7 @@ PrintsAs (Err f) output e = (e ≡ Err f) × (output.new ≡ output.old)
 
 -- the document of the register is printed, which changes nothing
 abbrev pub Prints : {D : Type 0} {g : disk.Ghosts D} → Image → Document → Stream → Result Exit Fault → Result (Files D) (Error × FileStore D g) → Type 0
-Prints image wanted output e closed = Opens image (output.new ≡ output.old) e closed (λ desk. PrintsAs (text_in desk.register wanted) output e × Closes desk.conn closed)
+Prints image wanted output e closed = Opens image (output.new ≡ output.old) e closed (λ desk. PrintsAs (document_text desk.register wanted) output e × Closes desk.conn closed)
 
 -- ---- for a private clause
 

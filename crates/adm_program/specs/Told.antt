@@ -13,9 +13,9 @@ abbrev pub IsCut : List ℕ → Stream → Type 0
 IsCut text errors = (errors.has_failed ≡ true) × (n : ℕ) × Appends errors.old errors.new (take n text)
 
 -- one print of the text
-abbrev pub Writes : {A B : Type 0} → List ℕ → Stream → Result A B → Type 0
-Writes text errors (Ok x) = Appends errors.old errors.new text
-Writes text errors (Err e) = IsCut text errors
+abbrev pub PrintsText : {A B : Type 0} → List ℕ → Stream → Result A B → Type 0
+PrintsText text errors (Ok x) = Appends errors.old errors.new text
+PrintsText text errors (Err e) = IsCut text errors
 
 -- the text was written, or where the writer has failed a beginning of it
 abbrev pub Tells : List ℕ → Stream → Type 0
@@ -34,4 +34,4 @@ TellsWords fault errors = (text : List ℕ) × IsFaultText fault text × Tells t
 
 -- the same of one print
 abbrev pub WritesWords : {A B : Type 0} → WordsFault → Stream → Result A B → Type 0
-WritesWords fault errors result = (text : List ℕ) × IsFaultText fault text × Writes text errors result
+WritesWords fault errors result = (text : List ℕ) × IsFaultText fault text × PrintsText text errors result

@@ -1,5 +1,5 @@
 // What can be printed of a register, as texts.
-ghost use Rattle.adm_program.specs.Texts.{Says, text_in};
+ghost use Rattle.adm_program.specs.Texts.{Says, document_text};
 
 use crate::fault::Fault;
 use adm_letters::{letter, list_text, pairs_text, report_text};
@@ -23,7 +23,7 @@ pub enum Document {
 impl Document {
     /// Its text, over the register. The `Err` is why there is none, or want of memory.
     pub fn text(self, alloc: Global, register: &Register) -> Result<String, Fault>
-        ensures { Says (text_in register.now self) result }
+        ensures { Says (document_text register.now self) result }
     {
         match self {
             Document::Letter(child) => Ok(letter(alloc, register, child)?),

@@ -1,8 +1,8 @@
 // Why a line of the command line came to nothing, and what is printed of it.
 ghost use Rattle.std.specs.Prelude.{◌≡◌, MatchResult};
-ghost use Rattle.adm_program.specs.Exits.{fault_line, disk_text, row_text, row_fault_end, of_season, of_create, of_open, of_run, of_letter, of_error};
+ghost use Rattle.adm_program.specs.Exits.{fault_line, disk_text, row_fault_text, row_fault_end, of_season, of_create, of_open, of_run, of_letter, of_error};
 ghost use Rattle.adm_wire.specs.Streams.{writer};
-ghost use Rattle.adm_program.specs.Told.{Writes};
+ghost use Rattle.adm_program.specs.Told.{PrintsText};
 
 use crate::cause::Cause;
 use adm_csv::RowFault;
@@ -41,7 +41,7 @@ impl Fault {
     /// Prints `fault: `, the fault's name and LF; before the name of a fault in the file of an import
     /// its row, and after Disk a line with its cause, where one is known. It takes no memory.
     pub fn print<E: Output>(self, errors: &mut E) -> Result<(), WriteFailed>
-        ensures { Writes (fault_line self) (writer E.Output errors.old errors.new) result }
+        ensures { PrintsText (fault_line self) (writer E.Output errors.old errors.new) result }
     {
         match self.text() {
             Ok(text) => print_text(text, errors),
@@ -75,7 +75,7 @@ impl Fault {
 
 /// Prints a text. At a failure a beginning of it was written.
 pub fn print_text<E: Output>(text: &str, errors: &mut E) -> Result<(), WriteFailed>
-    ensures { Writes text.now (writer E.Output errors.old errors.new) result }
+    ensures { PrintsText text.now (writer E.Output errors.old errors.new) result }
 {
     match errors.put(text.as_bytes()) {
         Ok(()) => Ok(()),
@@ -100,7 +100,7 @@ fn disk_text(cause: Option<Cause>) -> &'static str
 
 /// Prints the fault of a row in the file of an import, by the row and what follows it.
 fn print_row<E: Output>(row: u64, end: &str, errors: &mut E) -> Result<(), WriteFailed>
-    ensures { Writes (row_text row end.now) (writer E.Output errors.old errors.new) result }
+    ensures { PrintsText (row_fault_text row end.now) (writer E.Output errors.old errors.new) result }
 {
     let mut digits = Buffer::new();
     print_text("fault: row ", errors)?;

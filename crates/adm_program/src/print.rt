@@ -2,7 +2,7 @@
 ghost use Rattle.std.specs.Prelude.{◌≡◌, false};
 ghost use Rattle.adm_wire.specs.Streams.{writer};
 ghost use Rattle.adm_program.specs.Opened.{Closes};
-ghost use Rattle.adm_program.specs.Texts.{Puts, PrintsAs, text_in};
+ghost use Rattle.adm_program.specs.Texts.{Puts, PrintsAs, document_text};
 
 use crate::document::Document;
 use crate::ended::{Ended, close};
@@ -32,7 +32,7 @@ fn print_from<S: Alter, O: Output>(
     output: &mut O,
 ) -> Result<Exit, Fault>
     requires { desk.now.failed ≡ false }
-    ensures { PrintsAs (text_in desk.now.register document)
+    ensures { PrintsAs (document_text desk.now.register document)
         (writer O.Output output.old output.new) result }
 {
     let Some(register) = desk.register() else {
@@ -55,7 +55,7 @@ pub fn print_document<D: Disk + Drop, O: Output>(
     output: &mut O,
 ) -> Ended<D>
     requires { desk.failed ≡ false }
-    ensures printed { PrintsAs (text_in desk.register document)
+    ensures printed { PrintsAs (document_text desk.register document)
         (writer O.Output output.old output.new) result.exit }
     ensures closes { Closes desk.conn result.closed }
 {

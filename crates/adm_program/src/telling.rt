@@ -1,6 +1,6 @@
 // What is told of a fault on the standard error, and the exit that goes with it.
 ghost use Rattle.std.specs.Prelude.{◌≡◌};
-ghost use Rattle.adm_program.specs.Exits.{exit_of_words, outcome_of, fault_line, told_of};
+ghost use Rattle.adm_program.specs.Exits.{exit_of_words, line_outcome, fault_line, told_of};
 ghost use Rattle.adm_wire.specs.Streams.{writer};
 ghost use Rattle.adm_program.specs.Told.{Tells, TellsOutcome, TellsWords, WritesWords};
 ghost use Rattle.adm_program.specs.declared.fault.Fault.TheVariants.{Memory};
@@ -24,8 +24,8 @@ pub fn tell_memory<E: Output>(errors: &mut E) -> u8
 
 /// The exit of a line, whose fault is printed.
 pub fn end<D: Disk + Drop, E: Output>(ended: Result<Ended<D>, Fault>, errors: &mut E) -> Exit
-    ensures exit { result ≡ told_of (outcome_of ended) }
-    ensures told { TellsOutcome (outcome_of ended) (writer E.Output errors.old errors.new) }
+    ensures exit { result ≡ told_of (line_outcome ended) }
+    ensures told { TellsOutcome (line_outcome ended) (writer E.Output errors.old errors.new) }
 {
     match ended {
         Ok(ended) => tell(ending(ended), errors),

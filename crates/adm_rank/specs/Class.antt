@@ -1,8 +1,7 @@
 -- The class of a child at a school (School Admissions Code 2021, section 1; the criteria are this profile's).
-use Rattle.std.specs.Prelude.{ℕ, ◌+◌, Bool, nat_le, nat_eq, Some, if◌then◌else◌}
+use Rattle.std.specs.Prelude.{ℕ, ◌+◌, Bool, nat_le, Some, if◌then◌else◌, bytes_eq}
 use Rattle.std.specs.List.{position_or_len}
 use Rattle.std.specs.Option.{option_eq}
-use Rattle.std.specs.Cmp.Lexicographic.{pointwise}
 use Rattle.adm_types.specs.declared.rows.Criterion.{Criterion}
 use Rattle.adm_types.specs.declared.rows.Criterion.TheVariants.{Sibling, Within, Flag, Feeder}
 use Rattle.adm_types.specs.declared.rows.School.{School}
@@ -17,7 +16,7 @@ abbrev pub meets : School → Child → Criterion → Bool
 meets school child Sibling = is_listed child.siblings school.code
 meets school child (Within metres) = nat_le (distance_of school.at child.home) metres
 meets school child (Flag flag) = has_flag child.flags flag
-meets school child (Feeder feeder) = option_eq (pointwise nat_eq) child.present (Some feeder)
+meets school child (Feeder feeder) = option_eq bytes_eq child.present (Some feeder)
 
 -- 0 for a child looked after now or before; else 1 plus the index, from 0, of the first criterion that it meets;
 -- else 1 plus the number of criteria

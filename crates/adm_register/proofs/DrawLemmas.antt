@@ -22,25 +22,25 @@ use Rattle.adm_register.specs.declared.draws_so_far.DrawsSoFar.{DrawsSoFar}
 use Rattle.adm_types.specs.Limits.{code_cmp}
 use Rattle.adm_register.specs.Change.{put_all}
 use Rattle.adm_register.specs.WellFormed.{AllRows}
-use Rattle.adm_register.specs.Draws.{no_draws, with_draw, with_draws, is_next, are_in_order, is_choice, is_known_outcome, is_known_lot, DrawFits}
+use Rattle.adm_register.specs.Draws.{no_draws, count_draw, count_draws, is_next, are_in_order, is_choice, is_known_outcome, is_known_lot, DrawFits}
 use Rattle.adm_register.proofs.Puts.{Grows}
 use Rattle.adm_register.proofs.SameRows.{entries_at_own_keys, rows_hold}
 
 -- ---- one after another
 
-more_draws : (before : DrawsSoFar) (draws : List Draw) → before.draws ≤ (with_draws before draws).draws
+more_draws : (before : DrawsSoFar) (draws : List Draw) → before.draws ≤ (count_draws before draws).draws
 more_draws before [] = omega arith
-more_draws before (draw ∷ draws) = let rest = more_draws (with_draw before draw) draws in omega (arith, rest)
+more_draws before (draw ∷ draws) = let rest = more_draws (count_draw before draw) draws in omega (arith, rest)
 
-pub with_draws-append : (before : DrawsSoFar) (xs ys : List Draw) → with_draws before (xs ++ ys) ≡ with_draws (with_draws before xs) ys
+pub with_draws-append : (before : DrawsSoFar) (xs ys : List Draw) → count_draws before (xs ++ ys) ≡ count_draws (count_draws before xs) ys
 with_draws-append before [] ys = refl
-with_draws-append before (draw ∷ xs) ys = with_draws-append (with_draw before draw) xs ys
+with_draws-append before (draw ∷ xs) ys = with_draws-append (count_draw before draw) xs ys
 
-pub are_in_order-append : (season : SeasonFacts) (before : DrawsSoFar) (xs ys : List Draw) → are_in_order season before xs ≡ true → are_in_order season (with_draws before xs) ys ≡ true → are_in_order season before (xs ++ ys) ≡ true
+pub are_in_order-append : (season : SeasonFacts) (before : DrawsSoFar) (xs ys : List Draw) → are_in_order season before xs ≡ true → are_in_order season (count_draws before xs) ys ≡ true → are_in_order season before (xs ++ ys) ≡ true
 are_in_order-append season before [] ys first second = second
 are_in_order-append season before (draw ∷ xs) ys first second =
     let both = and_parts (is_next season before draw) _ first in
-    λ i. both.0 i && are_in_order-append season (with_draw before draw) xs ys both.1 second i
+    λ i. both.0 i && are_in_order-append season (count_draw before draw) xs ys both.1 second i
 
 -- the next draw has the next number
 pub next_number : (season : SeasonFacts) (before : DrawsSoFar) (draw : Draw) → is_next season before draw ≡ true → draw.number ≡ before.draws + 1
@@ -52,20 +52,20 @@ next_number season before draw next =
     let f = and_parts _ _ e.0 in
     (unsigned_Decides draw.number (before.draws + 1)).0 f.0
 
-numbers_up_to : (season : SeasonFacts) (before : DrawsSoFar) (draws : List Draw) → are_in_order season before draws ≡ true → All (λ (draw : Draw). draw.number ≤ (with_draws before draws).draws) draws
+numbers_up_to : (season : SeasonFacts) (before : DrawsSoFar) (draws : List Draw) → are_in_order season before draws ≡ true → All (λ (draw : Draw). draw.number ≤ (count_draws before draws).draws) draws
 numbers_up_to season before [] in_order = All-nil (λ (draw : Draw). draw.number ≤ before.draws)
 numbers_up_to season before (draw ∷ draws) in_order =
     let both = and_parts (is_next season before draw) _ in_order in
     let number = next_number season before draw both.0 in
-    let more = more_draws (with_draw before draw) draws in
-    All-cons (λ (d : Draw). d.number ≤ (with_draws (with_draw before draw) draws).draws) draw draws (omega (arith, number, more)) (numbers_up_to season (with_draw before draw) draws both.1)
+    let more = more_draws (count_draw before draw) draws in
+    All-cons (λ (d : Draw). d.number ≤ (count_draws (count_draw before draw) draws).draws) draw draws (omega (arith, number, more)) (numbers_up_to season (count_draw before draw) draws both.1)
 
 numbers_from : (season : SeasonFacts) (before : DrawsSoFar) (draws : List Draw) (n : ℕ) → n ≤ before.draws → are_in_order season before draws ≡ true → AllByRecursion (λ (draw : Draw). n < draw.number) draws
 numbers_from season before [] n least in_order = tt
 numbers_from season before (draw ∷ draws) n least in_order =
     let both = and_parts (is_next season before draw) _ in_order in
     let number = next_number season before draw both.0 in
-    (omega (arith, number, least), numbers_from season (with_draw before draw) draws n (omega (arith, least)) both.1)
+    (omega (arith, number, least), numbers_from season (count_draw before draw) draws n (omega (arith, least)) both.1)
 
 -- ---- the draws of a register, and more of them
 
@@ -93,9 +93,9 @@ at_own_numbers draws = AllRows (λ number (draw : Draw). draw.number ≡ number)
 
 -- with the next draw at its number, the draws are those that were there, and it
 put_next : (rows : FinMap nat_cmp Draw) (season : SeasonFacts) (draw : Draw) → at_own_numbers rows → are_in_order season no_draws (values rows) ≡ true
-    → is_next season (with_draws no_draws (values rows)) draw ≡ true → values (insert rows draw.number draw) ≡ values rows ++ draw ∷ []
+    → is_next season (count_draws no_draws (values rows)) draw ≡ true → values (insert rows draw.number draw) ≡ values rows ++ draw ∷ []
 put_next rows season draw own in_order next =
-    let so_far = with_draws no_draws (values rows) in
+    let so_far = count_draws no_draws (values rows) in
     let number = next_number season so_far draw next in
     let below = All-below so_far.draws draw.number (values rows) (omega (arith, number)) (numbers_up_to season no_draws (values rows) in_order) in
     ap values_of (entries-insert nat_cmp_total rows draw.number draw ∙ put_last draw.number draw (entries rows) (entries_at_own_keys nat_cmp_total nat_cmp-IsAntisymmetric (λ (d : Draw). d.number) rows own) below)
@@ -114,17 +114,17 @@ own-put rows draw own number other there =
 
 -- and so with all that come next
 pub values_put : (rows : FinMap nat_cmp Draw) (season : SeasonFacts) (draws : List Draw) → at_own_numbers rows → are_in_order season no_draws (values rows) ≡ true
-    → are_in_order season (with_draws no_draws (values rows)) draws ≡ true → values (put_all (λ (d : Draw). d.number) rows draws) ≡ values rows ++ draws
+    → are_in_order season (count_draws no_draws (values rows)) draws ≡ true → values (put_all (λ (d : Draw). d.number) rows draws) ≡ values rows ++ draws
 values_put rows season [] own in_order next = sym (append_nil (values rows))
   where
     append_nil : (xs : List Draw) → xs ++ [] ≡ xs
     append_nil [] = refl
     append_nil (x ∷ xs) = ap (λ more. x ∷ more) (append_nil xs)
 values_put rows season (draw ∷ draws) own in_order next =
-    let so_far = with_draws no_draws (values rows) in
+    let so_far = count_draws no_draws (values rows) in
     let both = and_parts (is_next season so_far draw) _ next in
     let here = put_next rows season draw own in_order both.0 in
-    let reached : with_draws no_draws (values (insert rows draw.number draw)) ≡ with_draw so_far draw = ap (with_draws no_draws) here ∙ with_draws-append no_draws (values rows) (draw ∷ []) in
+    let reached : count_draws no_draws (values (insert rows draw.number draw)) ≡ count_draw so_far draw = ap (count_draws no_draws) here ∙ with_draws-append no_draws (values rows) (draw ∷ []) in
     let one : are_in_order season so_far (draw ∷ []) ≡ true = λ i. both.0 i && true in
     let ordered : are_in_order season no_draws (values (insert rows draw.number draw)) ≡ true = ap (are_in_order season no_draws) here ∙ are_in_order-append season no_draws (values rows) (draw ∷ []) in_order one in
     values_put (insert rows draw.number draw) season draws (own-put rows draw own) ordered (ap (λ before. are_in_order season before draws) reached ∙ both.1)
@@ -132,11 +132,11 @@ values_put rows season (draw ∷ draws) own in_order next =
 
 -- none of them was there
 pub new_draws : (rows : FinMap nat_cmp Draw) (season : SeasonFacts) (draws : List Draw) → at_own_numbers rows → are_in_order season no_draws (values rows) ≡ true
-    → are_in_order season (with_draws no_draws (values rows)) draws ≡ true → AllByRecursion (λ (d : Draw). not (contains_key rows d.number) ≡ true) draws
+    → are_in_order season (count_draws no_draws (values rows)) draws ≡ true → AllByRecursion (λ (d : Draw). not (contains_key rows d.number) ≡ true) draws
 new_draws rows season draws own in_order next = each draws (numbers_from season so_far draws so_far.draws (omega arith) next)
   where
     so_far : DrawsSoFar
-    so_far = with_draws no_draws (values rows)
+    so_far = count_draws no_draws (values rows)
 
     low : AllRows (λ number (draw : Draw). draw.number ≤ so_far.draws) rows
     low = rows_hold nat_cmp_total nat_cmp-IsAntisymmetric (λ (d : Draw). d.number ≤ so_far.draws) rows (numbers_up_to season no_draws (values rows) in_order)

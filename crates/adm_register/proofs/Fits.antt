@@ -24,7 +24,7 @@ use Rattle.adm_register.specs.State.{State, is_plan, application_of}
 use Rattle.adm_register.specs.Change.{put_all, cut_all, after}
 use Rattle.adm_register.specs.Fits.{FewAfter, BasePut, PlacesPut, LeftPut, DrawsPut, ImportedPut, Fit}
 use Rattle.adm_register.specs.Extends.{Extends, IsRaised, KeepsSchools}
-use Rattle.adm_register.specs.WellFormed.{WellFormed, AllRows, BaseFits, PlacesFit, LeftFits, DrawsFit, ImportedFit, has_first_round, is_entitled, lists_school, SchoolFits, ChildFits, ApplicationFits, PlaceFits, LeftPairFits, ImportFits, is_outside_plan}
+use Rattle.adm_register.specs.WellFormed.{WellFormed, AllRows, BaseFits, PlacesFit, LeftFits, DrawsFit, ImportedFit, has_first_round, is_entitled, lists_school, SchoolFits, ChildFits, ApplicationFits, PlaceFits, LeftPairFits, ImportFits, is_unplanned_at}
 use Rattle.adm_register.proofs.Maps.{code_cmp-IsAntisymmetric, left_cmp-total, left_cmp-IsAntisymmetric}
 use Rattle.adm_register.specs.Draws.{DrawFits, are_in_order, no_draws}
 use Rattle.adm_register.proofs.DrawLemmas.{DrawFits-grows, values_put, new_draws, are_in_order-append}
@@ -133,8 +133,8 @@ module _ (old : State) (change : Difference) where
 
   -- a child's place is not at a school that it had left
   not_held : LeftFits old.schools old.children old.places old.left → LeftPut old change → (number : ℕ) (row : PlaceRow) → get new.places number ≡ Some row
-      → (school : List ℕ) → contains_key old.left (record { child = number; school = school }) ≡ true → is_outside_plan (Some row) school ≡ false
-  not_held left put = AllRows-put_all nat_cmp_total nat_cmp-IsAntisymmetric (λ (p : PlaceRow). p.child) (λ number row. (school : List ℕ) → contains_key old.left (record { child = number; school = school }) ≡ true → is_outside_plan (Some row) school ≡ false)
+      → (school : List ℕ) → contains_key old.left (record { child = number; school = school }) ≡ true → is_unplanned_at (Some row) school ≡ false
+  not_held left put = AllRows-put_all nat_cmp_total nat_cmp-IsAntisymmetric (λ (p : PlaceRow). p.child) (λ number row. (school : List ℕ) → contains_key old.left (record { child = number; school = school }) ≡ true → is_unplanned_at (Some row) school ≡ false)
       (cut_all old.places change.vacated) change.places
       (λ number row there still school gone. was number row (there_before nat_cmp_total old.places change.vacated number row there) school gone) (each change.places put.places)
     where
@@ -142,19 +142,19 @@ module _ (old : State) (change : Difference) where
       absent true e = cc
       absent false e = refl
 
-      was : (number : ℕ) (row : PlaceRow) → get old.places number ≡ Some row → (school : List ℕ) → contains_key old.left (record { child = number; school = school }) ≡ true → is_outside_plan (Some row) school ≡ false
+      was : (number : ℕ) (row : PlaceRow) → get old.places number ≡ Some row → (school : List ℕ) → contains_key old.left (record { child = number; school = school }) ≡ true → is_unplanned_at (Some row) school ≡ false
       was number row there school gone =
           let pair : LeftPair = record { child = number; school = school } in
-          elim (get old.left pair) as (λ o. get old.left pair ≡ o → is_some o ≡ true → is_outside_plan (Some row) school ≡ false) [
+          elim (get old.left pair) as (λ o. get old.left pair ≡ o → is_some o ≡ true → is_unplanned_at (Some row) school ≡ false) [
             | None ↦ λ is some. cc
             | Some other ↦ λ is some.
                 let fits = left pair other is in
-                let none = subst (λ (p : LeftPair). not (is_outside_plan (get old.places p.child) p.school) ≡ true) fits.own_key fits.no_place in
-                absent _ (subst (λ o. not (is_outside_plan o school) ≡ true) there none)
+                let none = subst (λ (p : LeftPair). not (is_unplanned_at (get old.places p.child) p.school) ≡ true) fits.own_key fits.no_place in
+                absent _ (subst (λ o. not (is_unplanned_at o school) ≡ true) there none)
           ] refl gone
 
       new_one : (row : PlaceRow) → (is_plan row.place.state || not (contains_key old.left (record { child = row.child; school = row.place.school }))) ≡ true
-          → (school : List ℕ) → contains_key old.left (record { child = row.child; school = school }) ≡ true → is_outside_plan (Some row) school ≡ false
+          → (school : List ℕ) → contains_key old.left (record { child = row.child; school = school }) ≡ true → is_unplanned_at (Some row) school ≡ false
       new_one row apart school gone =
           elim (pointwise nat_eq row.place.school school) as (λ b. pointwise nat_eq row.place.school school ≡ b → (b && not (is_plan row.place.state)) ≡ false) [
             | false ↦ λ is. refl
@@ -170,7 +170,7 @@ module _ (old : State) (change : Difference) where
           planned false false one other = cc
 
       each : (them : List PlaceRow) → AllByRecursion (λ (p : PlaceRow). (is_plan p.place.state || not (contains_key old.left (record { child = p.child; school = p.place.school }))) ≡ true) them
-          → AllByRecursion (λ (p : PlaceRow). (school : List ℕ) → contains_key old.left (record { child = p.child; school = school }) ≡ true → is_outside_plan (Some p) school ≡ false) them
+          → AllByRecursion (λ (p : PlaceRow). (school : List ℕ) → contains_key old.left (record { child = p.child; school = school }) ≡ true → is_unplanned_at (Some p) school ≡ false) them
       each [] all = tt
       each (row ∷ them) all = (new_one row all.0, each them all.1)
 
@@ -182,9 +182,9 @@ module _ (old : State) (change : Difference) where
       let here : contains_key old.left pair ≡ true = subst (λ k. contains_key old.left k ≡ true) (sym fits.own_key) (ap is_some there) in
       record { own_key = fits.own_key; child = more_children pair.child fits.child; school = more_schools pair.school fits.school; no_place = free pair here (get new.places pair.child) refl }) put.left
     where
-      free : (pair : LeftPair) → contains_key old.left pair ≡ true → (o : Option PlaceRow) → get new.places pair.child ≡ o → not (is_outside_plan (get new.places pair.child) pair.school) ≡ true
-      free pair here None is = ap (λ o. not (is_outside_plan o pair.school)) is
-      free pair here (Some row) is = ap (λ o. not (is_outside_plan o pair.school)) is ∙ ap not (not_held left put pair.child row is pair.school here)
+      free : (pair : LeftPair) → contains_key old.left pair ≡ true → (o : Option PlaceRow) → get new.places pair.child ≡ o → not (is_unplanned_at (get new.places pair.child) pair.school) ≡ true
+      free pair here None is = ap (λ o. not (is_unplanned_at o pair.school)) is
+      free pair here (Some row) is = ap (λ o. not (is_unplanned_at o pair.school)) is ∙ ap not (not_held left put pair.child row is pair.school here)
 
   -- the imported rows fit after the change
   imported_fit : ImportedFit old.season old.schools old.children old.imported → ImportedPut old change → ImportedFit new.season new.schools new.children new.imported

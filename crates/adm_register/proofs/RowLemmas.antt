@@ -11,12 +11,12 @@ use Rattle.adm_types.specs.declared.rows.PlaceRow.{PlaceRow}
 use Rattle.adm_register.proofs.TableMaps.{values_rows}
 use Rattle.adm_register.specs.State.{State}
 use Rattle.adm_register.specs.Rows.{places_at}
-use Rattle.adm_register.specs.WellFormed.{is_outside_plan, places_outside_plans}
+use Rattle.adm_register.specs.WellFormed.{is_unplanned_at, places_outside_plans}
 
 pub places_at_rows : (s : State) (rows : List (ℕ × PlaceRow)) (code : List ℕ) → from_entries rows ≡ s.places → IsStrictlySortedBy nat_cmp (keys_of rows)
     → count_by (λ row. pointwise nat_eq row.place.school code) (values_of rows) ≡ places_at s code
 places_at_rows s rows code is sorted = ap (count_by (λ row. pointwise nat_eq row.place.school code)) (sym (values_rows nat_cmp_total rows sorted) ∙ ap values is)
 
 pub held_at_rows : (s : State) (rows : List (ℕ × PlaceRow)) (code : List ℕ) → from_entries rows ≡ s.places → IsStrictlySortedBy nat_cmp (keys_of rows)
-    → count_by (λ row. is_outside_plan (Some row) code) (values_of rows) ≡ places_outside_plans s.places code
-held_at_rows s rows code is sorted = ap (count_by (λ row. is_outside_plan (Some row) code)) (sym (values_rows nat_cmp_total rows sorted) ∙ ap values is)
+    → count_by (λ row. is_unplanned_at (Some row) code) (values_of rows) ≡ places_outside_plans s.places code
+held_at_rows s rows code is sorted = ap (count_by (λ row. is_unplanned_at (Some row) code)) (sym (values_rows nat_cmp_total rows sorted) ∙ ap values is)

@@ -19,7 +19,7 @@ use Rattle.adm_types.specs.declared.rows.Child.{Child}
 use Rattle.adm_types.specs.declared.rows.Application.{Application}
 use Rattle.adm_types.specs.declared.rows.PlaceRow.{PlaceRow}
 use Rattle.adm_register.specs.State.{State, is_plan}
-use Rattle.adm_register.specs.WellFormed.{WellFormed, has_first_round, is_outside_plan}
+use Rattle.adm_register.specs.WellFormed.{WellFormed, has_first_round, is_unplanned_at}
 use Rattle.adm_register.specs.Wanted.{above, has_left, wanted_of}
 use Rattle.adm_register.specs.Waits.{waits, waiting_child, waiting_at}
 use Rattle.adm_register.proofs.SameRows.{entries_at_own_keys}
@@ -87,10 +87,10 @@ pub record IsWaiting (s : State) (application : Application) (code : List ℕ) :
   pub held : has_first_round s.draws ≡ true
   pub lists : is_listed application.list code ≡ true
   pub not_left : has_left s.left application.child code ≡ false
-  pub no_place : is_outside_plan (get s.places application.child) code ≡ false
+  pub no_place : is_unplanned_at (get s.places application.child) code ≡ false
 
 -- who has a place at a school does not want it
-apart_from : (p : List ℕ → Bool) (place : Option PlaceRow) (list : List (List ℕ)) (code : List ℕ) → is_listed (filter p (above place list)) code ≡ true → is_outside_plan place code ≡ false
+apart_from : (p : List ℕ → Bool) (place : Option PlaceRow) (list : List (List ℕ)) (code : List ℕ) → is_listed (filter p (above place list)) code ≡ true → is_unplanned_at place code ≡ false
 apart_from p None list code wanted = refl
 apart_from p (Some row) list code wanted =
     by (pointwise nat_eq row.place.school code) (is_plan row.place.state) (own_apart p (Some row) list) refl

@@ -27,8 +27,8 @@ abbrev pub no_change : Difference
 no_change = record { schools = []; children = []; applications = []; places = []; left = []; draws = []; imported = []; ended = []; vacated = [] }
 
 -- a child's data are put, in place of those that were there
-abbrev pub put_child : Child → Difference
-put_child child = record no_change { children = child ∷ [] }
+abbrev pub change_of_child : Child → Difference
+change_of_child child = record no_change { children = child ∷ [] }
 
 -- the state after the change: in each table what is cut is cut first
 abbrev pub after : State → Difference → State

@@ -20,8 +20,8 @@ pub record AreNew {K V : Type 0} {R : K → K → Ordering} (key : V → K) (old
   pub rows_are : rows ≡ filter is_new (values new)
 
 -- the applications of the old register whose children have none in the new one
-abbrev pub ended : State → State → List Application
-ended old new = filter (λ (a : Application). not (contains_key new.applications a.child)) (values old.applications)
+abbrev pub applications_ended : State → State → List Application
+applications_ended old new = filter (λ (a : Application). not (contains_key new.applications a.child)) (values old.applications)
 
 -- the places of the old register whose children have none in the new one
 abbrev pub vacated : State → State → List PlaceRow
@@ -49,6 +49,6 @@ differing old change = record {
   left = filter (λ (p : LeftPair). is_other is_same_left (get old.left p) p) change.left;
   draws = filter (λ (d : Draw). is_other is_same_draw (get old.draws d.number) d) change.draws;
   imported = filter (λ (r : ImportRow). is_other is_same_import (get old.imported r.child.no) r) change.imported;
-  ended = filter (contains_key old.applications) change.ended;
+  applications_ended = filter (contains_key old.applications) change.ended;
   vacated = filter (contains_key old.places) change.vacated;
 }

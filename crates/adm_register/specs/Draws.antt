@@ -24,21 +24,21 @@ no_draws = record { draws = 0; rounds = 0; lots = 0; day = None }
 abbrev pub is_round : Draw → Bool
 is_round draw = nat_lt 0 draw.round
 
-abbrev pub with_draw : DrawsSoFar → Draw → DrawsSoFar
-with_draw before draw = record {
+abbrev pub count_draw : DrawsSoFar → Draw → DrawsSoFar
+count_draw before draw = record {
   draws = before.draws + 1;
   rounds = if is_round draw then before.rounds + 1 else before.rounds;
   lots = before.lots + length draw.lots;
   day = Some draw.day;
 }
 
-abbrev pub with_draws : DrawsSoFar → List Draw → DrawsSoFar
-with_draws before [] = before
-with_draws before (draw ∷ draws) = with_draws (with_draw before draw) draws
+abbrev pub count_draws : DrawsSoFar → List Draw → DrawsSoFar
+count_draws before [] = before
+count_draws before (draw ∷ draws) = count_draws (count_draw before draw) draws
 
 -- how far those of a register have come
 abbrev pub draws_so_far : State → DrawsSoFar
-draws_so_far s = with_draws no_draws (values s.draws)
+draws_so_far s = count_draws no_draws (values s.draws)
 
 -- no more than there may be
 pub record IsWithin (before : DrawsSoFar) : Type 0 where
@@ -66,7 +66,7 @@ is_next season before draw =
 -- each draw is the next after those before it
 abbrev pub are_in_order : SeasonFacts → DrawsSoFar → List Draw → Bool
 are_in_order season before [] = true
-are_in_order season before (draw ∷ draws) = is_next season before draw && are_in_order season (with_draw before draw) draws
+are_in_order season before (draw ∷ draws) = is_next season before draw && are_in_order season (count_draw before draw) draws
 
 -- ---- the rows that draws name
 

@@ -19,7 +19,7 @@ use Rattle.adm_types.specs.Limits.{code_cmp}
 use Rattle.adm_register.specs.State.{State, left_cmp, is_plan}
 use Rattle.adm_register.specs.Change.{after}
 use Rattle.adm_register.specs.Extends.{IsRaised}
-use Rattle.adm_register.specs.Draws.{DrawFits, are_in_order, no_draws, with_draws}
+use Rattle.adm_register.specs.Draws.{DrawFits, are_in_order, no_draws, count_draws}
 use Rattle.adm_register.specs.WellFormed.{AllRows, has_first_round, places_outside_plans, SchoolFits, ChildFits, ApplicationFits, PlaceFits, LeftPairFits, ImportFits}
 
 -- there are at most so many rows where one was put
@@ -50,7 +50,7 @@ pub record LeftPut (old : State) (change : Difference) : Type 0 where
 -- the draws that are put fit the rows after the change, and each is the next after those before it
 pub record DrawsPut (old : State) (change : Difference) : Type 0 where
   pub each : AllByRecursion (λ (d : Draw). DrawFits (after old change).schools (after old change).children d.number d) change.draws
-  pub in_order : are_in_order old.season (with_draws no_draws (values old.draws)) change.draws ≡ true
+  pub in_order : are_in_order old.season (count_draws no_draws (values old.draws)) change.draws ≡ true
 
 -- the imported rows that are put fit the rows after the change, and are new
 pub record ImportedPut (old : State) (change : Difference) : Type 0 where

@@ -72,8 +72,8 @@ pub record AreCourseRowsOf (rows : CourseRows) (s : State) : Type 0 where
   pub imported : IsPermutation rows.imported (values s.imported)
 
 -- a table has just these rows, each at its own key
-abbrev pub HasRows : {K V : Type 0} → (K → K → Ordering) → (V → K) → List V → List (K × V) → Type 0
-HasRows R key rows table = IsPermutation rows (values_of table) × (map key (values_of table) ≡ keys_of table) × IsStrictlySortedBy R (keys_of table)
+abbrev pub HasRowsByKey : {K V : Type 0} → (K → K → Ordering) → (V → K) → List V → List (K × V) → Type 0
+HasRowsByKey R key rows table = IsPermutation rows (values_of table) × (map key (values_of table) ≡ keys_of table) × IsStrictlySortedBy R (keys_of table)
 
 -- ---- a change in the same two groups
 

@@ -1,8 +1,7 @@
 -- The register as lists of rows, and the numbers that are read off them.
-use Rattle.std.specs.Prelude.{◌≡◌, ℕ, ◌-◌, List, map, find, Option, None, count_by, nat_eq, if◌then◌else◌}
+use Rattle.std.specs.Prelude.{◌≡◌, ℕ, ◌-◌, List, map, find, Option, None, count_by, nat_eq, if◌then◌else◌, bytes_eq}
 use Rattle.std.specs.List.{flat_map}
 use Rattle.std.specs.Option.{option_map}
-use Rattle.std.specs.Cmp.Lexicographic.{pointwise}
 use Rattle.std.specs.List.Sorted.{IsPermutation}
 use Rattle.std.specs.FinMap.{get, values}
 use Rattle.adm_types.specs.declared.rows.Place.{Place}
@@ -44,7 +43,7 @@ place_of s child = option_map (λ row. row.place) (get s.places child)
 
 -- how many places there are at the school
 abbrev pub places_at : State → List ℕ → ℕ
-places_at s code = count_by (λ row. pointwise nat_eq row.place.school code) (values s.places)
+places_at s code = count_by (λ row. bytes_eq row.place.school code) (values s.places)
 
 -- the school's admission number less all places there, not below 0
 abbrev pub vacancies : State → List ℕ → Option ℕ

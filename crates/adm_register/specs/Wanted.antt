@@ -1,7 +1,6 @@
 -- Which schools a child wants (School Admissions Code 2021, section 2: the order of preference; left schools are this profile's).
-use Rattle.std.specs.Prelude.{ℕ, Bool, not, nat_eq, List, [], Option, Some, None, filter, if◌then◌else◌}
+use Rattle.std.specs.Prelude.{ℕ, Bool, not, List, [], Option, Some, None, filter, if◌then◌else◌, bytes_eq}
 use Rattle.std.specs.List.{take_while}
-use Rattle.std.specs.Cmp.Lexicographic.{pointwise}
 use Rattle.std.specs.FinMap.{FinMap, get, contains_key}
 use Rattle.adm_types.specs.declared.rows.Application.{Application}
 use Rattle.adm_types.specs.declared.rows.PlaceRow.{PlaceRow}
@@ -11,7 +10,7 @@ use Rattle.adm_register.specs.State.{State, left_cmp, is_plan}
 -- the schools of a list above a place: all of them where there is none
 abbrev pub above : Option PlaceRow → List (List ℕ) → List (List ℕ)
 above None list = list
-above (Some row) list = take_while (λ code. not (pointwise nat_eq code row.place.school)) list
+above (Some row) list = take_while (λ code. not (bytes_eq code row.place.school)) list
 
 -- whether the child left the school
 abbrev pub has_left : FinMap left_cmp LeftPair → ℕ → List ℕ → Bool

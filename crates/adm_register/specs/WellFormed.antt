@@ -1,7 +1,6 @@
 -- Which states are registers: what each row must fit, table by table.
-use Rattle.std.specs.Prelude.{◌≡◌, ℕ, ◌+◌, ◌≤◌, Bool, true, false, not, is_some, nat_le, count_by, if◌then◌else◌, ◌&&◌, nat_eq, nat_lt, List, length, IsTrue, Option, Some, None}
+use Rattle.std.specs.Prelude.{◌≡◌, ℕ, ◌+◌, ◌≤◌, Bool, true, false, not, is_some, nat_le, count_by, if◌then◌else◌, ◌&&◌, nat_eq, nat_lt, List, length, IsTrue, Option, Some, None, bytes_eq}
 use Rattle.std.specs.List.{list_all}
-use Rattle.std.specs.Cmp.Lexicographic.{pointwise}
 use Rattle.std.specs.Ordering.{nat_cmp}
 use Rattle.std.specs.declared.cmp.Ordering.{Ordering}
 use Rattle.std.specs.FinMap.{FinMap, get, len, values, contains_key}
@@ -45,7 +44,7 @@ abbrev pub is_school : School → Bool
 is_school school = is_code school.code && is_utf8 school.name && is_name school.name && is_school_in_range school
 
 abbrev pub fits_school : List ℕ → School → Bool
-fits_school code school = pointwise nat_eq school.code code && is_school school
+fits_school code school = bytes_eq school.code code && is_school school
 
 -- a child stands at its own number, with a name and numbers in their limits, 16 flags, and siblings at schools that are there
 pub record ChildFits (schools : FinMap code_cmp School) (number : ℕ) (child : Child) : Type 0 where
@@ -120,20 +119,20 @@ abbrev pub fits_place : FinMap code_cmp School → FinMap nat_cmp Child → FinM
 fits_place schools children applications held number row = nat_eq row.child number && is_place schools children applications held row
 
 -- whether this is a place at the school, and not that of a plan
-abbrev pub is_outside_plan : Option PlaceRow → List ℕ → Bool
-is_outside_plan None school = false
-is_outside_plan (Some row) school = pointwise nat_eq row.place.school school && not (is_plan row.place.state)
+abbrev pub is_unplanned_at : Option PlaceRow → List ℕ → Bool
+is_unplanned_at None school = false
+is_unplanned_at (Some row) school = bytes_eq row.place.school school && not (is_plan row.place.state)
 
 -- the child and the school are there, and the child has no place at the school that it left, but one of a plan
 pub record LeftPairFits (schools : FinMap code_cmp School) (children : FinMap nat_cmp Child) (places : FinMap nat_cmp PlaceRow) (key : LeftPair) (pair : LeftPair) : Type 0 where
   pub own_key : pair ≡ key
   pub child : IsTrue (contains_key children pair.child)
   pub school : IsTrue (contains_key schools pair.school)
-  pub no_place : IsTrue (not (is_outside_plan (get places pair.child) pair.school))
+  pub no_place : IsTrue (not (is_unplanned_at (get places pair.child) pair.school))
 
 -- the test of all but its key
 abbrev pub is_left : FinMap code_cmp School → FinMap nat_cmp Child → FinMap nat_cmp PlaceRow → LeftPair → Bool
-is_left schools children places pair = contains_key children pair.child && contains_key schools pair.school && not (is_outside_plan (get places pair.child) pair.school)
+is_left schools children places pair = contains_key children pair.child && contains_key schools pair.school && not (is_unplanned_at (get places pair.child) pair.school)
 
 abbrev pub fits_left : FinMap code_cmp School → FinMap nat_cmp Child → FinMap nat_cmp PlaceRow → LeftPair → LeftPair → Bool
 fits_left schools children places key pair = is_same_left pair key && is_left schools children places pair
@@ -149,7 +148,7 @@ pub record BaseFits (season : SeasonFacts) (schools : FinMap code_cmp School) (c
 
 -- how many places at the school are not those of a plan
 abbrev pub places_outside_plans : FinMap nat_cmp PlaceRow → List ℕ → ℕ
-places_outside_plans places school = count_by (λ row. is_outside_plan (Some row) school) (values places)
+places_outside_plans places school = count_by (λ row. is_unplanned_at (Some row) school) (values places)
 
 -- the test of a school beside the places
 abbrev pub fits_school_with : FinMap nat_cmp PlaceRow → List ℕ → School → Bool

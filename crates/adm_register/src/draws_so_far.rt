@@ -3,7 +3,7 @@ ghost use Rattle.std.specs.Prelude.{◌≡◌, ◌<◌, ◌≤◌, ◌+◌, leng
 ghost use Rattle.std.specs.FinMap as rows;
 ghost use Rattle.adm_types.specs.Limits.{most_draws, most_lots};
 ghost use Rattle.adm_types.specs.Seasons.{SeasonFacts};
-ghost use Rattle.adm_register.specs.Draws.{no_draws, is_round, with_draw, with_draws, is_due, is_numbered, is_next, are_in_order, IsWithin, draws_so_far};
+ghost use Rattle.adm_register.specs.Draws.{no_draws, is_round, count_draw, count_draws, is_due, is_numbered, is_next, are_in_order, IsWithin, draws_so_far};
 ghost use Rattle.adm_register.specs.WellFormed.{WellFormed};
 
 use crate::tables::Tables;
@@ -39,7 +39,7 @@ impl DrawsSoFar {
         requires draws { self.now.draws < most_draws }
         requires rounds { self.now.rounds ≤ self.now.draws }
         requires lots { self.now.lots + length draw.now.lots ≤ most_lots }
-        ensures { result ≡ with_draw self.now draw.now }
+        ensures { result ≡ count_draw self.now draw.now }
     {
         DrawsSoFar {
             draws: self.draws + 1,
@@ -116,7 +116,7 @@ pub(crate) fn are_in_order(season: &Season, draws: &[Shared<Draw>]) -> bool
 /// How far draws have come that came one after another.
 fn with_draws(draws: &[Shared<Draw>]) -> DrawsSoFar
     requires { (season : SeasonFacts) × (are_in_order season no_draws draws.now ≡ true) }
-    ensures value { result ≡ with_draws no_draws draws.now }
+    ensures value { result ≡ count_draws no_draws draws.now }
     ensures within { IsWithin result }
 {
     let mut before = DrawsSoFar::none();

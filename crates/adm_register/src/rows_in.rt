@@ -7,7 +7,7 @@ ghost use Rattle.std.specs.Ordering.{eq_by_cmp};
 ghost use Rattle.std.specs.Ordering.{nat_cmp};
 ghost use Rattle.adm_draws.specs.Draws.{AreDrawRowsOf, AreByNumber};
 ghost use Rattle.adm_types.specs.declared.draws.Draw.{Draw as DrawValue};
-ghost use Rattle.adm_register.specs.Groups.{IsBaseOf, IsCourseOf, AreBaseRowsOf, AreCourseRowsOf, HasRows, base_part, drawn_part, course_part};
+ghost use Rattle.adm_register.specs.Groups.{IsBaseOf, IsCourseOf, AreBaseRowsOf, AreCourseRowsOf, HasRowsByKey, base_part, drawn_part, course_part};
 ghost use Rattle.adm_register.specs.Rows as rows_of;
 ghost use Rattle.adm_register.specs.Rows.{rows_in_order};
 ghost use Rattle.adm_register.specs.State.{State};
@@ -171,7 +171,7 @@ fn table_of<K: Ord + Exact, V: Keyed<K> + Exact>(
     alloc: Global,
     rows: Vec<V>,
 ) -> Result<Table<K, V>, RowsFault>
-    ensures made { IfOk result (HasRows K.cmp V.key rows.items) }
+    ensures made { IfOk result (HasRowsByKey K.cmp V.key rows.items) }
     ensures repeated { result ≡ Err RowsFault.BadRow → IsDistinct (eq_by_cmp K.cmp) (map V.key rows.items) → ⊥ }
 {
     match Table::of_rows(alloc, rows)? {
@@ -185,7 +185,7 @@ fn shared_table<K: Ord + Exact, V: Keyed<K> + Drop>(
     alloc: Global,
     rows: Seq<V>,
 ) -> Result<Table<K, Shared<V>>, RowsFault>
-    ensures made { IfOk result (HasRows K.cmp V.key rows) }
+    ensures made { IfOk result (HasRowsByKey K.cmp V.key rows) }
     ensures repeated { result ≡ Err RowsFault.BadRow → IsDistinct (eq_by_cmp K.cmp) (map V.key rows) → ⊥ }
 {
     table_of(alloc, share_all(alloc, rows.into_vec())?)

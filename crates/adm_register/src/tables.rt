@@ -1,12 +1,11 @@
 // The rows of a register as tables, of which nothing is asked, and what is read off them.
-ghost use Rattle.std.specs.Prelude.{◌≡◌, IfOk, Some, option_copied, count_by, nat_eq};
+ghost use Rattle.std.specs.Prelude.{◌≡◌, IfOk, Some, option_copied, count_by, bytes_eq};
 ghost use Rattle.std.specs.FinMap as map;
 ghost use Rattle.std.specs.Map.{values_of};
-ghost use Rattle.std.specs.Cmp.Lexicographic.{pointwise};
 ghost use Rattle.adm_register.specs.Plans.{has_plan};
 ghost use Rattle.adm_register.specs.Rows.{place_of, places_at, vacancies};
 ghost use Rattle.adm_register.specs.State.{only_season, is_plan};
-ghost use Rattle.adm_register.specs.WellFormed.{are_schools, places_outside_plans, is_outside_plan, has_first_round};
+ghost use Rattle.adm_register.specs.WellFormed.{are_schools, places_outside_plans, is_unplanned_at, has_first_round};
 
 use crate::groups::{Base, Course};
 use adm_table::{Keyed, Piece};
@@ -148,7 +147,7 @@ impl Tables {
 
     /// Whether the child has a place at the school that is not that of a plan.
     pub fn is_outside_plan(&self, child: ChildNo, school: SchoolCode) -> bool
-        ensures { result ≡ is_outside_plan (map.get self.now.places child) school }
+        ensures { result ≡ is_unplanned_at (map.get self.now.places child) school }
     {
         match self.place_row(child) {
             None => false,
@@ -231,7 +230,7 @@ impl Tables {
 
 /// How many of the places of a piece are at the school.
 fn count_at(places: &Piece<ChildNo, PlaceRow>, code: SchoolCode) -> usize
-    ensures { result ≡ count_by (λ row. pointwise nat_eq row.place.school code) (values_of places.now.rows.value.entries) }
+    ensures { result ≡ count_by (λ row. bytes_eq row.place.school code) (values_of places.now.rows.value.entries) }
 {
     places
         .rows()
@@ -242,7 +241,7 @@ fn count_at(places: &Piece<ChildNo, PlaceRow>, code: SchoolCode) -> usize
 
 /// How many of the places of a piece are at the school, and not those of a plan.
 fn held_in(places: &Piece<ChildNo, PlaceRow>, code: SchoolCode) -> usize
-    ensures { result ≡ count_by (λ row. is_outside_plan (Some row) code) (values_of places.now.rows.value.entries) }
+    ensures { result ≡ count_by (λ row. is_unplanned_at (Some row) code) (values_of places.now.rows.value.entries) }
 {
     places
         .rows()
@@ -253,7 +252,7 @@ fn held_in(places: &Piece<ChildNo, PlaceRow>, code: SchoolCode) -> usize
 
 /// Whether this is a place at the school, and not that of a plan.
 fn is_held_at(row: &PlaceRow, code: SchoolCode) -> bool
-    ensures { result ≡ is_outside_plan (Some row.now) code }
+    ensures { result ≡ is_unplanned_at (Some row.now) code }
 {
     row.place.school == code && !is_plan(&row.place.state)
 }

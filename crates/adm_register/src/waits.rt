@@ -1,8 +1,7 @@
 // Who waits at which school.
-ghost use Rattle.std.specs.Prelude.{◌≡◌, IfOk, not, nat_eq};
+ghost use Rattle.std.specs.Prelude.{◌≡◌, IfOk, not, bytes_eq};
 ghost use Rattle.std.specs.FinMap as rows;
 ghost use Rattle.std.specs.List.{filter_map, take_while};
-ghost use Rattle.std.specs.Cmp.Lexicographic.{pointwise};
 ghost use Rattle.adm_types.specs.Limits.{is_listed};
 ghost use Rattle.adm_register.specs.Wanted.{above, wanted_of};
 ghost use Rattle.adm_register.specs.Waits.{waits, is_waiting, waiting_child, waiting_at};
@@ -106,7 +105,7 @@ impl Tables {
 
 /// Whether the school stands in a list before the first that is another one.
 fn is_before(list: &[SchoolCode], other: SchoolCode, school: SchoolCode) -> bool
-    ensures { result ≡ is_listed (take_while (λ code. not (pointwise nat_eq code other)) list.now) school }
+    ensures { result ≡ is_listed (take_while (λ code. not (bytes_eq code other)) list.now) school }
 {
     list.iter()
         .take_while(|code| **code != other)

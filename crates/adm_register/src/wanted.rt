@@ -1,8 +1,7 @@
 // Which schools each child wants, and the rows by which this is told.
-ghost use Rattle.std.specs.Prelude.{◌≡◌, IfOk, filter, not, option_copied, nat_eq};
+ghost use Rattle.std.specs.Prelude.{◌≡◌, IfOk, filter, not, option_copied, bytes_eq};
 ghost use Rattle.std.specs.FinMap as rows;
 ghost use Rattle.std.specs.List.{take_while};
-ghost use Rattle.std.specs.Cmp.Lexicographic.{pointwise};
 ghost use Rattle.adm_register.specs.Wanted.{above, has_left, wanted_of, wanted, own_school};
 
 use crate::tables::{Tables, is_plan};
@@ -133,7 +132,7 @@ fn before(
     school: SchoolCode,
     list: &[SchoolCode],
 ) -> Result<Vec<SchoolCode>, AllocError>
-    ensures { IfOk result (λ codes. codes.items ≡ take_while (λ code. not (pointwise nat_eq code school)) list.now) }
+    ensures { IfOk result (λ codes. codes.items ≡ take_while (λ code. not (bytes_eq code school)) list.now) }
 {
     list.iter()
         .copied()

@@ -1,5 +1,5 @@
 -- The problem that a round poses has no fault.
-use Rattle.std.proofs.Common.{◌≡◌, ℕ, List, ◌++◌, map, Option, None, Some, Bool, true, false, cond, not, ◌&&◌, inl, inr, refl, sym, ap, ◌∙◌, subst, arith}
+use Rattle.std.proofs.Common.{◌≡◌, ℕ, List, ◌++◌, map, Option, None, Some, Bool, true, false, cond, not, ◌&&◌, ◌||◌, [], ◌∷◌, inl, inr, refl, sym, ap, ◌∙◌, subst, arith}
 use Rattle.std.specs.Prelude.{bytes_eq, option_map, unwrap_or, ◌==◌, find, filter}
 use Rattle.std.specs.List.{list_any}
 use Rattle.std.specs.Option.{option_to_list}
@@ -13,18 +13,20 @@ use Rattle.std.proofs.lemmas.Slice.Eq.{bytes_eq-Decides}
 use Rattle.adm_lists.proofs.Members.{In, in_map, from_map, in_filter, in_flat_map, from_append, none_in, finds, find_gives, All_in}
 use Rattle.adm_lists.proofs.Orders.{eq_number}
 use Rattle.adm_lists.proofs.Each.{any-map}
+use Rattle.adm_types.specs.Code.{has}
 use Rattle.adm_types.specs.declared.draws.Lot.{Lot}
 use Rattle.adm_types.specs.Limits.{is_listed}
+use Rattle.adm_types.specs.Lots.{is_same_lot, repeats_lot}
 use Rattle.adm_rank.specs.declared.keys.RankKey.{RankKey}
 use Rattle.adm_match.specs.declared.problem.Wish.{Wish}
 use Rattle.adm_match.specs.declared.problem.Seats.{Seats}
 use Rattle.adm_match.specs.declared.problem.BadProblem.TheVariants.{RepeatedSchool, UnknownSchool, EqualRank, TenantNotLast, RepeatedChild}
 use Rattle.adm_match.specs.Market as match
-use Rattle.adm_match.specs.Market.{Code, Candidate, Market, has, key_at, is_key, shares, share_rank, some_pair, same_code, same_child, same_school, is_not_last, repeats_school, names_unknown, repeats_child, has_tenant_not_last, has_equal_rank, first_fault}
+use Rattle.adm_match.specs.Market.{Code, Candidate, Market, key_at, is_key, shares, share_rank, some_pair, same_code, same_child, same_school, is_not_last, repeats_school, names_unknown, repeats_child, has_tenant_not_last, has_equal_rank, first_fault}
 use Rattle.adm_round.specs.declared.applicants.Applicant.{Applicant}
 use Rattle.adm_round.specs.declared.applicants.Site.{Site}
 use Rattle.adm_round.specs.declared.applicants.Pair.{Pair}
-use Rattle.adm_round.specs.Round.{code_of, number_of, wants, listed, pair_at, pairs_at, pairs, pair_of, same_lot, is_site, IsListFit, IsPosed}
+use Rattle.adm_round.specs.Round.{code_of_site, number_of, wants, listed, pair_at, pairs_at, pairs, pair_of, is_site, IsListFit, IsPosed}
 use Rattle.adm_round.specs.Ranks.{site_of, lot_at, wishes_for, candidate_of, seats_of, market_of_round}
 use Rattle.adm_round.specs.declared.directory.Directory.{Directory}
 use Rattle.adm_round.specs.Lookups.{site_in, lot_in, IsDirectory}
@@ -63,10 +65,10 @@ lot_found lots code child lot i s n =
 has_lot : (sites : List Site) (applicants : List Applicant) (lots : List Lot) (a : Applicant) (code : Code) → map pair_of lots ≡ pairs sites applicants → In a applicants → is_site sites code ≡ true → wants code a ≡ true → LotAt lots code (number_of a)
 has_lot sites applicants lots a code drawn i known wanted =
     let s = site_known sites code known in
-    let here : wants (code_of s.site) a ≡ true = ap (λ c. wants c a) s.at_code ∙ wanted in
-    let pair : Pair = pair_at (code_of s.site) a in
+    let here : wants (code_of_site s.site) a ≡ true = ap (λ c. wants c a) s.at_code ∙ wanted in
+    let pair : Pair = pair_at (code_of_site s.site) a in
     let at_site : In pair (pairs_at applicants s.site) =
-    in_map (pair_at (code_of s.site)) (filter (wants (code_of s.site)) applicants) a (in_filter (wants (code_of s.site)) applicants a i here) in
+    in_map (pair_at (code_of_site s.site)) (filter (wants (code_of_site s.site)) applicants) a (in_filter (wants (code_of_site s.site)) applicants a i here) in
     let among : In pair (pairs sites applicants) = in_flat_map (pairs_at applicants) sites s.site pair s.among at_site in
     let f = from_map pair_of lots pair (subst (In pair) (sym drawn) among) in
     lot_found lots code (number_of a) f.0 f.1 (ap (λ (p : Pair). p.school) f.2 ∙ s.at_code) (ap (λ (p : Pair). p.child) f.2)
@@ -88,18 +90,23 @@ is_wanted wanted own code i free = elim (from_append wanted (option_to_list own)
       | inr none ↦ none
     ]
 
-same_lot_swap : (a b : Lot) → same_lot a b ≡ same_lot b a
+same_lot_swap : (a b : Lot) → is_same_lot a b ≡ is_same_lot b a
 same_lot_swap a b = λ i. code_swap a.school b.school i && number_swap a.lot b.lot i
   where
     number_swap : (m n : ℕ) → (m == n) ≡ (n == m)
     number_swap m n = grind (arith, nat_tests)
+
+-- lots that repeat are a pair of which the later repeats the earlier
+some_same : (lots : List Lot) → some_pair is_same_lot lots ≡ repeats_lot lots
+some_same [] = refl
+some_same (lot ∷ lots) = ap (λ b. list_any (is_same_lot lot) lots || b) (some_same lots)
 
 -- two children that want a school have different lots there
 lots_apart : (sites : List Site) (applicants : List Applicant) (lots : List Lot) (a b : Applicant) (code : Code) → IsPosed sites applicants lots → In a applicants → In b applicants → is_site sites code ≡ true → wants code a ≡ true → wants code b ≡ true → (number_of a ≡ number_of b → ⊥) → lot_at lots code (number_of a) ≡ lot_at lots code (number_of b) → ⊥
 lots_apart sites applicants lots a b code h i j known wa wb apart same =
     let one = has_lot sites applicants lots a code h.lots_drawn i known wa in
     let other = has_lot sites applicants lots b code h.lots_drawn j known wb in
-    let no_pair = pair_not same_lot lots one.drawn other.drawn same_lot_swap h.lots_differ one.among other.among
+    let no_pair = pair_not is_same_lot lots one.drawn other.drawn same_lot_swap (some_same lots ∙ h.lots_differ) one.among other.among
     (λ e. apart (sym one.of_child ∙ (ap (λ (l : Lot). l.child) e ∙ other.of_child))) in
     false≢true (sym no_pair ∙ and_from (bytes_eq one.drawn.school other.drawn.school) (one.drawn.lot == other.drawn.lot)
     ((bytes_eq-Decides one.drawn.school other.drawn.school).1 (one.at_code ∙ sym other.at_code))
@@ -159,7 +166,7 @@ module _ (sites : List Site) (applicants : List Applicant) (lots : List Lot) (h 
   no_entrant p n = any-map p entrant applicants ∙ none_any (λ a. p (entrant a)) applicants n
 
   pub seats_once : some_pair same_code (map seats_of sites) ≡ false
-  seats_once = no_pair code_of (slice_cmp nat_cmp) seats_of same_code sites (λ x y i j less. less_apart (code_of x) (code_of y) less) h.codes_rise
+  seats_once = no_pair code_of_site (slice_cmp nat_cmp) seats_of same_code sites (λ x y i j less. less_apart (code_of_site x) (code_of_site y) less) h.codes_rise
 
   lists_once : list_any (λ e. some_pair same_school e.list) (map entrant applicants) ≡ false
   lists_once = no_entrant (λ e. some_pair same_school e.list) (λ a i. no_repeat (list_of a) a.wanted a.own (its_schools a i) (fit_of a i).once (fit_of a i).own_apart)

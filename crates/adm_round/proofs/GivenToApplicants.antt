@@ -7,16 +7,17 @@ use Rattle.std.proofs.lemmas.Bool.{cases_Bool, or_parts, false≢true, lt-ltb}
 use Rattle.std.proofs.lemmas.List.Sums.{sum_by-cons}
 use Rattle.std.proofs.lemmas.Slice.Eq.{bytes_eq-Decides}
 use Rattle.adm_lists.proofs.Members.{In, in_map, All_in, in_All, none_in}
+use Rattle.adm_types.specs.Code.{has}
 use Rattle.adm_types.specs.declared.draws.Lot.{Lot}
 use Rattle.adm_types.specs.declared.draws.Outcome.{Outcome}
 use Rattle.adm_types.specs.Limits.{is_listed}
 use Rattle.adm_match.specs.declared.problem.Wish.{Wish}
 use Rattle.adm_match.specs.declared.problem.Seats.{Seats}
-use Rattle.adm_match.specs.Market.{Code, Candidate, has, preference_rank, assigned_rank, is_tenant, quota_of, some_pair, same_code}
+use Rattle.adm_match.specs.Market.{Code, Candidate, preference_rank, assigned_rank, is_tenant, quota_of, some_pair, same_code}
 use Rattle.adm_match.specs.Stability.{Allocation, IsBest, IsContent, is_guest, prefers}
 use Rattle.adm_round.specs.declared.applicants.Applicant.{Applicant}
 use Rattle.adm_round.specs.declared.applicants.Site.{Site}
-use Rattle.adm_round.specs.Round.{code_of, number_of, listed, IsListFit, IsPosed}
+use Rattle.adm_round.specs.Round.{code_of_site, number_of, listed, IsListFit, IsPosed}
 use Rattle.adm_round.specs.Ranks.{site_of, lot_at, candidate_of, seats_of, market_of_round}
 use Rattle.adm_round.specs.Outcomes.{is_fresh, outcome_of, outcomes_of, AreBest, HasListedSchool, KeepsTenant, HasRoom, AllotmentFits, outcomes_at, has_fresh}
 use Rattle.adm_round.proofs.ListedSchools.{school_of_wish, on_list, own_within, code_self}
@@ -104,14 +105,14 @@ module _ (sites : List Site) (applicants : List Applicant) (lots : List Lot) (h 
       let other : Candidate → ℕ = λ e. cond (has (a e.child) s) 1 0 in
       omega (arith, sum_by-cons one (outcome_of x (a (number_of x))) (outcomes_of a xs), sum_by-cons other (entrant x) (map entrant xs), count_guests s xs)
 
-  quota_is : (site : Site) → In site sites → quota_of (map seats_of sites) (code_of site) ≡ site.quota
+  quota_is : (site : Site) → In site sites → quota_of (map seats_of sites) (code_of_site site) ≡ site.quota
   quota_is site i =
       ap (λ (o : Option Seats). unwrap_or (option_map (λ (seat : Seats). seat.quota) o) 0)
       (find_seats (map seats_of sites) (seats_of site) (in_map seats_of sites site i) (seats_once sites applicants lots h))
 
   pub have_room : All (HasRoom outcomes) sites
   have_room = in_All (HasRoom outcomes) sites (λ site i fresh.
-      let s : Code = code_of site in
+      let s : Code = code_of_site site in
       let guests : list_any (is_guest a s) (map entrant applicants) ≡ true = sym (ap (has_fresh s) given ∙ fresh_guests s applicants) ∙ fresh in
       let counted : outcomes_at s outcomes ≡ count_by (λ (e : Candidate). has (a e.child) s) (map entrant applicants) = ap (outcomes_at s) given ∙ count_guests s applicants in
       omega (arith, counted, quota_is site i, best.stable.feasible s guests))

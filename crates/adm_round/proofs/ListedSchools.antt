@@ -13,7 +13,7 @@ use Rattle.adm_types.specs.Limits.{is_listed, is_without_repeat}
 use Rattle.adm_match.specs.declared.problem.Wish.{Wish}
 use Rattle.adm_match.specs.Market.{Code, preference_rank, some_pair, same_school, is_not_last}
 use Rattle.adm_round.specs.declared.applicants.Site.{Site}
-use Rattle.adm_round.specs.Round.{code_of, is_site}
+use Rattle.adm_round.specs.Round.{code_of_site, is_site}
 use Rattle.adm_round.specs.Ranks.{site_of, wish_at, wishes_for}
 
 pub code_swap : (s t : Code) → bytes_eq s t ≡ bytes_eq t s
@@ -33,15 +33,15 @@ pub record SiteAt (sites : List Site) (code : Code) : Type 0 where
   pub site : Site
   pub found : site_of sites code ≡ Some site
   pub among : In site sites
-  pub at_code : code_of site ≡ code
+  pub at_code : code_of_site site ≡ code
 
 pub site_known : (sites : List Site) (code : Code) → is_site sites code ≡ true → SiteAt sites code
 site_known sites code h =
-    let test : Site → Bool = λ site. bytes_eq (code_of site) code in
+    let test : Site → Bool = λ site. bytes_eq (code_of_site site) code in
     let w = any_in test sites h in
     let f = finds test sites w.0 w.1 w.2 in
     let g = find_gives test sites f.0 f.1 in
-    record { site = f.0; found = f.1; among = g.0; at_code = (bytes_eq-Decides (code_of f.0) code).0 g.1 }
+    record { site = f.0; found = f.1; among = g.0; at_code = (bytes_eq-Decides (code_of_site f.0) code).0 g.1 }
 
 abbrev pub school_of_wish : Wish → Code
 school_of_wish w = w.school

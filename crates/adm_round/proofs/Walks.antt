@@ -19,7 +19,7 @@ use Rattle.adm_match.specs.declared.problem.Wish.{Wish}
 use Rattle.adm_round.specs.declared.applicants.Site.{Site}
 use Rattle.adm_round.specs.declared.applicants.Pair.{Pair}
 use Rattle.adm_round.specs.declared.directory.Directory.{Directory}
-use Rattle.adm_round.specs.Round.{code_of, pair_of}
+use Rattle.adm_round.specs.Round.{code_of_site, pair_of}
 use Rattle.adm_round.specs.Ranks.{wish_at, site_of, wishes_for}
 use Rattle.adm_types.specs.Limits.{code_cmp}
 use Rattle.adm_round.specs.Lookups.{pair_cmp, first_value, HasFirst, IsDirectory}
@@ -57,36 +57,36 @@ lots_found (lot ∷ lots) school child =
     pick false lot o p h = h
 
 abbrev pub row_of_place : ℕ × Site → Code × ℕ
-row_of_place place = (code_of place.1, place.0)
+row_of_place place = (code_of_site place.1, place.0)
 
 -- the site of a school is at the index of the first row with its code, where the sites from n on are these
 sites_found : (all : List Site) (n : ℕ) (sites : List Site) (code : Code) → ((k : ℕ) → slice_get all (n + k) ≡ slice_get sites k) → option_and_then (slice_get all) (first_value code_cmp (map row_of_place (enumerate_from n sites)) code) ≡ site_of sites code
 sites_found all n [] code h = refl
 sites_found all n (site ∷ sites) code h =
     let rest : Option (Code × ℕ) = find (λ row. is_eq (code_cmp row.0 code)) (map row_of_place (enumerate_from (n + 1) sites)) in
-    ap (λ b. option_and_then (slice_get all) (option_map (λ (row : Code × ℕ). row.1) (cond b (Some (code_of site, n)) rest))) (is_eq-slice_cmp (code_of site) code)
-    ∙ pick (bytes_eq (code_of site) code) all n site rest _
+    ap (λ b. option_and_then (slice_get all) (option_map (λ (row : Code × ℕ). row.1) (cond b (Some (code_of_site site, n)) rest))) (is_eq-slice_cmp (code_of_site site) code)
+    ∙ pick (bytes_eq (code_of_site site) code) all n site rest _
     (ap (slice_get all) (omega arith) ∙ h 0)
     (sites_found all (n + 1) sites code (λ k. let next : (n + 1) + k ≡ n + suc k = omega arith in ap (slice_get all) next ∙ h (suc k)))
   where
-    pick : (b : Bool) (all : List Site) (n : ℕ) (site : Site) (o : Option (Code × ℕ)) (p : Option Site) → slice_get all n ≡ Some site → option_and_then (slice_get all) (option_map (λ row. row.1) o) ≡ p → option_and_then (slice_get all) (option_map (λ (row : Code × ℕ). row.1) (cond b (Some (code_of site, n)) o)) ≡ cond b (Some site) p
+    pick : (b : Bool) (all : List Site) (n : ℕ) (site : Site) (o : Option (Code × ℕ)) (p : Option Site) → slice_get all n ≡ Some site → option_and_then (slice_get all) (option_map (λ row. row.1) o) ≡ p → option_and_then (slice_get all) (option_map (λ (row : Code × ℕ). row.1) (cond b (Some (code_of_site site, n)) o)) ≡ cond b (Some site) p
     pick true all n site o p at h = at
     pick false all n site o p at h = h
 
-rows_push : (n : ℕ) (sites : List Site) (site : Site) → map row_of_place (enumerate_from n (sites ++ site ∷ [])) ≡ map row_of_place (enumerate_from n sites) ++ (code_of site, n + length sites) ∷ []
-rows_push n [] site = let same : n ≡ n + 0 = omega arith in λ i. (code_of site, same i) ∷ []
+rows_push : (n : ℕ) (sites : List Site) (site : Site) → map row_of_place (enumerate_from n (sites ++ site ∷ [])) ≡ map row_of_place (enumerate_from n sites) ++ (code_of_site site, n + length sites) ∷ []
+rows_push n [] site = let same : n ≡ n + 0 = omega arith in λ i. (code_of_site site, same i) ∷ []
 rows_push n (first ∷ sites) site =
     let same : (n + 1) + length sites ≡ n + suc (length sites) = omega arith in
-    ap (λ (rows : List (Code × ℕ)). (code_of first, n) ∷ rows)
-    (rows_push (n + 1) sites site ∙ ap (λ k. map row_of_place (enumerate_from (n + 1) sites) ++ (code_of site, k) ∷ []) same)
+    ap (λ (rows : List (Code × ℕ)). (code_of_site first, n) ∷ rows)
+    (rows_push (n + 1) sites site ∙ ap (λ k. map row_of_place (enumerate_from (n + 1) sites) ++ (code_of_site site, k) ∷ []) same)
 
-pub rows_more : (sites : List Site) (i : ℕ) (site : Site) (old new : List (Code × ℕ)) → i < length sites → site ≡ get_or sites i site → old ≡ map row_of_place (enumerate_from 0 (take i sites)) → new ≡ old ++ (code_of site, i) ∷ [] → new ≡ map row_of_place (enumerate_from 0 (take (i + 1) sites))
+pub rows_more : (sites : List Site) (i : ℕ) (site : Site) (old new : List (Code × ℕ)) → i < length sites → site ≡ get_or sites i site → old ≡ map row_of_place (enumerate_from 0 (take i sites)) → new ≡ old ++ (code_of_site site, i) ∷ [] → new ≡ map row_of_place (enumerate_from 0 (take (i + 1) sites))
 rows_more sites i site old new l at was now =
     let count : 0 + length (take i sites) ≡ i = omega (arith, length-take-le i sites (omega arith)) in
-    now ∙ ((λ j. was j ++ (code_of site, sym count j) ∷ [])
+    now ∙ ((λ j. was j ++ (code_of_site site, sym count j) ∷ [])
     ∙ (sym (rows_push 0 (take i sites) site) ∙ ap (λ (xs : List Site). map row_of_place (enumerate_from 0 xs)) (sym (next_of sites i site l at))))
 
-pub is_directory : (sites : List Site) (lots : List Lot) (directory : Directory) (index_rows : List (Code × ℕ)) (lot_rows : List (Pair × ℕ)) → index_rows ≡ map (λ place. (code_of place.1, place.0)) (enumerate_from 0 sites) → lot_rows ≡ map (λ lot. (pair_of lot, lot.lot)) lots → HasFirst code_cmp index_rows directory.indices → HasFirst pair_cmp lot_rows directory.lots → IsDirectory sites lots directory
+pub is_directory : (sites : List Site) (lots : List Lot) (directory : Directory) (index_rows : List (Code × ℕ)) (lot_rows : List (Pair × ℕ)) → index_rows ≡ map (λ place. (code_of_site place.1, place.0)) (enumerate_from 0 sites) → lot_rows ≡ map (λ lot. (pair_of lot, lot.lot)) lots → HasFirst code_cmp index_rows directory.indices → HasFirst pair_cmp lot_rows directory.lots → IsDirectory sites lots directory
 is_directory sites lots directory index_rows lot_rows i l indices found = record {
   sites_found = λ code.
       ap (λ o. option_and_then (slice_get sites) o) (indices code ∙ ap (λ rs. first_value code_cmp rs code) i)

@@ -14,7 +14,7 @@ use Rattle.adm_match.specs.Market.{Code}
 use Rattle.adm_round.specs.declared.applicants.Applicant.{Applicant}
 use Rattle.adm_round.specs.declared.applicants.Pair.{Pair}
 use Rattle.adm_round.specs.declared.applicants.Site.{Site}
-use Rattle.adm_round.specs.Round.{code_of, number_of, wants, pair_at, pairs_at, pairs}
+use Rattle.adm_round.specs.Round.{code_of_site, number_of, wants, pair_at, pairs_at, pairs}
 use Rattle.adm_types.specs.Limits.{code_cmp}
 use Rattle.adm_round.specs.Lookups.{children_for}
 
@@ -77,7 +77,7 @@ pairs_same school applicants = twice school (filter (wants school) applicants)
     twice school [] = refl
     twice school (x ∷ xs) = λ i. pair_at school x ∷ twice school xs i
 
-pub pairs_more : (sites : List Site) (applicants : List Applicant) (i : ℕ) (site : Site) (school : Code) (children : List ℕ) (old new : List Pair) → i < length sites → site ≡ get_or sites i site → school ≡ code_of site → children ≡ map number_of (filter (wants school) applicants) → old ≡ pairs (take i sites) applicants → new ≡ old ++ map (λ child. record { school = school; child = child }) children → new ≡ pairs (take (i + 1) sites) applicants
+pub pairs_more : (sites : List Site) (applicants : List Applicant) (i : ℕ) (site : Site) (school : Code) (children : List ℕ) (old new : List Pair) → i < length sites → site ≡ get_or sites i site → school ≡ code_of_site site → children ≡ map number_of (filter (wants school) applicants) → old ≡ pairs (take i sites) applicants → new ≡ old ++ map (λ child. record { school = school; child = child }) children → new ≡ pairs (take (i + 1) sites) applicants
 pairs_more sites applicants i site school children old new l at here are was now =
     let more : map (λ child. record { school = school; child = child }) children ≡ pairs_at applicants site =
     ap (map (λ child. record { school = school; child = child })) are

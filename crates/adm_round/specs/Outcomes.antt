@@ -2,14 +2,15 @@
 -- School Admissions Code 2021, section 2: an offer for each child; what is fresh is this profile's.
 use Rattle.std.specs.Prelude.{◌≡◌, ℕ, ◌≤◌, Bool, true, false, not, ◌&&◌, List, map, Option, None, Some, is_some, IfSome, All, count_by}
 use Rattle.std.specs.List.{list_any, AllZip}
+use Rattle.adm_types.specs.Code.{has}
 use Rattle.adm_types.specs.declared.draws.Lot.{Lot}
 use Rattle.adm_types.specs.declared.draws.Outcome.{Outcome}
 use Rattle.adm_types.specs.Limits.{is_listed}
-use Rattle.adm_match.specs.Market.{Code, Market, has, first_fault}
+use Rattle.adm_match.specs.Market.{Code, Market, first_fault}
 use Rattle.adm_match.specs.Stability.{Allocation, IsBest}
 use Rattle.adm_round.specs.declared.applicants.Applicant.{Applicant}
 use Rattle.adm_round.specs.declared.applicants.Site.{Site}
-use Rattle.adm_round.specs.Round.{code_of, number_of, listed, IsPosed}
+use Rattle.adm_round.specs.Round.{code_of_site, number_of, listed, IsPosed}
 use Rattle.adm_round.specs.Ranks.{market_of_round}
 
 -- whether a school is not the one of which the child was a tenant
@@ -49,7 +50,7 @@ has_fresh school outcomes = list_any (λ outcome. has outcome.school school && o
 
 -- where some have the site's school who had it not before, at most its quota have it
 abbrev pub HasRoom : List Outcome → Site → Type 0
-HasRoom outcomes site = has_fresh (code_of site) outcomes ≡ true → outcomes_at (code_of site) outcomes ≤ site.quota
+HasRoom outcomes site = has_fresh (code_of_site site) outcomes ≡ true → outcomes_at (code_of_site site) outcomes ≤ site.quota
 
 -- what a child has is its place of before
 abbrev pub is_kept : Outcome → Bool

@@ -10,11 +10,11 @@ use Rattle.adm_match.specs.Market as match
 use Rattle.adm_match.specs.Market.{Code, Candidate, Market}
 use Rattle.adm_round.specs.declared.applicants.Applicant.{Applicant}
 use Rattle.adm_round.specs.declared.applicants.Site.{Site}
-use Rattle.adm_round.specs.Round.{code_of, number_of, listed}
+use Rattle.adm_round.specs.Round.{code_of_site, number_of, listed}
 
 -- the site of a school
 abbrev pub site_of : List Site → Code → Option Site
-site_of sites code = find (λ site. bytes_eq (code_of site) code) sites
+site_of sites code = find (λ site. bytes_eq (code_of_site site) code) sites
 
 -- the lot that was drawn for the child at the school, or 0 where none was: at the school of which it is a tenant
 abbrev pub lot_at : List Lot → Code → ℕ → ℕ
@@ -25,7 +25,7 @@ lot_at lots school child =
 
 -- a site's school, with the key by which the child ranks there
 abbrev pub wish_at : (Code → ℕ → ℕ) → Child → Site → Wish
-wish_at lot child site = record { school = code_of site; key = key_of site.school child (lot (code_of site) child.no) }
+wish_at lot child site = record { school = code_of_site site; key = key_of site.school child (lot (code_of_site site) child.no) }
 
 -- these schools, each with the child's key there
 abbrev pub wishes_for : (Code → Option Site) → (Code → ℕ → ℕ) → Child → List Code → List Wish
@@ -37,7 +37,7 @@ candidate_of site lot applicant =
     record { child = number_of applicant; list = wishes_for site lot applicant.child (listed applicant); tenant = applicant.own }
 
 abbrev pub seats_of : Site → Seats
-seats_of site = record { code = code_of site; quota = site.quota }
+seats_of site = record { code = code_of_site site; quota = site.quota }
 
 -- the problem of the round
 abbrev pub market_of_round : List Site → List Applicant → List Lot → Market

@@ -1,21 +1,22 @@
 -- Who takes part in a round, which lots are drawn for it, and when all that fits together.
 -- School Admissions Code 2021, section 1: a tie is broken by lot; rounds and tenants are this profile's.
-use Rattle.std.specs.Prelude.{◌≡◌, ℕ, Bool, true, false, ◌==◌, ◌&&◌, List, ◌++◌, map, filter, IfSome, All, bytes_eq}
+use Rattle.std.specs.Prelude.{◌≡◌, ℕ, Bool, true, false, List, ◌++◌, map, filter, IfSome, All, bytes_eq}
 use Rattle.std.specs.List.{flat_map, list_any, zip}
 use Rattle.std.specs.List.Sorted.{IsStrictlySortedBy}
 use Rattle.std.specs.Option.{option_to_list}
 use Rattle.std.specs.Ordering.{nat_cmp}
 use Rattle.std.specs.Cmp.Lexicographic.{slice_cmp}
+use Rattle.adm_types.specs.Lots.{repeats_lot}
 use Rattle.adm_types.specs.declared.draws.Lot.{Lot}
 use Rattle.adm_types.specs.Limits.{is_listed, is_without_repeat, is_school_in_range, is_child_in_range}
-use Rattle.adm_match.specs.Market.{Code, some_pair}
+use Rattle.adm_match.specs.Market.{Code}
 use Rattle.adm_round.specs.declared.applicants.Applicant.{Applicant}
 use Rattle.adm_round.specs.declared.applicants.Site.{Site}
 use Rattle.adm_round.specs.declared.applicants.Pair.{Pair}
 
 -- the code of a site's school, and the number of an applicant
-abbrev pub code_of : Site → Code
-code_of site = site.school.code
+abbrev pub code_of_site : Site → Code
+code_of_site site = site.school.code
 
 abbrev pub number_of : Applicant → ℕ
 number_of applicant = applicant.child.no
@@ -33,7 +34,7 @@ pair_at code applicant = record { school = code; child = number_of applicant }
 
 -- a site's school with each applicant that wants it
 abbrev pub pairs_at : List Applicant → Site → List Pair
-pairs_at applicants site = map (pair_at (code_of site)) (filter (wants (code_of site)) applicants)
+pairs_at applicants site = map (pair_at (code_of_site site)) (filter (wants (code_of_site site)) applicants)
 
 -- each site's school with each applicant that wants it: the pairs for which lots are drawn
 abbrev pub pairs : List Site → List Applicant → List Pair
@@ -51,13 +52,9 @@ lots_of pairs numbers = map lot_of_draw (zip pairs numbers)
 abbrev pub pair_of : Lot → Pair
 pair_of lot = record { school = lot.school; child = lot.child }
 
--- two lots at one school are equal
-abbrev pub same_lot : Lot → Lot → Bool
-same_lot one other = bytes_eq one.school other.school && one.lot == other.lot
-
 -- a site has the code
 abbrev pub is_site : List Site → Code → Bool
-is_site sites code = list_any (λ site. bytes_eq (code_of site) code) sites
+is_site sites code = list_any (λ site. bytes_eq (code_of_site site) code) sites
 
 -- an applicant wants no school twice and not its own, and each school of its list is a site's
 pub record IsListFit (sites : List Site) (applicant : Applicant) : Type 0 where
@@ -68,10 +65,10 @@ pub record IsListFit (sites : List Site) (applicant : Applicant) : Type 0 where
 -- What a round asks of its sites, applicants and lots. Codes and numbers rise, so that none comes twice; the lots are
 -- those of the pairs, in order; and no two of them at one school are equal.
 pub record IsPosed (sites : List Site) (applicants : List Applicant) (lots : List Lot) : Type 0 where
-  pub codes_rise : IsStrictlySortedBy (slice_cmp nat_cmp) (map code_of sites)
+  pub codes_rise : IsStrictlySortedBy (slice_cmp nat_cmp) (map code_of_site sites)
   pub schools_fit : All (λ site. is_school_in_range site.school ≡ true) sites
   pub numbers_rise : IsStrictlySortedBy nat_cmp (map number_of applicants)
   pub children_fit : All (λ applicant. is_child_in_range applicant.child ≡ true) applicants
   pub lists_fit : All (IsListFit sites) applicants
   pub lots_drawn : map pair_of lots ≡ pairs sites applicants
-  pub lots_differ : some_pair same_lot lots ≡ false
+  pub lots_differ : repeats_lot lots ≡ false

@@ -2,7 +2,7 @@
 ghost use Rattle.std.specs.Prelude.{◌≡◌, IfOk, map};
 ghost use Rattle.std.specs.List.{enumerate_from};
 ghost use Rattle.std.specs.Option.{option_copied};
-ghost use Rattle.adm_round.specs.Round.{code_of, pair_of};
+ghost use Rattle.adm_round.specs.Round.{code_of_site, pair_of};
 ghost use Rattle.adm_round.specs.Lookups.{HasFirst, site_in, lot_in, IsDirectory};
 
 use crate::applicants::{Pair, Site};
@@ -35,7 +35,7 @@ fn first_values<K: Ord + Copy, V: Copy>(
 
 /// Each site's index behind its code.
 fn index_rows(alloc: Global, sites: &[Site]) -> Result<Vec<(SchoolCode, usize)>, AllocError>
-    ensures { IfOk result (λ rows. rows.items ≡ map (λ place. (code_of place.1, place.0)) (enumerate_from 0 sites.now)) }
+    ensures { IfOk result (λ rows. rows.items ≡ map (λ place. (code_of_site place.1, place.0)) (enumerate_from 0 sites.now)) }
 {
     let mut rows = Vec::new(alloc);
     for index in 0..sites.len() {

@@ -1,6 +1,6 @@
 // What a round comes to for each of its children, and how many come to what.
 ghost use Rattle.std.specs.Prelude.{◌≡◌, IfOk, count_by, is_none};
-ghost use Rattle.adm_match.specs.Market.{has};
+ghost use Rattle.adm_types.specs.Code.{has};
 ghost use Rattle.adm_match.specs.Stability.{school_of};
 ghost use Rattle.adm_round.specs.Outcomes.{outcome_of, outcomes_of, is_kept};
 ghost use Rattle.adm_round.specs.Round.{number_of};

@@ -10,7 +10,7 @@ use Rattle.sqlite.proofs.StateLemmas.{survives_then}
 use Rattle.sqlite_keyed.proofs.ListLemmas.{IsPermutation-filter}
 use Rattle.sqlite.specs.Tree.{has_rowid, without_rowid}
 use Rattle.sqlite.specs.Edit.{without_all}
-use Rattle.adm_schema.specs.Effects.{GoesOn, key_of, put_in, put_each}
+use Rattle.adm_schema.specs.Effects.{StaysOpen, integer_key, put_in, put_each}
 
 -- a statement that succeeded ran inside the transaction
 pub is_inside : {X : Type 0} (b : Bool) (x : X) (e : Error) (P : Type 0) → (b ≡ false → (◌≡◌ {A = Result X Error} (Ok x) (Err e)) × P) → IsTrue b
@@ -23,7 +23,7 @@ pub survives_same : (s : State) → Survives s s (λ _. ⊥)
 survives_same s = record { clean = omega (arith); shield = λ shielded. shielded; counts = omega (arith); limit = refl; closes = λ clean live. inl live; crash = λ clean db may. inl may }
 
 -- before the first write it is open where it was
-pub goes_none : (s : State) → GoesOn 0 s s
+pub goes_none : (s : State) → StaysOpen 0 s s
 goes_none s (inl some) = absurd (omega (arith, some))
 goes_none s (inr here) = here
 
@@ -33,7 +33,7 @@ pub without_moved : (k : ℤ) (xs ys : List Row) → IsPermutation xs ys → IsP
 without_moved k xs ys same = IsPermutation-filter (λ r. not (has_rowid k r)) xs ys same
 
 pub put_moved : (row : Row) (xs ys : List Row) → IsPermutation xs ys → IsPermutation (put_in row xs) (put_in row ys)
-put_moved row xs ys same = IsPermutation-cons row _ _ (without_moved (key_of row) xs ys same)
+put_moved row xs ys same = IsPermutation-cons row _ _ (without_moved (integer_key row) xs ys same)
 
 pub puts_moved : (news xs ys : List Row) → IsPermutation xs ys → IsPermutation (put_each xs news) (put_each ys news)
 puts_moved [] xs ys same = same

@@ -29,7 +29,7 @@ use Rattle.sqlite_rules.specs.Lists.{Has}
 use Rattle.sqlite_rules.specs.Calls.{ids_of}
 use Rattle.sqlite_rules.proofs.ListLemmas.{has_filtered, has_kept}
 use Rattle.adm_schema.specs.Queries.{query_of, program_of}
-use Rattle.adm_schema.specs.RowTexts.{has_key, is_present, is_school, find_present, find_school, cut_present, cut_school, insert_present, present_terms}
+use Rattle.adm_schema.specs.RowTexts.{has_key, is_present, has_code, find_present, find_school, cut_present, cut_school, insert_present, present_terms}
 use Rattle.adm_schema.specs.Effects.{WritesOnly, AddsRow, DropsRow, begins_with, drop_of}
 use Rattle.adm_schema.specs.Rows.{columns_of, rows_of}
 use Rattle.adm_schema.specs.Schema.{present, school, register_schema}
@@ -180,7 +180,7 @@ drops_none table tests params key rows test none =
 pub present_test : (child imported : ℤ) (r : Row) → passing is_present (Int child ∷ Int imported ∷ []) r ≡ begins_with (Int child ∷ Int imported ∷ []) (columns_of present r)
 present_test child imported r = λ i. equal_int (column r 1) child i && (equal_int (column r 2) imported i && true)
 
-pub school_test : (code : List ℕ) (r : Row) → passing is_school (Text code ∷ []) r ≡ begins_with (Text code ∷ []) (columns_of school r)
+pub school_test : (code : List ℕ) (r : Row) → passing has_code (Text code ∷ []) r ≡ begins_with (Text code ∷ []) (columns_of school r)
 school_test code r = λ i. equal_text (column r 1) code i && true
 
 -- the row of a child, or of an imported row, is found and taken out
@@ -201,9 +201,9 @@ no_present child imported old new has found =
 pub drops_school : (code : List ℕ) (k : ℤ) (shown : Row) (old mid new : State) → old.now.schema ≡ register_schema → mid.now ≡ old.now → column shown 0 ≡ Int k → Shown find_school (Text code ∷ []) old mid (shown ∷ [])
     → ExecutesInside 0 cut_school (Int k ∷ []) mid new (Ok 1) → DropsRow school (Text code ∷ []) mid new
 drops_school code k shown old mid new has same number found h =
-    let it = finds_one register_schema school 1 refl refl refl (λ _ _. refl) refl is_school find_school finds_school.0 (Text code ∷ []) shown k old mid finds_school.1 finds_school.2 finds_school.3 has number found in
-    drops_found register_schema school 1 refl refl refl (λ _ _. refl) refl is_school (Text code ∷ []) (Text code ∷ []) cut_school k it.0 mid new (school_test code)
-    (ap (λ (d : Database). filter (passing is_school (Text code ∷ [])) (d.trees school.tree)) same ∙ it.1) it.2 cuts_school.0 cuts_school.1 (ap (λ (d : Database). d.schema) same ∙ has) h
+    let it = finds_one register_schema school 1 refl refl refl (λ _ _. refl) refl has_code find_school finds_school.0 (Text code ∷ []) shown k old mid finds_school.1 finds_school.2 finds_school.3 has number found in
+    drops_found register_schema school 1 refl refl refl (λ _ _. refl) refl has_code (Text code ∷ []) (Text code ∷ []) cut_school k it.0 mid new (school_test code)
+    (ap (λ (d : Database). filter (passing has_code (Text code ∷ [])) (d.trees school.tree)) same ∙ it.1) it.2 cuts_school.0 cuts_school.1 (ap (λ (d : Database). d.schema) same ∙ has) h
 
 -- ---- a row that is added
 

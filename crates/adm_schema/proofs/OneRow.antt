@@ -42,7 +42,7 @@ use Rattle.sqlite.specs.Effect.{Database, Answers}
 use Rattle.adm_lists.proofs.Orders.{same_key}
 use Rattle.adm_schema.specs.Queries.{query_of, program_of}
 use Rattle.adm_schema.specs.RowTexts.{has_key}
-use Rattle.adm_schema.specs.Effects.{PutsRow, CutsRow, key_of}
+use Rattle.adm_schema.specs.Effects.{PutsRow, CutsRow, integer_key}
 use Rattle.adm_schema.proofs.Statements.{replaced, replaced_rows, Replaces, deleted}
 use Rattle.sqlite_rules.specs.Calls.{ids_of}
 use Rattle.sqlite_rules.specs.Keys.{AreConflicts, conflicts, shares}
@@ -193,7 +193,7 @@ module _ (schema : Schema) (table : Table) (at : ℕ) (found : slice_get schema.
       let chosen : with_rowid Chosen rows (cast_row table (mended Replace table source)) ≡ source = ap (with_rowid Chosen rows) mends ∙ given_rowid rows source k key in
       let way = subst (λ x. AreConflicts None schema.indexes table rows x it.0) chosen it.2 in
       let done = subst (λ x. Replaces schema table at found uncounted unstamped alone old.now.trees x it.0 new.now.trees) chosen it.3 in
-      let number : key_of row ≡ k = ap key_of (sym shows) ∙ ap id_in (own source ∙ key) in
+      let number : integer_key row ≡ k = ap integer_key (sym shows) ∙ ap id_in (own source ∙ key) in
       record {
         only = it.1;
         rows = λ keyed.

@@ -52,7 +52,7 @@ pub cuts_present : (command_of (understood register_schema text.cut_present) ≡
 unfolding understood everything
 cuts_present = (refl, (refl, refl))
 
-pub finds_school : (names : List (List ℕ)) × (command_of (understood register_schema text.find_school) ≡ Select (program_of (query_of 1 text.is_school (col 1 0 ∷ []) [])) names) × IsPlain (understood register_schema text.find_school) × (reads_listing register_schema text.find_school ≡ false)
+pub finds_school : (names : List (List ℕ)) × (command_of (understood register_schema text.find_school) ≡ Select (program_of (query_of 1 text.has_code (col 1 0 ∷ []) [])) names) × IsPlain (understood register_schema text.find_school) × (reads_listing register_schema text.find_school ≡ false)
 unfolding understood everything
 finds_school = (_, refl, (refl, refl), refl)
 

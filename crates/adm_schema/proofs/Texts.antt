@@ -76,9 +76,9 @@ pub asks_imported : (v : Version) → Asks (schema_of v) text.select_imported 14
 unfolding understood everything
 asks_imported v = record { names = _; command = refl; unlisted = refl; plain = (refl, refl); whole = (omega arith, refl); answered = λ db e. answered _ db e 14 text.imported_columns [] (λ h. absurd (let wrong = h.1 in cc)) }
 
-pub asks_present : Asks register_schema text.select_present 15 text.present_columns []
+pub asks_present : Asks register_schema text.select_present 15 text.present_column_terms []
 unfolding understood everything
-asks_present = record { names = _; command = refl; unlisted = refl; plain = (refl, refl); whole = (omega arith, refl); answered = λ db e. answered _ db e 15 text.present_columns [] (λ h. absurd (let wrong = h.1 in cc)) }
+asks_present = record { names = _; command = refl; unlisted = refl; plain = (refl, refl); whole = (omega arith, refl); answered = λ db e. answered _ db e 15 text.present_column_terms [] (λ h. absurd (let wrong = h.1 in cc)) }
 
 pub marks_version : (command_of (understood register_schema text.mark_version) ≡ Update 0 (program_of (query_of 0 [] text.meta_marked []))) × IsPlain (understood register_schema text.mark_version)
 unfolding understood everything

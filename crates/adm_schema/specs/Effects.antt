@@ -47,18 +47,18 @@ pub record AddsRow (table : Table) (row : Row) (old new : State) : Type 0 where
   pub adds : IsPermutation (row ∷ rows_of table old.now.trees) (rows_of table new.now.trees)
 
 -- after this many writes, or where it was open before, the transaction is open
-abbrev pub GoesOn : ℕ → State → State → Type 0
-GoesOn writes old new = (0 < writes) ⊎ IsTrue old.is_open → IsTrue new.is_open
+abbrev pub StaysOpen : ℕ → State → State → Type 0
+StaysOpen writes old new = (0 < writes) ⊎ IsTrue old.is_open → IsTrue new.is_open
 
 -- ---- a table whose key is an integer in its first column
 
 -- the number in a row's first column
-abbrev pub key_of : Row → ℤ
-key_of row = id_in (rowid row)
+abbrev pub integer_key : Row → ℤ
+integer_key row = id_in (rowid row)
 
 -- the rows, with this one in place of the one of its key
 abbrev pub put_in : Row → List Row → List Row
-put_in row rows = row ∷ without_rowid (key_of row) rows
+put_in row rows = row ∷ without_rowid (integer_key row) rows
 
 -- the same for each of these rows, one after another
 abbrev pub put_each : List Row → List Row → List Row

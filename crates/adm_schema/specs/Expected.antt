@@ -19,8 +19,8 @@ use Rattle.adm_schema.specs.declared.expected.IndexIs.{IndexIs}
 use Rattle.adm_schema.specs.Schema.{column_of, table_of, index_of}
 
 -- the columns of a STRICT table, by name, type and NOT NULL
-abbrev pub columns_of : List (Bor (List ℕ) × Kind × Bool) → List Column
-columns_of = map (λ c. column_of c.0.now c.1 c.2)
+abbrev pub strict_columns : List (Bor (List ℕ) × Kind × Bool) → List Column
+strict_columns = map (λ c. column_of c.0.now c.1 c.2)
 
 abbrev pub places_of : List (Bor (List ℕ)) → List (List ℕ)
 places_of = map (λ places. places.now)
@@ -52,7 +52,7 @@ table_of_keys One name tree columns = one_row_table name tree columns
 table_of_keys (Unique primary uniques) name tree columns = keyed_table name tree columns primary.now (places_of uniques.now) (ascending uniques.now)
 
 abbrev pub table_is : TableIs → Table
-table_is t = table_of_keys t.keys t.name.now t.tree (columns_of t.columns.now)
+table_is t = table_of_keys t.keys t.name.now t.tree (strict_columns t.columns.now)
 
 abbrev pub index_is : IndexIs → Index
 index_is i = index_of i.name.now i.tree i.table i.columns.now

@@ -72,8 +72,8 @@ abbrev pub find_school : List ℕ
 find_school = codes "SELECT rowid FROM school WHERE code = ?1"
 
 -- its code is the parameter
-abbrev pub is_school : List Term
-is_school = op2 (Compare Eq Binary) (col 1 1) (col 0 0) ∷ []
+abbrev pub has_code : List Term
+has_code = op2 (Compare Eq Binary) (col 1 1) (col 0 0) ∷ []
 
 abbrev pub cut_school : List ℕ
 cut_school = codes "DELETE FROM school WHERE rowid = ?1"

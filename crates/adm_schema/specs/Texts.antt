@@ -116,8 +116,8 @@ imported_columns = col 1 0 ∷ col 1 2 ∷ col 1 3 ∷ col 1 4 ∷ col 1 5 ∷ c
 abbrev pub select_present : List ℕ
 select_present = codes "SELECT child, imported, school FROM present"
 
-abbrev pub present_columns : List Term
-present_columns = col 1 1 ∷ col 1 2 ∷ col 1 3 ∷ []
+abbrev pub present_column_terms : List Term
+present_column_terms = col 1 1 ∷ col 1 2 ∷ col 1 3 ∷ []
 
 -- the file is of the second version
 abbrev pub mark_version : List ℕ

@@ -2,7 +2,7 @@
 ghost use Rattle.std.specs.Prelude.{◌≡◌, ◌↔◌, [], ◌∷◌, Some, None, map, false, IsTrue, IfSome};
 ghost use Rattle.sqlite.specs.declared.types.Value.TheVariants.{Null};
 ghost use Rattle.adm_schema.specs.Schema.{column_of, schema_of};
-ghost use Rattle.adm_schema.specs.Expected.{columns_of, places_of, ascending, no_stamps, rowid_table, one_row_table, keyed_table, table_is, index_is};
+ghost use Rattle.adm_schema.specs.Expected.{strict_columns, places_of, ascending, no_stamps, rowid_table, one_row_table, keyed_table, table_is, index_is};
 
 use crate::Version;
 use crate::expected::{ColumnIs, INDEXES, IndexIs, KeysAre, TABLES, TableIs};
@@ -36,7 +36,7 @@ fn is_column(column: &Column, expected: &ColumnIs<'_>) -> bool
 
 /// Whether the columns are these, in this order.
 fn are_columns(columns: &[Column], expected: &[ColumnIs<'_>]) -> bool
-    ensures { IsTrue result ↔ (columns.now ≡ columns_of expected.now) }
+    ensures { IsTrue result ↔ (columns.now ≡ strict_columns expected.now) }
 {
     match (columns.split_first(), expected.split_first()) {
         (None, None) => true,
@@ -98,7 +98,7 @@ fn has_no_terms(terms: &Terms) -> bool
 
 /// Whether the table has this name, tree and columns.
 fn is_named(table: &Table, name: &str, tree: u32, columns: &[ColumnIs<'_>]) -> bool
-    ensures { IsTrue result ↔ ((table.now.name ≡ name.now) × (table.now.tree ≡ tree) × (table.now.columns ≡ columns_of columns.now)) }
+    ensures { IsTrue result ↔ ((table.now.name ≡ name.now) × (table.now.tree ≡ tree) × (table.now.columns ≡ strict_columns columns.now)) }
 {
     let named = table.name.as_slice() == name.as_bytes();
     named && table.tree == tree && are_columns(table.columns.as_slice(), columns)
@@ -125,7 +125,7 @@ fn has_keys(table: &Table, primary: &[usize], uniques: &[&[usize]]) -> bool
 
 /// Whether it is a table of this name, tree and columns whose first column is its rowid.
 fn is_rowid_table(table: &Table, name: &str, tree: u32, columns: &[ColumnIs<'_>]) -> bool
-    ensures { IsTrue result ↔ (table.now ≡ rowid_table name.now tree (columns_of columns.now)) }
+    ensures { IsTrue result ↔ (table.now ≡ rowid_table name.now tree (strict_columns columns.now)) }
 {
     is_named(table, name, tree, columns)
         && has_rowid(table)
@@ -135,7 +135,7 @@ fn is_rowid_table(table: &Table, name: &str, tree: u32, columns: &[ColumnIs<'_>]
 
 /// Whether it is such a table whose CHECK is that the first column is 1.
 fn is_one_row_table(table: &Table, name: &str, tree: u32, columns: &[ColumnIs<'_>]) -> bool
-    ensures { IsTrue result ↔ (table.now ≡ one_row_table name.now tree (columns_of columns.now)) }
+    ensures { IsTrue result ↔ (table.now ≡ one_row_table name.now tree (strict_columns columns.now)) }
 {
     is_named(table, name, tree, columns)
         && has_rowid(table)
@@ -152,7 +152,7 @@ fn is_keyed_table(
     primary: &[usize],
     uniques: &[&[usize]],
 ) -> bool
-    ensures { IsTrue result ↔ (table.now ≡ keyed_table name.now tree (columns_of columns.now) primary.now (places_of uniques.now) (ascending uniques.now)) }
+    ensures { IsTrue result ↔ (table.now ≡ keyed_table name.now tree (strict_columns columns.now) primary.now (places_of uniques.now) (ascending uniques.now)) }
 {
     is_named(table, name, tree, columns)
         && has_keys(table, primary, uniques)

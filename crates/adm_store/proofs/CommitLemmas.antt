@@ -51,7 +51,7 @@ use Rattle.adm_store.specs.Present.{present_columns, moved_key}
 use Rattle.adm_store.specs.Schools.{code_row}
 use Rattle.adm_store.specs.StandsFor.{StandsAs, HasRows, HoldsRegister, LeavesOnly, LeavesEither, written_in, written_tables}
 use Rattle.adm_store.specs.Changes.{IsStep, written_school, written_child, written_application, written_imported, written_count, last_draw, draw_count}
-use Rattle.adm_store.specs.Writes.{Write, Sets, Leaves, Writes, changed, after, are_keyed, count_of, key_row, writes_of}
+use Rattle.adm_store.specs.Writes.{Write, Sets, Leaves, Writes, changed, after_writes, are_keyed, count_of, key_row, writes_of}
 use Rattle.adm_store.specs.declared.rows.Changes.{Changes}
 use Rattle.adm_store.proofs.LogLemmas.{after_none}
 use Rattle.adm_store.proofs.RegisterRows.{each_table, same_code, left_total, left_same}
@@ -101,12 +101,12 @@ draws_set old new changes step formed =
 
 -- each table has the rows of the old one after these writes
 abbrev Moves : List Write → Trees → Trees → Type 0
-Moves writes was now = (t : Table) → Has register_schema.tables t → IsTrue (are_keyed t (rows_of t was)) → IsPermutation (after t writes (rows_of t was)) (rows_of t now)
+Moves writes was now = (t : Table) → Has register_schema.tables t → IsTrue (are_keyed t (rows_of t was)) → IsPermutation (after_writes t writes (rows_of t was)) (rows_of t now)
 
 -- from what the old register has of a table, and what the writes leave of it, comes what the new one has
 abbrev Becomes : Trees → Trees → Register → Register → Changes → Table → Type 0
 Becomes was now old new changes t =
-    HasRows t (written_in (written_tables Second (rows_in_order old)) t) was → (IsTrue (are_keyed t (rows_of t was)) → IsPermutation (after t (writes_of changes) (rows_of t was)) (rows_of t now))
+    HasRows t (written_in (written_tables Second (rows_in_order old)) t) was → (IsTrue (are_keyed t (rows_of t was)) → IsPermutation (after_writes t (writes_of changes) (rows_of t was)) (rows_of t now))
     → HasRows t (written_in (written_tables Second (rows_in_order new)) t) now
 
 -- trees that come of those of the old register by these changes

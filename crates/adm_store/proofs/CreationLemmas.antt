@@ -30,7 +30,7 @@ use Rattle.adm_draws.specs.Draws.{row_of, offer_rows_of, lot_rows_of}
 use Rattle.adm_store.specs.declared.rows.SeasonRow.{SeasonRow}
 use Rattle.adm_store.specs.Changes.{IsRowOf, written_season}
 use Rattle.adm_store.specs.StandsFor.{StandsAs, HasRows, written_in, written_tables}
-use Rattle.adm_store.specs.Writes.{Adds, Leaves, Writes, write_of, after, are_keyed}
+use Rattle.adm_store.specs.Writes.{Adds, Leaves, Writes, write_of, after_writes, are_keyed}
 use Rattle.adm_store.proofs.LogLemmas.{keyed_none}
 use Rattle.adm_store.proofs.RegisterRows.{each_table}
 use Rattle.adm_store.proofs.RowLemmas.{recursion_had}
@@ -76,11 +76,11 @@ stands_for_new made last season row it none wrote = record {
     table : (t : Table) → Has register_schema.tables t → HasRows t (written_in (written_tables Second (season_alone season)) t) last.now.trees
     table t listed =
         let was : rows_of t made.now.trees ≡ [] = ap (map (columns_of t)) (recursion_had (λ (t : Table). made.now.trees t.tree ≡ []) register_schema.tables t none.empty listed) in
-        let moved = subst (λ rows. IsTrue (are_keyed t rows) → IsPermutation (after t (write_of Adds meta written_season (row ∷ []) ∷ []) rows) (rows_of t last.now.trees)) was (wrote.rows t listed) (keyed_none t) in
+        let moved = subst (λ rows. IsTrue (are_keyed t rows) → IsPermutation (after_writes t (write_of Adds meta written_season (row ∷ []) ∷ []) rows) (rows_of t last.now.trees)) was (wrote.rows t listed) (keyed_none t) in
         subst (λ rows. IsPermutation rows (rows_of t last.now.trees)) (written t listed) moved
       where
-        written : (t : Table) → Has register_schema.tables t → after t (write_of Adds meta written_season (row ∷ []) ∷ []) [] ≡ written_in (written_tables Second (season_alone season)) t
-        written = each_table Second (λ t. after t (write_of Adds meta written_season (row ∷ []) ∷ []) [] ≡ written_in (written_tables Second (season_alone season)) t) (ap (λ cells. cells ∷ []) it.written, (refl, (refl, (refl, (refl, (refl, (refl, (refl, (refl, (refl, (refl, tt)))))))))))
+        written : (t : Table) → Has register_schema.tables t → after_writes t (write_of Adds meta written_season (row ∷ []) ∷ []) [] ≡ written_in (written_tables Second (season_alone season)) t
+        written = each_table Second (λ t. after_writes t (write_of Adds meta written_season (row ∷ []) ∷ []) [] ≡ written_in (written_tables Second (season_alone season)) t) (ap (λ cells. cells ∷ []) it.written, (refl, (refl, (refl, (refl, (refl, (refl, (refl, (refl, (refl, (refl, tt)))))))))))
 
 -- what the transaction of a creation leaves stands for the new register
 pub created : {S : Type 0} (g : store.Ghosts S) (start begun : Held S) (made last : State) (season : SeasonFacts) (row : SeasonRow) → IsRowOf season row → begun ≡ record start { in_transaction = true } → start.schema ≡ no_schema → IsLive (state g start)

@@ -13,9 +13,9 @@ use Rattle.adm_types.specs.Seasons.{SeasonFacts, lists_end}
 use Rattle.adm_types.specs.declared.draws.Draw.{Draw}
 use Rattle.adm_types.specs.declared.draws.Outcome.{Outcome}
 use Rattle.adm_types.specs.declared.draws.Lot.{Lot}
-use Rattle.adm_draws.specs.Draws.{row_of, offer_rows_of, lot_rows_of, offer_row, lot_row}
+use Rattle.adm_draws.specs.Draws.{row_of, offer_rows_of, lot_rows_of, offer_row_of, lot_row_of}
 use Rattle.adm_register.specs.State.{State as Register}
-use Rattle.adm_register.specs.Draws.{DrawFits, no_draws, with_draw, is_round, is_due, is_numbered, is_next, are_in_order, is_choice, is_known_outcome, is_known_lot}
+use Rattle.adm_register.specs.Draws.{DrawFits, no_draws, count_draw, is_round, is_due, is_numbered, is_next, are_in_order, is_choice, is_known_outcome, is_known_lot}
 use Rattle.adm_register.specs.WellFormed.{WellFormed}
 use Rattle.adm_register.specs.declared.draws_so_far.DrawsSoFar.{DrawsSoFar}
 use Rattle.adm_store.specs.DrawForms.{IsDrawRow, IsOfferRow, IsLotRow, is_number}
@@ -31,7 +31,7 @@ record IsInTurn (season : SeasonFacts) (d : Draw) : Type 0 where
   pub round : d.round ≤ most_draws
   pub day : nat_le d.day (lists_end season) ≡ true
 
-round_low : (before : DrawsSoFar) (d : Draw) → before.rounds ≤ before.draws → nat_lt before.draws most_draws ≡ true → is_numbered before d ≡ true → (d.round ≤ most_draws) × ((with_draw before d).rounds ≤ (with_draw before d).draws)
+round_low : (before : DrawsSoFar) (d : Draw) → before.rounds ≤ before.draws → nat_lt before.draws most_draws ≡ true → is_numbered before d ≡ true → (d.round ≤ most_draws) × ((count_draw before d).rounds ≤ (count_draw before d).draws)
 round_low before d few low is = go (is_round d) refl (and_parts (nat_eq d.number (before.draws + 1)) _ is).1
   where
     go : (b : Bool) → is_round d ≡ b → (if b then nat_eq d.round (before.rounds + 1) else nat_lt 0 before.rounds) ≡ true → (d.round ≤ most_draws) × ((if b then before.rounds + 1 else before.rounds) ≤ before.draws + 1)
@@ -48,7 +48,7 @@ each_in_turn season before (d ∷ ds) few order =
     let low = and_parts (is_numbered before d) _ due.0 in
     let number = (and_parts (nat_eq d.number (before.draws + 1)) _ low.0).0 in
     let rounds = round_low before d few low.1 low.0 in
-    (record { number = grind (arith, nat_tests); round = rounds.0; day = day.1 }, each_in_turn season (with_draw before d) ds rounds.1 parts.1)
+    (record { number = grind (arith, nat_tests); round = rounds.0; day = day.1 }, each_in_turn season (count_draw before d) ds rounds.1 parts.1)
 
 low_number : (n : ℕ) → n ≤ most_draws → is_number n ≡ true
 low_number n low = grind (arith, nat_tests)
@@ -60,14 +60,14 @@ module _ (r : Register) (formed : WellFormed r) where
   choice_form None there = refl
   choice_form (Some code) there = code_there r.schools formed.base.schools_fit code there
 
-  outcomes_fit : (n : ℕ) → is_number n ≡ true → (outcomes : List Outcome) → list_all (is_known_outcome r.schools r.children) outcomes ≡ true → AllByRecursion IsOfferRow (map (offer_row n) outcomes)
+  outcomes_fit : (n : ℕ) → is_number n ≡ true → (outcomes : List Outcome) → list_all (is_known_outcome r.schools r.children) outcomes ≡ true → AllByRecursion IsOfferRow (map (offer_row_of n) outcomes)
   outcomes_fit n form [] known = tt
   outcomes_fit n form (o ∷ os) known =
       let parts = and_parts (is_known_outcome r.schools r.children o) _ known in
       let own = and_parts (contains_key r.children o.child) _ parts.0 in
       (record { draw_form = form; child_form = number_there r formed o.child own.0; school_form = choice_form o.school own.1 }, outcomes_fit n form os parts.1)
 
-  drawn_fit : (n : ℕ) → is_number n ≡ true → (lots : List Lot) → list_all (is_known_lot r.schools r.children) lots ≡ true → AllByRecursion IsLotRow (map (lot_row n) lots)
+  drawn_fit : (n : ℕ) → is_number n ≡ true → (lots : List Lot) → list_all (is_known_lot r.schools r.children) lots ≡ true → AllByRecursion IsLotRow (map (lot_row_of n) lots)
   drawn_fit n form [] known = tt
   drawn_fit n form (l ∷ ls) known =
       let parts = and_parts (is_known_lot r.schools r.children l) _ known in

@@ -16,7 +16,7 @@ use Rattle.adm_types.specs.Seasons.{SeasonFacts}
 use Rattle.adm_types.specs.declared.draws.Draw.{Draw}
 use Rattle.adm_types.specs.declared.draws.DrawRow.{DrawRow}
 use Rattle.adm_register.specs.Difference.{AreNew}
-use Rattle.adm_register.specs.Draws.{no_draws, with_draw, is_next, are_in_order}
+use Rattle.adm_register.specs.Draws.{no_draws, count_draw, is_next, are_in_order}
 use Rattle.adm_register.specs.declared.draws_so_far.DrawsSoFar.{DrawsSoFar}
 use Rattle.adm_store.specs.Changes.{last_draw}
 use Rattle.adm_store.proofs.AddedRows.{old_and_new}
@@ -46,9 +46,9 @@ next_numbered season before draw next =
 pub few_draws : (season : SeasonFacts) (before : DrawsSoFar) (draws : List Draw) → before.draws ≤ most_draws → are_in_order season before draws ≡ true → before.draws + length draws ≤ most_draws
 few_draws season before [] few in_order = omega (arith, few)
 few_draws season before (draw ∷ draws) few in_order =
-    let parts = and_parts (is_next season before draw) (are_in_order season (with_draw before draw) draws) in_order in
+    let parts = and_parts (is_next season before draw) (are_in_order season (count_draw before draw) draws) in_order in
     let room = (next_numbered season before draw parts.0).room in
-    let rest = few_draws season (with_draw before draw) draws (omega (arith, room)) parts.1 in
+    let rest = few_draws season (count_draw before draw) draws (omega (arith, room)) parts.1 in
     omega (arith, rest)
 
 -- none has a greater number than there are draws
@@ -58,16 +58,16 @@ low_numbers season before draws in_order = go before draws (before.draws + lengt
     go : (before : DrawsSoFar) (draws : List Draw) (most : ℕ) → are_in_order season before draws ≡ true → before.draws + length draws ≤ most → AllByRecursion (λ draw. draw.number ≤ most) draws
     go before [] most in_order low = tt
     go before (draw ∷ draws) most in_order low =
-        let parts = and_parts (is_next season before draw) (are_in_order season (with_draw before draw) draws) in_order in
+        let parts = and_parts (is_next season before draw) (are_in_order season (count_draw before draw) draws) in_order in
         let own = (next_numbered season before draw parts.0).number in
-        (omega (arith, own, low), go (with_draw before draw) draws most parts.1 (omega (arith, low)))
+        (omega (arith, own, low), go (count_draw before draw) draws most parts.1 (omega (arith, low)))
 
 -- the last has as its number how many there are
 last_number : (season : SeasonFacts) (before : DrawsSoFar) (draws : List Draw) (last : Draw) → are_in_order season before (draws ++ last ∷ []) ≡ true → last.number ≡ before.draws + length (draws ++ last ∷ [])
 last_number season before [] last in_order = (next_numbered season before last (and_parts (is_next season before last) true in_order).0).number
 last_number season before (draw ∷ draws) last in_order =
-    let parts = and_parts (is_next season before draw) (are_in_order season (with_draw before draw) (draws ++ last ∷ [])) in_order in
-    let rest = last_number season (with_draw before draw) draws last parts.1 in
+    let parts = and_parts (is_next season before draw) (are_in_order season (count_draw before draw) (draws ++ last ∷ [])) in_order in
+    let rest = last_number season (count_draw before draw) draws last parts.1 in
     omega (arith, rest)
 
 -- ---- the last of a list

@@ -21,7 +21,7 @@ use Rattle.adm_schema.specs.Schema.{meta, schema_of}
 use Rattle.adm_schema.specs.Texts.{select_meta}
 use Rattle.adm_store.specs.declared.fault.OpenFault.{OpenFault}
 use Rattle.adm_store.specs.declared.fault.OpenFault.TheVariants.{NotOurs}
-use Rattle.adm_store.specs.FirstFault.{first_fault, AnswersRows, IsAnswered, IsNotAsked, IsFirstFault}
+use Rattle.adm_store.specs.FirstFault.{first_open_fault, AnswersRows, IsAnswered, IsNotAsked, IsFirstFault}
 
 -- ---- what a query tells, under any schema
 
@@ -77,15 +77,15 @@ not_asked sql old new e why text (inr h) c is plain = absurd (let wrong = sym h.
 -- ---- the first fault
 
 -- it does not depend on the order of the rows
-first_permuted : (xs ys : List Row) → IsPermutation xs ys → first_fault xs ≡ first_fault ys
+first_permuted : (xs ys : List Row) → IsPermutation xs ys → first_open_fault xs ≡ first_open_fault ys
 first_permuted [] [] moved = refl
 first_permuted [] (y ∷ ys) moved = absurd (omega (arith, length_permutation _ _ moved))
-first_permuted (x ∷ []) ys moved = ap first_fault (sym (one_permutation x ys moved))
+first_permuted (x ∷ []) ys moved = ap first_open_fault (sym (one_permutation x ys moved))
 first_permuted (x ∷ next ∷ xs) [] moved = absurd (omega (arith, length_permutation _ _ moved))
 first_permuted (x ∷ next ∷ xs) (y ∷ []) moved = absurd (omega (arith, length_permutation _ _ moved))
 first_permuted (x ∷ next ∷ xs) (y ∷ other ∷ ys) moved = refl
 
-pub first_by_rows : (db : Database) (rows : List Row) (fault : OpenFault) → IsAnswered db select_meta rows → ((v : Version) → db.schema ≡ schema_of v → IsPermutation (rows_of meta db.trees) rows) → fault ≡ first_fault rows → IsFirstFault db fault
+pub first_by_rows : (db : Database) (rows : List Row) (fault : OpenFault) → IsAnswered db select_meta rows → ((v : Version) → db.schema ≡ schema_of v → IsPermutation (rows_of meta db.trees) rows) → fault ≡ first_open_fault rows → IsFirstFault db fault
 first_by_rows db rows fault asked own is = record {
   no_table = λ why refused. absurd (let wrong = sym asked.1 ∙ refused in cc);
   by_rows = λ c understood plain. let same : asked.0 ≡ c = ok_is asked.0 c _ asked.1 understood in

@@ -14,7 +14,7 @@ use Rattle.adm_types.specs.declared.rows.PresentRow.{PresentRow}
 use Rattle.adm_lists.proofs.Each.{each_weaker, each_push}
 use Rattle.adm_lists.proofs.Walks.{next_of}
 use Rattle.adm_lists.proofs.Members.{In, contains, from_contains, in_map, from_map, in_moved, in_right}
-use Rattle.adm_store.specs.Joins.{IsOnceEachKey, IsWithout, left_row, key_cmp, key_of}
+use Rattle.adm_store.specs.Joins.{IsOnceEachKey, IsWithout, present_left_at, key_cmp, present_key}
 use Rattle.adm_store.proofs.JoinEntries.{new_entry, none_taken, one_taken, entry_found, no_entry}
 use Rattle.adm_store.proofs.JoinOnce.{key_total, key_exact, twice}
 
@@ -25,36 +25,36 @@ Entry = (ℕ × Bool) × List ℕ
 -- ---- a row is put
 
 -- one row more is among those that are left
-pub put_row : (rows : List PresentRow) (i : ℕ) (row : PresentRow) (es : List Entry) → i < length rows → row ≡ get_or rows i row → IsPermutation (take i rows) (map left_row es)
-    → None ≡ lookup (is_at (key_cmp (key_of row))) es → IsPermutation (take (i + 1) rows) (map left_row (insert_entry key_cmp es (key_of row) row.school))
+pub put_row : (rows : List PresentRow) (i : ℕ) (row : PresentRow) (es : List Entry) → i < length rows → row ≡ get_or rows i row → IsPermutation (take i rows) (map present_left_at es)
+    → None ≡ lookup (is_at (key_cmp (present_key row))) es → IsPermutation (take (i + 1) rows) (map present_left_at (insert_entry key_cmp es (present_key row) row.school))
 put_row rows i row es within at so_far none =
-    subst (λ xs. IsPermutation xs (map left_row (insert_entry key_cmp es (key_of row) row.school))) (sym (next_of rows i row within at))
-    (IsPermutation-push_more (take i rows) (map left_row es) _ row so_far (IsPermutation-map left_row _ _ (new_entry key_cmp es (key_of row) row.school (sym none))))
+    subst (λ xs. IsPermutation xs (map present_left_at (insert_entry key_cmp es (present_key row) row.school))) (sym (next_of rows i row within at))
+    (IsPermutation-push_more (take i rows) (map present_left_at es) _ row so_far (IsPermutation-map present_left_at _ _ (new_entry key_cmp es (present_key row) row.school (sym none))))
 
 -- a row whose key has a school already is one with a key that stands twice
-pub put_twice : (rows : List PresentRow) (i : ℕ) (row : PresentRow) (es : List Entry) (school : List ℕ) → i < length rows → row ≡ get_or rows i row → IsPermutation (take i rows) (map left_row es)
-    → Some school ≡ lookup (is_at (key_cmp (key_of row))) es → IsOnceEachKey rows → ⊥
+pub put_twice : (rows : List PresentRow) (i : ℕ) (row : PresentRow) (es : List Entry) (school : List ℕ) → i < length rows → row ≡ get_or rows i row → IsPermutation (take i rows) (map present_left_at es)
+    → Some school ≡ lookup (is_at (key_cmp (present_key row))) es → IsOnceEachKey rows → ⊥
 put_twice rows i row es school within at so_far some once =
-    let entry : Entry = (key_of row, school) in
-    let there : In (left_row entry) (take i rows) = in_moved _ _ _ (IsPermutation-sym _ _ so_far) (in_map left_row es entry (entry_found key_exact es (key_of row) school (sym some))) in
+    let entry : Entry = (present_key row, school) in
+    let there : In (present_left_at entry) (take i rows) = in_moved _ _ _ (IsPermutation-sym _ _ so_far) (in_map present_left_at es entry (entry_found key_exact es (present_key row) school (sym some))) in
     let split : take i rows ++ row ∷ drop (i + 1) rows ≡ rows =
     sym (append_assoc (take i rows) (row ∷ []) (drop (i + 1) rows)) ∙ ap (λ xs. xs ++ drop (i + 1) rows) (sym (next_of rows i row within at)) ∙ take-append-drop (i + 1) rows in
-    twice key_total (map key_of (take i rows)) (map key_of (drop (i + 1) rows)) (key_of row) (in_map key_of (take i rows) (left_row entry) there)
-    (subst (IsDistinct (eq_by_cmp key_cmp)) (sym (ap (map key_of) split) ∙ map-append key_of (take i rows) (row ∷ drop (i + 1) rows)) once)
+    twice key_total (map present_key (take i rows)) (map present_key (drop (i + 1) rows)) (present_key row) (in_map present_key (take i rows) (present_left_at entry) there)
+    (subst (IsDistinct (eq_by_cmp key_cmp)) (sym (ap (map present_key) split) ∙ map-append present_key (take i rows) (row ∷ drop (i + 1) rows)) once)
 
 -- ---- a school is taken out
 
 -- what was left is the row of the school that is taken, where there is one, and what is left then
 pub taken_out : (es : List Entry) (n : ℕ) (imported : Bool) (o : Option (List ℕ)) → o ≡ lookup (is_at (key_cmp (n, imported))) es
-    → IsPermutation (map left_row es) (present_row n imported o ++ map left_row (remove_entry (is_at (key_cmp (n, imported))) es))
-taken_out es n imported None is = subst (λ xs. IsPermutation (map left_row es) (map left_row xs)) (sym (none_taken (is_at (key_cmp (n, imported))) es (sym is))) (IsPermutation-refl _)
-taken_out es n imported (Some school) is = IsPermutation-map left_row _ _ (one_taken key_exact es (n, imported) school (sym is))
+    → IsPermutation (map present_left_at es) (present_row n imported o ++ map present_left_at (remove_entry (is_at (key_cmp (n, imported))) es))
+taken_out es n imported None is = subst (λ xs. IsPermutation (map present_left_at es) (map present_left_at xs)) (sym (none_taken (is_at (key_cmp (n, imported))) es (sym is))) (IsPermutation-refl _)
+taken_out es n imported (Some school) is = IsPermutation-map present_left_at _ _ (one_taken key_exact es (n, imported) school (sym is))
 
 -- none is left at a key at which nothing is found
-pub none_left : (es : List Entry) (n : ℕ) (imported : Bool) → lookup (is_at (key_cmp (n, imported))) es ≡ None → IsWithout (map left_row es) imported n
+pub none_left : (es : List Entry) (n : ℕ) (imported : Bool) → lookup (is_at (key_cmp (n, imported))) es ≡ None → IsWithout (map present_left_at es) imported n
 none_left es n imported none school at =
-    let row = from_map left_row es _ (from_contains (map left_row es) _ at) in
-    let entry : row.0 ≡ ((n, imported), school) = ap (λ (r : PresentRow). (key_of r, r.school)) row.2 in
+    let row = from_map present_left_at es _ (from_contains (map present_left_at es) _ at) in
+    let entry : row.0 ≡ ((n, imported), school) = ap (λ (r : PresentRow). (present_key r, r.school)) row.2 in
     no_entry key_total es (n, imported) school none (subst (λ e. In e es) entry row.1)
 
 -- where fewer rows are left, those of a child that has none are none
@@ -72,21 +72,21 @@ module _ {X : Type 0} (imported : Bool) (no : X → ℕ) (present : X → Option
     pub taken : AllByRecursion (λ x. IsWithout left imported (no x)) xs
 
   -- one element more
-  pub give_next : (before : List PresentRow) (xs : List X) (i : ℕ) (y : X) (es after : List Entry) → i < length xs → IsGiven before (take i xs) (map left_row es)
+  pub give_next : (before : List PresentRow) (xs : List X) (i : ℕ) (y : X) (es after : List Entry) → i < length xs → IsGiven before (take i xs) (map present_left_at es)
       → present y ≡ lookup (is_at (key_cmp (no y, imported))) es → after ≡ remove_entry (is_at (key_cmp (no y, imported))) es → lookup (is_at (key_cmp (no y, imported))) after ≡ None
-      → IsGiven before (take (i + 1) (slice_set xs i y)) (map left_row after)
+      → IsGiven before (take (i + 1) (slice_set xs i y)) (map present_left_at after)
   give_next before xs i y es after within so_far found removed gone =
-      let out : IsPermutation (map left_row es) (row_given y ++ map left_row after) =
-      subst (λ rest. IsPermutation (map left_row es) (row_given y ++ map left_row rest)) (sym removed) (taken_out es (no y) imported (present y) found) in
+      let out : IsPermutation (map present_left_at es) (row_given y ++ map present_left_at after) =
+      subst (λ rest. IsPermutation (map present_left_at es) (row_given y ++ map present_left_at rest)) (sym removed) (taken_out es (no y) imported (present y) found) in
       let front : flat_map row_given (take i xs ++ y ∷ []) ≡ flat_map row_given (take i xs) ++ row_given y =
       flat_map-append row_given (take i xs) (y ∷ []) ∙ ap (λ rows. flat_map row_given (take i xs) ++ rows) (append-nil (row_given y)) in
-      let all : IsPermutation before ((flat_map row_given (take i xs) ++ row_given y) ++ map left_row after) =
-      subst (IsPermutation before) (sym (append_assoc (flat_map row_given (take i xs)) (row_given y) (map left_row after)))
+      let all : IsPermutation before ((flat_map row_given (take i xs) ++ row_given y) ++ map present_left_at after) =
+      subst (IsPermutation before) (sym (append_assoc (flat_map row_given (take i xs)) (row_given y) (map present_left_at after)))
       (IsPermutation-trans _ _ _ so_far.moved (IsPermutation-append_right (flat_map row_given (take i xs)) _ _ out)) in
-      let next : IsGiven before (take i xs ++ y ∷ []) (map left_row after) = record {
-        moved = subst (λ rows. IsPermutation before (rows ++ map left_row after)) (sym front) all;
-        taken = each_push (λ x. IsWithout (map left_row after) imported (no x)) (take i xs) y
-            (each_weaker (λ x. IsWithout (map left_row es) imported (no x)) (λ x. IsWithout (map left_row after) imported (no x)) (λ x. fewer (map left_row es) (row_given y) (map left_row after) imported (no x) out) (take i xs) so_far.taken)
+      let next : IsGiven before (take i xs ++ y ∷ []) (map present_left_at after) = record {
+        moved = subst (λ rows. IsPermutation before (rows ++ map present_left_at after)) (sym front) all;
+        taken = each_push (λ x. IsWithout (map present_left_at after) imported (no x)) (take i xs) y
+            (each_weaker (λ x. IsWithout (map present_left_at es) imported (no x)) (λ x. IsWithout (map present_left_at after) imported (no x)) (λ x. fewer (map present_left_at es) (row_given y) (map present_left_at after) imported (no x) out) (take i xs) so_far.taken)
             (none_left after (no y) imported gone);
       } in
-      subst (λ ys. IsGiven before ys (map left_row after)) (sym (take_more_set xs i y within)) next
+      subst (λ ys. IsGiven before ys (map present_left_at after)) (sym (take_more_set xs i y within)) next

@@ -21,7 +21,7 @@ use Rattle.adm_types.specs.declared.rows.PresentRow.{PresentRow}
 use Rattle.adm_lists.proofs.Orders.{tied}
 use Rattle.adm_lists.proofs.Members.{In, all_in, in_all, in_map, from_map, from_append, from_flat_map, in_right}
 use Rattle.adm_lists.proofs.Maps.{entries_in_order, get_rows, map_of_entries, apart}
-use Rattle.adm_store.specs.Joins.{IsOnceEach, IsOnceEachKey, IsJoin, key_cmp, key_of, import_no}
+use Rattle.adm_store.specs.Joins.{IsOnceEach, IsOnceEachKey, IsJoin, key_cmp, present_key, import_no}
 
 -- ---- the order of the keys
 
@@ -83,16 +83,16 @@ module _ {K : Type 0} {R : K → K → Ordering} (total : IsTotalOrder R) where
 -- ---- the keys of rows of present schools
 
 -- the row of a present school stands at its key
-pub key_of_present : (n : ℕ) (imported : Bool) (o : Option (List ℕ)) (row : PresentRow) → In row (present_row n imported o) → key_of row ≡ (n, imported)
+pub key_of_present : (n : ℕ) (imported : Bool) (o : Option (List ℕ)) (row : PresentRow) → In row (present_row n imported o) → present_key row ≡ (n, imported)
 key_of_present n imported None row at = absurd at
-key_of_present n imported (Some school) row at = elim at [ inl same ↦ ap key_of (sym same) | inr later ↦ absurd later ]
+key_of_present n imported (Some school) row at = elim at [ inl same ↦ ap present_key (sym same) | inr later ↦ absurd later ]
 
 module _ {X : Type 0} (imported : Bool) (no : X → ℕ) (present : X → Option (List ℕ)) where
   abbrev given : List X → List PresentRow
   given xs = flat_map (λ x. present_row (no x) imported (present x)) xs
 
   -- the key of a row that is given is that of one of them
-  pub key_given : (xs : List X) (row : PresentRow) → In row (given xs) → (x : X) × In x xs × (key_of row ≡ (no x, imported))
+  pub key_given : (xs : List X) (row : PresentRow) → In row (given xs) → (x : X) × In x xs × (present_key row ≡ (no x, imported))
   key_given xs row at =
       let found = from_flat_map (λ x. present_row (no x) imported (present x)) xs row at in
       (found.0, found.1, key_of_present (no found.0) imported (present found.0) row found.2)
@@ -103,9 +103,9 @@ module _ {X : Type 0} (imported : Bool) (no : X → ℕ) (present : X → Option
   once_given [] once = tt
   once_given (x ∷ xs) once = by (present x) (once_given xs (IsDistinct-tail (eq_by_cmp nat_cmp) (no x) (map no xs) once))
     where
-      first : (k : ℕ × Bool) → In k (map key_of (given xs)) → eq_by_cmp key_cmp (no x, imported) k ≡ false
+      first : (k : ℕ × Bool) → In k (map present_key (given xs)) → eq_by_cmp key_cmp (no x, imported) k ≡ false
       first k at =
-          let row = from_map key_of (given xs) k at in
+          let row = from_map present_key (given xs) k at in
           let other = key_given xs row.0 row.1 in
           let numbers : eq_by_cmp nat_cmp (no x) (no other.0) ≡ false =
           all_in (λ n. eq_by_cmp nat_cmp (no x) n ≡ false) (map no xs) (no other.0) (IsDistinct-head (eq_by_cmp nat_cmp) (no x) (map no xs) once) (in_map no xs other.0 other.1) in
@@ -113,18 +113,18 @@ module _ {X : Type 0} (imported : Bool) (no : X → ℕ) (present : X → Option
 
       by : (o : Option (List ℕ)) → IsOnceEachKey (given xs) → IsOnceEachKey (present_row (no x) imported o ++ given xs)
       by None rest = rest
-      by (Some school) rest = IsDistinct-cons (eq_by_cmp key_cmp) (no x, imported) (map key_of (given xs)) (in_all (λ k. eq_by_cmp key_cmp (no x, imported) k ≡ false) (map key_of (given xs)) first) rest
+      by (Some school) rest = IsDistinct-cons (eq_by_cmp key_cmp) (no x, imported) (map present_key (given xs)) (in_all (λ k. eq_by_cmp key_cmp (no x, imported) k ≡ false) (map present_key (given xs)) first) rest
 
 -- the rows of children and of imported rows have no key twice, where no number stands twice in either
 once_presents : (children : List Child) (imported : List ImportRow) → IsOnceEach (map (λ c. c.no) children) → IsOnceEach (map import_no imported) → IsOnceEachKey (presents_of children imported)
 once_presents children imported once once_imported =
-    subst (IsDistinct (eq_by_cmp key_cmp)) (sym (map-append key_of (flat_map present_of_child children) (flat_map present_of_import imported)))
-    (once_append key_total (map key_of (flat_map present_of_child children)) (map key_of (flat_map present_of_import imported))
+    subst (IsDistinct (eq_by_cmp key_cmp)) (sym (map-append present_key (flat_map present_of_child children) (flat_map present_of_import imported)))
+    (once_append key_total (map present_key (flat_map present_of_child children)) (map present_key (flat_map present_of_import imported))
     (once_given false (λ (c : Child). c.no) (λ c. c.present) children once)
     (once_given true import_no (λ row. row.child.present) imported once_imported)
     (λ x y here there.
-    let row = from_map key_of (flat_map present_of_child children) x here in
-    let other = from_map key_of (flat_map present_of_import imported) y there in
+    let row = from_map present_key (flat_map present_of_child children) x here in
+    let other = from_map present_key (flat_map present_of_import imported) y there in
     let child = key_given false (λ (c : Child). c.no) (λ c. c.present) children row.0 row.1 in
     let import = key_given true import_no (λ r. r.child.present) imported other.0 other.1 in
     let first : (child.0.no, false) ≡ x = sym child.2 ∙ row.2 in
@@ -134,7 +134,7 @@ once_presents children imported once once_imported =
 -- rows that can be joined have no key twice
 pub once_joined : (children : List Child) (imported : List ImportRow) (rows : List PresentRow) (joined : List Child) (joined_imports : List ImportRow) → IsJoin children imported rows joined joined_imports → IsOnceEachKey rows
 once_joined children imported rows joined joined_imports it =
-    IsDistinct-IsPermutation (eq_by_cmp key_cmp) (eq_by_cmp_equiv key_total).symm _ _ (IsPermutation-map key_of _ _ it.presents) (once_presents joined joined_imports it.once it.once_imported)
+    IsDistinct-IsPermutation (eq_by_cmp key_cmp) (eq_by_cmp_equiv key_total).symm _ _ (IsPermutation-map present_key _ _ it.presents) (once_presents joined joined_imports it.once it.once_imported)
 
 -- ---- the rows of a map, each at its own number
 

@@ -8,7 +8,7 @@ use Rattle.adm_types.specs.declared.rows.Child.{Child}
 use Rattle.adm_types.specs.declared.rows.ImportRow.{ImportRow}
 use Rattle.adm_types.specs.declared.rows.PresentRow.{PresentRow}
 use Rattle.adm_lists.proofs.Members.{In, all_in, contains, in_map, from_map, in_moved, in_right, from_append}
-use Rattle.adm_store.specs.Joins.{IsJoin, IsWithout, left_row, key_of, import_no}
+use Rattle.adm_store.specs.Joins.{IsJoin, IsWithout, present_left_at, present_key, import_no}
 use Rattle.adm_store.proofs.JoinGiven.{Entry}
 use Rattle.adm_store.proofs.JoinOnce.{key_given}
 
@@ -21,16 +21,16 @@ written_over n ys xs whole same =
 
 -- where no row is left, those that were given are all
 pub all_given : (rows before between : List PresentRow) (children : List Child) (imported : List ImportRow) (es : List Entry) → length es ≡ 0
-    → IsPermutation rows before → IsPermutation before (flat_map present_of_child children ++ between) → IsPermutation between (flat_map present_of_import imported ++ map left_row es)
+    → IsPermutation rows before → IsPermutation before (flat_map present_of_child children ++ between) → IsPermutation between (flat_map present_of_import imported ++ map present_left_at es)
     → IsPermutation (presents_of children imported) rows
 all_given rows before between children imported es none whole given given_imported =
-    let end : flat_map present_of_import imported ++ map left_row es ≡ flat_map present_of_import imported =
-    ap (λ (xs : List Entry). flat_map present_of_import imported ++ map left_row xs) (nil_from_length es none) ∙ append-nil (flat_map present_of_import imported) in
+    let end : flat_map present_of_import imported ++ map present_left_at es ≡ flat_map present_of_import imported =
+    ap (λ (xs : List Entry). flat_map present_of_import imported ++ map present_left_at xs) (nil_from_length es none) ∙ append-nil (flat_map present_of_import imported) in
     let later : IsPermutation between (flat_map present_of_import imported) = subst (IsPermutation between) end given_imported in
     IsPermutation-sym _ _ (IsPermutation-trans _ _ _ whole (IsPermutation-trans _ _ _ given (IsPermutation-append_right (flat_map present_of_child children) _ _ later)))
 
 -- a row with this key is not among rows that have none at it
-not_among : (rows : List PresentRow) (imported : Bool) (n : ℕ) (row : PresentRow) → IsWithout rows imported n → key_of row ≡ (n, imported) → In row rows → ⊥
+not_among : (rows : List PresentRow) (imported : Bool) (n : ℕ) (row : PresentRow) → IsWithout rows imported n → present_key row ≡ (n, imported) → In row rows → ⊥
 not_among rows imported n row none key at =
     let is : row ≡ record { child = n; is_imported = imported; school = row.school } = λ i. record { child = (key i).0; is_imported = (key i).1; school = row.school } in
     none row.school (contains rows _ (subst (λ r. In r rows) is at))
@@ -62,6 +62,6 @@ module _ (rows left left_then : List PresentRow) (children given : List Child) (
       ]
 
 -- where entries are left, one of them is
-pub one_left : (es : List Entry) → (length es ≡ 0 → ⊥) → (row : PresentRow) × In row (map left_row es)
+pub one_left : (es : List Entry) → (length es ≡ 0 → ⊥) → (row : PresentRow) × In row (map present_left_at es)
 one_left [] some = absurd (some refl)
-one_left (e ∷ es) some = (left_row e, inl refl)
+one_left (e ∷ es) some = (present_left_at e, inl refl)

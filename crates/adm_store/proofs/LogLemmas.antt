@@ -18,14 +18,14 @@ use Rattle.sqlite_trees.specs.View.{doubt}
 use Rattle.sqlite_rules.specs.Lists.{Has}
 use Rattle.sqlite_rules.proofs.ListLemmas.{test_has}
 use Rattle.adm_schema.specs.Rows.{columns_of, rows_of}
-use Rattle.adm_schema.specs.Effects.{Sees, SeesDatabase, GoesOn, WritesOnly, AddsRow, PutsRow, CutsRow, DropsRow, SetsDraws, key_of, put_in, begins_with, drop_of, with_draws}
+use Rattle.adm_schema.specs.Effects.{Sees, SeesDatabase, StaysOpen, WritesOnly, AddsRow, PutsRow, CutsRow, DropsRow, SetsDraws, integer_key, put_in, begins_with, drop_of, with_draws}
 use Rattle.adm_schema.specs.Schema.{meta, register_schema}
 use Rattle.adm_schema.proofs.Listed.{has_meta}
 use Rattle.sqlite.specs.declared.types.Value.TheVariants.{Int}
 use Rattle.sqlite_keyed.proofs.ListLemmas.{IsPermutation-filter}
 use Rattle.adm_schema.proofs.Inside.{puts_moved, cuts_moved, goes_none, survives_on}
 use Rattle.adm_store.proofs.MapLemmas.{keyed_moved}
-use Rattle.adm_store.specs.Writes.{Kind, Adds, Puts, Cuts, Drops, Sets, Write, changed, turn, after, count_of, are_keyed, Leaves, Writes, write_of, key_row}
+use Rattle.adm_store.specs.Writes.{Kind, Adds, Puts, Cuts, Drops, Sets, Write, changed, turn, after_writes, count_of, are_keyed, Leaves, Writes, write_of, key_row}
 
 -- ---- tables by their trees
 
@@ -62,11 +62,11 @@ drops_moved (key ∷ keys) xs ys same = drops_moved keys _ _ (IsPermutation-filt
 changed_moved : (kind : Kind) (news xs ys : List Row) → IsPermutation xs ys → IsPermutation (changed kind news xs) (changed kind news ys)
 changed_moved Adds news xs ys same = IsPermutation-append_left news xs ys same
 changed_moved Puts news xs ys same = puts_moved news xs ys same
-changed_moved Cuts news xs ys same = cuts_moved (map key_of news) xs ys same
+changed_moved Cuts news xs ys same = cuts_moved (map integer_key news) xs ys same
 changed_moved Drops news xs ys same = drops_moved news xs ys same
 changed_moved Sets news xs ys same = counts_moved news xs ys same
 
-after_moved : (t : Table) (writes : List Write) (xs ys : List Row) → IsPermutation xs ys → IsPermutation (after t writes xs) (after t writes ys)
+after_moved : (t : Table) (writes : List Write) (xs ys : List Row) → IsPermutation xs ys → IsPermutation (after_writes t writes xs) (after_writes t writes ys)
 after_moved t [] xs ys same = same
 after_moved t (w ∷ writes) xs ys same = after_moved t writes (turn t xs w) (turn t ys w) (go (t.tree == w.table.tree))
   where
@@ -77,13 +77,13 @@ after_moved t (w ∷ writes) xs ys same = after_moved t writes (turn t xs w) (tu
 changed_more : (kind : Kind) (one two rows : List Row) → changed kind two (changed kind one rows) ≡ changed kind (one ++ two) rows
 changed_more Adds one two rows = append_assoc rows one two
 changed_more Puts one two rows = sym (fold-append (λ xs r. put_in r xs) rows one two)
-changed_more Cuts one two rows = sym (ap (λ ks. without_all rows ks) (map-append key_of one two) ∙ fold-append (λ xs k. without_rowid k xs) rows (map key_of one) (map key_of two))
+changed_more Cuts one two rows = sym (ap (λ ks. without_all rows ks) (map-append integer_key one two) ∙ fold-append (λ xs k. without_rowid k xs) rows (map integer_key one) (map integer_key two))
 changed_more Drops one two rows = sym (fold-append (λ rows key. drop_of key rows) rows one two)
 changed_more Sets one two rows = sym (fold-append (λ rows count. map (with_draws count) rows) rows one two)
 
 -- statements of one kind, run for some items and then for others
 joined : {X : Type 0} (kind : Kind) (table : Table) (row_of : X → Row) (one two : List X) (t : Table) (rows : List Row)
-    → after t (write_of kind table row_of one ∷ write_of kind table row_of two ∷ []) rows ≡ after t (write_of kind table row_of (one ++ two) ∷ []) rows
+    → after_writes t (write_of kind table row_of one ∷ write_of kind table row_of two ∷ []) rows ≡ after_writes t (write_of kind table row_of (one ++ two) ∷ []) rows
 joined kind table row_of one two t rows = go (t.tree == table.tree)
   where
     go : (b : Bool) → (if b then changed kind (map row_of two) (if b then changed kind (map row_of one) rows else rows) else (if b then changed kind (map row_of one) rows else rows)) ≡ (if b then changed kind (map row_of (one ++ two)) rows else rows)
@@ -104,7 +104,7 @@ leaves_then p q a b c x y = record {
   keyed = λ t listed keyed. y.keyed t listed (x.keyed t listed keyed);
 }
 
-pub leaves_same : (p q : List Write) (a b : State) → ((t : Table) (rows : List Row) → after t p rows ≡ after t q rows) → Leaves p a b → Leaves q a b
+pub leaves_same : (p q : List Write) (a b : State) → ((t : Table) (rows : List Row) → after_writes t p rows ≡ after_writes t q rows) → Leaves p a b → Leaves q a b
 leaves_same p q a b same x = record {
   was_open = x.was_open;
   is_open = x.is_open;
@@ -161,7 +161,7 @@ module _ {X : Type 0} (kind : Kind) (table : Table) (row_of : X → Row) where
     },
   )
     where
-      same : (t : Table) (rows : List Row) → rows ≡ after t (write_of kind table row_of [] ∷ []) rows
+      same : (t : Table) (rows : List Row) → rows ≡ after_writes t (write_of kind table row_of [] ∷ []) rows
       same t rows = go (t.tree == table.tree)
         where
           go : (b : Bool) → rows ≡ (if b then changed kind [] rows else rows)
@@ -177,8 +177,8 @@ module _ {X : Type 0} (kind : Kind) (table : Table) (row_of : X → Row) where
   writes_more xs i x a b c low is before later so_far next clean sees sound =
       let both = writes_then _ _ a b c before later so_far next clean sees sound in
       let more : take i xs ++ x ∷ [] ≡ take (i + 1) xs = ap (λ y. take i xs ++ y ∷ []) is ∙ sym (take_more xs i x low) in
-      subst (λ ys. GoesOn (count_of (write_of kind table row_of ys ∷ [])) a c × (IsTrue c.is_open → Leaves (write_of kind table row_of ys ∷ []) a c)) more (
-        subst (λ n. GoesOn n a c) (sym (count_joined (take i xs) (x ∷ []))) both.0,
+      subst (λ ys. StaysOpen (count_of (write_of kind table row_of ys ∷ [])) a c × (IsTrue c.is_open → Leaves (write_of kind table row_of ys ∷ []) a c)) more (
+        subst (λ n. StaysOpen n a c) (sym (count_joined (take i xs) (x ∷ []))) both.0,
         λ live. leaves_same _ _ a c (joined kind table row_of (take i xs) (x ∷ [])) (both.1 live),
       )
 
@@ -296,13 +296,13 @@ keyed_none t = go (is_some t.key)
     go false = refl
 
 -- where no row is written, nothing changes
-pub after_none : (t : Table) (writes : List Write) (rows : List Row) → count_of writes ≡ 0 → after t writes rows ≡ rows
+pub after_none : (t : Table) (writes : List Write) (rows : List Row) → count_of writes ≡ 0 → after_writes t writes rows ≡ rows
 after_none t [] rows none = refl
 after_none t (w ∷ writes) rows none =
     let parts = count_more (w ∷ []) writes in
     let own : w.rows ≡ [] = nil_from_length w.rows (omega (arith, parts, none)) in
     let rest : count_of writes ≡ 0 = omega (arith, parts, none) in
-    ap (λ xs. after t writes xs) (go own (t.tree == w.table.tree)) ∙ after_none t writes rows rest
+    ap (λ xs. after_writes t writes xs) (go own (t.tree == w.table.tree)) ∙ after_none t writes rows rest
   where
     go : w.rows ≡ [] → (b : Bool) → (if b then changed w.kind w.rows rows else rows) ≡ rows
     go own true = ap (λ news. changed w.kind news rows) own ∙ sym (changed_none w.kind rows)

@@ -19,7 +19,8 @@ use Rattle.adm_store.specs.StandsFor.{OneRegister, HoldsRegister}
 use Rattle.adm_store.proofs.FaultLemmas.{one_version}
 use Rattle.adm_store.proofs.Entries.{has_value, value_at}
 use Rattle.adm_store.proofs.SameDraws.{same_draws}
-use Rattle.adm_draws.specs.Draws.{is_draw, are_ordered, repeats_lot, fresh_has_school, is_round_or_fill}
+use Rattle.adm_draws.specs.Draws.{is_draw, are_ordered, fresh_has_school, is_round_or_fill}
+use Rattle.adm_types.specs.Lots.{repeats_lot}
 use Rattle.adm_types.specs.declared.draws.Draw.{Draw}
 use Rattle.std.specs.List.{list_all}
 use Rattle.std.proofs.lemmas.Bool.{and_parts}

@@ -22,7 +22,7 @@ use Rattle.adm_types.specs.declared.draws.OfferRow.{OfferRow}
 use Rattle.adm_types.specs.declared.draws.LotRow.{LotRow}
 use Rattle.adm_types.specs.declared.draws.Outcome.{Outcome}
 use Rattle.adm_types.specs.declared.draws.Lot.{Lot}
-use Rattle.adm_draws.specs.Draws.{row_of, offer_row, lot_row, offer_rows_of, lot_rows_of, outcome_cmp, lot_cmp, rises, are_ordered, AreDrawRowsOf}
+use Rattle.adm_draws.specs.Draws.{row_of, offer_row_of, lot_row_of, offer_rows_of, lot_rows_of, outcome_cmp, lot_cmp, rises, are_ordered, AreDrawRowsOf}
 use Rattle.adm_store.proofs.Entries.{has_value, value_at}
 
 -- ---- lists in order with the same members
@@ -124,8 +124,8 @@ module _ (a b : FinMap nat_cmp Draw) (own : OwnNumbers a) (other : OwnNumbers b)
   same_parts k d e one two head =
       let mine = and_parts (rises outcome_cmp d.outcomes) (rises lot_cmp d.lots) (ordered k d one) in
       let theirs = and_parts (rises outcome_cmp e.outcomes) (rises lot_cmp e.lots) (ordered_too k e two) in
-      let offer_moved = items_moved (λ (x : Draw). x.outcomes) offer_row (λ (r : OfferRow). r.draw) (λ (r : OfferRow). r.outcome) (λ _ _. refl) (λ _ _. refl) in
-      let lot_moved = items_moved (λ (x : Draw). x.lots) lot_row (λ (r : LotRow). r.draw) (λ (r : LotRow). r.lot) (λ _ _. refl) (λ _ _. refl) in
+      let offer_moved = items_moved (λ (x : Draw). x.outcomes) offer_row_of (λ (r : OfferRow). r.draw) (λ (r : OfferRow). r.outcome) (λ _ _. refl) (λ _ _. refl) in
+      let lot_moved = items_moved (λ (x : Draw). x.lots) lot_row_of (λ (r : LotRow). r.draw) (λ (r : LotRow). r.lot) (λ _ _. refl) (λ _ _. refl) in
       let outcomes = rises_once outcome_total d.outcomes e.outcomes mine.0 theirs.0 (offer_moved a b own other rows.offers k d e one two) (offer_moved b a other own (IsPermutation-sym _ _ rows.offers) k e d two one) in
       let lots = rises_once lot_total d.lots e.lots mine.1 theirs.1 (lot_moved a b own other rows.lots k d e one two) (lot_moved b a other own (IsPermutation-sym _ _ rows.lots) k e d two one) in
       λ i. record { number = (head i).draw; round = (head i).round; school = (head i).school; day = (head i).day; outcomes = outcomes i; lots = lots i }

@@ -5,7 +5,7 @@ use Rattle.std.specs.List.{list_any}
 use Rattle.sqlite.specs.declared.types.Value.TheVariants.{Int, Text}
 use Rattle.adm_schema.specs.declared.version.Version.{Version}
 use Rattle.adm_schema.specs.declared.version.Version.TheVariants.{First, Second}
-use Rattle.adm_store.specs.FirstFault.{is_known}
+use Rattle.adm_store.specs.FirstFault.{is_known_version}
 use Rattle.sqlite.specs.Order.{Row, column}
 use Rattle.adm_types.specs.Seasons.{SeasonFacts, IsSeason, IsRising}
 use Rattle.adm_types.specs.declared.seasons.Phase.{Phase}
@@ -38,11 +38,11 @@ same_version v w a b m n e = same_code v w (ap (λ cells. number_in (column cell
 pub is_its_version : (v w : Version) (row : Row) (season : SeasonFacts) (draws : ℕ) → column row 1 ≡ Int (pos (version_code w)) → row ≡ season_row v season draws → row ≡ season_row w season draws
 is_its_version v w row season draws named is = subst (λ u. row ≡ season_row u season draws) (same_code v w (ap number_in (sym (ap (λ cells. column cells 1) is) ∙ named))) is
 
-pub code_known : (v : Version) → is_known (Int (pos (version_code v))) ≡ true
+pub code_known : (v : Version) → is_known_version (Int (pos (version_code v))) ≡ true
 code_known First = refl
 code_known Second = refl
 
-pub no_code : (n : ℕ) → ((v : Version) → n ≡ version_code v → ⊥) → is_known (Int (pos n)) ≡ false
+pub no_code : (n : ℕ) → ((v : Version) → n ≡ version_code v → ⊥) → is_known_version (Int (pos n)) ≡ false
 no_code zero none = refl
 no_code (suc zero) none = absurd (none First refl)
 no_code (suc (suc zero)) none = absurd (none Second refl)

@@ -12,14 +12,14 @@ use Rattle.sqlite.specs.Edit.{have_rowids, without_all}
 use Rattle.sqlite_rules.specs.Lists.{Has}
 use Rattle.sqlite_rules.proofs.ListLemmas.{has_filtered, has_kept}
 use Rattle.adm_register.specs.Difference.{AreNew}
-use Rattle.adm_schema.specs.Effects.{key_of, put_each}
+use Rattle.adm_schema.specs.Effects.{integer_key, put_each}
 use Rattle.adm_schema.proofs.Lists.{has_source, has_mapped}
 use Rattle.adm_store.specs.Writes.{key_row}
 use Rattle.adm_store.proofs.MapLemmas.{Stable, table_new, less_each, other_key, gone_key, still_none}
 use Rattle.adm_store.proofs.Entries.{has_value}
 
 -- the keys of rows that are keys alone
-keys_are : (keys : List ℕ) → map key_of (map key_row keys) ≡ map pos keys
+keys_are : (keys : List ℕ) → map integer_key (map key_row keys) ≡ map pos keys
 keys_are [] = refl
 keys_are (key ∷ keys) = ap (λ ks. pos key ∷ ks) (keys_are keys)
 
@@ -37,7 +37,7 @@ module _ {V : Type 0} (key : V → ℕ) (row_of : V → Row) (own_rowid : (v : V
 
   -- where the keys that are gone are taken out first
   pub cut_and_put : (keys : List ℕ) → keys ≡ map key (filter (λ v. not (contains_key new (key v))) (values old))
-      → (IsTrue (have_rowids was) → IsPermutation (put_each (without_all was (map key_of (map key_row keys))) written) now) → IsPermutation (map row_of (values new)) now
+      → (IsTrue (have_rowids was) → IsPermutation (put_each (without_all was (map integer_key (map key_row keys))) written) now) → IsPermutation (map row_of (values new)) now
   cut_and_put keys are turns =
       table_new key row_of own_rowid stable old new keys news written was now own_old own_new differ (λ q none. gone q none (get old q) refl)
       (λ q v there. other_key key row_of own_rowid keys old q (λ h. stays q v there h)) same held (λ keyed. subst (λ ks. IsPermutation (put_each (without_all was ks) written) now) (keys_are keys) (turns keyed))

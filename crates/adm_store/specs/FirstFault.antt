@@ -15,16 +15,16 @@ use Rattle.adm_store.specs.declared.fault.OpenFault.{OpenFault}
 use Rattle.adm_store.specs.declared.fault.OpenFault.TheVariants.{NotOurs, Version, BadRow}
 
 -- a version that is known
-abbrev pub is_known : Value → Bool
-is_known (Int (pos (suc zero))) = true
-is_known (Int (pos (suc (suc zero)))) = true
-is_known other = false
+abbrev pub is_known_version : Value → Bool
+is_known_version (Int (pos (suc zero))) = true
+is_known_version (Int (pos (suc (suc zero)))) = true
+is_known_version other = false
 
 -- what is wrong first with a file that stands for no register, by the rows of its table `meta`: there is none; its row names another version than the two; anything else
-abbrev pub first_fault : List Row → OpenFault
-first_fault [] = NotOurs
-first_fault (cells ∷ []) = if is_known (column cells 1) then BadRow else Version
-first_fault (row ∷ next ∷ rows) = BadRow
+abbrev pub first_open_fault : List Row → OpenFault
+first_open_fault [] = NotOurs
+first_open_fault (cells ∷ []) = if is_known_version (column cells 1) then BadRow else Version
+first_open_fault (row ∷ next ∷ rows) = BadRow
 
 -- the text, which `sqlite` understands so, answers these rows
 abbrev pub AnswersRows : Database → List ℕ → Compiled → List Row → Type 0
@@ -43,6 +43,6 @@ pub record IsFirstFault (db : Database) (fault : OpenFault) : Type 0 where
   -- there is no table `meta` with its columns, by their names
   pub no_table : (why : CompileError) → understood db.schema select_meta ≡ Err why → fault ≡ NotOurs
   -- else its rows tell
-  pub by_rows : (c : Compiled) → understood db.schema select_meta ≡ Ok c → c.returning ≡ None → (rows : List Row) × AnswersRows db select_meta c rows × (fault ≡ first_fault rows)
+  pub by_rows : (c : Compiled) → understood db.schema select_meta ≡ Ok c → c.returning ≡ None → (rows : List Row) × AnswersRows db select_meta c rows × (fault ≡ first_open_fault rows)
   -- in a file with the tables of a register these are the rows of its table `meta`
-  pub own_rows : (v : FileVersion) → db.schema ≡ schema_of v → fault ≡ first_fault (rows_of meta db.trees)
+  pub own_rows : (v : FileVersion) → db.schema ≡ schema_of v → fault ≡ first_open_fault (rows_of meta db.trees)

@@ -27,16 +27,16 @@ pub record IsJoin (children : List Child) (imported : List ImportRow) (rows : Li
   pub once_imported : IsOnceEach (map import_no joined_imports)
 
 -- the row of the school that is left at a key
-abbrev pub left_row : (ℕ × Bool) × List ℕ → PresentRow
-left_row entry = record { child = entry.0.0; is_imported = entry.0.1; school = entry.1 }
+abbrev pub present_left_at : (ℕ × Bool) × List ℕ → PresentRow
+present_left_at entry = record { child = entry.0.0; is_imported = entry.0.1; school = entry.1 }
 
 -- the rows that are left
 abbrev pub left_rows : BTreeMap (ℕ × Bool) (List ℕ) → List PresentRow
-left_rows left = map left_row left.entries
+left_rows left = map present_left_at left.entries
 
 -- where the school of a row is put
-abbrev pub key_of : PresentRow → ℕ × Bool
-key_of row = (row.child, row.is_imported)
+abbrev pub present_key : PresentRow → ℕ × Bool
+present_key row = (row.child, row.is_imported)
 
 -- by the child, and then whether the row is an imported one
 abbrev pub key_cmp : ℕ × Bool → ℕ × Bool → Ordering
@@ -44,7 +44,7 @@ key_cmp x y = ordering_then (nat_cmp x.0 y.0) (bool_cmp x.1 y.1)
 
 -- no two rows have one key
 abbrev pub IsOnceEachKey : List PresentRow → Type 0
-IsOnceEachKey rows = IsDistinct (eq_by_cmp key_cmp) (map key_of rows)
+IsOnceEachKey rows = IsDistinct (eq_by_cmp key_cmp) (map present_key rows)
 
 -- no row says the school of this child
 abbrev pub IsWithout : List PresentRow → Bool → ℕ → Type 0

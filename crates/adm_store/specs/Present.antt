@@ -1,9 +1,8 @@
 -- The table `present`: the present schools of children and of imported rows.
-use Rattle.std.specs.Prelude.{ℕ, pos, List, [], ◌∷◌, ◌++◌, nat_eq, Bool, false, Option, Some, None, option_and_then, if◌then◌else◌}
+use Rattle.std.specs.Prelude.{ℕ, pos, List, [], ◌∷◌, ◌++◌, Bool, false, Option, Some, None, option_and_then, if◌then◌else◌, bytes_eq}
 use Rattle.std.specs.List.{flat_map}
 use Rattle.std.specs.Option.{option_eq}
 use Rattle.std.specs.Ordering.{nat_cmp}
-use Rattle.std.specs.Cmp.Lexicographic.{pointwise}
 use Rattle.std.specs.FinMap.{FinMap, get}
 use Rattle.adm_types.specs.Children.{present_of_child, present_of_import}
 use Rattle.adm_types.specs.declared.rows.Child.{Child}
@@ -26,7 +25,7 @@ abbrev pub was_present : FinMap nat_cmp Child → ℕ → Option (List ℕ)
 was_present children child = option_and_then (λ (c : Child). c.present) (get children child)
 
 abbrev pub is_same_present : Option (List ℕ) → Option (List ℕ) → Bool
-is_same_present = option_eq (pointwise nat_eq)
+is_same_present = option_eq bytes_eq
 
 -- a child that had a present school has another now, or none: its number
 abbrev pub moved_from : Option (List ℕ) → Child → List ℕ

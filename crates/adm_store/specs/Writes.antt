@@ -8,7 +8,7 @@ use Rattle.sqlite.specs.State.{State, HasCleanDisk}
 use Rattle.sqlite.specs.declared.types.Value.TheVariants.{Int}
 use Rattle.sqlite_rules.specs.Lists.{Has}
 use Rattle.adm_schema.specs.Rows.{rows_of}
-use Rattle.adm_schema.specs.Effects.{Sees, SeesDatabase, GoesOn, key_of, put_each, drop_of, with_draws}
+use Rattle.adm_schema.specs.Effects.{Sees, SeesDatabase, StaysOpen, integer_key, put_each, drop_of, with_draws}
 use Rattle.adm_schema.specs.Schema.{meta, school, child, application, place, left_list, draw, offer, lot, imported, present, register_schema}
 use Rattle.adm_store.specs.declared.rows.Changes.{Changes}
 use Rattle.adm_store.specs.Changes.{written_school, written_child, written_application, written_imported, written_count, last_draw}
@@ -39,7 +39,7 @@ key_row key = Int (pos key) ∷ []
 abbrev pub changed : Kind → List Row → List Row → List Row
 changed Adds news rows = rows ++ news
 changed Puts news rows = put_each rows news
-changed Cuts news rows = without_all rows (map key_of news)
+changed Cuts news rows = without_all rows (map integer_key news)
 changed Drops news rows = fold (λ rows key. drop_of key rows) rows news
 changed Sets news rows = fold (λ rows count. map (with_draws count) rows) rows news
 
@@ -47,8 +47,8 @@ changed Sets news rows = fold (λ rows count. map (with_draws count) rows) rows 
 abbrev pub turn : Table → List Row → Write → List Row
 turn t rows w = if t.tree == w.table.tree then changed w.kind w.rows rows else rows
 
-abbrev pub after : Table → List Write → List Row → List Row
-after t writes rows = fold (turn t) rows writes
+abbrev pub after_writes : Table → List Write → List Row → List Row
+after_writes t writes rows = fold (turn t) rows writes
 
 abbrev pub count_of : List Write → ℕ
 count_of = sum_by (λ w. length w.rows)
@@ -63,12 +63,12 @@ pub record Leaves (writes : List Write) (old new : State) : Type 0 where
   pub is_open : IsTrue new.is_open
   pub schema : new.now.schema ≡ old.now.schema
   pub sound : IsDatabase new.now
-  pub rows : (t : Table) → Has register_schema.tables t → IsTrue (are_keyed t (rows_of t old.now.trees)) → IsPermutation (after t writes (rows_of t old.now.trees)) (rows_of t new.now.trees)
+  pub rows : (t : Table) → Has register_schema.tables t → IsTrue (are_keyed t (rows_of t old.now.trees)) → IsPermutation (after_writes t writes (rows_of t old.now.trees)) (rows_of t new.now.trees)
   pub keyed : (t : Table) → Has register_schema.tables t → IsTrue (are_keyed t (rows_of t old.now.trees)) → IsTrue (are_keyed t (rows_of t new.now.trees))
 
 -- on a clean disk, where the transaction saw the register's tables: it is open if it was or if a row is written, and where it is open it leaves just these writes
 abbrev pub Writes : List Write → State → State → Type 0
-Writes writes old new = HasCleanDisk new → Sees register_schema old → SeesDatabase old → GoesOn (count_of writes) old new × (IsTrue new.is_open → Leaves writes old new)
+Writes writes old new = HasCleanDisk new → Sees register_schema old → SeesDatabase old → StaysOpen (count_of writes) old new × (IsTrue new.is_open → Leaves writes old new)
 
 -- what the statements of one kind write for these items
 abbrev pub write_of : {X : Type 0} → Kind → Table → (X → Row) → List X → Write

@@ -7,3 +7,4 @@ pub mod Fields
 pub mod Joined
 pub mod Flags
 pub mod Children
+pub mod Lots

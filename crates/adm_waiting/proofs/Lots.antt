@@ -17,7 +17,7 @@ use Rattle.adm_types.specs.declared.rows.School.{School}
 use Rattle.adm_types.specs.declared.rows.Child.{Child}
 use Rattle.adm_rank.specs.Ranking.{precedes}
 use Rattle.adm_waiting.specs.declared.vacancies.Drawn.{Drawn}
-use Rattle.adm_waiting.specs.Waiting.{number_of, first_by_lot, repeats}
+use Rattle.adm_waiting.specs.Waiting.{number_of_child, first_by_lot, repeats}
 use Rattle.adm_waiting.specs.Ranks.{drawn_of, better, best_of, is_before, is_before_others}
 use Rattle.adm_waiting.proofs.Leaders.{IsBestOf, IsApart, best_is, some_from, first_of, one_way, child_of}
 
@@ -77,7 +77,7 @@ first_here school children lots =
     ∙ (λ i. option_map (λ (one : Child × ℕ). one.0.no) (find (λ (one : Child × ℕ).
     list_all-map (λ other. nat_eq other.child one.0.no || precedes (drawn_of school one).key other.key) (drawn_of school) (zip children lots) i) (zip children lots)))
 
-below_all : (school : School) (number : ℕ) (children : List Child) (lots : List ℕ) → AllByRecursion (λ y. nat_cmp number y ≡ Less) (map number_of children) → (z : Drawn) → In z (drawn school children lots) → number ≡ z.child → ⊥
+below_all : (school : School) (number : ℕ) (children : List Child) (lots : List ℕ) → AllByRecursion (λ y. nat_cmp number y ≡ Less) (map number_of_child children) → (z : Drawn) → In z (drawn school children lots) → number ≡ z.child → ⊥
 below_all school number [] lots all z there = absurd there
 below_all school number (child ∷ children) [] all z there = absurd there
 below_all school number (child ∷ children) (lot ∷ lots) all z there = elim there [
@@ -85,11 +85,11 @@ below_all school number (child ∷ children) (lot ∷ lots) all z there = elim t
   | inr later ↦ below_all school number children lots all.1 z later
 ]
 
-pub apart : (school : School) (children : List Child) (lots : List ℕ) → IsStrictlySortedBy nat_cmp (map number_of children) → IsApart (drawn school children lots)
+pub apart : (school : School) (children : List Child) (lots : List ℕ) → IsStrictlySortedBy nat_cmp (map number_of_child children) → IsApart (drawn school children lots)
 unfolding IsStrictlySortedBy
 apart school children lots sorted = record { once = go children lots sorted }
   where
-    go : (children : List Child) (lots : List ℕ) → IsStrictlySortedBy nat_cmp (map number_of children) → (one other : Drawn) → In one (drawn school children lots) → In other (drawn school children lots) → one.child ≡ other.child → one ≡ other
+    go : (children : List Child) (lots : List ℕ) → IsStrictlySortedBy nat_cmp (map number_of_child children) → (one other : Drawn) → In one (drawn school children lots) → In other (drawn school children lots) → one.child ≡ other.child → one ≡ other
     go [] lots sorted one other i j e = absurd i
     go (child ∷ children) [] sorted one other i j e = absurd i
     go (child ∷ children) (lot ∷ lots) sorted one other i j e = elim i [
@@ -158,7 +158,7 @@ has_best school (child ∷ children) (lot ∷ lots) some many h =
     none-some w.0 (sym h ∙ w.1)
 
 -- who has a lot is one of the children
-lot_child : (school : School) (children : List Child) (lots : List ℕ) (one : Drawn) → In one (drawn school children lots) → In one.child (map number_of children)
+lot_child : (school : School) (children : List Child) (lots : List ℕ) (one : Drawn) → In one (drawn school children lots) → In one.child (map number_of_child children)
 lot_child school [] lots one there = absurd there
 lot_child school (child ∷ children) [] one there = absurd there
 lot_child school (child ∷ children) (lot ∷ lots) one there = elim there [
@@ -166,8 +166,8 @@ lot_child school (child ∷ children) (lot ∷ lots) one there = elim there [
   | inr later ↦ inr (lot_child school children lots one later)
 ]
 
-pub best_waits : (school : School) (children : List Child) (lots : List ℕ) (best : Drawn) → best_of (drawn school children lots) ≡ Some best → Contains (map number_of children) best.child
+pub best_waits : (school : School) (children : List Child) (lots : List ℕ) (best : Drawn) → best_of (drawn school children lots) ≡ Some best → Contains (map number_of_child children) best.child
 best_waits school children lots best h =
     let is_best : IsBestOf None (drawn school children lots) best = best_is None (drawn school children lots) best h in
-    contains (map number_of children) best.child
+    contains (map number_of_child children) best.child
     (lot_child school children lots best (elim is_best.among [ inl no' ↦ absurd (none-some best no') | inr there ↦ there ]))

@@ -19,7 +19,7 @@ use Rattle.adm_types.specs.declared.rows.School.{School}
 use Rattle.adm_types.specs.declared.rows.Child.{Child}
 use Rattle.adm_waiting.specs.declared.lists.Waiting.{Waiting}
 use Rattle.adm_waiting.specs.declared.ranks.Rank.{Rank}
-use Rattle.adm_waiting.specs.Waiting.{number_of, entry_of, comes_before, waiting_list, IsEntryFor}
+use Rattle.adm_waiting.specs.Waiting.{number_of_child, entry_of, comes_before, waiting_list, IsEntryFor}
 use Rattle.adm_waiting.specs.Ranks.{rank_of, rank_cmp, is_rank_ahead, entry_among, IsRankInRange}
 use Rattle.adm_waiting.proofs.Sorting.{child_of, only_order}
 
@@ -75,11 +75,11 @@ far_rises (x ∷ xs) up apart =
 less_other : (a b : ℕ) → nat_cmp a b ≡ Less → nat_eq a b ≡ false
 less_other a b h = grind (arith, nat_tests)
 
-all_other : (school : School) (number : ℕ) (children : List Child) → AllByRecursion (λ y. nat_cmp number y ≡ Less) (map number_of children) → AllByRecursion (λ y. nat_eq number y.child ≡ false) (map (rank_of school) children)
+all_other : (school : School) (number : ℕ) (children : List Child) → AllByRecursion (λ y. nat_cmp number y ≡ Less) (map number_of_child children) → AllByRecursion (λ y. nat_eq number y.child ≡ false) (map (rank_of school) children)
 all_other school number [] all = tt
 all_other school number (child ∷ children) all = (less_other number child.no all.0, all_other school number children all.1)
 
-distinct_ranks : (school : School) (children : List Child) → IsStrictlySortedBy nat_cmp (map number_of children) → IsDistinct same_child (map (rank_of school) children)
+distinct_ranks : (school : School) (children : List Child) → IsStrictlySortedBy nat_cmp (map number_of_child children) → IsDistinct same_child (map (rank_of school) children)
 unfolding IsStrictlySortedBy IsDistinct
 distinct_ranks school [] sorted = tt
 distinct_ranks school (child ∷ children) sorted =
@@ -237,14 +237,14 @@ module _ (school : School) (children : List Child) (sorted : List Rank) (same : 
     metres = (rank_of school child).metres;
   }
 
-  pub same_entries : IsSorted rank_cmp sorted → IsStrictlySortedBy nat_cmp (map number_of children) → map (entry_among sorted) sorted ≡ waiting_list school children
+  pub same_entries : IsSorted rank_cmp sorted → IsStrictlySortedBy nat_cmp (map number_of_child children) → map (entry_among sorted) sorted ≡ waiting_list school children
   unfolding waiting_list
   same_entries up numbers =
       let entries : List Waiting = map (entry_of school children) children in
       let apart : IsDistinct same_child sorted = IsDistinct-IsPermutation same_child swap rows sorted same (distinct_ranks school children numbers) in
       let rise : rises comes_before (map (entry_among rows) sorted) ≡ true =
       entries_rise rows sorted (λ z there. in_moved sorted rows z (IsPermutation-sym rows sorted same) there) (far_rises sorted (far sorted up) apart) in
-      let numbers' : IsStrictlySortedBy nat_cmp (map child_of entries) = subst (IsStrictlySortedBy nat_cmp) (mapped (entry_of school children) child_of number_of (λ _. refl) children) numbers in
+      let numbers' : IsStrictlySortedBy nat_cmp (map child_of entries) = subst (IsStrictlySortedBy nat_cmp) (mapped (entry_of school children) child_of number_of_child (λ _. refl) children) numbers in
       let moved : IsPermutation entries (map (entry_among rows) sorted) =
       subst (λ l. IsPermutation l (map (entry_among rows) sorted)) (sym (mapped (rank_of school) (entry_among rows) (entry_of school children) of_child children))
       (IsPermutation-map (entry_among rows) rows sorted same) in
@@ -261,7 +261,7 @@ module _ (school : School) (children : List Child) (sorted : List Rank) (same : 
       let short = count_short (λ (other : Rank). is_rank_ahead other one) sorted one there (not_ahead_itself one) in
       let long : length sorted ≡ length children = length_permutation rows sorted same ∙ as_many children in
       record {
-        waits = contains (map number_of children) one.child (subst (λ n. In n (map number_of children)) (ap (λ (r : Rank). r.child) g.2) (in_map number_of children g.0 g.1));
+        waits = contains (map number_of_child children) one.child (subst (λ n. In n (map number_of_child children)) (ap (λ (r : Rank). r.child) g.2) (in_map number_of_child children g.0 g.1));
         position_from = omega arith;
         position_upto = omega arith;
         class_upto = range.0;

@@ -9,8 +9,8 @@ use Rattle.adm_rank.specs.Class.{class_of}
 use Rattle.adm_rank.specs.Ranking.{key_of, precedes}
 use Rattle.adm_waiting.specs.declared.lists.Waiting.{Waiting}
 
-abbrev pub number_of : Child → ℕ
-number_of child = child.no
+abbrev pub number_of_child : Child → ℕ
+number_of_child child = child.no
 
 -- whether the other child has a smaller class at the school than this one, or the same class and a smaller distance
 abbrev pub is_ahead : School → Child → Child → Bool
@@ -50,7 +50,7 @@ waiting_list school waiting = in_order (map (entry_of school waiting) waiting)
 
 -- what each entry of the list has: one of the children that wait, and numbers within their limits
 pub record IsEntryFor (waiting : List Child) (entry : Waiting) : Type 0 where
-  pub waits : Contains (map number_of waiting) entry.child
+  pub waits : Contains (map number_of_child waiting) entry.child
   pub position_from : 1 ≤ entry.position
   pub position_upto : entry.position ≤ length waiting
   pub class_upto : entry.class ≤ 9

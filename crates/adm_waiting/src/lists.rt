@@ -3,7 +3,7 @@ ghost use Rattle.std.specs.Prelude.{◌≡◌, ◌≤◌, ◌+◌, IfOk, IsTrue,
 ghost use Rattle.std.specs.List.Sorted.{IsStrictlySortedBy};
 ghost use Rattle.std.specs.Ordering.{nat_cmp};
 ghost use Rattle.adm_types.specs.Limits.{is_school_in_range, is_child_in_range};
-ghost use Rattle.adm_waiting.specs.Waiting.{number_of, position, entry_of, waiting_list, IsEntryFor};
+ghost use Rattle.adm_waiting.specs.Waiting.{number_of_child, position, entry_of, waiting_list, IsEntryFor};
 ghost use Rattle.adm_waiting.specs.Ranks.{is_rank_ahead, rank_cmp, entry_among};
 
 use crate::ranks::{Rank, is_rank_ahead, rank_of, ranks_of};
@@ -60,7 +60,7 @@ pub fn waiting_list(
 ) -> Result<Vec<Waiting>, AllocError>
     requires school { IsTrue (is_school_in_range school.now) }
     requires children { All (λ child. is_child_in_range child ≡ true) children.now }
-    requires numbers { IsStrictlySortedBy nat_cmp (map number_of children.now) }
+    requires numbers { IsStrictlySortedBy nat_cmp (map number_of_child children.now) }
     ensures value { IfOk result (λ list. list.items ≡ waiting_list school.now children.now) }
     ensures len { IfOk result (λ list. length list.items ≡ length children.now) }
     ensures entries { IfOk result (λ list. All (IsEntryFor children.now) list.items) }

@@ -4,7 +4,7 @@ ghost use Rattle.std.specs.List.{zip};
 ghost use Rattle.std.specs.List.Sorted.{IsStrictlySortedBy};
 ghost use Rattle.std.specs.Ordering.{nat_cmp};
 ghost use Rattle.adm_types.specs.Limits.{is_school_in_range, is_child_in_range};
-ghost use Rattle.adm_waiting.specs.Waiting.{number_of, first_by_lot, repeats};
+ghost use Rattle.adm_waiting.specs.Waiting.{number_of_child, first_by_lot, repeats};
 ghost use Rattle.adm_waiting.specs.Ranks.{drawn_of, better, best_of, is_before, is_before_others};
 
 use adm_rank::{RankKey, key};
@@ -83,9 +83,9 @@ fn is_before_others(school: &School, children: &[Shared<Child>], lots: &[u32], o
 pub fn first_by_lot(school: &School, children: &[Shared<Child>], lots: &[u32]) -> Option<ChildNo>
     requires school { IsTrue (is_school_in_range school.now) }
     requires children { All (λ child. is_child_in_range child ≡ true) children.now }
-    requires numbers { IsStrictlySortedBy nat_cmp (map number_of children.now) }
+    requires numbers { IsStrictlySortedBy nat_cmp (map number_of_child children.now) }
     ensures first { result ≡ first_by_lot school.now children.now lots.now }
-    ensures waits { IfSome result (λ child. Contains (map number_of children.now) child) }
+    ensures waits { IfSome result (λ child. Contains (map number_of_child children.now) child) }
     ensures some { 0 < length children.now → length lots.now ≡ length children.now → repeats lots.now ≡ false → is_some result ≡ true }
 {
     let best = best_of(school, children, lots)?;

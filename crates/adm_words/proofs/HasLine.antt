@@ -16,7 +16,7 @@ use Rattle.clap.proofs.WalkLemmas.{list_any-map}
 use Rattle.adm_types.specs.declared.seasons.Phase.{Phase}
 use Rattle.adm_types.specs.declared.seasons.Phase.TheVariants.{Primary, Secondary}
 use Rattle.adm_words.specs.Program.{IsPhases, program_app}
-use Rattle.adm_words.specs.Lines.{IsLine, init_line, do_line, what_if_line, phase_of, year_of, init_of, init_in, do_in, what_if_in, holidays_in, line_in}
+use Rattle.adm_words.specs.Lines.{IsLine, init_line, do_line, what_if_line, phase_of, year_of, init_of, init_in, do_in, what_if_words_in, holidays_in, line_in}
 use Rattle.adm_words.proofs.Arguments.{HasValue, taken, taken_uses, wanted, given_if, init_shape, do_shape, what_if_shape, import_shape, serve_shape, letter_shape, list_shape, report_shape, pairs_shape, help_of}
 use Rattle.adm_words.proofs.FoundRows.{both_empty, either_false}
 use Rattle.adm_words.proofs.PairLines.{import_there, letter_there, list_there, report_there, pairs_there}
@@ -89,7 +89,7 @@ do_there phases words none =
     (do_line value.0, ap (option_map do_line) value.1)
 
 what_if_there : (phases : ValueParser) (words : List Text) → level_fault (what_if_shape phases) [] nothing_held words false [] ≡ []
-    → IsLine (what_if_in (rows_after (what_if_shape phases).rules [] words))
+    → IsLine (what_if_words_in (rows_after (what_if_shape phases).rules [] words))
 what_if_there phases words none =
     let rows = rows_after (what_if_shape phases).rules [] words in
     let file_rule = taken (codes "file") 1 parser.String in

@@ -6,13 +6,13 @@ use Rattle.clap.specs.Walk.{Text, first_of, rows_after, nothing_held}
 use Rattle.clap.specs.Takes.{is_given}
 use Rattle.clap.specs.declared.builder.value_parser.ValueParser.{ValueParser}
 use Rattle.clap.specs.declared.builder.value_parser.ValueParser.TheVariants as parser
-use Rattle.adm_words.specs.Lines.{Line, IsLine, import_line, letter_line, list_line, report_line, pairs_line, pair_of, import_in, letter_in, list_in, report_in, pairs_in}
+use Rattle.adm_words.specs.Lines.{Line, IsLine, import_line, letter_line, list_line, report_line, pairs_line, file_and_word, import_in, letter_in, list_in, report_in, pairs_in}
 use Rattle.adm_words.proofs.Arguments.{taken, taken_uses, wanted, given_if, import_shape, letter_shape, list_shape, report_shape, pairs_shape}
 use Rattle.adm_words.proofs.FoundRows.{either_false}
 use Rattle.adm_words.proofs.Faultless.{level_good, given_first}
 
-paired : (line : Text → Text → Line) (file word : Option Text) (a b : Text) → file ≡ Some a → word ≡ Some b → IsLine (pair_of line file word)
-paired line file word a b f w = (line a b, ap (λ o. pair_of line o word) f ∙ ap (λ o. pair_of line (Some a) o) w)
+paired : (line : Text → Text → Line) (file word : Option Text) (a b : Text) → file ≡ Some a → word ≡ Some b → IsLine (file_and_word line file word)
+paired line file word a b f w = (line a b, ap (λ o. file_and_word line o word) f ∙ ap (λ o. file_and_word line (Some a) o) w)
 
 pub import_there : (phases : ValueParser) (words : List Text) → level_fault (import_shape phases) [] nothing_held words false [] ≡ []
     → IsLine (import_in (rows_after (import_shape phases).rules [] words))

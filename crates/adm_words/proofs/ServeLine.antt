@@ -8,7 +8,7 @@ use Rattle.clap.specs.Takes.{is_given}
 use Rattle.clap.specs.ValueTests.{accepts}
 use Rattle.clap.specs.declared.builder.value_parser.ValueParser.{ValueParser}
 use Rattle.clap.specs.declared.builder.value_parser.ValueParser.TheVariants as parser
-use Rattle.adm_words.specs.Lines.{IsLine, serve_line, serve_of, serve_in, port_of, count_of}
+use Rattle.adm_words.specs.Lines.{IsLine, serve_line, serve_of, serve_in, port_of, connections_of}
 use Rattle.adm_words.proofs.Arguments.{taken, taken_uses, optional, optional_uses, wanted, given_if, serve_shape}
 use Rattle.adm_words.proofs.FoundRows.{either_false}
 use Rattle.adm_words.proofs.Faultless.{level_good, given_first, none_or_first}
@@ -25,11 +25,11 @@ served file port count a b c f p n =
     (serve_line a b c, ap (λ o. serve_of o port count) f ∙ ap (λ o. serve_of (Some a) o count) p ∙ ap (λ o. serve_of (Some a) (Some b) o) n)
 
 -- without the option there are 1,000,000 connections
-counted : (o : Option Text) → (o ≡ None) ⊎ ((v : Text) × (o ≡ Some v) × (accepts false counts v ≡ true)) → (n : ℕ) × (option_map_or count_of o (Some 1000000) ≡ Some n)
-counted o (inl e) = (1000000, ap (λ t. option_map_or count_of t (Some 1000000)) e)
+counted : (o : Option Text) → (o ≡ None) ⊎ ((v : Text) × (o ≡ Some v) × (accepts false counts v ≡ true)) → (n : ℕ) × (option_map_or connections_of o (Some 1000000) ≡ Some n)
+counted o (inl e) = (1000000, ap (λ t. option_map_or connections_of t (Some 1000000)) e)
 counted o (inr h) =
     let n = number_named 1 1000000 (omega arith) (omega arith) h.0 h.2 in
-    (n.0, ap (λ t. option_map_or count_of t (Some 1000000)) h.1 ∙ n.1)
+    (n.0, ap (λ t. option_map_or connections_of t (Some 1000000)) h.1 ∙ n.1)
 
 pub serve_there : (phases : ValueParser) (words : List Text) → level_fault (serve_shape phases) [] nothing_held words false [] ≡ []
     → IsLine (serve_in (rows_after (serve_shape phases).rules [] words))

@@ -62,8 +62,8 @@ abbrev pub port_of : Text → Option ℕ
 port_of text = number_from 1 65535 text
 
 -- how many connections a text writes, from 1 to 1,000,000
-abbrev pub count_of : Text → Option ℕ
-count_of text = number_from 1 1000000 text
+abbrev pub connections_of : Text → Option ℕ
+connections_of text = number_from 1 1000000 text
 
 -- the school of a code, if a code is written
 abbrev pub school_named : Option Text → Option (Option Text)
@@ -87,7 +87,7 @@ port_in rows = option_and_then port_of (first_of (codes "port") rows)
 
 -- 1,000,000 connections where their number is left out
 abbrev pub count_in : List Row → Option ℕ
-count_in rows = option_map_or count_of (first_of (codes "count") rows) (Some 1000000)
+count_in rows = option_map_or connections_of (first_of (codes "count") rows) (Some 1000000)
 
 abbrev pub holidays_in : List Row → List Text
 holidays_in rows = unwrap_or (all_of (codes "holiday") rows) []
@@ -103,8 +103,8 @@ init_in rows = init_of (file_in rows) (phase_in rows) (year_in rows) (holidays_i
 abbrev pub do_in : List Row → Option Line
 do_in rows = option_map do_line (file_in rows)
 
-abbrev pub what_if_in : List Row → Option Line
-what_if_in rows = option_map what_if_line (file_in rows)
+abbrev pub what_if_words_in : List Row → Option Line
+what_if_words_in rows = option_map what_if_line (file_in rows)
 
 abbrev pub serve_of : Option Text → Option ℕ → Option ℕ → Option Line
 serve_of (Some file) (Some port) (Some count) = Some (serve_line file port count)
@@ -114,21 +114,21 @@ abbrev pub serve_in : List Row → Option Line
 serve_in rows = serve_of (file_in rows) (port_in rows) (count_in rows)
 
 -- a file, and one more word
-abbrev pub pair_of : (Text → Text → Line) → Option Text → Option Text → Option Line
-pair_of line (Some file) (Some word) = Some (line file word)
-pair_of line file word = None
+abbrev pub file_and_word : (Text → Text → Line) → Option Text → Option Text → Option Line
+file_and_word line (Some file) (Some word) = Some (line file word)
+file_and_word line file word = None
 
 abbrev pub import_in : List Row → Option Line
-import_in rows = pair_of import_line (file_in rows) (first_of (codes "csv") rows)
+import_in rows = file_and_word import_line (file_in rows) (first_of (codes "csv") rows)
 
 abbrev pub letter_in : List Row → Option Line
-letter_in rows = pair_of letter_line (file_in rows) (first_of (codes "child") rows)
+letter_in rows = file_and_word letter_line (file_in rows) (first_of (codes "child") rows)
 
 abbrev pub list_in : List Row → Option Line
-list_in rows = pair_of list_line (file_in rows) (first_of (codes "school") rows)
+list_in rows = file_and_word list_line (file_in rows) (first_of (codes "school") rows)
 
 abbrev pub report_in : List Row → Option Line
-report_in rows = pair_of report_line (file_in rows) (first_of (codes "round") rows)
+report_in rows = file_and_word report_line (file_in rows) (first_of (codes "round") rows)
 
 -- a file, and a school or none
 abbrev pub pairs_in : List Row → Option Line
@@ -144,7 +144,7 @@ reading_in name rows =
 abbrev pub line_in : Text → List Row → Option Line
 line_in name rows =
     if bytes_eq name (codes "init") then init_in rows else (if bytes_eq name (codes "do") then do_in rows else (
-    if bytes_eq name (codes "what-if") then what_if_in rows else (if bytes_eq name (codes "import") then import_in rows else (
+    if bytes_eq name (codes "what-if") then what_if_words_in rows else (if bytes_eq name (codes "import") then import_in rows else (
     if bytes_eq name (codes "serve") then serve_in rows else reading_in name rows))))
 
 -- ---- what a line asks for

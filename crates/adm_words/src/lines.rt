@@ -1,7 +1,7 @@
 // One line of the command line, read from the values that clap found.
 ghost use Rattle.std.specs.Prelude.{◌≡◌, ◌≤◌, map, option_map, IfOk, IfSome};
 ghost use Rattle.clap.specs.Words.{first_of, all_of, found_of, rows_of};
-ghost use Rattle.adm_words.specs.Lines.{IsLine, ReadsLine, ReadsDays, IsInRange, phase_of, number_in, number_from, year_of, phase_in, year_in, holidays_in, init_in, do_in, what_if_in, line_in};
+ghost use Rattle.adm_words.specs.Lines.{IsLine, ReadsLine, ReadsDays, IsInRange, phase_of, number_in, number_from, year_of, phase_in, year_in, holidays_in, init_in, do_in, what_if_words_in, line_in};
 
 use crate::pairs::{import, reading};
 use crate::serving::serve;
@@ -148,8 +148,8 @@ fn do_lines<'a>(found: &ArgMatches<'a>) -> Result<Action<'a>, WordsFault>
 
 /// The line `what-if`, whose file is there.
 fn what_if<'a>(found: &ArgMatches<'a>) -> Result<Action<'a>, WordsFault>
-    requires { IsLine (what_if_in (rows_of (found_of found.now))) }
-    ensures reads { ReadsLine (what_if_in (rows_of (found_of found.now))) result }
+    requires { IsLine (what_if_words_in (rows_of (found_of found.now))) }
+    ensures reads { ReadsLine (what_if_words_in (rows_of (found_of found.now))) result }
     ensures in_range { IfOk result IsInRange }
 {
     match text_of(found, "file") {

@@ -11,7 +11,7 @@ ghost use Rattle.sqlite.specs.State.{HasCleanDisk, Survives};
 ghost use Rattle.adm_schema.specs.Texts.{select_meta};
 ghost use Rattle.adm_schema.specs.declared.version.Version.{Version as FileVersion};
 ghost use Rattle.adm_store.specs.Reads.{Finds, HoldsSeason, SeesTheSame};
-ghost use Rattle.adm_store.specs.FirstFault.{is_known, first_fault, IsFirstFault};
+ghost use Rattle.adm_store.specs.FirstFault.{is_known_version, first_open_fault, IsFirstFault};
 ghost use Rattle.adm_store.specs.Faults.{IsNoRegister, HasSeasonColumns};
 ghost use Rattle.adm_store.specs.Causes.{DiskFailed, DiskFailedOr};
 
@@ -67,7 +67,7 @@ pub(super) struct MetaRow {
 /// The version that the row names.
 fn version_in(row: &Row) -> Result<Version, OpenFault>
     ensures ok { IfOk result (λ v. column row.now 1 ≡ Int (pos (version_code v))) }
-    ensures bad { IfErr result (λ e. (e ≡ OpenFault.Memory) ⊎ ((e ≡ OpenFault.Version) × (is_known (column row.now 1) ≡ false))) }
+    ensures bad { IfErr result (λ e. (e ≡ OpenFault.Memory) ⊎ ((e ≡ OpenFault.Version) × (is_known_version (column row.now 1) ≡ false))) }
 {
     if row.column_count() < 2 {
         return Err(OpenFault::Version);
@@ -188,7 +188,7 @@ fn season_in(alloc: Global, row: &Row) -> Result<MetaRow, OpenFault>
     ensures ok { IfOk result (λ it. row.now ≡ season_row it.version it.season it.draws) }
     ensures season { IfOk result (λ it. IsSeason it.season) }
     ensures bad { IfErr result (λ e. IsNoRegister e → (v : FileVersion) (season : SeasonFacts) (draws : ℕ) → IsSeason season → draws < 2 ^ 32 → row.now ≡ season_row v season draws → ⊥) }
-    ensures first { IfErr result (λ e. IsNoRegister e → e ≡ first_fault (row.now ∷ [])) }
+    ensures first { IfErr result (λ e. IsNoRegister e → e ≡ first_open_fault (row.now ∷ [])) }
     ensures disk { IfErr result (λ e. e ≡ OpenFault.Disk → ⊥) }
 {
     let version = match version_in(row) {
@@ -214,7 +214,7 @@ fn season_of(alloc: Global, rows: &[Row]) -> Result<MetaRow, OpenFault>
     ensures ok { IfOk result (λ it. rows.now ≡ season_row it.version it.season it.draws ∷ []) }
     ensures season { IfOk result (λ it. IsSeason it.season) }
     ensures bad { IfErr result (λ e. IsNoRegister e → (v : FileVersion) (season : SeasonFacts) (draws : ℕ) → IsSeason season → draws < 2 ^ 32 → rows.now ≡ season_row v season draws ∷ [] → ⊥) }
-    ensures first { IfErr result (λ e. IsNoRegister e → e ≡ first_fault rows.now) }
+    ensures first { IfErr result (λ e. IsNoRegister e → e ≡ first_open_fault rows.now) }
     ensures disk { IfErr result (λ e. e ≡ OpenFault.Disk → ⊥) }
 {
     match rows {

@@ -12,7 +12,7 @@ use Rattle.adm_types.specs.declared.rows.LeftPair.{LeftPair}
 use Rattle.adm_types.specs.declared.rows.PlaceRow.{PlaceRow}
 use Rattle.adm_types.specs.declared.draws.Draw.{Draw}
 use Rattle.adm_draws.specs.Draws.{AreDrawRowsOf, AreByNumber, are_ordered}
-use Rattle.adm_register.specs.Groups.{HasRows}
+use Rattle.adm_register.specs.Groups.{HasRowsByKey}
 use Rattle.adm_register.specs.State.{State, left_cmp}
 use Rattle.adm_register.specs.WellFormed.{WellFormed}
 use Rattle.adm_register.proofs.Maps.{left_cmp-total, left_cmp-IsAntisymmetric}
@@ -63,8 +63,8 @@ returns-in_err-imported-clause-repeated c =
 
 pub returns-clause-made : goal.returns-clause-made
 returns-clause-made c s of =
-    let places = subst (λ rows. HasRows nat_cmp (λ (p : PlaceRow). p.child) rows c.in_ok-places.places) c.into_vec.ensures c.in_ok-places.ensures.made in
-    let left = subst (λ rows. HasRows left_cmp (λ (p : LeftPair). p) rows c.in_ok-left.left) c.into_vec-2.ensures c.in_ok-left.ensures.made in
+    let places = subst (λ rows. HasRowsByKey nat_cmp (λ (p : PlaceRow). p.child) rows c.in_ok-places.places) c.into_vec.ensures c.in_ok-places.ensures.made in
+    let left = subst (λ rows. HasRowsByKey left_cmp (λ (p : LeftPair). p) rows c.in_ok-left.left) c.into_vec-2.ensures c.in_ok-left.ensures.made in
     let drawn = c.in_ok-draws.ensures.made in
     record {
       places = subst (λ m. IsPermutation c.args.rows.places (values m)) of.places (rows_of_table nat_cmp_total nat_cmp-IsAntisymmetric (λ (p : PlaceRow). p.child) c.args.rows.places c.in_ok-places.places places);
@@ -77,8 +77,8 @@ returns-clause-made c s of =
 
 pub returns-clause-only : goal.returns-clause-only
 returns-clause-only c s well same =
-    let places = subst (λ rows. HasRows nat_cmp (λ (p : PlaceRow). p.child) rows c.in_ok-places.places) c.into_vec.ensures c.in_ok-places.ensures.made in
-    let left = subst (λ rows. HasRows left_cmp (λ (p : LeftPair). p) rows c.in_ok-left.left) c.into_vec-2.ensures c.in_ok-left.ensures.made in
+    let places = subst (λ rows. HasRowsByKey nat_cmp (λ (p : PlaceRow). p.child) rows c.in_ok-places.places) c.into_vec.ensures c.in_ok-places.ensures.made in
+    let left = subst (λ rows. HasRowsByKey left_cmp (λ (p : LeftPair). p) rows c.in_ok-left.left) c.into_vec-2.ensures c.in_ok-left.ensures.made in
     let drawn = c.in_ok-draws.ensures.made in
     record {
       places = sym (same_as_table nat_cmp_total nat_cmp-IsAntisymmetric (λ (p : PlaceRow). p.child) c.args.rows.places c.in_ok-places.places places s.places (λ key row there. (well.places.each key row there).own_number) same.places);

@@ -10,7 +10,7 @@ use Rattle.adm_types.specs.declared.draws.DrawRow.{DrawRow}
 use Rattle.adm_types.specs.declared.draws.OfferRow.{OfferRow}
 use Rattle.adm_types.specs.declared.draws.LotRow.{LotRow}
 use Rattle.adm_draws.specs.Draws.{AreDrawRowsOf}
-use Rattle.adm_register.specs.Groups.{HasRows}
+use Rattle.adm_register.specs.Groups.{HasRowsByKey}
 use Rattle.adm_register.proofs.RowsAgain.{same_order}
 use Rattle.adm_register.proofs.SameFault.{same_fault}
 use Rattle.adm_register.proofs.rows_in.draws_table.Goals as goal
@@ -34,7 +34,7 @@ pub returns-clause-made : goal.returns-clause-made
 returns-clause-made c =
     let rows = rw c.in-Some.is at c.in_ok-made.ensures.made in
     let shown = c.in_ok-table.table in
-    let table = subst (λ r. HasRows nat_cmp number r shown) c.from_vec.ensures c.in_ok-table.ensures.made in
+    let table = subst (λ r. HasRowsByKey nat_cmp number r shown) c.from_vec.ensures c.in_ok-table.ensures.made in
     let same = same_order nat_cmp_total nat_cmp-IsAntisymmetric number c.in-Some.draws.items shown table rows.1.rising in
     (subst (AreDrawRowsOf c.args.rows.draws c.args.rows.offers c.args.rows.lots) (sym same) (rows_of c.into_vec.ensures c.into_vec-2.ensures c.into_vec-3.ensures rows.0), table.1, table.2)
 
@@ -43,6 +43,6 @@ returns-clause-only c draws ordered same_rows =
     let rows = rw c.in-Some.is at c.in_ok-made.ensures.made in
     let only = rw c.in-Some.is at c.in_ok-made.ensures.only in
     let shown = c.in_ok-table.table in
-    let table = subst (λ r. HasRows nat_cmp number r shown) c.from_vec.ensures c.in_ok-table.ensures.made in
+    let table = subst (λ r. HasRowsByKey nat_cmp number r shown) c.from_vec.ensures c.in_ok-table.ensures.made in
     only draws (rows_of (sym c.into_vec.ensures) (sym c.into_vec-2.ensures) (sym c.into_vec-3.ensures) same_rows) ordered
     ∙ sym (same_order nat_cmp_total nat_cmp-IsAntisymmetric number c.in-Some.draws.items shown table rows.1.rising)

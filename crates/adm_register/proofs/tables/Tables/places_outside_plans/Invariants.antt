@@ -1,10 +1,10 @@
 use Rattle.std.proofs.Common.{◌≡◌, take}
 use Rattle.std.specs.Prelude.{count_by, Some}
-use Rattle.adm_register.specs.WellFormed.{is_outside_plan}
+use Rattle.adm_register.specs.WellFormed.{is_unplanned_at}
 use Rattle.std.specs.Map.{values_of}
 use Rattle.adm_table.specs.Pieces.{rows_of_pieces}
 use Rattle.adm_register.proofs.tables.Tables.places_outside_plans.Given as goal
 
 -- the count so far is that of as many pieces
 abbrev pub invariant-loop-piece : goal.invariant-loop-piece
-invariant-loop-piece l = l.count ≡ count_by (λ row. is_outside_plan (Some row) l.code) (values_of (rows_of_pieces (take l.piece-index l.piece-items)))
+invariant-loop-piece l = l.count ≡ count_by (λ row. is_unplanned_at (Some row) l.code) (values_of (rows_of_pieces (take l.piece-index l.piece-items)))

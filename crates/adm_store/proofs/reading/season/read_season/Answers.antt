@@ -9,7 +9,7 @@ use Rattle.adm_schema.specs.Texts.{select_meta}
 use Rattle.adm_schema.proofs.Texts.{asks_meta}
 use Rattle.adm_store.specs.declared.fault.OpenFault.TheVariants.{BadRow, Version as NoVersion}
 use Rattle.adm_store.specs.Forms.{season_row}
-use Rattle.adm_store.specs.FirstFault.{first_fault}
+use Rattle.adm_store.specs.FirstFault.{first_open_fault}
 use Rattle.adm_store.specs.Reads.{AsksAll}
 use Rattle.adm_store.specs.StandsFor.{HasRows}
 use Rattle.adm_store.proofs.FirstFaultLemmas.{first_by_rows, first_refused}
@@ -48,12 +48,12 @@ returns-in_err-rows-clause-first g c clean =
 pub returns-in_err-meta_row-clause-first : goal.returns-in_err-meta_row-clause-first
 returns-in_err-meta_row-clause-first g c clean =
     let p = err_from_is_err_and c.from_residual-in_err-meta_row.result c.from_residual-in_err-meta_row.ensures.1 in
-    rw (p.1, p.2) (λ structural. first_by_rows _ c.in_ok-rows.rows.items _ (c.in_ok-rows.ensures.answered clean) (λ v has. IsPermutation-sym _ _ (c.in_ok-rows.ensures.ok v meta (asks v) clean has)) (c.in_err-meta_row.ensures.first structural ∙ ap first_fault c.as_slice.ensures.value))
+    rw (p.1, p.2) (λ structural. first_by_rows _ c.in_ok-rows.rows.items _ (c.in_ok-rows.ensures.answered clean) (λ v has. IsPermutation-sym _ _ (c.in_ok-rows.ensures.ok v meta (asks v) clean has)) (c.in_err-meta_row.ensures.first structural ∙ ap first_open_fault c.as_slice.ensures.value))
 
 pub returns-clause-version : goal.returns-clause-version
 returns-clause-version g c clean =
     let row = sym c.as_slice.ensures.value ∙ c.in_ok-meta_row.ensures.ok in
-    first_by_rows _ c.in_ok-rows.rows.items BadRow (c.in_ok-rows.ensures.answered clean) (λ v has. IsPermutation-sym _ _ (c.in_ok-rows.ensures.ok v meta (asks v) clean has)) (sym (ap first_fault row ∙ ap (λ b. if b then BadRow else NoVersion) (code_known c.in_ok-meta_row.meta_row.version)))
+    first_by_rows _ c.in_ok-rows.rows.items BadRow (c.in_ok-rows.ensures.answered clean) (λ v has. IsPermutation-sym _ _ (c.in_ok-rows.ensures.ok v meta (asks v) clean has)) (sym (ap first_open_fault row ∙ ap (λ b. if b then BadRow else NoVersion) (code_known c.in_ok-meta_row.meta_row.version)))
 
 pub returns-in_err-rows-clause-disk : goal.returns-in_err-rows-clause-disk
 returns-in_err-rows-clause-disk g c =
