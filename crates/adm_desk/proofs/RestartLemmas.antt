@@ -7,7 +7,7 @@ use Rattle.sqlite.specs.Tree.{Trees}
 use Rattle.adm_types.specs.declared.commands.Command.{Command}
 use Rattle.adm_register.specs.State.{State as Register, coded_state}
 use Rattle.adm_commands.specs.Outcome.{Accepts}
-use Rattle.adm_store.specs.StandsFor.{StandsNow, StandsFor, LeavesOnly, LeavesNone}
+use Rattle.adm_rows.specs.StandsFor.{StandsNow, StandsFor, LeavesOnly, LeavesNone}
 use Rattle.adm_store.specs.Migration.{IsMigrated}
 use Rattle.adm_store.proofs.MigrationLemmas.{not_migrated, stands_for}
 use Rattle.adm_desk.specs.declared.answer.Answer.{Answer}

@@ -6,7 +6,7 @@ use Rattle.adm_types.specs.declared.commands.Command.{Command}
 use Rattle.adm_types.specs.declared.commands.Reply.{Reply}
 use Rattle.adm_register.specs.State.{State as Register}
 use Rattle.adm_commands.specs.Outcome.{Step}
-use Rattle.adm_store.specs.StandsFor.{LeavesOnly}
+use Rattle.adm_rows.specs.StandsFor.{LeavesOnly}
 use Rattle.adm_desk.specs.declared.answer.Answer.{Answer}
 use Rattle.adm_desk.specs.declared.answer.Answer.TheVariants.{Done, Refused, Memory, Failed}
 use Rattle.adm_desk.specs.DeskState.{DeskState, Handles, Keeps}

@@ -24,11 +24,11 @@ use Rattle.sqlite.specs.State.{State as Disk, HasCleanDisk, Survives}
 use Rattle.sqlite.specs.Tree.{Trees}
 use Rattle.sqlite.proofs.FileLemmas.{is_something}
 use Rattle.adm_register.specs.State.{State as Register, coded_state}
-use Rattle.adm_store.specs.StandsFor.{StandsNow, OneRegister, LeavesOnly, LeavesNone}
+use Rattle.adm_rows.specs.StandsFor.{StandsNow, OneRegister, LeavesOnly, LeavesNone}
 use Rattle.adm_store.specs.Migration.{IsMigrated}
 use Rattle.adm_store.proofs.MigrationLemmas.{not_migrated, stands_for}
-use Rattle.adm_store.specs.Faults.{IsNoRegister}
-use Rattle.adm_store.specs.declared.fault.OpenFault.{OpenFault}
+use Rattle.adm_rows.specs.Faults.{IsNoRegister}
+use Rattle.adm_rows.specs.declared.fault.OpenFault.{OpenFault}
 use Rattle.adm_desk.specs.Stops.{IsFileOf, AreDisksOf, StillStandsFor}
 
 abbrev pub IsHonest : {D : Type 0} → Ghosts D → Type 0

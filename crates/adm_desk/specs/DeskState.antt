@@ -6,7 +6,7 @@ use Rattle.adm_types.specs.declared.commands.Command.{Command}
 use Rattle.adm_types.specs.declared.commands.Reply.{Reply}
 use Rattle.adm_register.specs.State.{State as Register, coded_state}
 use Rattle.adm_commands.specs.Outcome.{Step, Accepts}
-use Rattle.adm_store.specs.StandsFor.{LeavesOnly, LeavesEither}
+use Rattle.adm_rows.specs.StandsFor.{LeavesOnly, LeavesEither}
 use Rattle.adm_desk.specs.declared.answer.Answer.{Answer}
 use Rattle.adm_desk.specs.declared.answer.Answer.TheVariants.{Done, Refused, Memory, Failed}
 

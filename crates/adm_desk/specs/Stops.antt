@@ -14,9 +14,9 @@ use Rattle.sqlite.specs.Held.{Held}
 use Rattle.sqlite.specs.Tree.{Trees}
 use Rattle.adm_types.specs.declared.commands.Command.{Command}
 use Rattle.adm_register.specs.State.{State as Register}
-use Rattle.adm_store.specs.StandsFor.{StandsNow}
-use Rattle.adm_store.specs.declared.fault.OpenFault.{OpenFault}
-use Rattle.adm_store.specs.declared.fault.OpenFault.TheVariants.{Memory}
+use Rattle.adm_rows.specs.StandsFor.{StandsNow}
+use Rattle.adm_rows.specs.declared.fault.OpenFault.{OpenFault}
+use Rattle.adm_rows.specs.declared.fault.OpenFault.TheVariants.{Memory}
 use Rattle.adm_desk.specs.declared.answer.Answer.{Answer}
 use Rattle.adm_desk.specs.DeskState.{DeskState, Handles}
 use Rattle.adm_desk.specs.Steps.{IsRun}

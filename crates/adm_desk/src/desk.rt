@@ -7,9 +7,9 @@ ghost use Rattle.adm_register.specs.Extends.{Extends};
 ghost use Rattle.adm_register.specs.Difference.{IsDifference};
 ghost use Rattle.adm_register.specs.WellFormed.{WellFormed};
 ghost use Rattle.adm_store.specs.Changes.{IsChanges};
-ghost use Rattle.adm_store.specs.Faults.{IsNoRegister};
-ghost use Rattle.adm_store.specs.FirstFault.{IsFirstFault};
-ghost use Rattle.adm_store.specs.StandsFor.{IsStarted, LeavesOnly, LeavesNone};
+ghost use Rattle.adm_rows.specs.Faults.{IsNoRegister};
+ghost use Rattle.adm_rows.specs.FirstFault.{IsFirstFault};
+ghost use Rattle.adm_rows.specs.StandsFor.{IsStarted, LeavesOnly, LeavesNone};
 ghost use Rattle.adm_store.specs.Migration.{IsMigrated};
 ghost use Rattle.adm_desk.specs.Steps.{IsRun};
 ghost use Rattle.adm_desk.specs.DeskState.{Handles, Keeps, DeskState};
@@ -24,7 +24,8 @@ use crate::questions::Asked;
 use crate::{Answer, LineAnswer, Run, RunFault, lines};
 use adm_commands::{NotDone, Proposal, propose};
 use adm_register::{Difference, Register};
-use adm_store::{Changes, OpenFault, Store, changes};
+use adm_rows::OpenFault;
+use adm_store::{Changes, Store, changes};
 use adm_types::{Command, Reply};
 use adm_wire::{Input, Output, read_command};
 use sqlite::{Alter, Connection};
@@ -55,7 +56,7 @@ impl<S: Alter + Drop> Drop for Desk<S> {
 impl<S: Alter> Model for Desk<S> {
     ghost use Rattle.std.specs.Prelude.{◌≡◌, false};
     ghost use Rattle.sqlite.specs.Held.{Held, held_code, state};
-    ghost use Rattle.adm_store.specs.StandsFor.{LeavesOnly};
+    ghost use Rattle.adm_rows.specs.StandsFor.{LeavesOnly};
     ghost use Rattle.adm_desk.specs.DeskState.{DeskState, coded_standing};
 
     ghost Value = { DeskState (Held S) };

@@ -2,8 +2,8 @@
 ghost use Rattle.std.specs.Prelude.{◌≡◌, ◌⊎◌, false, [], Option, IfOk, IfErr, IfSome, MatchOption};
 ghost use Rattle.sqlite.specs.Held.{Held, state};
 ghost use Rattle.sqlite.specs.State.{HasCleanDisk};
-ghost use Rattle.adm_store.specs.Faults.{IsNoRegister};
-ghost use Rattle.adm_store.specs.StandsFor.{IsStarted, LeavesOnly};
+ghost use Rattle.adm_rows.specs.Faults.{IsNoRegister};
+ghost use Rattle.adm_rows.specs.StandsFor.{IsStarted, LeavesOnly};
 ghost use Rattle.adm_desk.specs.Steps.{IsRun};
 ghost use Rattle.adm_desk.specs.DeskState.{Handles, DeskState};
 ghost use Rattle.adm_commands.specs.History.{DrawsInOrder};
@@ -14,7 +14,7 @@ ghost use Rattle.adm_desk.specs.Acknowledged.{FindsAgain, FindsAfter, LeavesAckn
 
 use crate::{Answer, Desk, rounds_held, rounds_stay};
 use adm_commands::round_held;
-use adm_store::{OpenFault, one_register};
+use adm_rows::{OpenFault, one_register};
 use adm_types::Command;
 use sqlite::{Alter, Connection, Error, ErrorCode};
 use sqlite_trees::error::StoreError;

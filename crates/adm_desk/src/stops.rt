@@ -2,15 +2,15 @@
 ghost use Rattle.std.specs.Prelude.{◌≡◌, false, IsTrue, IfOk, IfErr, IfSome};
 ghost use Rattle.sqlite.specs.Files.{file_state};
 ghost use Rattle.adm_register.specs.State.{State as Register};
-ghost use Rattle.adm_store.specs.Faults.{IsNoRegister};
-ghost use Rattle.adm_store.specs.StandsFor.{LeavesOnly};
+ghost use Rattle.adm_rows.specs.Faults.{IsNoRegister};
+ghost use Rattle.adm_rows.specs.StandsFor.{LeavesOnly};
 ghost use Rattle.adm_desk.specs.Acknowledged.{FindsAfter, LeavesAfter};
 ghost use Rattle.adm_desk.specs.Rounds.{RecordsRounds, RecordsRoundInWork};
 ghost use Rattle.adm_desk.specs.Stops.{AreDisksOf, RunsOn, StillStandsFor};
 
 use crate::restart::fault_at;
 use crate::{Desk, Restarted, run_and_reopen};
-use adm_store::{OpenFault, one_register};
+use adm_rows::{OpenFault, one_register};
 use adm_types::Command;
 use sqlite::{Connection, FileStore, Files, Leftover, Options};
 use sqlite_disk::{Crash, Disk, Fuse};

@@ -19,7 +19,7 @@ use Rattle.sqlite.specs.Tree.{Trees}
 use Rattle.sqlite.proofs.Theorems.{next_run}
 use Rattle.adm_types.specs.declared.commands.Command.{Command}
 use Rattle.adm_register.specs.State.{State as Register}
-use Rattle.adm_store.specs.StandsFor.{StandsNow, OneRegister}
+use Rattle.adm_rows.specs.StandsFor.{StandsNow, OneRegister}
 use Rattle.adm_desk.specs.Acknowledged.{FindsAgain, LeavesAcknowledged}
 use Rattle.adm_desk.proofs.StopLemmas.{opens_it, never_none}
 use Rattle.adm_program.specs.NextRun.{GoesOn}

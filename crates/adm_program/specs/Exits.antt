@@ -14,8 +14,8 @@ use Rattle.adm_words.specs.declared.faults.WordsFault.{WordsFault}
 use Rattle.adm_words.specs.declared.faults.WordsFault.TheVariants as words
 use Rattle.adm_store.specs.declared.fault.CreateFault.{CreateFault}
 use Rattle.adm_store.specs.declared.fault.CreateFault.TheVariants as create
-use Rattle.adm_store.specs.declared.fault.OpenFault.{OpenFault}
-use Rattle.adm_store.specs.declared.fault.OpenFault.TheVariants as opened
+use Rattle.adm_rows.specs.declared.fault.OpenFault.{OpenFault}
+use Rattle.adm_rows.specs.declared.fault.OpenFault.TheVariants as opened
 use Rattle.adm_desk.specs.declared.answer.Answer.{Answer}
 use Rattle.adm_desk.specs.declared.answer.Answer.TheVariants as answer
 use Rattle.adm_desk.specs.declared.run.Run.{Run}

@@ -14,7 +14,7 @@ use Rattle.sqlite.specs.Files.{file_state}
 use Rattle.sqlite.specs.Closing.{IsCopied}
 use Rattle.adm_types.specs.declared.commands.Command.{Command}
 use Rattle.adm_register.specs.State.{State as Register}
-use Rattle.adm_store.specs.Faults.{IsNoRegister}
+use Rattle.adm_rows.specs.Faults.{IsNoRegister}
 use Rattle.adm_desk.specs.Acknowledged.{FindsAgain, LeavesAcknowledged}
 use Rattle.adm_desk.specs.DeskState.{DeskState}
 use Rattle.adm_program.specs.Opened.{IsNotOpened, IsOpened}

@@ -11,11 +11,11 @@ use Rattle.sqlite.specs.Held.{Held}
 use Rattle.sqlite.specs.Files.{file_state, IsClosed}
 use Rattle.sqlite.specs.Closing.{IsCopied}
 use Rattle.sqlite.specs.Start.{FindsIn}
-use Rattle.adm_store.specs.StandsFor.{LeavesOnly, LeavesNone}
+use Rattle.adm_rows.specs.StandsFor.{LeavesOnly, LeavesNone}
 use Rattle.adm_store.specs.Migration.{IsMigrated}
-use Rattle.adm_store.specs.Faults.{IsNoRegister}
-use Rattle.adm_store.specs.FirstFault.{IsFirstFault}
-use Rattle.adm_store.specs.declared.fault.OpenFault.{OpenFault}
+use Rattle.adm_rows.specs.Faults.{IsNoRegister}
+use Rattle.adm_rows.specs.FirstFault.{IsFirstFault}
+use Rattle.adm_rows.specs.declared.fault.OpenFault.{OpenFault}
 use Rattle.adm_desk.specs.DeskState.{DeskState}
 use Rattle.adm_wire.specs.Streams.{Stream}
 use Rattle.adm_program.specs.Exits.{of_open}

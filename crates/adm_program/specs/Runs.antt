@@ -10,7 +10,7 @@ use Rattle.sqlite.specs.Files.{file_state}
 use Rattle.adm_types.specs.Seasons.{SeasonFacts}
 use Rattle.adm_schema.specs.Schema.{no_schema}
 use Rattle.adm_register.specs.State.{only_season}
-use Rattle.adm_store.specs.StandsFor.{LeavesOnly, LeavesOldOrNew}
+use Rattle.adm_rows.specs.StandsFor.{LeavesOnly, LeavesOldOrNew}
 use Rattle.adm_store.specs.declared.fault.CreateFault.{CreateFault}
 use Rattle.adm_store.specs.declared.fault.CreateFault.TheVariants as create
 use Rattle.adm_desk.specs.DeskState.{DeskState}

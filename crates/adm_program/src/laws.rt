@@ -2,7 +2,7 @@
 ghost use Rattle.adm_program.specs.NextRun.{GoesOnAfterStop, GoesOnAfterClose};
 
 use adm_desk::Desk;
-use adm_store::one_register;
+use adm_rows::one_register;
 use sqlite::FileStore;
 use sqlite_disk::Disk;
 

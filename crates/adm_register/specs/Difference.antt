@@ -36,7 +36,7 @@ pub record IsDifference (old new : State) (difference : Difference) : Type 0 whe
   pub left : AreNew (λ (p : LeftPair). p) old.left new.left difference.left
   pub draws : AreNew (λ (d : Draw). d.number) old.draws new.draws difference.draws
   pub imported : AreNew (λ (r : ImportRow). r.child.no) old.imported new.imported difference.imported
-  pub ended : difference.ended ≡ map (λ (a : Application). a.child) (ended old new)
+  pub ended : difference.ended ≡ map (λ (a : Application). a.child) (applications_ended old new)
   pub vacated : difference.vacated ≡ map (λ (p : PlaceRow). p.child) (vacated old new)
 
 -- what of a change differs from what the old register has
@@ -49,6 +49,6 @@ differing old change = record {
   left = filter (λ (p : LeftPair). is_other is_same_left (get old.left p) p) change.left;
   draws = filter (λ (d : Draw). is_other is_same_draw (get old.draws d.number) d) change.draws;
   imported = filter (λ (r : ImportRow). is_other is_same_import (get old.imported r.child.no) r) change.imported;
-  applications_ended = filter (contains_key old.applications) change.ended;
+  ended = filter (contains_key old.applications) change.ended;
   vacated = filter (contains_key old.places) change.vacated;
 }

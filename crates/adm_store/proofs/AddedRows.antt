@@ -12,8 +12,8 @@ use Rattle.sqlite.specs.Order.{Row}
 use Rattle.sqlite_rules.specs.Lists.{Has}
 use Rattle.std.proofs.lemmas.Option.{none-some, same_Some}
 use Rattle.adm_register.specs.Difference.{AreNew}
-use Rattle.adm_store.proofs.Entries.{own_entry, value_at}
-use Rattle.adm_store.proofs.MapRows.{row_there}
+use Rattle.adm_rows.proofs.Entries.{own_entry, value_at}
+use Rattle.adm_rows.proofs.MapRows.{row_there}
 
 pub same_where : {X : Type 0} (p q : X → Bool) (xs : List X) → ((x : X) → Has xs x → p x ≡ q x) → filter p xs ≡ filter q xs
 same_where p q [] same = refl

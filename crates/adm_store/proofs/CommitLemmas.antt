@@ -45,16 +45,16 @@ use Rattle.adm_schema.specs.Rows.{rows_of}
 use Rattle.std.specs.Prelude.{fold}
 use Rattle.adm_schema.specs.Effects.{drop_of}
 use Rattle.adm_schema.specs.Schema.{draw, present, school, register_schema}
-use Rattle.adm_store.specs.Forms.{season_row, school_row, child_row, application_row, place_row, left_row, imported_row}
-use Rattle.adm_store.specs.DrawForms.{draw_row, offer_row, lot_row}
-use Rattle.adm_store.specs.Present.{present_columns, moved_key}
+use Rattle.adm_rows.specs.Forms.{season_row, school_row, child_row, application_row, place_row, left_row, imported_row}
+use Rattle.adm_rows.specs.DrawForms.{draw_row, offer_row, lot_row}
+use Rattle.adm_rows.specs.Present.{present_columns, moved_key}
 use Rattle.adm_store.specs.Schools.{code_row}
-use Rattle.adm_store.specs.StandsFor.{StandsAs, HasRows, HoldsRegister, LeavesOnly, LeavesEither, written_in, written_tables}
+use Rattle.adm_rows.specs.StandsFor.{StandsAs, HasRows, HoldsRegister, LeavesOnly, LeavesEither, written_in, written_tables}
 use Rattle.adm_store.specs.Changes.{IsStep, written_school, written_child, written_application, written_imported, written_count, last_draw, draw_count}
 use Rattle.adm_store.specs.Writes.{Write, Sets, Leaves, Writes, changed, after_writes, are_keyed, count_of, key_row, writes_of}
 use Rattle.adm_store.specs.declared.rows.Changes.{Changes}
 use Rattle.adm_store.proofs.LogLemmas.{after_none}
-use Rattle.adm_store.proofs.RegisterRows.{each_table, same_code, left_total, left_same}
+use Rattle.adm_rows.proofs.RegisterRows.{each_table, same_code, left_total, left_same}
 use Rattle.adm_store.proofs.MapLemmas.{coded_stable, keyed_moved, rows_keyed}
 use Rattle.adm_store.proofs.AddedRows.{added_rows, keys_kept}
 use Rattle.adm_store.proofs.AddedParts.{added_parts}

@@ -29,11 +29,11 @@ use Rattle.adm_register.specs.declared.register_rows.Rows.{Rows}
 use Rattle.adm_draws.specs.Draws.{row_of, offer_rows_of, lot_rows_of}
 use Rattle.adm_store.specs.declared.rows.SeasonRow.{SeasonRow}
 use Rattle.adm_store.specs.Changes.{IsRowOf, written_season}
-use Rattle.adm_store.specs.StandsFor.{StandsAs, HasRows, written_in, written_tables}
+use Rattle.adm_rows.specs.StandsFor.{StandsAs, HasRows, written_in, written_tables}
 use Rattle.adm_store.specs.Writes.{Adds, Leaves, Writes, write_of, after_writes, are_keyed}
 use Rattle.adm_store.proofs.LogLemmas.{keyed_none}
-use Rattle.adm_store.proofs.RegisterRows.{each_table}
-use Rattle.adm_store.proofs.RowLemmas.{recursion_had}
+use Rattle.adm_rows.proofs.RegisterRows.{each_table}
+use Rattle.adm_rows.proofs.RowLemmas.{recursion_had}
 
 -- no row is without what each row has to have
 none_wrong : {K V : Type 0} (R : K → K → Ordering) (P : K → V → Type 0) → AllRows P (empty {K = K} {X = V} {R = R})

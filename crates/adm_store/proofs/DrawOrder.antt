@@ -1,4 +1,4 @@
--- Draws in the order of their numbers: what order says of each, and which of new ones is the last.
+-- Draws in the order of their numbers: which of new ones is the last.
 use Rattle.std.proofs.Common.{◌≡◌, ◌⊎◌, ◌∙◌, ◌+◌, ◌<◌, ◌≤◌, ◌-◌, ℕ, inl, inr, Bool, true, false, cond, List, [], ◌∷◌, ◌++◌, filter, length, drop, Some, None, Option, refl, sym, ap, subst, arith, nat_lt, length-append}
 use Rattle.std.specs.Cmp.{nat_cmp_total}
 use Rattle.std.specs.List.{AllByRecursion}
@@ -11,7 +11,6 @@ use Rattle.std.proofs.lemmas.List.Sorted.{length_permutation}
 use Rattle.sqlite_rules.specs.Lists.{Has}
 use Rattle.std.proofs.lemmas.Option.{none-some}
 use Rattle.std.proofs.lemmas.List.{nil_from_length}
-use Rattle.adm_types.specs.Limits.{most_draws}
 use Rattle.adm_types.specs.Seasons.{SeasonFacts}
 use Rattle.adm_types.specs.declared.draws.Draw.{Draw}
 use Rattle.adm_types.specs.declared.draws.DrawRow.{DrawRow}
@@ -19,37 +18,10 @@ use Rattle.adm_register.specs.Difference.{AreNew}
 use Rattle.adm_register.specs.Draws.{no_draws, count_draw, is_next, are_in_order}
 use Rattle.adm_register.specs.declared.draws_so_far.DrawsSoFar.{DrawsSoFar}
 use Rattle.adm_store.specs.Changes.{last_draw}
+use Rattle.adm_rows.proofs.DrawNumbers.{next_numbered}
 use Rattle.adm_store.proofs.AddedRows.{old_and_new}
-use Rattle.adm_store.proofs.Entries.{has_value, value_at}
-use Rattle.adm_store.proofs.RowLemmas.{recursion_had}
-
-below : (a b : ℕ) → nat_lt a b ≡ true → a < b
-below a b h = grind (arith, nat_tests)
-
--- ---- one after another
-
--- what a draw has as the next after those before it
-record IsNumbered (season : SeasonFacts) (before : DrawsSoFar) (draw : Draw) : Type 0 where
-  number : draw.number ≡ before.draws + 1
-  room : before.draws < most_draws
-
-next_numbered : (season : SeasonFacts) (before : DrawsSoFar) (draw : Draw) → is_next season before draw ≡ true → IsNumbered season before draw
-next_numbered season before draw next =
-    let lots = and_parts _ _ next in
-    let day = and_parts _ _ lots.0 in
-    let due = and_parts _ _ day.0 in
-    let room = and_parts _ _ due.0 in
-    let number = and_parts _ _ room.0 in
-    record { number = eqb-true _ _ number.0; room = below _ _ room.1 }
-
--- there are not too many
-pub few_draws : (season : SeasonFacts) (before : DrawsSoFar) (draws : List Draw) → before.draws ≤ most_draws → are_in_order season before draws ≡ true → before.draws + length draws ≤ most_draws
-few_draws season before [] few in_order = omega (arith, few)
-few_draws season before (draw ∷ draws) few in_order =
-    let parts = and_parts (is_next season before draw) (are_in_order season (count_draw before draw) draws) in_order in
-    let room = (next_numbered season before draw parts.0).room in
-    let rest = few_draws season (count_draw before draw) draws (omega (arith, room)) parts.1 in
-    omega (arith, rest)
+use Rattle.adm_rows.proofs.Entries.{has_value, value_at}
+use Rattle.adm_rows.proofs.RowLemmas.{recursion_had}
 
 -- none has a greater number than there are draws
 low_numbers : (season : SeasonFacts) (before : DrawsSoFar) (draws : List Draw) → are_in_order season before draws ≡ true → AllByRecursion (λ draw. draw.number ≤ before.draws + length draws) draws

@@ -5,7 +5,7 @@ use Rattle.std.specs.List.Sorted.{IsPermutation}
 use Rattle.sqlite.specs.Order.{Row}
 use Rattle.sqlite_trees.proofs.ListLemmas.{filter-map, IsPermutation-filter}
 use Rattle.adm_schema.specs.Effects.{begins_with, drop_of}
-use Rattle.adm_store.proofs.PresentLists.{filter_twice, filter_true}
+use Rattle.adm_rows.proofs.PresentLists.{filter_twice, filter_true}
 
 -- one key after another drops rows
 abbrev pub drop_each : List Row → List Row → List Row

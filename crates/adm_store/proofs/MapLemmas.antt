@@ -28,7 +28,7 @@ use Rattle.adm_lists.proofs.Orders.{same_key}
 use Rattle.adm_register.specs.Difference.{AreNew}
 use Rattle.adm_schema.specs.Effects.{put_in, put_each}
 use Rattle.adm_schema.proofs.Inside.{put_moved, without_moved}
-use Rattle.adm_store.proofs.Entries.{below, has_value, own_entry, value_at}
+use Rattle.adm_rows.proofs.Entries.{below, has_value, own_entry, value_at}
 
 less_both : (k a b : ℕ) → nat_cmp k a ≡ Less → nat_cmp a b ≡ Less → nat_cmp k b ≡ Less
 less_both k a b p q = grind (arith, nat_tests)

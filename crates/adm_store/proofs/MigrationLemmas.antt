@@ -26,13 +26,13 @@ use Rattle.adm_schema.specs.Effects.{AddsTable, MarksSecond, with_second}
 use Rattle.adm_schema.specs.Rows.{rows_of, columns_of}
 use Rattle.adm_schema.specs.Schema.{meta, school, child, application, place, left_list, draw, offer, lot, imported, present, schema_of, register_schema}
 use Rattle.adm_schema.proofs.Listed.{meta_in, school_in, child_in, application_in, place_in, left_list_in, draw_in, offer_in, lot_in, imported_in, has_present}
-use Rattle.adm_store.specs.Forms.{season_row}
-use Rattle.adm_store.specs.Present.{present_columns}
+use Rattle.adm_rows.specs.Forms.{season_row}
+use Rattle.adm_rows.specs.Present.{present_columns}
 use Rattle.adm_store.specs.Migration.{MakesPresent, MakesSecond, IsMigrated}
-use Rattle.adm_store.specs.StandsFor.{IsStarted, StandsAs, StandsNow, StandsFor, LeavesAll, HasRows, HoldsRegister, written_in, written_tables}
-use Rattle.adm_store.proofs.FaultLemmas.{apart}
-use Rattle.adm_store.proofs.RegisterRows.{each_table}
-use Rattle.adm_store.proofs.RowLemmas.{recursion_had}
+use Rattle.adm_rows.specs.StandsFor.{IsStarted, StandsAs, StandsNow, StandsFor, LeavesAll, HasRows, HoldsRegister, written_in, written_tables}
+use Rattle.adm_rows.proofs.FaultLemmas.{apart}
+use Rattle.adm_rows.proofs.RegisterRows.{each_table}
+use Rattle.adm_rows.proofs.RowLemmas.{recursion_had}
 
 -- outside a transaction, what a connection sees of a file that stands for a register in this version
 pub holds_in : (v : Version) (s : State) (r : Register) → ((db : Trees) → s.may_leave db → StandsAs v db r) → (IsTrue s.is_open → s.may_leave s.committed.trees) → (IsTrue s.is_open → s.now ≡ s.committed) → IsLive s

@@ -9,9 +9,9 @@ use Rattle.adm_schema.specs.Schema.{present}
 use Rattle.adm_schema.proofs.Listed.{has_present}
 use Rattle.adm_schema.proofs.OneFound.{drops_present, no_present, adds_present}
 use Rattle.adm_schema.proofs.RowTexts.{finds_present}
-use Rattle.adm_store.specs.Forms.{truth_code}
+use Rattle.adm_rows.specs.Forms.{truth_code}
 use Rattle.adm_store.specs.Found.{CutsFound}
-use Rattle.adm_store.specs.Present.{present_columns, moved_key}
+use Rattle.adm_rows.specs.Present.{present_columns, moved_key}
 use Rattle.adm_store.specs.Writes.{Adds, Drops, Writes, write_of}
 use Rattle.adm_store.proofs.FoundStatements.{found_and_cut, found_none}
 use Rattle.adm_store.proofs.LogLemmas.{add_one}

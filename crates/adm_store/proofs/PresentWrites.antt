@@ -28,12 +28,12 @@ use Rattle.adm_types.specs.declared.rows.ImportRow.{ImportRow}
 use Rattle.adm_types.specs.declared.rows.PresentRow.{PresentRow}
 use Rattle.adm_schema.specs.Effects.{begins_with, drop_of}
 use Rattle.adm_register.specs.Difference.{AreNew}
-use Rattle.adm_store.specs.Forms.{truth_code}
-use Rattle.adm_store.specs.Present.{present_columns, moved_key, was_present, is_same_present, moved_from, present_gone_by, present_come_by, present_gone_of, present_come_of}
-use Rattle.adm_store.proofs.Entries.{value_at}
+use Rattle.adm_rows.specs.Forms.{truth_code}
+use Rattle.adm_rows.specs.Present.{present_columns, moved_key, was_present, is_same_present, moved_from, present_gone_by, present_come_by, present_gone_of, present_come_of}
+use Rattle.adm_rows.proofs.Entries.{value_at}
 use Rattle.adm_store.proofs.AddedRows.{old_and_new}
 use Rattle.adm_store.proofs.DroppedRows.{left_by, drop_each, drops, drops_moved}
-use Rattle.adm_store.proofs.PresentLists.{flat_map_at, flat_map_where, filter-flat_map, from_given, is_given, middle_turned, flat_map_both, filter_twice, filter_true, given, given_then}
+use Rattle.adm_rows.proofs.PresentLists.{flat_map_at, flat_map_where, filter-flat_map, from_given, is_given, middle_turned, flat_map_both, filter_twice, filter_true, given, given_then}
 
 -- ---- what a key drops
 

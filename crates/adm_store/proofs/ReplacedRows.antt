@@ -20,9 +20,9 @@ use Rattle.adm_schema.specs.Effects.{begins_with, drop_of}
 use Rattle.adm_register.specs.Difference.{AreNew}
 use Rattle.adm_store.proofs.AddedRows.{filter_values, same_where}
 use Rattle.adm_store.proofs.DroppedRows.{left_by, drop_each, drops, drops_moved}
-use Rattle.adm_store.proofs.Entries.{has_value, own_entry, value_at}
+use Rattle.adm_rows.proofs.Entries.{has_value, own_entry, value_at}
 use Rattle.adm_store.proofs.MapLemmas.{Stable, some_stable, both_none}
-use Rattle.adm_store.proofs.MapRows.{row_there}
+use Rattle.adm_rows.proofs.MapRows.{row_there}
 
 not_not : (b : Bool) → b ≡ not (not b)
 not_not true = refl

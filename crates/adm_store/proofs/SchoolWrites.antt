@@ -13,11 +13,11 @@ use Rattle.adm_types.specs.declared.rows.School.{School}
 use Rattle.adm_schema.specs.Effects.{begins_with, drop_of}
 use Rattle.adm_register.specs.Difference.{AreNew}
 use Rattle.adm_types.specs.Limits.{code_cmp}
-use Rattle.adm_store.specs.Forms.{school_row}
+use Rattle.adm_rows.specs.Forms.{school_row}
 use Rattle.adm_store.specs.Schools.{code_row, replaced_by, replaced_of}
 use Rattle.adm_store.proofs.MapLemmas.{coded_stable}
-use Rattle.adm_store.proofs.PresentLists.{from_given, is_given}
-use Rattle.adm_store.proofs.RegisterRows.{same_code}
+use Rattle.adm_rows.proofs.PresentLists.{from_given, is_given}
+use Rattle.adm_rows.proofs.RegisterRows.{same_code}
 use Rattle.adm_store.proofs.ReplacedRows.{replaced_rows}
 
 -- the test by which a code drops the row of a school

@@ -18,7 +18,7 @@ use Rattle.adm_schema.proofs.DrawCount.{sets_draws}
 use Rattle.adm_types.specs.declared.draws.DrawRow.{DrawRow}
 use Rattle.adm_store.specs.declared.rows.SeasonRow.{SeasonRow}
 use Rattle.adm_store.specs.Changes.{written_season, written_count}
-use Rattle.adm_store.specs.Forms.{phase_code}
+use Rattle.adm_rows.specs.Forms.{phase_code}
 use Rattle.adm_store.specs.Writes.{Adds, Sets, Writes, write_of}
 use Rattle.adm_store.proofs.LogLemmas.{add_keyed, set_one}
 

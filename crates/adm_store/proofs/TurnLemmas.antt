@@ -16,7 +16,7 @@ use Rattle.adm_schema.specs.Effects.{integer_key, put_each}
 use Rattle.adm_schema.proofs.Lists.{has_source, has_mapped}
 use Rattle.adm_store.specs.Writes.{key_row}
 use Rattle.adm_store.proofs.MapLemmas.{Stable, table_new, less_each, other_key, gone_key, still_none}
-use Rattle.adm_store.proofs.Entries.{has_value}
+use Rattle.adm_rows.proofs.Entries.{has_value}
 
 -- the keys of rows that are keys alone
 keys_are : (keys : List ℕ) → map integer_key (map key_row keys) ≡ map pos keys

@@ -30,7 +30,7 @@ use Rattle.adm_store.specs.declared.rows.ChildRow.{ChildRow}
 use Rattle.adm_store.specs.declared.rows.ApplicationRow.{ApplicationRow}
 use Rattle.adm_store.specs.declared.rows.ImportedRow.{ImportedRow}
 use Rattle.adm_store.specs.Changes.{written_child, written_application, written_imported}
-use Rattle.adm_store.specs.Forms.{place_row, left_row, state_columns, truth_code}
+use Rattle.adm_rows.specs.Forms.{place_row, left_row, state_columns, truth_code}
 use Rattle.adm_store.specs.Writes.{Adds, Puts, Cuts, Writes, write_of, key_row}
 use Rattle.adm_store.proofs.LogLemmas.{add_one, add_keyed, put_one, cut_one}
 

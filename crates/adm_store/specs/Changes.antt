@@ -19,12 +19,12 @@ use Rattle.adm_store.specs.declared.rows.ChildRow.{ChildRow}
 use Rattle.adm_store.specs.declared.rows.ApplicationRow.{ApplicationRow}
 use Rattle.adm_store.specs.declared.rows.ImportedRow.{ImportedRow}
 use Rattle.adm_store.specs.declared.rows.Changes.{Changes}
-use Rattle.adm_store.specs.Forms.{phase_code, season_row, school_row, child_row, application_row, imported_row, truth_code}
+use Rattle.adm_rows.specs.Forms.{phase_code, season_row, school_row, child_row, application_row, imported_row, truth_code}
 use Rattle.adm_schema.specs.declared.version.Version.TheVariants.{Second}
 use Rattle.sqlite.specs.Tree.{Trees}
-use Rattle.adm_store.specs.Present.{present_gone_of, present_come_of}
+use Rattle.adm_rows.specs.Present.{present_gone_of, present_come_of}
 use Rattle.adm_store.specs.Schools.{replaced_of}
-use Rattle.adm_store.specs.StandsFor.{StandsAs, LeavesOnly, LeavesEither}
+use Rattle.adm_rows.specs.StandsFor.{StandsAs, LeavesOnly, LeavesEither}
 
 -- the rows as they are written
 abbrev pub written_season : SeasonRow → Row

@@ -1,14 +1,5 @@
-pub mod Forms
 pub mod Found
-pub mod Present
 pub mod Schools
-pub mod Joins
-pub mod DrawForms
-pub mod StandsFor
-pub mod Reads
-pub mod Faults
-pub mod FirstFault
-pub mod Causes
 pub mod Changes
 pub mod Writes
 pub mod Creating

@@ -7,7 +7,7 @@ use Rattle.sqlite.specs.Tree.{Trees}
 use Rattle.adm_schema.specs.declared.version.Version.TheVariants.{First, Second}
 use Rattle.adm_schema.specs.Effects.{AddsTable, MarksSecond}
 use Rattle.adm_schema.specs.Schema.{schema_of, register_schema}
-use Rattle.adm_store.specs.StandsFor.{StandsAs, LeavesAll}
+use Rattle.adm_rows.specs.StandsFor.{StandsAs, LeavesAll}
 
 -- where the tables were those of the first version, the table of the present schools is there too, without rows
 abbrev pub MakesPresent : State → State → Type 0

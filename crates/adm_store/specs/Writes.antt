@@ -12,9 +12,9 @@ use Rattle.adm_schema.specs.Effects.{Sees, SeesDatabase, StaysOpen, integer_key,
 use Rattle.adm_schema.specs.Schema.{meta, school, child, application, place, left_list, draw, offer, lot, imported, present, register_schema}
 use Rattle.adm_store.specs.declared.rows.Changes.{Changes}
 use Rattle.adm_store.specs.Changes.{written_school, written_child, written_application, written_imported, written_count, last_draw}
-use Rattle.adm_store.specs.Forms.{place_row, left_row}
-use Rattle.adm_store.specs.DrawForms.{draw_row, offer_row, lot_row}
-use Rattle.adm_store.specs.Present.{present_columns, moved_key}
+use Rattle.adm_rows.specs.Forms.{place_row, left_row}
+use Rattle.adm_rows.specs.DrawForms.{draw_row, offer_row, lot_row}
+use Rattle.adm_rows.specs.Present.{present_columns, moved_key}
 use Rattle.adm_store.specs.Schools.{code_row}
 
 -- rows that are more, rows in place of those of their keys, keys alone, of which no row is left, the first values of rows of which none is left, or counts of draws, each in place of the one before

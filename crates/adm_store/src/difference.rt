@@ -6,7 +6,7 @@ ghost use Rattle.adm_types.specs.Children.{present_row, present_of_import};
 ghost use Rattle.adm_register.specs.State.{State as Facts};
 ghost use Rattle.adm_register.specs.Difference.{IsDifference};
 ghost use Rattle.adm_store.specs.Changes.{IsChanges};
-ghost use Rattle.adm_store.specs.Present.{was_present, moved_from, present_gone_of, arrived_from, present_come_by};
+ghost use Rattle.adm_rows.specs.Present.{was_present, moved_from, present_gone_of, arrived_from, present_come_by};
 ghost use Rattle.adm_store.specs.Schools.{replaced_of};
 
 use crate::rows::Changes;

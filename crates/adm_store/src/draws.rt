@@ -1,6 +1,6 @@
 // The table `draw`. A draw stays as it was, so its rows are only added.
 ghost use Rattle.adm_schema.specs.Schema.{draw};
-ghost use Rattle.adm_store.specs.DrawForms.{draw_row};
+ghost use Rattle.adm_rows.specs.DrawForms.{draw_row};
 ghost use Rattle.adm_store.specs.Writes.{Adds};
 
 use crate::offers::code_in;

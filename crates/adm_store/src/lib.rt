@@ -1,4 +1,4 @@
-//! A register in a SQLite database: what its file stands for, and how it is created, opened and changed.
+//! A register in a SQLite database: how it is created, opened and changed.
 #![tactic(auto)]
 
 mod applications;
@@ -9,15 +9,12 @@ mod draws;
 mod fault;
 mod found;
 mod imported;
-mod laws;
 mod left_list;
-mod lists;
 mod lots;
 mod migration;
 mod offers;
 mod places;
 mod present;
-mod reading;
 mod rows;
 mod schools;
 mod season;
@@ -26,7 +23,6 @@ mod store;
 mod to_rows;
 
 pub use difference::changes;
-pub use fault::{CreateFault, Failed, OpenFault};
-pub use laws::one_register;
+pub use fault::{CreateFault, Failed};
 pub use rows::{ApplicationRow, Changes, ChildRow, ImportedRow, SchoolRow};
 pub use store::{Store, create, open};

@@ -1,6 +1,6 @@
 // The table `lot`, of the lots of draws. A draw stays as it was, so its rows are only added.
 ghost use Rattle.adm_schema.specs.Schema.{lot};
-ghost use Rattle.adm_store.specs.DrawForms.{lot_row};
+ghost use Rattle.adm_rows.specs.DrawForms.{lot_row};
 ghost use Rattle.adm_store.specs.Writes.{Adds};
 
 use crate::statement::Statement;

@@ -5,7 +5,7 @@ ghost use Rattle.sqlite.specs.State.{HasCleanDisk, Survives};
 ghost use Rattle.adm_register.specs.State.{State as RegisterFacts};
 ghost use Rattle.adm_schema.specs.declared.version.Version.TheVariants.{First, Second};
 ghost use Rattle.adm_store.specs.Migration.{MakesPresent, MakesSecond, Migrates};
-ghost use Rattle.adm_store.specs.StandsFor.{StandsAs, LeavesAll};
+ghost use Rattle.adm_rows.specs.StandsFor.{StandsAs, LeavesAll};
 
 use sqlite::{Alter, Connection, Error, Transaction};
 

@@ -3,7 +3,7 @@ ghost use Rattle.std.specs.Prelude.{◌≡◌};
 ghost use Rattle.sqlite.specs.declared.types.Value.TheVariants.{Text};
 ghost use Rattle.sqlite.specs.Values.{or_null};
 ghost use Rattle.adm_schema.specs.Schema.{offer};
-ghost use Rattle.adm_store.specs.DrawForms.{offer_row, school_value};
+ghost use Rattle.adm_rows.specs.DrawForms.{offer_row, school_value};
 ghost use Rattle.adm_store.specs.Writes.{Adds};
 
 use crate::statement::Statement;

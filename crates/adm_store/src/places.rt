@@ -3,7 +3,7 @@ ghost use Rattle.std.specs.Prelude.{◌≡◌, [], ◌∷◌, pos};
 ghost use Rattle.sqlite.specs.declared.types.Value.TheVariants.{Int};
 ghost use Rattle.sqlite.specs.Values.{or_null};
 ghost use Rattle.adm_schema.specs.Schema.{place};
-ghost use Rattle.adm_store.specs.Forms.{place_row, state_columns};
+ghost use Rattle.adm_rows.specs.Forms.{place_row, state_columns};
 ghost use Rattle.adm_store.specs.Writes.{Puts, Cuts, key_row};
 
 use crate::rows::number_of;

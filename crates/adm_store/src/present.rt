@@ -4,7 +4,7 @@ ghost use Rattle.sqlite.specs.Held.{state};
 ghost use Rattle.sqlite.specs.State.{HasCleanDisk, Shown, Survives};
 ghost use Rattle.adm_schema.specs.RowTexts.{find_present};
 ghost use Rattle.adm_schema.specs.Schema.{present};
-ghost use Rattle.adm_store.specs.Present.{present_columns, moved_key};
+ghost use Rattle.adm_rows.specs.Present.{present_columns, moved_key};
 ghost use Rattle.adm_store.specs.Writes.{Adds, Drops};
 
 use crate::found::cut_found;

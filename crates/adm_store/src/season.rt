@@ -2,7 +2,7 @@
 ghost use Rattle.std.specs.Prelude.{◌≡◌};
 ghost use Rattle.adm_schema.specs.Schema.{meta};
 ghost use Rattle.adm_store.specs.Changes.{written_season, written_count};
-ghost use Rattle.adm_store.specs.Forms.{phase_code};
+ghost use Rattle.adm_rows.specs.Forms.{phase_code};
 ghost use Rattle.adm_store.specs.Writes.{Adds, Sets};
 
 use crate::rows::SeasonRow;

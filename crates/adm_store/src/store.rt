@@ -7,11 +7,11 @@ ghost use Rattle.adm_schema.specs.declared.version.Version.TheVariants.{First, S
 ghost use Rattle.sqlite.specs.Tree.{Trees};
 ghost use Rattle.adm_register.specs.State.{State as Facts, only_season};
 ghost use Rattle.adm_store.specs.Changes.{AtNext, Commits, CommitsOrNot};
-ghost use Rattle.adm_store.specs.StandsFor.{IsStarted, StandsAs, StandsForNone, LeavesAll, LeavesOnly, LeavesOldOrNew, LeavesNone};
+ghost use Rattle.adm_rows.specs.StandsFor.{IsStarted, StandsAs, StandsForNone, LeavesAll, LeavesOnly, LeavesOldOrNew, LeavesNone};
 ghost use Rattle.adm_store.specs.Migration.{IsMigrated};
-ghost use Rattle.adm_store.specs.Faults.{IsNoRegister};
-ghost use Rattle.adm_store.specs.FirstFault.{IsFirstFault};
-ghost use Rattle.adm_store.specs.Causes.{HasDiskCause};
+ghost use Rattle.adm_rows.specs.Faults.{IsNoRegister};
+ghost use Rattle.adm_rows.specs.FirstFault.{IsFirstFault};
+ghost use Rattle.adm_rows.specs.Causes.{HasDiskCause};
 ghost use Rattle.adm_store.specs.Writes.{count_of, base_writes, place_writes, draw_writes, import_writes, writes_of, Writes};
 
 use crate::applications::{CutApplication, PutApplication};
@@ -29,8 +29,9 @@ use crate::schools::{AddSchool, CutSchool};
 use crate::season::SetDraws;
 use crate::statement::run_each;
 use crate::to_rows::ToRow;
-use crate::{CreateFault, Failed, OpenFault, creation, reading};
+use crate::{CreateFault, Failed, creation};
 use adm_register::Register;
+use adm_rows::{OpenFault, register_in};
 use adm_schema::{Version, version_of};
 use adm_types::Season;
 use sqlite::{Alter, Connection, Error, ErrorCode, Transaction};
@@ -93,7 +94,7 @@ fn read<S: Alter>(alloc: Global, conn: &mut Connection<S>) -> Result<(Version, R
     prove!(at_rest);
     let version = version_of(conn.schema());
     let mut tx = conn.transaction();
-    let found = reading::register_in(alloc, &mut tx, version);
+    let found = register_in(alloc, &mut tx, version);
     tx.rollback();
     match found {
         Ok(found) => Ok(found),

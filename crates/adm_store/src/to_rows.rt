@@ -2,10 +2,10 @@
 ghost use Rattle.std.specs.Prelude.{◌≡◌, map, IfOk};
 ghost use Rattle.adm_schema.specs.declared.version.Version.TheVariants.{Second};
 ghost use Rattle.adm_store.specs.Changes.{written_season, written_school, written_child, written_application, written_imported};
-ghost use Rattle.adm_store.specs.Forms.{season_row, school_row, child_row, application_row, imported_row};
+ghost use Rattle.adm_rows.specs.Forms.{season_row, school_row, child_row, application_row, imported_row};
 
-use crate::lists;
 use crate::rows::{ApplicationRow, ChildRow, ImportedRow, SchoolRow, SeasonRow};
+use adm_rows::lists;
 use adm_table::Shared;
 use adm_types::{Application, Child, ImportRow, School, Season, Text};
 use std::alloc::{AllocError, Global};

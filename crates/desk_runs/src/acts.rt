@@ -1,11 +1,12 @@
 // An act as work over a database, and how far it came where a disk stopped.
 ghost use Rattle.std.specs.Prelude.{◌≡◌, false};
 ghost use Rattle.sqlite.specs.Held.{state};
-ghost use Rattle.adm_store.specs.StandsFor.{IsStarted};
+ghost use Rattle.adm_rows.specs.StandsFor.{IsStarted};
 
 use crate::desks::{asked, given_back, opened};
 use adm_desk::{Answer, Desk};
-use adm_store::{CreateFault, OpenFault};
+use adm_rows::OpenFault;
+use adm_store::CreateFault;
 use adm_types::{Command, Reply, Season};
 use run_disks::{Work, created};
 use run_steps::Act;

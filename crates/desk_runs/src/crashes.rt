@@ -2,7 +2,7 @@
 
 use adm_desk::{Answer, Restarted, run_until_stopped};
 use adm_register::{Register, Rows};
-use adm_store::OpenFault;
+use adm_rows::OpenFault;
 use adm_types::Command;
 use adm_wire::read_command;
 use run_disks::{Disks, calls_until};

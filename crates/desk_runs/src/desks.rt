@@ -1,10 +1,10 @@
 // A desk over a database. Each call gives the connection back.
 ghost use Rattle.std.specs.Prelude.{◌≡◌, false};
 ghost use Rattle.sqlite.specs.Held.{state};
-ghost use Rattle.adm_store.specs.StandsFor.{IsStarted};
+ghost use Rattle.adm_rows.specs.StandsFor.{IsStarted};
 
 use adm_desk::{Answer, Desk, Run, RunFault};
-use adm_store::OpenFault;
+use adm_rows::OpenFault;
 use adm_types::Command;
 use adm_wire::{Input, Output};
 use run_disks::NotFound;

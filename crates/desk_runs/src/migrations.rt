@@ -1,7 +1,7 @@
 // An open of a file of the first version, over disks that stop at each of their calls in turn.
 // Opened again, also after a loss of power, they have the same register, and their tables are those of one version, whole.
 use adm_register::Register;
-use adm_store::OpenFault;
+use adm_rows::OpenFault;
 use run_disks::{Disks, Kept, Migration, NotFound};
 use run_steps::Which;
 use std::alloc::Global;

@@ -2,7 +2,8 @@
 // Opened again, also after a loss of power, they have the register before the act or the one after it, and the same act
 // comes to what it comes to there.
 use crate::acts::{Came, Doing};
-use adm_store::{CreateFault, OpenFault};
+use adm_rows::OpenFault;
+use adm_store::CreateFault;
 use run_disks::{Disks, Ends, Left};
 use run_steps::{Act, Which};
 use std::alloc::Global;

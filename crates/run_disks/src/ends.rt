@@ -2,7 +2,7 @@
 use crate::disks::Disks;
 use crate::found::NotFound;
 use adm_register::Register;
-use adm_store::OpenFault;
+use adm_rows::OpenFault;
 use run_steps::{Act, after, is_same};
 use std::alloc::{AllocError, Global};
 use std::io;

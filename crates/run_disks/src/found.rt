@@ -1,6 +1,6 @@
 // The register that an open finds.
 use adm_register::Register;
-use adm_store::OpenFault;
+use adm_rows::OpenFault;
 
 /// Why a register was not found.
 #[derive(Clone, Copy, Debug)]

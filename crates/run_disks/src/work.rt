@@ -1,11 +1,12 @@
 // What is done with a database over any store. Each call gives the connection back.
 ghost use Rattle.std.specs.Prelude.{◌≡◌, false};
 ghost use Rattle.sqlite.specs.Held.{state};
-ghost use Rattle.adm_store.specs.StandsFor.{IsStarted};
+ghost use Rattle.adm_rows.specs.StandsFor.{IsStarted};
 
 use adm_register::Register;
+use adm_rows::OpenFault;
 use adm_schema::{Version, version_of};
-use adm_store::{CreateFault, OpenFault, Store, create, open};
+use adm_store::{CreateFault, Store, create, open};
 use adm_types::Season;
 use sqlite::{Alter, Connection, Error};
 use std::alloc::Global;

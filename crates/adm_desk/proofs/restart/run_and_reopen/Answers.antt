@@ -1,11 +1,11 @@
 use Rattle.std.proofs.Common.{◌∙◌, ap, sym, subst, inl, inr, Some, Err}
 use Rattle.std.proofs.lemmas.Option.{IfSome_then}
 use Rattle.sqlite.specs.Held.{Held, state}
-use Rattle.adm_store.specs.StandsFor.{LeavesOnly}
+use Rattle.adm_rows.specs.StandsFor.{LeavesOnly}
 use Rattle.adm_desk.specs.DeskState.{DeskState}
 use Rattle.adm_desk.proofs.RestartLemmas.{none_answered}
 use Rattle.adm_desk.proofs.RoundLemmas.{found_rounds, held_or_not}
-use Rattle.adm_store.specs.declared.fault.OpenFault.TheVariants.{Memory}
+use Rattle.adm_rows.specs.declared.fault.OpenFault.TheVariants.{Memory}
 use Rattle.adm_desk.proofs.restart.run_and_reopen.Goals as goal
 
 pub returns-in-Err-clause-kept : goal.returns-in-Err-clause-kept

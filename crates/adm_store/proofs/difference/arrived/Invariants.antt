@@ -1,6 +1,6 @@
 use Rattle.std.proofs.Common.{◌≡◌, take}
 use Rattle.std.specs.List.{flat_map}
-use Rattle.adm_store.specs.Present.{present_come_by}
+use Rattle.adm_rows.specs.Present.{present_come_by}
 use Rattle.adm_store.proofs.difference.arrived.Given as goal
 
 -- the rows so far

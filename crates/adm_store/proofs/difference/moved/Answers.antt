@@ -1,5 +1,5 @@
 use Rattle.std.proofs.Common.{[]}
-use Rattle.adm_store.specs.Present.{present_gone_by}
+use Rattle.adm_rows.specs.Present.{present_gone_by}
 use Rattle.adm_store.proofs.LoopLemmas.{parts_more}
 use Rattle.adm_store.proofs.difference.moved.Goals as goal
 

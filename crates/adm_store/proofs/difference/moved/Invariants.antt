@@ -1,5 +1,5 @@
 use Rattle.std.proofs.Common.{◌≡◌, take}
-use Rattle.adm_store.specs.Present.{present_gone_of}
+use Rattle.adm_rows.specs.Present.{present_gone_of}
 use Rattle.adm_store.proofs.difference.moved.Given as goal
 
 -- the rows so far

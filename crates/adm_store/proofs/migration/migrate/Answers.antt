@@ -6,7 +6,7 @@ use Rattle.sqlite.proofs.Callers.{survives_begin}
 use Rattle.adm_register.specs.State.{State as Register}
 use Rattle.adm_schema.proofs.Inside.{survives_on}
 use Rattle.adm_schema.specs.declared.version.Version.TheVariants.{First, Second}
-use Rattle.adm_store.specs.StandsFor.{StandsAs, LeavesAll}
+use Rattle.adm_rows.specs.StandsFor.{StandsAs, LeavesAll}
 use Rattle.adm_store.proofs.CommitLemmas.{survives_commit, on_ok}
 use Rattle.adm_store.proofs.MigrationLemmas.{migrated}
 use Rattle.adm_store.proofs.migration.migrate.Goals as goal

@@ -1,7 +1,7 @@
 use Rattle.std.proofs.Common.{subst, sym}
 use Rattle.sqlite.specs.Held.{state}
 use Rattle.adm_schema.specs.declared.version.Version.TheVariants.{Second}
-use Rattle.adm_store.specs.StandsFor.{StandsAs, LeavesAll}
+use Rattle.adm_rows.specs.StandsFor.{StandsAs, LeavesAll}
 use Rattle.adm_store.proofs.MigrationLemmas.{later_ok, weaker}
 use Rattle.adm_store.proofs.store.bring_up.Goals as goal
 

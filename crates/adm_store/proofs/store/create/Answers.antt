@@ -2,7 +2,7 @@ use Rattle.std.proofs.Common.{◌≡◌, inl, inr, sym, subst, rules}
 use Rattle.adm_schema.specs.declared.version.Version.TheVariants.{Second}
 use Rattle.adm_schema.specs.Schema.{no_schema}
 use Rattle.adm_register.specs.State.{only_season}
-use Rattle.adm_store.specs.StandsFor.{StandsAs}
+use Rattle.adm_rows.specs.StandsFor.{StandsAs}
 use Rattle.adm_store.proofs.store.create.Goals as goal
 
 pub returns-in-Ok-build-clause-ok : goal.returns-in-Ok-build-clause-ok

@@ -1,11 +1,11 @@
 use Rattle.std.proofs.Common.{◌≡◌, ◌∙◌, refl, sym, ap, subst, arith, rules}
 use Rattle.sqlite.specs.Held.{Held, state}
 use Rattle.sqlite.specs.State.{HasCleanDisk}
-use Rattle.adm_store.specs.StandsFor.{HoldsRegister}
-use Rattle.adm_store.specs.FirstFault.{IsFirstFault}
-use Rattle.adm_store.specs.Causes.{HasDiskCause}
-use Rattle.adm_store.proofs.CauseLemmas.{cause_before}
-use Rattle.adm_store.proofs.FaultLemmas.{stands_now, stands_here}
+use Rattle.adm_rows.specs.StandsFor.{HoldsRegister}
+use Rattle.adm_rows.specs.FirstFault.{IsFirstFault}
+use Rattle.adm_rows.specs.Causes.{HasDiskCause}
+use Rattle.adm_rows.proofs.CauseLemmas.{cause_before}
+use Rattle.adm_rows.proofs.FaultLemmas.{stands_now, stands_here}
 use Rattle.adm_store.proofs.store.read.Goals as goal
 
 pub returns-in-Err-clause-bad : goal.returns-in-Err-clause-bad

@@ -6,7 +6,7 @@ use Rattle.sqlite.proofs.Callers.{survives_begin}
 use Rattle.adm_register.specs.State.{State as Register}
 use Rattle.adm_schema.specs.declared.version.Version.TheVariants.{Second}
 use Rattle.adm_store.specs.Changes.{IsStep}
-use Rattle.adm_store.specs.StandsFor.{StandsAs, LeavesOnly}
+use Rattle.adm_rows.specs.StandsFor.{StandsAs, LeavesOnly}
 use Rattle.adm_store.proofs.CommitLemmas.{survives_commit, on_ok, wrote}
 use Rattle.adm_store.proofs.store.write.Goals as goal
 

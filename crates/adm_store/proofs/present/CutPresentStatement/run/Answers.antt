@@ -5,7 +5,7 @@ use Rattle.sqlite.specs.Held.{state}
 use Rattle.sqlite.specs.Order.{Row}
 use Rattle.sqlite.specs.State.{Shown}
 use Rattle.adm_schema.specs.RowTexts.{find_present}
-use Rattle.adm_store.specs.Present.{moved_key}
+use Rattle.adm_rows.specs.Present.{moved_key}
 use Rattle.adm_store.proofs.MigrationLemmas.{later_ok}
 use Rattle.adm_store.proofs.PresentStatements.{drops_child, drops_nothing}
 use Rattle.adm_store.proofs.present.CutPresentStatement.run.Goals as goal

@@ -1,7 +1,7 @@
 use Rattle.std.proofs.Common.{arith, sym, subst}
 use Rattle.sqlite.specs.Held.{state}
 use Rattle.adm_schema.specs.declared.version.Version.TheVariants.{Second}
-use Rattle.adm_store.specs.StandsFor.{StandsAs, LeavesOnly}
+use Rattle.adm_rows.specs.StandsFor.{StandsAs, LeavesOnly}
 use Rattle.adm_store.proofs.CommitLemmas.{count_is, no_change, either}
 use Rattle.adm_store.proofs.store.Store.commit.Goals as goal
 

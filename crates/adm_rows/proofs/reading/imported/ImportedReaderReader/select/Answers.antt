@@ -1,0 +1,6 @@
+use Rattle.std.proofs.Common.{refl, arith}
+use Rattle.adm_schema.proofs.Texts.{asks_imported}
+use Rattle.adm_rows.proofs.reading.imported.ImportedReaderReader.select.Goals as goal
+
+pub returns : goal.returns
+returns c v = record { project = _; order = _; asks = asks_imported v; columns = λ _. refl; few = omega arith }

@@ -1,0 +1,9 @@
+pub mod Forms
+pub mod Present
+pub mod Joins
+pub mod DrawForms
+pub mod StandsFor
+pub mod Reads
+pub mod Faults
+pub mod FirstFault
+pub mod Causes

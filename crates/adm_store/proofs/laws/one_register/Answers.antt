@@ -1,5 +1,0 @@
-use Rattle.adm_store.proofs.OneRegister.{one_register_lem}
-use Rattle.adm_store.proofs.laws.one_register.Goals as goal
-
-pub returns : goal.returns
-returns c = one_register_lem

@@ -1,8 +1,0 @@
-use Rattle.std.proofs.Common.{take}
-use Rattle.std.specs.List.Sorted.{IsPermutation}
-use Rattle.adm_store.specs.Joins.{left_rows}
-use Rattle.adm_store.proofs.reading.joined.by_child.Given as goal
-
--- the rows so far are those that are left
-abbrev pub invariant-loop-row : goal.invariant-loop-row
-invariant-loop-row l = IsPermutation (take l.row-index l.rows) (left_rows l.left)

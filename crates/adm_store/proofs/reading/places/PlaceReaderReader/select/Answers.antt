@@ -1,6 +1,0 @@
-use Rattle.std.proofs.Common.{refl, arith}
-use Rattle.adm_schema.proofs.Texts.{asks_places}
-use Rattle.adm_store.proofs.reading.places.PlaceReaderReader.select.Goals as goal
-
-pub returns : goal.returns
-returns c v = record { project = _; order = _; asks = asks_places v; columns = λ _. refl; few = omega arith }
