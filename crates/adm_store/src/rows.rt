@@ -74,7 +74,6 @@ pub struct ImportedRow {
 
 /// The rows of a new register that the old one has not, table by table, and the keys of the old
 /// one that the new one has not.
-#[derive(Drop)]
 pub struct Changes {
     pub schools: Seq<SchoolRow>,
     /// Those of these schools that were there: their rows are taken out before.
@@ -98,6 +97,29 @@ pub struct Changes {
     pub vacated: Seq<ChildNo>,
     /// The children that had a present school, and have another or none.
     pub moved: Seq<ChildNo>,
+}
+
+// Written by hand, and not derived: what lets go of changes then calls this, in place of going through
+// its fourteen lists.
+impl Drop for Changes {
+    fn drop(self) {
+        let Changes {
+            schools: _,
+            replaced: _,
+            children: _,
+            applications: _,
+            places: _,
+            left: _,
+            draws: _,
+            offers: _,
+            lots: _,
+            imported: _,
+            present: _,
+            ended: _,
+            vacated: _,
+            moved: _,
+        } = self;
+    }
 }
 
 /// The last of these draws alone, or none where there is none.
