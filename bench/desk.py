@@ -3,6 +3,7 @@
 Each figure is the middle one of three runs. The file lies once on the disk that holds the program and once on a memory file system,
 where there is one, so that what the program itself costs is told apart from what the disk costs.
 """
+import contextlib
 import json
 import os
 import resource
@@ -13,6 +14,9 @@ import tempfile
 import time
 
 DONE = b'{"done":true}\n'
+# a line that changes nothing, and its answer in a register without that school: it tells that the file is open
+HARMLESS = {"cmd": "raise_pan", "school": "NOSCHOOL", "pan": 1}
+UNKNOWN = '{"name":"UnknownSchool","refused":1}'
 RUNS = 3
 MEMORY = "/dev/shm"
 # what a run may cost, as a multiple of the baseline, and what a command may cost in a large register, as a multiple of one in a small one
@@ -46,9 +50,20 @@ def lines(commands):
     return b"".join(json.dumps(it).encode() + b"\n" for it in commands)
 
 
+def are_done(commands, answers):
+    assert answers == DONE.decode().splitlines() * len(commands), [it for it in answers if it != DONE.decode().strip()][:3] or len(answers)
+
+
 def new_register(program, room, name):
     file = os.path.join(room, name)
     subprocess.run([program, "init", file, "secondary", "2025"], check=True)
+    return file
+
+
+def register(program, room, name, commands):
+    """A new register in which these commands were done."""
+    file = new_register(program, room, name)
+    whole(program, file, commands)
     return file
 
 
@@ -64,19 +79,55 @@ def whole(program, file, commands):
     return seconds, after.ru_utime + after.ru_stime - before.ru_utime - before.ru_stime
 
 
-def baseline(room, tables, writes):
-    """Seconds in which Python's sqlite3 runs these statements on new tables, and of its processor time: each in a transaction of its own, in WAL
-    mode with synchronous=FULL."""
+def database(room, tables):
+    """A new database of Python's sqlite3 with these tables, in WAL mode with synchronous=FULL."""
     conn = sqlite3.connect(os.path.join(room, "baseline.db"), isolation_level=None)
     conn.execute("PRAGMA journal_mode=WAL")
     conn.execute("PRAGMA synchronous=FULL")
-    for table in tables:
-        conn.execute(table)
+    for text in tables:
+        conn.execute(text)
+    return conn
+
+
+def put(conn, rows):
+    """Inserts rows, which stand in lists by their tables' names, by a statement each."""
+    for table, them in rows.items():
+        text = f"INSERT INTO {table} VALUES ({', '.join('?' * len(them[0]))})" if them else ""
+        for row in them:
+            conn.execute(text, row)
+
+
+def baseline(room, tables, writes, before=()):
+    """Seconds in which Python's sqlite3 runs these statements on new tables, and of its processor time: each in a transaction of its own, in WAL
+    mode with synchronous=FULL. The statements `before` are run in one transaction, which is not timed."""
+    conn = database(room, tables)
+    conn.execute("BEGIN")
+    for text, row in before:
+        conn.execute(text, row)
+    conn.execute("COMMIT")
     start, used = time.perf_counter(), time.process_time()
     for text, row in writes:
         conn.execute("BEGIN")
         conn.execute(text, row)
         conn.execute("COMMIT")
+    seconds, used = time.perf_counter() - start, time.process_time() - used
+    conn.close()
+    return seconds, used
+
+
+def rows_of(file, tables):
+    """The rows of these tables of a file, in lists by the tables' names."""
+    with contextlib.closing(sqlite3.connect(file)) as conn:
+        return {table: conn.execute(f"SELECT * FROM {table}").fetchall() for table in tables}
+
+
+def at_once(room, tables, rows):
+    """Seconds in which Python's sqlite3 writes these rows into new tables in one transaction, and of its processor time."""
+    conn = database(room, tables.values())
+    start, used = time.perf_counter(), time.process_time()
+    conn.execute("BEGIN")
+    put(conn, rows)
+    conn.execute("COMMIT")
     seconds, used = time.perf_counter() - start, time.process_time() - used
     conn.close()
     return seconds, used
@@ -111,22 +162,34 @@ class Desk:
 
     def take(self, commands):
         """Hands these commands in and waits for their answers. Each must be done."""
-        self.process.stdin.write(lines(commands))
-        wanted = DONE * len(commands)
-        answers = b""
-        while len(answers) < len(wanted):
-            answers += self.process.stdout.read(len(wanted) - len(answers))
-        assert answers == wanted, answers
+        are_done(commands, self.answers(commands))
 
     def answers(self, commands):
         """Hands these commands in and waits for their answers, a line for each. The commands are few enough that the answers find room in a pipe."""
-        self.process.stdin.write(lines(commands))
-        said = b""
-        while said.count(b"\n") < len(commands):
+        return self.said(lines(commands))
+
+    def said(self, given):
+        """The same of lines."""
+        self.process.stdin.write(given)
+        pieces, wanted = [], given.count(b"\n")
+        while wanted > 0:
             more = self.process.stdout.read(65536)
             assert more, "the program ended"
-            said += more
-        return said.decode().splitlines()
+            pieces.append(more)
+            wanted -= more.count(b"\n")
+        return b"".join(pieces).decode().splitlines()
+
+    def timed(self, commands):
+        """The answers to these commands, and the seconds of the clock and of the processor from their lines to the last answer."""
+        given = lines(commands)
+        used, start = self.spent(), time.perf_counter()
+        found = self.said(given)
+        return found, (time.perf_counter() - start, self.spent() - used)
+
+    def until_open(self):
+        """Waits until the file is open, by a line that is refused; so the run ends with the status of one."""
+        assert self.answers([HARMLESS]) == [UNKNOWN]
+        self.status = self.status or 3
 
     def spent(self):
         """Seconds of processor time that the run has used so far."""
@@ -143,6 +206,28 @@ class Desk:
         return (self.spent() - before) / len(commands)
 
 
+def opening(program, file):
+    """Seconds of the clock and of the processor from the start of a run until its file is open."""
+    start = time.perf_counter()
+    with Desk(program, file) as run:
+        run.until_open()
+        return time.perf_counter() - start, run.spent()
+
+
+def within(program, file, commands):
+    """Seconds of the clock and of the processor for these commands in a run that is open, without its start and its end. Each must be done."""
+    with Desk(program, file) as run:
+        run.until_open()
+        answers, cost = run.timed(commands)
+    are_done(commands, answers)
+    return cost
+
+
+def middle(found):
+    """The middle one of the figures of several runs, each for itself."""
+    return tuple(statistics.median(it) for it in zip(*found))
+
+
 def compare(program, words, tables, before, commands, writes):
     """Prints what these commands cost in a register that has seen the commands `before`, as a multiple of what the writes cost the baseline."""
     for where, folder, most in file_systems(program):
@@ -154,8 +239,7 @@ def compare(program, words, tables, before, commands, writes):
                 if before:
                     whole(program, file, before)
                 ours.append(whole(program, file, commands))
-        run, used = (statistics.median(it) for it in zip(*ours))
-        least, least_used = (statistics.median(it) for it in zip(*theirs))
+        (run, used), (least, least_used) = middle(ours), middle(theirs)
         print(
             f"| {words}, {where} | {run / least:.2f} | at most {most} | {used / least_used:.2f} "
             f"| {len(commands) / run:.0f} and {len(writes) / least:.0f} a second |",
@@ -173,13 +257,8 @@ def compare_open(program, words, tables, commands, writes):
             theirs.append(baseline(room, tables, writes)[0])
             file = new_register(program, room, "whole.db")
             idle.append(whole(program, file, [])[0])
-            with Desk(program, file) as run:
-                # the first answer says that the file is open
-                run.take(commands[:1])
-                start = time.perf_counter()
-                run.take(commands[1:])
-                ours.append(time.perf_counter() - start)
-    run, least = statistics.median(ours) * len(commands) / (len(commands) - 1), statistics.median(theirs)
+            ours.append(within(program, file, commands)[0])
+    run, least = statistics.median(ours), statistics.median(theirs)
     print(
         f"| {words}, {where}, in a run that is open (to start, open and close take {statistics.median(idle) * 1000:.0f} milliseconds) "
         f"| {run / least:.2f} | at most {most} | | {len(commands) / run:.0f} and {len(writes) / least:.0f} a second |",
