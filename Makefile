@@ -8,7 +8,8 @@
 #   make wrong-bodies  those that the gate leaves to the hand, each of which must be refused
 #   make sweep    each request of the built program for memory refused, in turn: what is answered and left then; some minutes
 #   make audits   admissions-audit on the rounds of 200 random registers, on files that were changed by hand, and on all allocations of small ones
-#   make bench    what commands cost, beside a baseline in the same run
+#   make bench    what is aimed at for the costs, beside what they are, in one table; at most ten minutes once the program is built
+#   make bench-more  what commands cost in more tables, beside a baseline in the same run
 #   make deploy-check  what is deployed (site, desk in its own network, page), on this machine alone; needs nginx, openssl, curl and chromium, no part of test
 #   make install  the program, the office's tools, the manual page and three documents (docs/OPERATIONS.md); PREFIX=/usr/local by default
 PREFIX ?= /usr/local
@@ -16,7 +17,7 @@ EXAMPLES := first_path applications season
 
 LOOKED_AT := $(addprefix examples/applications/,schools.jsonl children.jsonl applications.jsonl)
 
-.PHONY: look build demo cases test wrong-bodies sweep audits bench deploy-check install
+.PHONY: look build demo cases test wrong-bodies sweep audits bench bench-more deploy-check install
 
 look:
 	@cat $(LOOKED_AT) | tools/look
@@ -43,6 +44,9 @@ audits: build
 	bench/audit/run bin/admissions tools/audit
 
 bench: build
+	bench/aims bin/admissions
+
+bench-more: build
 	bench/first_path/run bin/admissions
 	bench/applications/run bin/admissions
 	bench/round/run bin/admissions

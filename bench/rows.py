@@ -1,10 +1,10 @@
 #!/usr/bin/env python3
 """All rows of a register's file, read and tested in Python, which is the baseline of an open: bench/rows.py FILE
 
-It reads each table whole, and then tests what an open tests: that keys are distinct, codes, names, days and numbers in their ranges, that each child, school and draw that
-a row names is there, that the lots at one school in one draw are distinct, that draws come in order and within their limits, and that places, plans and lists
-agree with one another. Printed are the seconds of the clock and of the processor, without the start of Python. Where the rows are those of no register, it says of
-which table, and ends with 1.
+It reads each table whole, and then tests what an open tests: that keys are distinct, that codes, names, days and numbers are in their
+ranges, that each child, school and draw that a row names is there, that the lots at one school in one draw are distinct, that draws come
+in order and within their limits, and that places, plans and lists agree with one another. Printed are the seconds of the clock and of the
+processor, without the start of Python. Where the rows are those of no register, it says in which table, and ends with 1.
 """
 import collections
 import contextlib

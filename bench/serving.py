@@ -38,7 +38,7 @@ def post(command):
 
 
 def ask(port, request, is_whole=True):
-    """The whole response to a request, on a connection of its own. Where the request is shorter than it says, the client says that no more bytes come."""
+    """The whole response to a request, on a connection of its own. Where it is shorter than it says, the client tells that no more bytes come."""
     with socket.socket() as it:
         it.connect(("127.0.0.1", port))
         it.sendall(request)
@@ -87,14 +87,15 @@ def warm(requests):
 
 
 def answered(words, file, requests, is_counted):
-    """The responses of a server over this file, and the seconds of the clock and of its processor. One that counts its connections ends by itself."""
+    """The responses of a server over this file, and the seconds of the clock and of its processor. One that counts connections ends by itself."""
     with Server([*words, file], len(requests) + len(warm(requests)) if is_counted else None) as server:
         server.asked(warm(requests))
         return server.asked(requests)
 
 
 def served(program, file, requests):
-    """Our server and the baseline's over copies of a file: for each the seconds of the clock and of the processor. Both must give the same, and leave the same children."""
+    """Our server and the baseline's over copies of a file: for each the seconds of the clock and of the processor. Both must give the same, and
+    leave the same children."""
     found = []
     for words, is_counted in (([program, "serve"], True), ([sys.executable, BASELINE], False)):
         copy = file + ".copy"

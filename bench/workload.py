@@ -180,7 +180,8 @@ def named(word, number, code):
 
 
 def many_rounds(*others):
-    """All commands before the first round. A and B have no place but for a child with a plan; 50 children list both, of whom 20 are late, and 40 list C. The others apply for nothing."""
+    """All commands before the first round. A and B have no place but for a child with a plan; 50 children list both, of whom 20 are late, and 40
+    list C. The others apply for nothing."""
     commands = [plain_school("A", 1), plain_school("B", 1), plain_school("C", 500)]
     commands += [plain_child(number) for number in (*PLANNED, *HELD, *EARLY, *LATE, *others)]
     commands += [named("name_plan", number, code) for number, code in PLANNED.items()]
@@ -209,6 +210,6 @@ def later_held(draw):
 
 
 def hold(run, draws, chance):
-    """Holds these later rounds: the draws that were answered otherwise, each with the answer."""
-    found = run.answers([one_of_many(draw, chance) for draw in draws])
-    return [(draw, answer) for draw, answer in zip(draws, found) if answer != later_held(draw)]
+    """Holds these later rounds: the draws that were answered otherwise, each with the answer, and the seconds of the clock and of the processor."""
+    found, cost = run.timed([one_of_many(draw, chance) for draw in draws])
+    return [(draw, answer) for draw, answer in zip(draws, found) if answer != later_held(draw)], cost
