@@ -75,7 +75,7 @@ def whole(program, file, commands):
     ran = subprocess.run([program, "do", file], input=given, stdout=subprocess.PIPE, check=True)
     seconds = time.perf_counter() - start
     after = resource.getrusage(resource.RUSAGE_CHILDREN)
-    assert ran.stdout == DONE * len(commands)
+    are_done(commands, ran.stdout.decode().splitlines())
     return seconds, after.ru_utime + after.ru_stime - before.ru_utime - before.ru_stime
 
 
@@ -158,7 +158,8 @@ class Desk:
 
     def __exit__(self, *_):
         self.process.stdin.close()
-        assert self.process.wait() == self.status
+        status = self.process.wait()
+        assert status == self.status, f"the program ended with {status}, and not with {self.status}"
 
     def take(self, commands):
         """Hands these commands in and waits for their answers. Each must be done."""
@@ -188,7 +189,8 @@ class Desk:
 
     def until_open(self):
         """Waits until the file is open, by a line that is refused; so the run ends with the status of one."""
-        assert self.answers([HARMLESS]) == [UNKNOWN]
+        answers = self.answers([HARMLESS])
+        assert answers == [UNKNOWN], answers
         self.status = self.status or 3
 
     def spent(self):
