@@ -1,4 +1,5 @@
 pub mod CodeTexts
+pub mod CodeNumbers
 pub mod Calendar
 pub mod WorkingDays
 pub mod Rising

@@ -3,7 +3,8 @@ ghost use Rattle.std.specs.Prelude.{◌≡◌, ◌↔◌, IsTrue, IsSome, IfSome
 ghost use Rattle.std.specs.Ordering.{nat_cmp};
 ghost use Rattle.std.specs.Cmp.{on_equiv, on_total, on_po, on_per, partial_equiv_from_equiv};
 ghost use Rattle.std.specs.Cmp.Lexicographic.{pointwise, slice_cmp, nat_list_eq_equiv, nat_list_cmp_total, texts_po, texts_ties};
-ghost use Rattle.adm_types.specs.Code.{IsCode, is_code, code_of, code_or_none_of};
+ghost use Rattle.std.specs.Int.{w64, from_be_bytes};
+ghost use Rattle.adm_types.specs.Code.{IsCode, is_code, code_of, code_or_none_of, padded};
 
 use std::cmp::Ordering;
 use std::marker::Model;
@@ -79,11 +80,13 @@ impl SchoolCode {
         }
     }
 
-    /// The bytes of the code.
-    fn as_bytes(&self) -> &[u8]
-        ensures { result.now ≡ self.now }
+    /// What the eight bytes spell, the first one the highest. Codes lie as these numbers do, since no
+    /// byte of a code is zero; so two are compared at once and not byte by byte.
+    fn number(&self) -> u64
+        ensures value { result ≡ from_be_bytes w64 (padded self.now) }
+        ensures code { IsCode self.now }
     {
-        &self.bytes[..usize::from(self.len)]
+        u64::from_be_bytes(self.bytes)
     }
 
     /// The code as a text.
@@ -103,7 +106,7 @@ impl PartialEq for SchoolCode {
     ghost laws = { partial_equiv_from_equiv nat_list_eq_equiv };
 
     fn eq(&self, other: &Self) -> bool {
-        self.as_bytes() == other.as_bytes()
+        self.number() == other.number()
     }
 }
 
@@ -132,6 +135,6 @@ impl Ord for SchoolCode {
     ghost matches_eq = { texts_ties };
 
     fn cmp(&self, other: &Self) -> Ordering {
-        self.as_bytes().cmp(other.as_bytes())
+        self.number().cmp(&other.number())
     }
 }
