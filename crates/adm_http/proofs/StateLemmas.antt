@@ -1,9 +1,7 @@
 -- Texts of values, one after another, and joined: for the state of a child.
-use Rattle.std.proofs.Common.{◌≡◌, ◌∙◌, ap, refl, ℕ, ◌+◌, ◌<◌, List, [], ◌∷◌, ◌++◌, map, take, get_or, length, Option, Some, None}
+use Rattle.std.proofs.Common.{◌≡◌, ◌∙◌, ap, refl, List, [], ◌∷◌, ◌++◌, map}
 use Rattle.std.specs.Prelude.{Result, Ok, Err, IfOk}
-use Rattle.std.specs.List.{filter_map, flat_map, join_by}
-use Rattle.std.proofs.lemmas.List.{map-append}
-use Rattle.adm_lists.proofs.Walks.{next_added, next_left_out}
+use Rattle.std.specs.List.{flat_map, join_by}
 
 -- what a call gives, in other words
 pub same_after : {X A E : Type 0} (given : Result X E) (view : X → A) (a b : A) → a ≡ b → IfOk given (λ x. view x ≡ a) → IfOk given (λ x. view x ≡ b)
@@ -29,12 +27,3 @@ join_same {X} {Y} f g separator (x ∷ xs) (y ∷ ys) e =
         let first : f u ≡ g v = cc h in
         let rest : map f us ≡ map g vs = cc h in
         ap (λ l. (separator ++ l) ++ flat_map (λ z. separator ++ f z) us) first ∙ ap (λ l. (separator ++ g v) ++ l) (each us vs rest)
-
--- the texts of what is found of each of some rows, with one row more
-module _ {X Y A : Type 0} (find : X → Option Y) (text : Y → List A) (rows : List X) (i : ℕ) (row : X) (is : row ≡ get_or rows i row) (within : i < length rows) where
-  pub next_found : (one : Y) → find row ≡ Some one → map text (filter_map find (take (i + 1) rows)) ≡ map text (filter_map find (take i rows)) ++ text one ∷ []
-  next_found one gives =
-      ap (map text) (next_added find rows i row one is within gives) ∙ map-append text (filter_map find (take i rows)) (one ∷ [])
-
-  pub next_not_found : find row ≡ None → map text (filter_map find (take (i + 1) rows)) ≡ map text (filter_map find (take i rows))
-  next_not_found gives = ap (map text) (next_left_out find rows i row is within gives)

@@ -1,14 +1,14 @@
 -- The state of a child: its place, and where it waits, as JSON. This profile's own form.
 use Rattle.std.specs.Prelude.{ℕ, List, ◌++◌, Option, Some, None, option_map, codes, decimal}
-use Rattle.std.specs.List.{filter_map, join_by}
+use Rattle.std.specs.List.{join_by}
 use Rattle.std.specs.FinMap.{get}
 use Rattle.adm_types.specs.declared.rows.Place.{Place}
 use Rattle.adm_types.specs.declared.rows.PlaceState.{PlaceState}
 use Rattle.adm_types.specs.declared.rows.PlaceState.TheVariants.{Offered, Accepted, Plan}
 use Rattle.adm_register.specs.State.{State}
 use Rattle.adm_register.specs.Rows.{place_of}
-use Rattle.adm_register.specs.Wanted.{wanted}
-use Rattle.adm_register.specs.Waits.{standing_of}
+use Rattle.adm_register.specs.declared.standings.Standing.{Standing}
+use Rattle.adm_register.specs.Waits.{standings_of}
 
 -- how a child holds its place
 abbrev pub kind_of : PlaceState → List ℕ
@@ -24,32 +24,20 @@ abbrev pub place_json : Option Place → List ℕ
 place_json None = codes "null"
 place_json (Some place) = held_json (kind_of place.state) place.school
 
--- where a child waits: the school, and its position there
-pub record QueuePosition : Type 0 where
-  pub school : List ℕ
-  pub position : ℕ
-
-abbrev pub wait_json : QueuePosition → List ℕ
-wait_json wait = codes "{\"position\":" ++ (decimal wait.position ++ (codes ",\"school\":\"" ++ (wait.school ++ codes "\"}")))
-
--- at the school, if the child waits there
-abbrev pub queue_position_at : State → ℕ → List ℕ → Option QueuePosition
-queue_position_at s child code = option_map (λ standing. record { school = code; position = standing.entry.position }) (standing_of s child code)
-
--- where the child waits, in the order of its own list
-abbrev pub queue_positions_of : State → ℕ → List QueuePosition
-queue_positions_of s child = filter_map (queue_position_at s child) (wanted s child)
+-- a school at which a child waits, and its position there
+abbrev pub wait_json : List ℕ × Standing → List ℕ
+wait_json wait = codes "{\"position\":" ++ (decimal wait.1.entry.position ++ (codes ",\"school\":\"" ++ (wait.0 ++ codes "\"}")))
 
 -- with a comma between each two
-abbrev pub waits_json : List QueuePosition → List ℕ
+abbrev pub waits_json : List (List ℕ × Standing) → List ℕ
 waits_json waits = join_by wait_json (codes ",") waits
 
--- a child's number, its place, and where it waits
+-- a child's number, its place, and where it waits, in the order of its own list
 abbrev pub state_json : ℕ → List ℕ → List ℕ → List ℕ
 state_json child place waits = codes "{\"child\":" ++ (decimal child ++ (codes ",\"place\":" ++ (place ++ (codes ",\"waiting\":[" ++ (waits ++ codes "]}")))))
 
 abbrev pub child_json : State → ℕ → List ℕ
-child_json s child = state_json child (place_json (place_of s child)) (waits_json (queue_positions_of s child))
+child_json s child = state_json child (place_json (place_of s child)) (waits_json (standings_of s child))
 
 -- the state of the child of a number, if there is such a child
 abbrev pub child_text : State → ℕ → Option (List ℕ)

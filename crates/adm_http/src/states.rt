@@ -1,17 +1,18 @@
 // The state of a child: its place, and where it waits, as JSON.
 ghost use Rattle.std.specs.Prelude.{◌≡◌, IfOk, map, string_bytes};
-ghost use Rattle.std.specs.List.{filter_map};
+ghost use Rattle.adm_register.specs.Waits.{standings_of};
 ghost use Rattle.adm_letters.specs.Answers.{GivesText};
 ghost use Rattle.adm_letters.specs.declared.fault.LetterFault.TheVariants.{UnknownChild};
-ghost use Rattle.adm_http.specs.States.{kind_of, held_json, place_json, QueuePosition, wait_json, queue_position_at, queue_positions_of, waits_json, state_json, child_json, child_text};
+ghost use Rattle.adm_http.specs.States.{kind_of, held_json, place_json, wait_json, waits_json, state_json, child_json, child_text};
 
 use adm_letters::LetterFault;
-use adm_register::Register;
+use adm_register::{Register, Standing};
 use adm_types::{ChildNo, Place, PlaceState, SchoolCode};
 use std::alloc::{AllocError, Global};
 
-/// The state of the child of this number. It takes memory for the text and, for each school that the
-/// child wants, for a pointer to each application and for each child that waits there.
+/// The state of the child of this number. It takes memory for the text, for a pointer to each
+/// application that lists a school that the child wants, and for each child that waits there. What it
+/// costs grows with the applications.
 ///
 /// Where it is an error, there is no such child (`UnknownChild`), or memory ran out.
 pub(crate) fn child_text(
@@ -73,33 +74,31 @@ fn kind(state: PlaceState) -> &'static str
 }
 
 fn waits_text(alloc: Global, register: &Register, child: ChildNo) -> Result<String, AllocError>
-    ensures { IfOk result (λ text. string_bytes text ≡ waits_json (queue_positions_of register.now child)) }
+    ensures { IfOk result (λ text. string_bytes text ≡ waits_json (standings_of register.now child)) }
 {
-    let schools = register.wanted(alloc, child)?;
-    let waits = waits_at(alloc, register, child, &schools)?;
+    let standings = register.standings(alloc, child)?;
+    let waits = wait_texts(alloc, &standings)?;
     waits.join(alloc, ",")
 }
 
 // A text for each of the schools at which the child waits.
-fn waits_at(
+fn wait_texts(
     alloc: Global,
-    register: &Register,
-    child: ChildNo,
-    schools: &[SchoolCode],
+    standings: &[(SchoolCode, Standing)],
 ) -> Result<Vec<String>, AllocError>
-    ensures { IfOk result (λ texts. map string_bytes texts.items ≡ map wait_json (filter_map (queue_position_at register.now child) schools.now)) }
+    ensures { IfOk result (λ texts. map string_bytes texts.items ≡ map wait_json standings.now) }
 {
     let mut waits = Vec::new(alloc);
-    for school in schools {
-        if let Some(standing) = register.standing(alloc, child, *school)? {
-            waits.push(wait_text(alloc, school.as_str(), standing.entry.position)?)?;
-        }
+    for wait in standings {
+        waits.push(wait_text(alloc, wait)?)?;
     }
     Ok(waits)
 }
 
-fn wait_text(alloc: Global, school: &str, position: usize) -> Result<String, AllocError>
-    ensures { IfOk result (λ text. string_bytes text ≡ wait_json (record { school = school.now; position = position })) }
+fn wait_text(alloc: Global, wait: &(SchoolCode, Standing)) -> Result<String, AllocError>
+    ensures { IfOk result (λ text. string_bytes text ≡ wait_json wait.now) }
 {
+    let school = wait.0.as_str();
+    let position = wait.1.entry.position;
     format!(in alloc; "{{\"position\":{position},\"school\":\"{school}\"}}")
 }

@@ -6,6 +6,7 @@ pub mod DrawLemmas
 pub mod Fits
 pub mod ListsKept
 pub mod WaitLemmas
+pub mod AmongListing
 pub mod RowLemmas
 pub mod EachRow
 pub mod SameRows

@@ -9,7 +9,7 @@ ghost use Rattle.adm_register.specs.Fits.{Fit};
 ghost use Rattle.adm_register.specs.Difference.{IsDifference};
 ghost use Rattle.adm_register.specs.Rows.{rows_in_order, AreRowsOf, place_of, round_of, vacancies};
 ghost use Rattle.adm_register.specs.Wanted.{wanted};
-ghost use Rattle.adm_register.specs.Waits.{is_waiting, list_of, standing_of};
+ghost use Rattle.adm_register.specs.Waits.{is_waiting, list_of, standing_of, standings_of};
 
 use crate::checks::is_well_formed;
 use crate::tables::Tables;
@@ -118,8 +118,8 @@ impl Register {
 
     /// The waiting list of the school: each child that waits there with its position, its class and
     /// its distance, in the order of the positions and then of the numbers. It takes memory for a
-    /// pointer to each application, and for each child that waits. What it costs grows with the
-    /// applications, and with those that wait, times their logarithm.
+    /// pointer to each application that lists the school, and for each child that waits. What it
+    /// costs grows with the applications, and with those that wait, times their logarithm.
     pub fn waiting(&self, alloc: Global, school: SchoolCode) -> Result<Vec<Waiting>, ListFault>
         ensures list { IfOk result (λ list. option_map (list_of self.now) (map.get self.now.schools school) ≡ Some list.items) }
         ensures unknown { (result ≡ Err ListFault.UnknownSchool) ↔ (map.get self.now.schools school ≡ None) }
@@ -128,8 +128,8 @@ impl Register {
     }
 
     /// Where the child stands on the waiting list of the school, and how many wait there; none where
-    /// it does not wait there. It takes memory for a pointer to each application, and for each child
-    /// that waits. What it costs grows with the applications.
+    /// it does not wait there. It takes memory for a pointer to each application that lists the
+    /// school, and for each child that waits. What it costs grows with the applications.
     pub fn standing(
         &self,
         alloc: Global,
@@ -139,6 +139,20 @@ impl Register {
         ensures { IfOk result (λ found. found ≡ standing_of self.now child school) }
     {
         self.tables.standing_of(alloc, child, school)
+    }
+
+    /// Where the child stands at each school that it wants and waits at, the most wanted first, beside
+    /// the school's code. It takes memory for a pointer to each application that lists one of these
+    /// schools, and for each child that waits there. What it costs grows with the applications, which
+    /// are gone through once for all schools, and with those that list one of them.
+    pub fn standings(
+        &self,
+        alloc: Global,
+        child: ChildNo,
+    ) -> Result<Vec<(SchoolCode, Standing)>, AllocError>
+        ensures { IfOk result (λ found. found.items ≡ standings_of self.now child) }
+    {
+        self.tables.standings_of(alloc, child)
     }
 
     /// The draw of the round of this number, from 1. It takes no memory; what it costs grows with

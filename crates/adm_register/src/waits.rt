@@ -1,16 +1,18 @@
 // Who waits at which school.
-ghost use Rattle.std.specs.Prelude.{◌≡◌, IfOk, not, bytes_eq};
+ghost use Rattle.std.specs.Prelude.{◌≡◌, ◌++◌, IfOk, OnOk, filter, not, bytes_eq};
 ghost use Rattle.std.specs.FinMap as rows;
 ghost use Rattle.std.specs.List.{filter_map, take_while};
+ghost use Rattle.std.specs.Map.{values_of};
 ghost use Rattle.adm_types.specs.Limits.{is_listed};
 ghost use Rattle.adm_register.specs.Wanted.{above, wanted_of};
-ghost use Rattle.adm_register.specs.Waits.{waits, is_waiting, waiting_child, waiting_at};
+ghost use Rattle.adm_register.specs.Waits.{waits, is_waiting, lists_some, waiting_child, waiting_at};
 
 use crate::tables::Tables;
 use adm_table::Shared;
 use adm_types::limits::is_listed;
 use adm_types::{Application, Child, ChildNo, SchoolCode};
 use std::alloc::{AllocError, Global};
+use std::collections::BTreeMap;
 
 impl Tables {
     /// Whether the school is one of the list above the child's place.
@@ -70,8 +72,24 @@ impl Tables {
         }
     }
 
+    /// The applications that list one of the schools, by their children's numbers. It takes memory
+    /// for a pointer to each of them, and time for each application.
+    pub(crate) fn listing(
+        &self,
+        alloc: Global,
+        schools: &[SchoolCode],
+    ) -> Result<Vec<Shared<Application>>, AllocError>
+        ensures { IfOk result (λ found. found.items ≡ filter (lists_some schools.now) (rows.values self.now.applications)) }
+    {
+        let mut found = Vec::new(alloc);
+        for piece in self.base.applications.pieces() {
+            add_listing(&mut found, schools, piece.rows())?;
+        }
+        Ok(found)
+    }
+
     /// The children of these applications that wait at the school.
-    fn waiting_of(
+    pub(crate) fn waiting_of(
         &self,
         alloc: Global,
         school: SchoolCode,
@@ -89,8 +107,8 @@ impl Tables {
         Ok(found)
     }
 
-    /// Who waits at the school, by their numbers. It takes memory for a pointer to each
-    /// application, and time for each.
+    /// Who waits at the school, by their numbers. It takes memory for two pointers to each
+    /// application that lists the school, and time for each application.
     pub fn waiting_at(
         &self,
         alloc: Global,
@@ -98,9 +116,36 @@ impl Tables {
     ) -> Result<Vec<Shared<Child>>, AllocError>
         ensures { IfOk result (λ found. found.items ≡ waiting_at self.now school) }
     {
-        let applications = self.all_applications(alloc)?;
+        let applications = self.listing(alloc, &[school])?;
         self.waiting_of(alloc, school, &applications)
     }
+}
+
+/// Whether the application lists one of the schools.
+fn lists_some(application: &Application, schools: &[SchoolCode]) -> bool
+    ensures { result ≡ lists_some schools.now application.now }
+{
+    application
+        .list
+        .as_slice()
+        .iter()
+        .any(|school| is_listed(schools, school))
+}
+
+/// Adds those of the applications that list one of the schools.
+fn add_listing(
+    found: &mut Vec<Shared<Application>>,
+    schools: &[SchoolCode],
+    applications: &BTreeMap<ChildNo, Shared<Application>>,
+) -> Result<(), AllocError>
+    ensures { OnOk result (found.new.items ≡ found.old.items ++ filter (lists_some schools.now) (values_of applications.now.entries)) }
+{
+    for application in applications.values() {
+        if lists_some(application.as_ref(), schools) {
+            found.push(application.clone()?)?;
+        }
+    }
+    Ok(())
 }
 
 /// Whether the school stands in a list before the first that is another one.

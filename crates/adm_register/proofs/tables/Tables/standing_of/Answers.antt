@@ -1,13 +1,12 @@
-use Rattle.std.proofs.Common.{◌∙◌, ap, sym}
-use Rattle.std.specs.Option.{option_copied}
-use Rattle.adm_register.proofs.WaitLemmas.{waiters_fit}
+use Rattle.std.proofs.Common.{◌∙◌, ap, [], ◌∷◌}
+use Rattle.std.specs.List.{filter_map}
+use Rattle.std.specs.FinMap.{values}
+use Rattle.adm_register.specs.Waits.{waiting_child}
+use Rattle.adm_register.proofs.AmongListing.{found_among, one_of_itself}
 use Rattle.adm_register.proofs.tables.Tables.standing_of.Goals as goal
 
-pub entry-requires-clause-school : goal.entry-requires-clause-school
-entry-requires-clause-school c = (c.requires.base.schools_fit c.args.school c.in-Some.row.now (sym c.school.ensures ∙ ap option_copied c.in-Some.is)).in_range
-
-pub entry-requires-clause-children : goal.entry-requires-clause-children
-entry-requires-clause-children c = waiters_fit c.args.self.now c.requires c.args.school c.deref.result.now (c.deref.ensures.value ∙ c.in_ok-waiting.ensures)
-
-pub entry-requires-clause-child : goal.entry-requires-clause-child
-entry-requires-clause-child c = (c.requires.base.children_fit c.args.child c.in-Some-child.one.now (sym c.child.ensures ∙ ap option_copied c.in-Some-child.is)).in_range
+pub standing_among-requires-clause-all : goal.standing_among-requires-clause-all
+standing_among-requires-clause-all c =
+    let s = c.args.self.now in
+    let school = c.args.school in
+    ap (filter_map (waiting_child s school)) (c.deref.ensures.value ∙ c.in_ok-applications.ensures) ∙ found_among s (school ∷ []) school (one_of_itself school) (values s.applications)
