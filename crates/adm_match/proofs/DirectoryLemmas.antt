@@ -1,95 +1,106 @@
 -- What the directory of children and schools finds.
-use Rattle.std.proofs.Common.{◌≡◌, ℕ, ◌+◌, ◌<◌, List, length, get_or, Option, None, Some, false, inl, inr, refl, sym, ap, ◌∙◌, subst, arith, rules, Bor, ◌==◌}
-use Rattle.std.specs.Prelude.{IsSome, bytes_eq}
-use Rattle.std.specs.List.{slice_get}
-use Rattle.std.specs.Option.{option_copied}
-use Rattle.std.specs.Ordering.{nat_cmp}
-use Rattle.std.specs.Cmp.Lexicographic.{slice_cmp}
-use Rattle.std.specs.BTreeMap.{BTreeMap, get, is_at, Updates}
-use Rattle.std.proofs.lemmas.Bool.{cases_Bool, cases_eq, false≢true, eqb-true}
-use Rattle.std.proofs.lemmas.Bool.Decides.{nat_tests}
-use Rattle.std.proofs.lemmas.Option.{none-some, same_Some, slice_get_within, slice_get_read}
-use Rattle.std.proofs.lemmas.Slice.Eq.{bytes_eq-Decides}
-use Rattle.std.proofs.lemmas.Map.Text.{is_eq-slice_cmp}
-use Rattle.adm_match.specs.declared.problem.Seats.{Seats}
-use Rattle.adm_match.specs.Market.{Code, Candidate, some_pair, same_code}
-use Rattle.adm_match.specs.Distinct.{ChildrenOnce}
-use Rattle.adm_match.specs.Queue.{FindsChildren, FindsSchools, StandsAt, SeatedAt}
-use Rattle.adm_match.proofs.Posed.{some_pair_not}
+use Rattle.std.proofs.Common.{◌≡◌, ◌∙◌, ap, sym, subst, refl, arith, ℕ, ◌+◌, ◌<◌, ◌≤◌, List, [], ◌∷◌, ◌++◌, length, get_or, Some, false, Ordering, Less, Equal, Greater, inl, inr, IsPermutation}
+use Rattle.std.specs.List.{slice_get, Contains}
+use Rattle.std.specs.List.Sorted.{IsSortedByKey, IsNonDecreasingBy, IsPartitionPoint}
+use Rattle.std.specs.Ordering.{is_lt, is_gt, ordering_index, ordering_reverse}
+use Rattle.std.specs.Cmp.{IsTotalOrder, alike_right, tied_itself}
+use Rattle.std.specs.FinMap.{IsAntisymmetric}
+use Rattle.std.proofs.lemmas.Bool.{cases_eq, cases_lt, false≢true}
+use Rattle.std.proofs.lemmas.Option.{same_Some, slice_get_read, slice_get_within}
+use Rattle.std.proofs.lemmas.List.Sorted.{IsNonDecreasingBy-from_all_adjacent, IsPermutation-sym}
+use Rattle.adm_lists.proofs.Members.{In, from_contains, contains, in_moved, in_left, in_right, from_append}
+use Rattle.adm_match.specs.Queue.{FindsEach}
 
-pub some_copied : (o : Option (Bor ℕ)) (k : ℕ) → option_copied o ≡ Some k → IsSome o
-some_copied None k h = absurd (none-some k h)
-some_copied (Some x) k h = search rules
+at_most_two : (o : Ordering) → ordering_index o ≤ 2
+at_most_two Less = omega arith
+at_most_two Equal = omega arith
+at_most_two Greater = omega arith
 
-copied_is : (o : Option (Bor ℕ)) (k : ℕ) (x : Bor ℕ) → option_copied o ≡ Some k → o ≡ Some x → x.now ≡ k
-copied_is o k x h is = same_Some x.now k (sym (ap option_copied is) ∙ h)
+module _ {K : Type 0} {R : K → K → Ordering} (total : IsTotalOrder R) where
+  -- ---- a search by halving
 
-pub child_found : (es : List Candidate) (children : BTreeMap ℕ ℕ) (child : ℕ) → FindsChildren es children → (there : (k : ℕ) × StandsAt es child k) → get nat_cmp children child ≡ Some there.0
-child_found es children child finds there = ap (get nat_cmp children) (sym there.1.2) ∙ finds there.0 there.1.0 there.1.1
+  -- what is no greater lies no higher beside a third
+  no_higher : (x y z : K) → is_lt (R y x) ≡ false → ordering_index (R x z) ≤ ordering_index (R y z)
+  no_higher x y z up = by (R x y) (R y z) refl refl
+    where
+      by : (r s : Ordering) → R x y ≡ r → R y z ≡ s → ordering_index (R x z) ≤ ordering_index (R y z)
+      by Less Less under next = omega (arith, ap ordering_index (total.trans x y z under next), ap ordering_index next)
+      by Less Equal under next = omega (arith, ap ordering_index (sym (alike_right total y z x next) ∙ under), ap ordering_index next)
+      by Less Greater under next = omega (arith, ap ordering_index next, at_most_two (R x z))
+      by Equal s same next = omega (arith, ap ordering_index (total.congr x y z same))
+      by Greater s over next = absurd (false≢true (sym up ∙ ap is_lt (total.antisymm y x ∙ ap ordering_reverse over)))
 
-pub child_stands : (es : List Candidate) (children : BTreeMap ℕ ℕ) (child : ℕ) → FindsChildren es children → (there : (k : ℕ) × StandsAt es child k) → (o : Option (Bor ℕ)) (x : Bor ℕ) → option_copied o ≡ get nat_cmp children child → o ≡ Some x → StandsAt es child x.now
-child_stands es children child finds there o x read is =
-    subst (λ k. StandsAt es child k) (sym (copied_is o there.0 x (read ∙ child_found es children child finds there) is)) there.1
+  module _ (pairs : List (K × ℕ)) (sorted : IsSortedByKey (λ (pair : K × ℕ). pair.0) R pairs) (key : K) where
+    rises : IsNonDecreasingBy (λ (pair : K × ℕ). ordering_index (R pair.0 key)) pairs
+    rises =
+        IsNonDecreasingBy-from_all_adjacent (λ (pair : K × ℕ). ordering_index (R pair.0 key)) pairs
+        (λ k d less. no_higher (get_or pairs k d).0 (get_or pairs (k + 1) d).0 key (sorted k d (omega arith) less))
 
-pub school_found : (seats : List Seats) (schools : BTreeMap Code ℕ) (school : Code) → FindsSchools seats schools → (there : (k : ℕ) × SeatedAt seats school k) → get (slice_cmp nat_cmp) schools school ≡ Some there.0
-school_found seats schools school finds there = ap (get (slice_cmp nat_cmp) schools) (sym there.1.2) ∙ finds there.0 there.1.0 there.1.1
+    -- a key that one of the pairs has is found
+    pub not_lost : (i k : ℕ) → Contains pairs (key, k)
+        → (IsNonDecreasingBy (λ (pair : K × ℕ). ordering_index (R pair.0 key)) pairs → IsPartitionPoint (λ (pair : K × ℕ). R pair.0 key ≡ Less) (λ (pair : K × ℕ). R pair.0 key ≡ Greater) pairs i) → ⊥
+    not_lost i k there point =
+        let parted = point rises in
+        let ties = ap (λ (pair : K × ℕ). R pair.0 key) there.2 ∙ tied_itself total key in
+        elim (cases_lt there.0 i) [
+          | inl before ↦ false≢true (sym (ap is_lt (sym (parted.0 there.0 (key, k) (omega arith) before) ∙ ties)))
+          | inr later ↦ false≢true (sym (ap is_gt (sym (parted.1 there.0 (key, k) (omega arith) there.1) ∙ ties)))
+        ]
 
-pub school_stands : (seats : List Seats) (schools : BTreeMap Code ℕ) (school : Code) → FindsSchools seats schools → (there : (k : ℕ) × SeatedAt seats school k) → (o : Option (Bor ℕ)) (x : Bor ℕ) → option_copied o ≡ get (slice_cmp nat_cmp) schools school → o ≡ Some x → SeatedAt seats school x.now
-school_stands seats schools school finds there o x read is =
-    subst (λ k. SeatedAt seats school k) (sym (copied_is o there.0 x (read ∙ school_found seats schools school finds there) is)) there.1
+-- ---- the pairs of the items before an index
 
--- the children before an index are found
-pub record ChildrenBelow (es : List Candidate) (children : BTreeMap ℕ ℕ) (n : ℕ) : Type 0 where
-  pub found : (k : ℕ) (e : Candidate) → k < n → slice_get es k ≡ Some e → get nat_cmp children e.child ≡ Some k
+module _ {V K : Type 0} (key : V → K) (items : List V) where
+  pub record PairsBelow (pairs : List (K × ℕ)) (n : ℕ) : Type 0 where
+    pub each : (k : ℕ) (v : V) → k < n → slice_get items k ≡ Some v → In (key v, k) pairs
+    pub only : (pair : K × ℕ) → In pair pairs → (v : V) × (slice_get items pair.1 ≡ Some v) × (key v ≡ pair.0)
 
-is_at_number : (q k : ℕ) → is_at (nat_cmp q) k ≡ (q == k)
-is_at_number q k = grind (arith, nat_tests)
+  pub no_pairs : PairsBelow [] 0
+  no_pairs = record {
+    each = λ k v below at. absurd (omega arith);
+    only = λ pair there. absurd there;
+  }
 
-pub children_more : (es : List Candidate) (n : ℕ) (e : Candidate) (old new : BTreeMap ℕ ℕ) (child : ℕ) → ChildrenOnce es → n < length es → e ≡ get_or es n e → child ≡ e.child → ChildrenBelow es old n → Updates nat_cmp old new child (Some n) → ChildrenBelow es new (n + 1)
-children_more es n e old new child once less at is h up =
-    let here : slice_get es n ≡ Some e = slice_get_read es (length es) n e refl less at in
-    record {
-      found = λ k d l dk. elim (cases_eq k n) [
-        | inl same ↦
-            let d_is : e ≡ d = same_Some e d (sym here ∙ (ap (slice_get es) (sym same) ∙ dk)) in
-            ap (get nat_cmp new) (ap (λ (x : Candidate). x.child) (sym d_is) ∙ sym is) ∙ (up.1 ∙ ap Some (sym same))
-        | inr apart ↦
-            let before : k < n = omega arith in
-            up.2 d.child (other e d child is (λ same. once k n d e dk here before (sym same))) ∙ h.found k d before dk
-      ];
-    }
-  where
-    other : (e d : Candidate) (child : ℕ) → child ≡ e.child → (e.child ≡ d.child → ⊥) → is_at (nat_cmp child) d.child ≡ false
-    other e d child is apart = elim (cases_Bool (child == d.child)) [
-      | inl hit ↦ absurd (apart (sym is ∙ eqb-true child d.child hit))
-      | inr miss ↦ is_at_number child d.child ∙ miss
-    ]
+  -- with the pair of one item more
+  pub one_pair : (pairs more : List (K × ℕ)) (n : ℕ) (v : V) (own : K) → n < length items → v ≡ get_or items n v → own ≡ key v → more ≡ pairs ++ (own, n) ∷ [] → PairsBelow pairs n → PairsBelow more (n + 1)
+  one_pair pairs more n v own within at is added h = subst (λ (ps : List (K × ℕ)). PairsBelow ps (n + 1)) (sym added) (record {
+    each = λ k w below there. elim (cases_eq k n) [
+      | inl same ↦
+          let one : v ≡ w = same_Some v w (sym here ∙ ap (slice_get items) (sym same) ∙ there) in
+          in_right pairs last (key w, k) (inl (λ i. ((is ∙ ap key one) i, sym same i)))
+      | inr apart ↦ in_left pairs last (key w, k) (h.each k w (omega arith) there)
+    ];
+    only = λ pair there. elim (from_append pairs last pair there) [
+      | inl before ↦ h.only pair before
+      | inr (inl same) ↦ (v, ap (λ (p : K × ℕ). slice_get items p.1) (sym same) ∙ here, sym is ∙ ap (λ (p : K × ℕ). p.0) same)
+      | inr (inr none) ↦ absurd none
+    ];
+  })
+    where
+      last : List (K × ℕ)
+      last = (own, n) ∷ []
 
-pub record SchoolsBelow (seats : List Seats) (schools : BTreeMap Code ℕ) (n : ℕ) : Type 0 where
-  pub found : (k : ℕ) (seat : Seats) → k < n → slice_get seats k ≡ Some seat → get (slice_cmp nat_cmp) schools seat.code ≡ Some k
+      here : slice_get items n ≡ Some v
+      here = slice_get_read items (length items) n v refl within at
 
-pub schools_more : (seats : List Seats) (n : ℕ) (seat : Seats) (old new : BTreeMap Code ℕ) → some_pair same_code seats ≡ false → n < length seats → seat ≡ get_or seats n seat → SchoolsBelow seats old n → Updates (slice_cmp nat_cmp) old new seat.code (Some n) → SchoolsBelow seats new (n + 1)
-schools_more seats n seat old new once less at h up =
-    let here : slice_get seats n ≡ Some seat = slice_get_read seats (length seats) n seat refl less at in
-    record {
-      found = λ k d l dk. elim (cases_eq k n) [
-        | inl same ↦
-            let d_is : seat ≡ d = same_Some seat d (sym here ∙ (ap (slice_get seats) (sym same) ∙ dk)) in
-            ap (get (slice_cmp nat_cmp) new) (ap (λ (x : Seats). x.code) (sym d_is)) ∙ (up.1 ∙ ap Some (sym same))
-        | inr apart ↦
-            let before : k < n = omega arith in
-            up.2 d.code (other seat d (some_pair_not same_code seats k n d seat once dk here before)) ∙ h.found k d before dk
-      ];
-    }
-  where
-    other : (e d : Seats) → bytes_eq d.code e.code ≡ false → is_at (slice_cmp nat_cmp e.code) d.code ≡ false
-    other e d apart = elim (cases_Bool (bytes_eq e.code d.code)) [
-      | inl hit ↦ absurd (false≢true (sym apart ∙ (bytes_eq-Decides d.code e.code).1 (sym ((bytes_eq-Decides e.code d.code).0 hit))))
-      | inr miss ↦ is_eq-slice_cmp e.code d.code ∙ miss
-    ]
+  -- those of all items, in the order of their keys
+  pub all_pairs : (R : K → K → Ordering) (pairs sorted : List (K × ℕ)) (n : ℕ) → length items ≡ n → PairsBelow pairs n → IsPermutation pairs sorted → IsSortedByKey (λ (pair : K × ℕ). pair.0) R sorted → FindsEach R key items sorted
+  all_pairs R pairs sorted n whole h moved up = record {
+    sorted = up;
+    each = λ k v at. contains sorted (key v, k) (in_moved pairs sorted (key v, k) moved (h.each k v (omega (arith, slice_get_within items k v at)) at));
+    only = λ pair there. h.only pair (in_moved sorted pairs pair (IsPermutation-sym pairs sorted moved) (from_contains sorted pair there));
+  }
 
-pub children_all : (es : List Candidate) (children : BTreeMap ℕ ℕ) (n : ℕ) → length es ≡ n → ChildrenBelow es children n → FindsChildren es children
-children_all es children n is h k e ek = h.found k e (omega (arith, slice_get_within es k e ek)) ek
+  -- ---- what is looked up
 
-pub schools_all : (seats : List Seats) (schools : BTreeMap Code ℕ) (n : ℕ) → length seats ≡ n → SchoolsBelow seats schools n → FindsSchools seats schools
-schools_all seats schools n is h k seat at = h.found k seat (omega (arith, slice_get_within seats k seat at)) at
+  module _ (R : K → K → Ordering) (exact : IsAntisymmetric R) (pairs : List (K × ℕ)) (finds : FindsEach R key items pairs) (own : K) where
+    -- an item of the key stands at the index
+    abbrev Stands : ℕ → Type 0
+    Stands k = (v : V) × (slice_get items k ≡ Some v) × (key v ≡ own)
+
+    pub is_there : ((k : ℕ) × Stands k) → (k : ℕ) × Contains pairs (own, k)
+    is_there there = (there.0, subst (λ (o : K). Contains pairs (o, there.0)) there.1.2 (finds.each there.0 there.1.0 there.1.1))
+
+    pub stands : (index : ℕ) → ((other : K) × Contains pairs (other, index) × (R other own ≡ Equal)) → Stands index
+    stands index found =
+        let it = finds.only (found.0, index) found.1 in
+        (it.0, it.1, it.2 ∙ exact found.0 own found.2)

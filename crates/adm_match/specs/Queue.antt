@@ -1,23 +1,16 @@
 -- What holds between two turns of the queue: the rows, the schools' holdings, the directory and the queue.
 use Rattle.std.specs.Prelude.{◌≡◌, ◌≢◌, ◌⊎◌, ℕ, ◌+◌, ◌<◌, ◌==◌, true, List, length, Option, Some, IfSome, All, slice_get}
-use Rattle.std.specs.List.{list_any}
+use Rattle.std.specs.List.{list_any, Contains}
+use Rattle.std.specs.List.Sorted.{IsSortedByKey}
+use Rattle.std.specs.declared.cmp.Ordering.{Ordering}
 use Rattle.std.specs.Ordering.{nat_cmp}
 use Rattle.std.specs.Cmp.Lexicographic.{slice_cmp}
-use Rattle.std.specs.BTreeMap.{BTreeMap, get}
 use Rattle.adm_match.specs.declared.problem.Seats.{Seats}
 use Rattle.adm_match.specs.declared.progress.Progress.{Progress}
 use Rattle.adm_match.specs.declared.directory.Directory.{Directory}
 use Rattle.adm_match.specs.Market.{Code, Candidate, Market}
 use Rattle.adm_match.specs.Turns.{held_at, IsFree, Sound, turns_left}
 use Rattle.adm_match.specs.Holding.{Holding, SameBag, guests_of}
-
--- each child is found at its index among the entrants
-abbrev pub FindsChildren : List Candidate → BTreeMap ℕ ℕ → Type 0
-FindsChildren entrants children = (k : ℕ) (e : Candidate) → slice_get entrants k ≡ Some e → get nat_cmp children e.child ≡ Some k
-
--- each school is found at its index among the seats
-abbrev pub FindsSchools : List Seats → BTreeMap Code ℕ → Type 0
-FindsSchools seats schools = (j : ℕ) (seat : Seats) → slice_get seats j ≡ Some seat → get (slice_cmp nat_cmp) schools seat.code ≡ Some j
 
 -- the child stands at that index among the entrants
 abbrev pub StandsAt : List Candidate → ℕ → ℕ → Type 0
@@ -27,9 +20,23 @@ StandsAt entrants child k = (e : Candidate) × (slice_get entrants k ≡ Some e)
 abbrev pub SeatedAt : List Seats → Code → ℕ → Type 0
 SeatedAt seats school j = (seat : Seats) × (slice_get seats j ≡ Some seat) × (seat.code ≡ school)
 
+-- pairs of a key and an index, in the order of the keys: each item's key beside its index, and no other pair
+pub record FindsEach {V K : Type 0} (R : K → K → Ordering) (key : V → K) (items : List V) (pairs : List (K × ℕ)) : Type 0 where
+  pub sorted : IsSortedByKey (λ (pair : K × ℕ). pair.0) R pairs
+  pub each : (k : ℕ) (v : V) → slice_get items k ≡ Some v → Contains pairs (key v, k)
+  pub only : (pair : K × ℕ) → Contains pairs pair → (v : V) × (slice_get items pair.1 ≡ Some v) × (key v ≡ pair.0)
+
+-- each child is found at its index among the entrants
+abbrev pub FindsChildren : List Candidate → List (ℕ × ℕ) → Type 0
+FindsChildren = FindsEach nat_cmp (λ (e : Candidate). e.child)
+
+-- each school is found at its index among the seats
+abbrev pub FindsSchools : List Seats → List (Code × ℕ) → Type 0
+FindsSchools = FindsEach (slice_cmp nat_cmp) (λ (seat : Seats). seat.code)
+
 pub record FindsMarket (m : Market) (directory : Directory) : Type 0 where
-  pub children : FindsChildren m.entrants directory.children
-  pub schools : FindsSchools m.seats directory.schools
+  pub children : FindsChildren m.entrants directory.children.items
+  pub schools : FindsSchools m.seats directory.schools.items
 
 -- a school holds whom the rows say, with its quota
 pub record IsMirror (m : Market) (rows : List Progress) (seat : Seats) (held : Holding) : Type 0 where

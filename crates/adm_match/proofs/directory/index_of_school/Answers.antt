@@ -1,15 +1,30 @@
-use Rattle.std.proofs.Common.{◌∙◌}
+use Rattle.std.proofs.Common.{sym, subst}
+use Rattle.std.specs.Ordering.{nat_cmp}
+use Rattle.std.specs.Cmp.Lexicographic.{slice_cmp}
+use Rattle.std.specs.FinMap.{nat_cmp-IsAntisymmetric, slice_cmp-IsAntisymmetric}
 use Rattle.std.proofs.lemmas.Option.{slice_get_within}
-use Rattle.adm_match.proofs.DirectoryLemmas.{some_copied, school_found, school_stands}
+use Rattle.adm_match.specs.declared.problem.Seats.{Seats}
+use Rattle.adm_match.specs.Queue.{FindsEach}
+use Rattle.adm_match.proofs.DirectoryLemmas.{is_there, stands}
 use Rattle.adm_match.proofs.directory.index_of_school.Goals as goal
 
-pub unwrap-requires : goal.unwrap-requires
-unwrap-requires c = some_copied c.get.result c.requires.there.0 (c.get.ensures.value ∙ school_found c.args.seats.now c.args.directory.now.schools c.args.school c.requires.finds c.requires.there)
+pub index_beside-requires-clause-sorted : goal.index_beside-requires-clause-sorted
+index_beside-requires-clause-sorted c = rw c.deref.ensures.value c.requires.finds.sorted
+
+pub index_beside-requires-clause-there : goal.index_beside-requires-clause-there
+index_beside-requires-clause-there c =
+    let key = λ (it : Seats). it.code in
+    rw c.deref.ensures.value (is_there key c.args.seats.now (slice_cmp nat_cmp) (slice_cmp-IsAntisymmetric nat_cmp-IsAntisymmetric) c.args.directory.now.schools.items c.requires.finds c.args.school c.requires.there)
 
 pub returns-clause-at : goal.returns-clause-at
-returns-clause-at c = school_stands c.args.seats.now c.args.directory.now.schools c.args.school c.requires.finds c.requires.there c.get.result c.unwrap.result c.get.ensures.value c.unwrap.ensures
+returns-clause-at c =
+    let key = λ (it : Seats). it.code in
+    let finds = subst (FindsEach (slice_cmp nat_cmp) key c.args.seats.now) (sym c.deref.ensures.value) c.requires.finds in
+    stands key c.args.seats.now (slice_cmp nat_cmp) (slice_cmp-IsAntisymmetric nat_cmp-IsAntisymmetric) c.deref.result.now finds c.args.school c.index_beside.result c.index_beside.ensures
 
 pub returns-clause-within : goal.returns-clause-within
 returns-clause-within c =
-    let stands = school_stands c.args.seats.now c.args.directory.now.schools c.args.school c.requires.finds c.requires.there c.get.result c.unwrap.result c.get.ensures.value c.unwrap.ensures in
-    slice_get_within c.args.seats.now c.unwrap.result.now stands.0 stands.1
+    let key = λ (it : Seats). it.code in
+    let finds = subst (FindsEach (slice_cmp nat_cmp) key c.args.seats.now) (sym c.deref.ensures.value) c.requires.finds in
+    let it = stands key c.args.seats.now (slice_cmp nat_cmp) (slice_cmp-IsAntisymmetric nat_cmp-IsAntisymmetric) c.deref.result.now finds c.args.school c.index_beside.result c.index_beside.ensures in
+    slice_get_within c.args.seats.now c.index_beside.result it.0 it.1
