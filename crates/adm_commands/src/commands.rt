@@ -1,5 +1,6 @@
 // What comes of each command, by its own module, and what the types of its values keep.
-ghost use Rattle.std.specs.Prelude.{IfOk};
+ghost use Rattle.std.specs.Prelude.{◌≡◌, IfOk};
+ghost use Rattle.adm_register.specs.Draws.{IsWithin, draws_so_far};
 ghost use Rattle.adm_register.specs.WellFormed.{WellFormed};
 ghost use Rattle.adm_commands.specs.Outcome.{Comes, refused, Changes, KeptByTypes};
 
@@ -9,14 +10,21 @@ use crate::{
     accept, add_child, add_school, amend, apply, decline, fill, import, lapse, leave_list,
     name_plan, raise_pan, remind, round,
 };
-use adm_register::Tables;
+use adm_register::{DrawsSoFar, Tables};
 use adm_types::Command;
 use std::alloc::{AllocError, Global};
 
 /// What comes of the command: what it changes and its reply, or the refusal of the first of its
 /// tests that fails, beside the row of an import, which is 0 for a command without rows.
-pub(crate) fn tried(old: &Tables, alloc: Global, command: &Command) -> Result<Tried, AllocError>
-    requires { WellFormed old.now }
+pub(crate) fn tried(
+    old: &Tables,
+    so_far: &DrawsSoFar,
+    alloc: Global,
+    command: &Command,
+) -> Result<Tried, AllocError>
+    requires well_formed { WellFormed old.now }
+    requires draws { so_far.now ≡ draws_so_far old.now }
+    requires within { IsWithin so_far.now }
     ensures { IfOk result (λ tried. Comes (refused old.now command.now) (Changes old.now command.now) tried) }
 {
     match command {
@@ -26,7 +34,7 @@ pub(crate) fn tried(old: &Tables, alloc: Global, command: &Command) -> Result<Tr
         Command::Amend(child) => amend::tried(old, alloc, child),
         Command::NamePlan { child, school } => name_plan::tried(old, alloc, *child, *school),
         Command::Apply(application) => apply::tried(old, alloc, application),
-        Command::Round { draw, day, lots } => round::tried(old, alloc, *draw, *day, lots),
+        Command::Round { draw, day, lots } => round::tried(old, so_far, alloc, *draw, *day, lots),
         Command::Accept { child, school } => accept::tried(old, alloc, *child, *school),
         Command::Decline { child, school } => decline::tried(old, alloc, *child, *school),
         Command::Remind { child, school, day } => remind::tried(old, alloc, *child, *school, *day),
@@ -37,7 +45,7 @@ pub(crate) fn tried(old: &Tables, alloc: Global, command: &Command) -> Result<Tr
             school,
             day,
             lots,
-        } => fill::tried(old, alloc, *draw, *school, *day, lots),
+        } => fill::tried(old, so_far, alloc, *draw, *school, *day, lots),
         Command::Import(rows) => import::tried(old, alloc, rows.as_slice()),
     }
 }

@@ -17,7 +17,7 @@ use crate::one_row::{one, one_place};
 use crate::pairs::pairs_for;
 use crate::tried::{Tried, refused};
 use adm_draws::has_repeated_lot;
-use adm_register::draws_so_far::{DrawsSoFar, draws_so_far, is_due};
+use adm_register::draws_so_far::{DrawsSoFar, is_due};
 use adm_register::{Difference, Tables};
 use adm_round::drawn;
 use adm_table::Shared;
@@ -61,26 +61,28 @@ fn refusal_of(
 }
 
 /// The offer to the child that ranks first, and the draw. Who waits, and their lots, are worked out
-/// once, for the tests and for the change. They take memory for a pointer to each application and
-/// each draw, and for each lot. What it costs grows with the applications, the places and the draws
-/// before, and with the lots, times their logarithm.
+/// once, for the tests and for the change. They take memory for a pointer to each application, and
+/// for each lot. What it costs grows with the applications and the places, and with the lots, times
+/// their logarithm; not with the draws before, which `so_far` counts.
 pub(crate) fn tried(
     old: &Tables,
+    so_far: &DrawsSoFar,
     alloc: Global,
     draw: u32,
     school: SchoolCode,
     day: Day,
     lots: &Seq<u32>,
 ) -> Result<Tried, AllocError>
-    requires { WellFormed old.now }
+    requires well_formed { WellFormed old.now }
+    requires draws { so_far.now ≡ draws_so_far old.now }
+    requires within { IsWithin so_far.now }
     ensures { IfOk result (λ tried. Comes (without_row (first_failing (tests old.now draw school day lots.now))) (IsFillResult old.now draw school day lots.now) tried) }
 {
-    let so_far = draws_so_far(old, alloc)?;
     let waiting = old.waiting_at(alloc, school)?;
     let drawn = lots_for(alloc, school, &waiting, lots.as_slice())?;
     let repeated = has_repeated_lot(alloc, &drawn)?;
     let count = waiting.len();
-    let why = refusal_of(old, &so_far, draw, school, day, lots, count, repeated);
+    let why = refusal_of(old, so_far, draw, school, day, lots, count, repeated);
     if let Some(refusal) = why {
         return Ok(refused(refusal));
     }

@@ -23,7 +23,7 @@ pub fn propose(old: &Register, alloc: Global, command: &Command) -> Result<Propo
 {
     kept_by_types(command);
     allotment_fits();
-    match tried(old.tables(), alloc, command)? {
+    match tried(old.tables(), old.draws_so_far(), alloc, command)? {
         Err((refusal, row)) => Err(NotDone::Refused { refusal, row }),
         Ok((whole, reply)) => {
             let (register, change) = old.changed(alloc, whole)?;

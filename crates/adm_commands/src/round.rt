@@ -14,7 +14,7 @@ use crate::failing::first_failing;
 use crate::one_row::one;
 use crate::problems::{Parts, parts_of};
 use crate::tried::{Tried, refused};
-use adm_register::draws_so_far::{DrawsSoFar, draws_so_far, is_due};
+use adm_register::draws_so_far::{DrawsSoFar, is_due};
 use adm_register::{Difference, Tables};
 use adm_round::{allot, counts};
 use adm_table::Shared;
@@ -53,19 +53,21 @@ fn refusal_of(
 /// The round's offers and its draw, and how many children it comes to. Who takes part, the schools,
 /// and the lots are worked out once, for the tests and for the change. They take memory for each
 /// site, list entry and lot. What it costs grows with the list entries of those who take part, times
-/// their logarithm, with the places and the draws before, and with the schools times the places of
-/// plans.
+/// their logarithm, with the places, and with the schools times the places of plans; not with the
+/// draws before, which `so_far` counts.
 pub(crate) fn tried(
     old: &Tables,
+    so_far: &DrawsSoFar,
     alloc: Global,
     draw: u32,
     day: Day,
     lots: &Seq<u32>,
 ) -> Result<Tried, AllocError>
-    requires { WellFormed old.now }
+    requires well_formed { WellFormed old.now }
+    requires draws { so_far.now ≡ draws_so_far old.now }
+    requires within { IsWithin so_far.now }
     ensures { IfOk result (λ tried. Comes (without_row (first_failing (tests old.now draw day lots.now))) (IsRoundResult old.now draw day lots.now) tried) }
 {
-    let so_far = draws_so_far(old, alloc)?;
     let Parts {
         sites,
         applicants,
@@ -73,7 +75,7 @@ pub(crate) fn tried(
         counted,
         apart,
     } = parts_of(old, alloc, lots.as_slice())?;
-    let why = refusal_of(old, &so_far, draw, day, lots, counted, apart);
+    let why = refusal_of(old, so_far, draw, day, lots, counted, apart);
     if let Some(refusal) = why {
         return Ok(refused(refusal));
     }

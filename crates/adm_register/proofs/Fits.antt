@@ -26,8 +26,8 @@ use Rattle.adm_register.specs.Fits.{FewAfter, BasePut, PlacesPut, LeftPut, Draws
 use Rattle.adm_register.specs.Extends.{Extends, IsRaised, KeepsSchools}
 use Rattle.adm_register.specs.WellFormed.{WellFormed, AllRows, BaseFits, PlacesFit, LeftFits, DrawsFit, ImportedFit, has_first_round, is_entitled, lists_school, SchoolFits, ChildFits, ApplicationFits, PlaceFits, LeftPairFits, ImportFits, is_unplanned_at}
 use Rattle.adm_register.proofs.Maps.{code_cmp-IsAntisymmetric, left_cmp-total, left_cmp-IsAntisymmetric}
-use Rattle.adm_register.specs.Draws.{DrawFits, are_in_order, no_draws}
-use Rattle.adm_register.proofs.DrawLemmas.{DrawFits-grows, values_put, new_draws, are_in_order-append}
+use Rattle.adm_register.specs.Draws.{DrawFits, are_in_order, no_draws, count_draws, draws_so_far}
+use Rattle.adm_register.proofs.DrawLemmas.{DrawFits-grows, values_put, new_draws, are_in_order-append, with_draws-append}
 use Rattle.adm_register.proofs.Puts.{Grows, put_all-grows, there_before, all_stay, AllRows-put_all, are_schools-grows}
 
 -- rows fit still where the rows that they name are there still
@@ -194,6 +194,12 @@ module _ (old : State) (change : Difference) where
   -- so the state after the change is a register
   pub after-keeps : WellFormed old → Fit old change → WellFormed new
   after-keeps well fit = record { base = base_fits well.base fit.base; places = places_fit well.places fit.places; left = left_fit well.left fit.left; draws = draws_fit well.draws fit.draws; imported = imported_fit well.imported fit.imported }
+
+  -- the draws that it puts are counted on
+  pub after-so_far : WellFormed old → Fit old change → draws_so_far new ≡ count_draws (draws_so_far old) change.draws
+  after-so_far well fit =
+      ap (count_draws no_draws) (values_put old.draws old.season change.draws (λ number draw there. (well.draws.each number draw there).own_number) well.draws.in_order fit.draws.in_order)
+      ∙ with_draws-append no_draws (values old.draws) change.draws
 
   -- and what every command leaves is as it was
   pub after-extends : WellFormed old → Fit old change → Extends old new

@@ -23,7 +23,8 @@ pub struct DrawsSoFar {
 }
 
 impl DrawsSoFar {
-    fn none() -> DrawsSoFar
+    /// Those of a register without draws.
+    pub(crate) fn none() -> DrawsSoFar
         ensures { result ≡ no_draws }
     {
         DrawsSoFar {
@@ -51,6 +52,34 @@ impl DrawsSoFar {
             lots: self.lots + draw.lots.len(),
             day: Some(draw.day),
         }
+    }
+
+    /// With the draws that come next, one after another. It takes no memory, and time for each of
+    /// them alone: those before are not walked.
+    pub(crate) fn with_draws(&self, draws: &[Shared<Draw>]) -> DrawsSoFar
+        requires within { IsWithin self.now }
+        requires in_order { (season : SeasonFacts) × (are_in_order season self.now draws.now ≡ true) }
+        ensures value { result ≡ count_draws self.now draws.now }
+        ensures within { IsWithin result }
+    {
+        let mut before = *self;
+        let mut rest = draws;
+        while let Some((draw, others)) = rest.split_first() {
+            before = before.with(draw.as_ref());
+            rest = others;
+        }
+        before
+    }
+
+    /// With all draws of a register's tables. It takes memory for a pointer to each draw, and time
+    /// for each.
+    pub(crate) fn of_tables(alloc: Global, tables: &Tables) -> Result<DrawsSoFar, AllocError>
+        requires { WellFormed tables.now }
+        ensures value { IfOk result (λ made. made ≡ draws_so_far tables.now) }
+        ensures within { IfOk result IsWithin }
+    {
+        let draws = all_draws(tables, alloc)?;
+        Ok(DrawsSoFar::none().with_draws(&draws))
     }
 
     /// Whether the draw has the next number, and a round the next number of a round.
@@ -113,35 +142,9 @@ pub(crate) fn are_in_order(season: &Season, draws: &[Shared<Draw>]) -> bool
     true
 }
 
-/// How far draws have come that came one after another.
-fn with_draws(draws: &[Shared<Draw>]) -> DrawsSoFar
-    requires { (season : SeasonFacts) × (are_in_order season no_draws draws.now ≡ true) }
-    ensures value { result ≡ count_draws no_draws draws.now }
-    ensures within { IsWithin result }
-{
-    let mut before = DrawsSoFar::none();
-    let mut rest = draws;
-    while let Some((draw, others)) = rest.split_first() {
-        before = before.with(draw.as_ref());
-        rest = others;
-    }
-    before
-}
-
 /// The draws, by their numbers.
 fn all_draws(old: &Tables, alloc: Global) -> Result<Vec<Shared<Draw>>, AllocError>
     ensures { IfOk result (λ found. found.items ≡ rows.values old.now.draws) }
 {
     old.course.draws.to_vec(alloc)
-}
-
-/// How far the draws of a register have come. It takes memory for a pointer to each draw, and time
-/// for each.
-pub fn draws_so_far(old: &Tables, alloc: Global) -> Result<DrawsSoFar, AllocError>
-    requires { WellFormed old.now }
-    ensures value { IfOk result (λ made. made ≡ draws_so_far old.now) }
-    ensures within { IfOk result IsWithin }
-{
-    let draws = all_draws(old, alloc)?;
-    Ok(with_draws(&draws))
 }

@@ -7,13 +7,14 @@ ghost use Rattle.adm_register.specs.Extends.{Extends, KeepsSchools};
 ghost use Rattle.adm_register.specs.Change.{after};
 ghost use Rattle.adm_register.specs.Fits.{Fit};
 ghost use Rattle.adm_register.specs.Difference.{IsDifference};
+ghost use Rattle.adm_register.specs.Draws.{IsWithin, draws_so_far};
 ghost use Rattle.adm_register.specs.Rows.{rows_in_order, AreRowsOf, place_of, round_of, vacancies};
 ghost use Rattle.adm_register.specs.Wanted.{wanted};
 ghost use Rattle.adm_register.specs.Waits.{is_waiting, list_of, standing_of, standings_of};
 
 use crate::checks::is_well_formed;
 use crate::tables::Tables;
-use crate::{Difference, ListFault, Rows, RowsFault, Standing};
+use crate::{Difference, DrawsSoFar, ListFault, Rows, RowsFault, Standing};
 use adm_types::{Application, Child, ChildNo, Draw, Place, School, SchoolCode, Season};
 use adm_waiting::Waiting;
 use std::alloc::{AllocError, Global};
@@ -23,11 +24,15 @@ use std::marker::Model;
 #[derive(Drop)]
 pub struct Register {
     tables: Tables,
+    /// Kept, so that a round or a fill does not walk the draws before it.
+    so_far: DrawsSoFar,
 }
 
 impl Model for Register {
+    ghost use Rattle.std.specs.Prelude.{◌≡◌};
     ghost use Rattle.adm_register.specs.State.{State, coded_state};
     ghost use Rattle.adm_register.specs.WellFormed.{WellFormed};
+    ghost use Rattle.adm_register.specs.Draws.{IsWithin, draws_so_far};
 
     ghost Value = { State };
 
@@ -35,7 +40,7 @@ impl Model for Register {
 
     ghost view = { λ r. r.tables };
 
-    ghost invariant = { λ r. WellFormed r.tables };
+    ghost invariant = { λ r. WellFormed r.tables × (r.so_far ≡ draws_so_far r.tables) × IsWithin r.so_far };
 }
 
 impl Register {
@@ -47,6 +52,7 @@ impl Register {
         let _year = season.year();
         Register {
             tables: Tables::new(season),
+            so_far: DrawsSoFar::none(),
         }
     }
 
@@ -58,7 +64,8 @@ impl Register {
         let tables = Tables::of_rows(alloc, rows)?;
         let fits = is_well_formed(alloc, &tables)?;
         if fits {
-            Ok(Register { tables })
+            let so_far = DrawsSoFar::of_tables(alloc, &tables)?;
+            Ok(Register { tables, so_far })
         } else {
             Err(RowsFault::BadRow)
         }
@@ -187,6 +194,15 @@ impl Register {
         &self.tables
     }
 
+    /// How far its draws have come: how many there were, how many of them rounds', their lots, and the
+    /// day of the last. It takes no memory, and walks no draw.
+    pub fn draws_so_far(&self) -> &DrawsSoFar
+        ensures value { result.now ≡ draws_so_far self.now }
+        ensures within { IsWithin result.now }
+    {
+        &self.so_far
+    }
+
     /// The register after a change whose rows fit, and the rows by which it differs from this one,
     /// which stays. What it costs grows with the tables that the change touches, of which the
     /// pointers to their rows are copied; the others are shared.
@@ -202,7 +218,8 @@ impl Register {
         ensures difference { IfOk result (λ made. IsDifference self.now made.0 made.1) }
     {
         let tables = self.tables.after(alloc, &change)?;
+        let so_far = self.so_far.with_draws(change.draws.as_slice());
         let difference = self.tables.differing(alloc, change)?;
-        Ok((Register { tables }, difference))
+        Ok((Register { tables, so_far }, difference))
     }
 }

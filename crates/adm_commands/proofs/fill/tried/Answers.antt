@@ -20,14 +20,14 @@ unreachable-requires c =
     false≢true (ap is_some (ap option_copied (sym c.in_default-school.is) ∙ c.school.ensures) ∙ there)
 
 pub first_by_lot-requires-clause-school : goal.first_by_lot-requires-clause-school
-first_by_lot-requires-clause-school c = (c.requires.base.schools_fit c.args.school c.in-Some-school.row.now (sym c.school.ensures ∙ ap option_copied c.in-Some-school.is)).in_range
+first_by_lot-requires-clause-school c = (c.requires.well_formed.base.schools_fit c.args.school c.in-Some-school.row.now (sym c.school.ensures ∙ ap option_copied c.in-Some-school.is)).in_range
 
 pub first_by_lot-requires-clause-children : goal.first_by_lot-requires-clause-children
-first_by_lot-requires-clause-children c = waiters_fit c.args.old.now c.requires c.args.school c.deref-3.result.now (c.deref-3.ensures.value ∙ c.in_ok-waiting.ensures)
+first_by_lot-requires-clause-children c = waiters_fit c.args.old.now c.requires.well_formed c.args.school c.deref-3.result.now (c.deref-3.ensures.value ∙ c.in_ok-waiting.ensures)
 
 pub first_by_lot-requires-clause-numbers : goal.first_by_lot-requires-clause-numbers
 first_by_lot-requires-clause-numbers c =
-    subst (λ (children : List Child). IsStrictlySortedBy nat_cmp (map (λ (child : Child). child.no) children)) (sym (c.deref-3.ensures.value ∙ c.in_ok-waiting.ensures)) (waiters_rise c.args.old.now c.requires c.args.school)
+    subst (λ (children : List Child). IsStrictlySortedBy nat_cmp (map (λ (child : Child). child.no) children)) (sym (c.deref-3.ensures.value ∙ c.in_ok-waiting.ensures)) (waiters_rise c.args.old.now c.requires.well_formed c.args.school)
 
 pub unreachable-requires-in_default-first_by_lot : goal.unreachable-requires-in_default-first_by_lot
 unreachable-requires-in_default-first_by_lot c =

@@ -18,7 +18,7 @@ allot-requires c =
     let numbers = c.args.lots.now in
     let parts = c.in_ok-sites.ensures in
     record {
-      posed = posed_as old numbers c.deref.result.now c.deref-2.result.now c.deref-3.result.now c.requires (lots_pass old c.args.draw c.args.day numbers (sym c.refusal_of-why.ensures ∙ c.in_default.is))
+      posed = posed_as old numbers c.deref.result.now c.deref-2.result.now c.deref-3.result.now c.requires.well_formed (lots_pass old c.args.draw c.args.day numbers (sym c.refusal_of-why.ensures ∙ c.in_default.is))
           (c.deref.ensures.value ∙ parts.sites) (c.deref-2.ensures.value ∙ parts.applicants) (c.deref-3.ensures.value ∙ parts.drawn ∙ ap (round_lots old) c.as_slice.ensures);
     }
 
@@ -26,7 +26,7 @@ pub reply_of-reply-requires : goal.reply_of-reply-requires
 reply_of-reply-requires c =
     let taking = c.deref-2.result.now in
     let same = ap length c.in_ok-outcomes.ensures.children in
-    let few = few_entrants c.args.old.now c.requires in
+    let few = few_entrants c.args.old.now c.requires.well_formed in
     let all = ap length (c.deref-2.ensures.value ∙ c.in_ok-sites.ensures.applicants) in
     let shown = ap length c.deref-4.ensures.value in
     omega (arith, same, few, all, shown, length-map c.in_ok-outcomes.outcomes.items (λ (o : Outcome). o.child), length-map taking number_of)
@@ -43,7 +43,7 @@ returns c =
     let best = best_as old numbers c.deref.result.now c.deref-2.result.now c.deref-3.result.now outcomes
     (c.deref.ensures.value ∙ parts.sites) (c.deref-2.ensures.value ∙ parts.applicants) (c.deref-3.ensures.value ∙ at_lots) c.in_ok-outcomes.ensures.best in
     let places = c.from_vec.ensures ∙ c.in_ok-offers_on.ensures ∙ ap (offers_on c.args.day) c.deref-5.ensures.value in
-    let rounds = ap (λ (d : DrawsSoFar). d.rounds + 1) c.in_ok-so_far.ensures.value in
+    let rounds = ap (λ (d : DrawsSoFar). d.rounds + 1) c.requires.draws in
     let draws = c.in_ok-change.ensures ∙ (λ i. record { number = c.args.draw; round = rounds i; school = None; day = c.args.day; outcomes = outcomes; lots = at_lots i } ∷ []) in
     let none = c.none-change.ensures in
     let shown = c.deref-4.ensures.value in
