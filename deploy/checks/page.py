@@ -1,6 +1,5 @@
 """The page, used in a browser: by keyboard, at 320 pixels, with names that are markup, and with each answer that the desk can give."""
 
-import base64
 import signal
 
 from checks.browser import Browser
@@ -33,10 +32,10 @@ def check(world, see, picture=None):
 
 
 def strangers(world, see):
-    for who in ("", "alpha"):
+    for who, said in (("", "401 Authorization Required"), ("alpha", "403 Forbidden")):
         page = Browser(world, who)
         page.open("/")
-        see(f"the page is not shown to {who or 'who is not signed in'}", page.value("document.getElementById('child-form') === null"))
+        see(f"the page is not shown to {who or 'who is not signed in'}", page.value("[document.title, document.getElementById('child-form')]"), [said, None])
         world.end(page.process)
 
 
@@ -54,6 +53,11 @@ def act(page, script):
     return page.value(ANSWER)
 
 
+def dates(page):
+    """What on the page looks like a day in the form of the register."""
+    return page.value("document.body.innerText.match(/\\d{4,}-\\d\\d-\\d\\d/g) || []")
+
+
 def found(page, see):
     find(page, 2)
     text = page.value(RESULT)
@@ -64,7 +68,7 @@ def found(page, see):
         find(page, number)
         see(f"the page says: {part}", part in page.value(RESULT))
     find(page, 5)
-    see("a place by a plan cannot be answered", page.value("[...document.querySelectorAll('[data-act], .remind')].every(it => it.hidden)"))
+    see("a place by a plan cannot be answered", page.value("[...document.querySelectorAll('[data-act], .remind')].map(it => it.hidden)"), [True] * 3)
     find(page, 77)
     see("a child that is not there", page.value(ANSWER), "The register has none of this number or code.")
     page.value("document.getElementById('child-number').value = '0'; document.querySelector('#child-form button').click()")
@@ -101,9 +105,24 @@ def by_keyboard(page, see):
 def answers(page, see):
     find(page, 4)
     remind = "(day) => { document.getElementById('remind-day').value = day; document.querySelector('.remind button').click() }"
+    sent = []
+    page.rule = lambda method, path: sent.append(path) if method == "POST" else None
+    for day, year in (("12025-03-20", 12025), ("0025-03-20", 25), ("2111-01-01", 2111), ("1989-12-31", 1989)):
+        see(f"a reminder in the year {year} is not sent, and the answer is about the day", act(page, f"({remind})('{day}')"),
+            f"Nothing was sent: the day of the reminder is in the year {year}. The register takes days from 1 January 1990 to 31 December 2110.")
+    see("its field has the focus", page.value(f"{FOCUS}.id"), "remind-day")
+    page.value(f"({remind})('2035-03-20')")
+    page.wait("document.getElementById('sure').open")
+    see("a reminder long after the offer is asked about", page.value("document.getElementById('sure-question').textContent"),
+        "Note a reminder of 20 March 2035 for child 4, <script>document.title='hit'</script>? The offer is of 3 March 2025. It is for good: the day cannot be changed.")
+    page.value("document.getElementById('sure-no').click()")
+    page.wait("!document.getElementById('sure').open")
+    see("and after No nothing was sent", sent, [])
+    page.rule = None
     see("a reminder that comes too early", act(page, f"({remind})('2025-03-10')").startswith("Refused, and nothing has changed. The day is too early"))
     see("a reminder", act(page, f"({remind})('2025-03-20')"), "Done, and kept. The reminder of 20 March 2025 is noted. Print the letter again: it has the warning.")
-    see("is shown with its warning", "The offer may be withdrawn 14 days after 2025-03-20" in page.value(RESULT) and "reminded on 20 March 2025" in page.value(RESULT))
+    see("is shown with its warning", "The offer may be withdrawn 14 days after 20 March 2025" in page.value(RESULT) and "reminded on 20 March 2025" in page.value(RESULT))
+    see("with its days in one form", dates(page), [])
     see("and cannot be noted twice", page.value("document.querySelector('.remind').hidden"))
     find(page, 2)
     see("an offer is accepted", act(page, "document.querySelector('[data-act=accept]').click()"), "Done, and kept. Child 2 has accepted its place at B Beta.")
@@ -121,8 +140,10 @@ def answers(page, see):
 def lists(page, see):
     said = act(page, "document.getElementById('school-code').value = 'a'; document.querySelector('#school-form button').click()")
     see("a waiting list, also by a code in small letters", said, "The waiting list of A, as it is now.")
+    sides = "[...document.querySelectorAll('#result tr')].map(row => [...row.cells].map(cell => getComputedStyle(cell).textAlign))"
     table = "[...document.querySelectorAll('#result tr')].map(row => [...row.cells].map(cell => cell.innerText).join(' '))"
     see("as a table", page.value(table), ["Position Child Class Metres", "1 Child 2 1 200"])
+    see("with its figures on the right", page.value(sides), [["right"] * 4] * 2)
     see("with its total", "1 child waits. 0 places are free." in page.value(RESULT))
     act(page, "document.querySelector('#result td button').click()")
     see("from which a child is found", page.value(f"{FOCUS}.textContent"), "Child 2, Ben Bell")
@@ -130,19 +151,20 @@ def lists(page, see):
         "The register has none of this number or code.")
     act(page, "document.getElementById('round-number').value = '1'; document.querySelector('#round-form button').click()")
     see("a round's report", page.value(table), ["Child School", "Child 1 A", "Child 2 B", "Child 3 none", "Child 4 C", "Child 11 D", "Child 12 none"])
+    see("its numbers on the right, and its codes on the left", page.value(sides), [["right", "left"]] * 7)
+    see("its days in one form", (dates(page), "3 March 2025" in page.value(RESULT)), ([], True))
     see("its counts", "4 children were offered a new place, 0 kept the one that they had, and 2 had none." in page.value(RESULT))
 
 
 def letter(page, see):
     find(page, 4)
     act(page, "document.querySelector('[data-at=letter]').click()")
-    see("a letter, line by line", page.value("[...document.querySelectorAll('.letter p')].map(line => line.textContent)")[0], "Admission 2025 secondary")
+    see("a letter, line by line, with days as people read them", page.value("[...document.querySelectorAll('.letter p')].map(line => line.textContent)"), [
+        "Admission 2025 secondary", "Child 4 <script>document.title='hit'</script>",
+        "Place: C <img src=x onerror=\"document.title='hit'\">, offered 3 March 2025, reminded 20 March 2025",
+        "The offer may be withdrawn 14 days after 20 March 2025 if it is not answered.", "Waiting: nowhere"])
+    see("and in no other form", dates(page), [])
     see("its button asks for the printer", page.value("(() => { let asked = 0; window.print = () => asked++; document.querySelector('[data-at=print]').click(); return asked })()"), 1)
-    page.call("Emulation.setEmulatedMedia", media="print")
-    see("on paper there is the letter and nothing else", page.value("document.body.innerText.trim().split(/\\n+/)[0]"), "Admission 2025 secondary")
-    see("no button and no form", page.value("[...document.querySelectorAll('button, input')].every(it => it.offsetParent === null)"))
-    see("on one page", len(base64.b64decode(page.call("Page.printToPDF")["data"]).split(b"/Type /Page\n")) - 1, 1)
-    page.call("Emulation.setEmulatedMedia", media="")
     act(page, "document.querySelector('[data-at=back]').click()")
     see("and back to the child", page.value(f"{FOCUS}.textContent").startswith("Child 4, "))
 
@@ -153,10 +175,22 @@ def markup(page, see):
     see("a name that is markup is text", "Child 4, <script>document.title='hit'</script>" in page.value(RESULT))
     see("a school's too", "<img src=x onerror=\"document.title='hit'\">" in page.value(RESULT))
     see("and does nothing", (page.value("document.title"), page.value("document.querySelectorAll('img, main script').length")), ("School admissions", 0))
-    for told, script in (("a script", "it = document.createElement('script'); it.append('window.hit = 1'); document.body.append(it)"), ("markup", "document.body.innerHTML = '<b>hit</b>'"),
-                         ("a text that is run", "eval('window.hit = 1')"), ("an image from elsewhere", "it = new Image(); it.onload = () => window.hit = 1; it.src = 'data:image/gif;base64,R0lGODlhAQABAAAAACw='")):
-        page.value(f"(() => {{ let it; try {{ {script} }} catch {{ }} }})()")
-        see(f"{told} that some fault of the page would let in does nothing", page.value("window.hit === undefined && document.querySelector('b') === null"))
+    # What some fault of the page would let in: the browser is seen to refuse each, by the news of it or by the failure
+    refused = """new Promise((resolve) => {{
+        let it;
+        window.hit = undefined;
+        document.addEventListener("securitypolicyviolation", (event) => resolve([event.effectiveDirective, window.hit === undefined, document.querySelector("main b") === null]), {{ once: true }});
+        try {{ {0} }} catch {{ }}
+    }})"""
+    for told, script, rule in (
+        ("a script", "it = document.createElement('script'); it.append('window.hit = 1'); document.body.append(it)", "require-trusted-types-for"),
+        ("a script of another site", "it = document.createElement('script'); it.setAttribute('src', 'https://evil.example/x.js'); document.body.append(it)", "require-trusted-types-for"),
+        ("markup", "document.querySelector('main').innerHTML += '<b>hit</b>'", "require-trusted-types-for"),
+        ("a text that is run", "eval('window.hit = 1')", "require-trusted-types-for"),
+        ("a style", "it = document.createElement('style'); it.append('p {}'); document.body.append(it)", "style-src-elem"),
+        ("an image from elsewhere", "it = new Image(); it.onload = () => window.hit = 1; it.src = 'data:image/gif;base64,R0lGODlhAQABAAAAACw='", "img-src"),
+    ):
+        see(f"{told} that some fault of the page would let in does nothing", page.value(refused.format(script)), [rule, True, True])
     page.errors.clear()
 
 
@@ -166,10 +200,10 @@ def narrow(page, see):
              "a report": "document.querySelector('#round-form button').click()"}
     for name, script in shown.items():
         find(page, 4) if script == "find" else act(page, script)
-        see(f"{name} at 320 pixels needs no moving sideways", page.value("document.documentElement.scrollWidth <= 320"))
+        see(f"{name} at 320 pixels needs no moving sideways", page.value("document.documentElement.scrollWidth <= document.documentElement.clientWidth"))
     find(page, 1)
     page.value("document.querySelector('[data-act=decline]').click()")
-    see("nor does the question", page.value("(() => { const box = document.getElementById('sure').getBoundingClientRect(); return box.left >= 0 && box.right <= 320 })()"))
+    see("nor does the question", page.value("(() => { const box = document.getElementById('sure').getBoundingClientRect(); return box.width > 100 && box.left >= 0 && box.right <= 320 })()"))
     page.value("document.getElementById('sure-no').click()")
     page.width(1000, 700)
 
@@ -179,7 +213,7 @@ def heard(page, see):
     find(page, 4)
     nodes = page.nodes()
     used = [node for node in nodes if node[0] in ("button", "textbox", "Date", "DateTime", "table", "link", "dialog")]
-    see("each field and button has a name", [node for node in used if not node[1]], [])
+    see("each field and button has a name", (len(used) > 8, [node for node in used if not node[1]]), (True, []))
     see("the fields by their labels", [name for role, name in nodes if role == "textbox"][:3], ["Child’s number", "School’s code", "Round’s number"])
     roles = [role for role, _ in nodes]
     see("there are a status, headings and a main part", all(role in roles for role in ("status", "heading", "main", "search", "banner")))

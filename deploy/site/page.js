@@ -88,7 +88,22 @@ function show({ copy, parts }) {
   parts.heading.focus();
 }
 
+// A day of the register, 2025-03-03, as people read it: 3 March 2025
 const day = (text) => new Date(text + "T00:00:00Z").toLocaleDateString("en-GB", { timeZone: "UTC", day: "numeric", month: "long", year: "numeric" });
+
+// The days that the register takes. A field for a day takes years of five and six digits, too
+const FIRST_DAY = "1990-01-01";
+const LAST_DAY = "2110-12-31";
+const isDay = (text) => /^\d{4}-\d{2}-\d{2}$/.test(text) && text >= FIRST_DAY && text <= LAST_DAY;
+
+// A line of a letter with its days as people read them. A school's name may look like a day, so only those of the desk's own text are changed:
+// the day of the offer and that of the reminder at the end of the line of the place, and the day in the warning
+function withDays(line) {
+  return line
+    .replace(/^(Place: .*, offered )(\d{4}-\d\d-\d\d)$/, (_, before, offered) => before + day(offered))
+    .replace(/^(Place: .*, offered )(\d{4}-\d\d-\d\d)(, reminded )(\d{4}-\d\d-\d\d)$/, (_, before, offered, between, reminded) => before + day(offered) + between + day(reminded))
+    .replace(/^(The offer may be withdrawn 14 days after )(\d{4}-\d\d-\d\d)( if it is not answered\.)$/, (_, before, reminded, after) => before + day(reminded) + after);
+}
 
 const plural = (count, one, many) => `${count} ${count === 1 ? one : many}`;
 
@@ -145,7 +160,7 @@ function fillChild({ copy, parts }, letter) {
   parts.heading.textContent = `Child ${letter.number}, ${letter.name}`;
   parts.place.textContent = placeInWords(letter.place);
   parts.warning.hidden = !letter.warning;
-  parts.warning.textContent = letter.warning || "";
+  parts.warning.textContent = letter.warning ? withDays(letter.warning) : "";
   const kind = letter.place && letter.place.kind;
   const actions = { accept: kind === "offered", decline: kind === "offered" || kind === "accepted" };
   for (const button of copy.querySelectorAll("[data-act]")) {
@@ -155,8 +170,7 @@ function fillChild({ copy, parts }, letter) {
   parts.remind.hidden = kind !== "offered" || Boolean(letter.place.reminded);
   parts.remind.onsubmit = (event) => {
     event.preventDefault();
-    const when = at("remind-day").value;
-    send({ cmd: "remind", child: letter.number, school: letter.place.school, day: when }, `The reminder of ${day(when)} is noted. Print the letter again: it has the warning.`);
+    noteReminder(letter);
   };
   parts.nowhere.hidden = letter.waits.length > 0;
   for (const wait of letter.waits) parts.waits.append(waitLine(wait, letter));
@@ -175,6 +189,23 @@ function waitLine(wait, letter) {
     }
   };
   return copy;
+}
+
+// Sends a reminder. A day of a year that the register does not take is not sent, and one long after the offer, such as 2035 for 2025, is asked
+// about: the day cannot be changed afterwards
+async function noteReminder(letter) {
+  const when = at("remind-day").value;
+  if (!isDay(when)) {
+    tell(`Nothing was sent: the day of the reminder is in the year ${Number(when.split("-")[0])}. The register takes days from ${day(FIRST_DAY)} to ${day(LAST_DAY)}.`, true);
+    at("remind-day").focus();
+    return;
+  }
+  const { school, offered } = letter.place;
+  const isFar = (Date.parse(when) - Date.parse(offered)) / 86400000 > 60;
+  const question = `Note a reminder of ${day(when)} for child ${letter.number}, ${letter.name}? The offer is of ${day(offered)}. It is for good: the day cannot be changed.`;
+  if (!isFar || await isSure(question, "Yes, note it")) {
+    send({ cmd: "remind", child: letter.number, school, day: when }, `The reminder of ${day(when)} is noted. Print the letter again: it has the warning.`);
+  }
 }
 
 async function answerOffer(command, letter) {
@@ -217,7 +248,7 @@ async function showLetter(number) {
   made.parts.heading.textContent = `Letter of child ${number}`;
   for (const line of lines) {
     const paragraph = document.createElement("p");
-    paragraph.textContent = line;
+    paragraph.textContent = withDays(line);
     made.parts.lines.append(paragraph);
   }
   made.parts.print.onclick = () => window.print();
@@ -247,6 +278,9 @@ async function showTable(target, told, read) {
   tell(told);
 }
 
+// The columns of figures, which are aligned on the right
+const FIGURES = ["Position", "Child", "Class", "Metres"];
+
 function fillTable(parts, { heading, total, caption, columns, rows }) {
   parts.heading.textContent = heading;
   parts.total.textContent = total;
@@ -255,18 +289,28 @@ function fillTable(parts, { heading, total, caption, columns, rows }) {
     const cell = document.createElement("th");
     cell.scope = "col";
     cell.textContent = name;
+    cell.classList.toggle("number", FIGURES.includes(name));
     parts.columns.append(cell);
   }
   for (const cells of rows) {
     const row = parts.rows.insertRow();
-    cells.forEach((text, column) => row.insertCell().append(columns[column] === "Child" ? childButton(text) : text));
+    cells.forEach((text, column) => {
+      const cell = row.insertCell();
+      cell.classList.toggle("number", FIGURES.includes(columns[column]));
+      cell.append(columns[column] === "Child" ? childButton(text) : text);
+    });
   }
 }
 
 function childButton(number) {
   const button = document.createElement("button");
   button.type = "button";
-  button.textContent = `Child ${number}`;
+  // The word is left out where the column's name is enough: on paper and on a narrow screen
+  const word = document.createElement("span");
+  word.className = "word";
+  word.textContent = "Child ";
+  button.append(word, number);
+  button.setAttribute("aria-label", `Child ${number}`);
   button.onclick = () => showChild(number);
   return button;
 }
