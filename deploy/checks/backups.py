@@ -1,7 +1,6 @@
 """The nightly backup, what is kept, a restore, and the commands of the log sent again after it."""
 
 import json
-import time
 
 
 def check(world, see):
@@ -25,7 +24,6 @@ def check(world, see):
     see("of the nightly ones two are kept, and the others' stay", (len(after), after[:2]), (3, ["before-round-1.db", "nightly-2025-03-03T023000.db"]))
     copy = copies / after[2]
     see("the copy is the register", copy.read_bytes() == world.file.read_bytes())
-    time.sleep(1)
 
     world.start_desk()
     sent = ['{"cmd":"amend","child":6,"name":"A \\"name\\" \\\\ with é","east":0,"north":300,"looked_after":false,"flags":[],"siblings":[]}',

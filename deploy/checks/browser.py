@@ -53,7 +53,7 @@ class Browser:
 
     def call(self, method, **given):
         """Sends a request and gives its result; what happens meanwhile is seen to."""
-        mine, end = self.send(method, **given), time.monotonic() + 60
+        mine, end = self.send(method, **given), time.monotonic() + 150
         while time.monotonic() < end:
             message = self.receive(end)
             if message.get("id") == mine:
@@ -106,7 +106,7 @@ class Browser:
             raise RuntimeError(f"{script}: {done['exceptionDetails']}")
         return done["result"].get("value")
 
-    def wait(self, script, seconds=30):
+    def wait(self, script, seconds=120):
         return until(lambda: self.value(f"Boolean({script})"), script, seconds)
 
     def press(self, key, times=1, shift=False):

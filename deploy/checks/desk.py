@@ -1,11 +1,12 @@
-"""The desk behind the site: where it can be reached, many clients at once, slow ones, ones that leave, and a desk that is not well."""
+"""The desk behind the site: where it can be reached, many clients at once, ones that leave, and a desk that is not well."""
 
 import concurrent.futures
 import json
 import signal
-import socket
 import threading
 import time
+
+from checks.world import NAME, until
 
 AMEND = '{{"cmd":"amend","child":6,"name":"Fay Ford {0}","east":0,"north":300,"looked_after":false,"flags":[],"siblings":[]}}'
 ROUTES = ("/child/1", "/child/2/letter", "/school/A/waiting", "/round/1")
@@ -16,7 +17,6 @@ def check(world, see):
     reach(world, see)
     many(world, see)
     too_many(world, see)
-    slow(world, see)
     leaves(world, see)
     gone(world, see)
 
@@ -33,10 +33,9 @@ def units(world, see):
 
 
 def reach(world, see):
-    with socket.socket() as it:
-        see("the desk's port is not there outside of its network", it.connect_ex(("127.0.0.1", world.desk_port)) != 0)
-    inside = world.run(*world.inside("curl", "--silent", f"http://127.0.0.1:{world.desk_port}/child/6"))
-    see("and is there inside of it", inside.stdout.startswith('{"child":6,'))
+    asked = ("curl", "--silent", "--max-time", "60", f"http://127.0.0.1:{world.desk_port}/child/6")
+    see("the desk is not reached at its port outside of its network", '{"child":6,' in world.run(*asked).stdout, False)
+    see("and is reached inside of it", world.run(*world.inside(*asked)).stdout.startswith('{"child":6,'))
 
 
 def ask_many(world, count, write=True):
@@ -70,9 +69,7 @@ def too_many(world, see):
     try:
         with concurrent.futures.ThreadPoolExecutor(300) as pool:
             asked = [pool.submit(world.ask, "/child/1", "jane") for _ in range(300)]
-            deadline = time.monotonic() + 40
-            while sum(it.done() for it in asked) < 44 and time.monotonic() < deadline:
-                time.sleep(0.1)
+            until(lambda: sum(it.done() for it in asked) >= 44, "the answers to those for whom there is no place in the queue")
             world.continue_desk()
             answers = [it.result() for it in asked]
     finally:
@@ -82,36 +79,22 @@ def too_many(world, see):
     see("and the others are told to come again", {(answer.body, answer.fields.get("retry-after")) for answer in busy}, {('{"busy":true}', "2")})
 
 
-def slow(world, see):
-    """A slow head, a slow body and a slow reader hold nobody up."""
-    import base64
-    signed = base64.b64encode(f"jane:{world.passwords['jane']}".encode()).decode()
-    head = f"Host: admissions.example\r\nAuthorization: Basic {signed}\r\n"
-    clients = [world.connect() for _ in range(3)]
-    clients[0].sendall(b"GET /child/1 HTTP/1.1\r\n")
-    clients[1].sendall(f"POST /command HTTP/1.1\r\n{head}Content-Type: application/json\r\nOrigin: https://admissions.example\r\nContent-Length: 500000\r\n\r\n {{".encode())
-    clients[2].sendall(f"GET /round/1 HTTP/1.1\r\n{head}\r\n".encode())
-    began = time.monotonic()
-    answers = [world.ask("/child/1", "jane").status for _ in range(10)]
-    see("three slow clients, and ten others get their answers", answers, [200] * 10)
-    see("without waiting for them", time.monotonic() - began < 4)
-    clients[1].settimeout(20)
-    see("a body that does not come whole is given up", clients[1].recv(100), b"")
-    for client in clients:
-        client.close()
-    see("and the desk has never seen it", "fault: Read" in (world.room / "log/desk").read_text(), False)
-
-
 def leaves(world, see):
-    """A client that leaves while its command waits: it is done, and the log says so."""
+    """A client that leaves when its command is at the desk: it is done, and the log says so."""
+    body = AMEND.format("left")
+    logged = lambda: [line["status"] for line in map(json.loads, world.logged().splitlines()) if "Fay Ford left" in line["body"]]
     world.stop_desk()
-    gone = world.ask("/command", "jane", AMEND.format("left"), options=("--max-time", "1"))
-    world.continue_desk()
-    see("a client that left has no answer", gone.status, 0)
-    time.sleep(1)
-    see("its command is done", "Fay Ford left" in world.ask("/child/6/letter", "jane").body)
-    lines = [json.loads(line) for line in world.logged().splitlines()]
-    see("and the log has what it came to", [line["status"] for line in lines if "Fay Ford left" in line["body"]], ["200"])
+    try:
+        client = world.connect()
+        client.sendall(f"POST /command HTTP/1.1\r\nHost: {NAME}\r\n{world.basic('jane')}\r\nContent-Type: application/json\r\nOrigin: https://{NAME}\r\n"
+                       f"Content-Length: {len(body)}\r\n\r\n{body}".encode())
+        until(world.at_desk, "the command before the desk that stands still")
+        client.close()
+        see("a command whose sender leaves was neither answered nor logged before", logged(), [])
+    finally:
+        world.continue_desk()
+    see("the log has what it came to", until(logged, "its line in the log"), ["200"])
+    see("and it is done", "Fay Ford left" in world.ask("/child/6/letter", "jane").body)
 
 
 def gone(world, see):

@@ -78,7 +78,7 @@ def other_pages(world, see):
         see(f"a command as {kind or 'no type'}", world.ask("/command", "jane", ACCEPT, kind=kind).status, 415)
     see("a question from another site", world.ask("/what-if", "jane", QUESTION, origin="https://evil.example").status, 403)
     asked = world.ask("/command", "jane", options=("--request", "OPTIONS", "--header", "Origin: https://evil.example", "--header", "Access-Control-Request-Method: POST"))
-    see("no leave is given to another site", [name for name in asked.fields if name.startswith("access-control")], [])
+    see("no leave is given to another site", (asked.status, [name for name in asked.fields if name.startswith("access-control")]), (501, []))
 
 
 def bounds(world, see):
@@ -102,7 +102,8 @@ def names(world, see):
     context.check_hostname = False
     see("another name in TLS", fails(lambda: wrapped(world, context, "evil.example")))
     see("no TLS", world.run("curl", "--silent", "--output", "/dev/null", "--write-out", "%{http_code}", f"http://127.0.0.1:{world.site_port}/child/1").stdout, "400")
-    see("TLS of an old version", world.ask("/child/1", "jane", options=("--tls-max", "1.1")).status, 0)
+    old = world.ask("/child/1", "jane", options=("--tlsv1.0", "--tls-max", "1.1", "--ciphers", "DEFAULT:@SECLEVEL=0", "--show-error"))
+    see("TLS of an old version is refused by the site", (old.status, "alert protocol version" in old.error), (0, True))
 
 
 def wrapped(world, context, name):

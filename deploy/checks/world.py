@@ -1,8 +1,8 @@
 """What the checks run on: a desk in a network of its own, the door to it, and the site before it, all under one folder."""
 
+import base64
 import os
 import pathlib
-import shutil
 import signal
 import socket
 import ssl
@@ -38,13 +38,14 @@ REGISTER = r"""
 
 
 def free_port():
+    """A port of 127.0.0.1 that nothing has at this moment: whoever takes it tries another one where it was faster."""
     with socket.socket() as it:
         it.bind(("127.0.0.1", 0))
         return it.getsockname()[1]
 
 
-def until(what, told, seconds=20):
-    """Waits until `what()` is true, and gives it."""
+def until(what, told, seconds=120):
+    """Waits until `what()` is true, and gives it. So many seconds are for a machine that is slow: what is waited for is the event."""
     end = time.monotonic() + seconds
     while time.monotonic() < end:
         if value := what():
@@ -59,7 +60,7 @@ class World:
     def __init__(self, program, room):
         self.program, self.room, self.processes = str(program), room, []
         self.root, self.file = room / "root", room / "reg.db"
-        self.site_port, self.desk_port = free_port(), free_port()
+        self.site_port, self.desk_port = None, free_port()  # the desk's is in a network that it has to itself
         for folder in ("run", "log", "copies", "temp"):
             (room / folder).mkdir()
         self.passwords = {name: os.urandom(9).hex() for name in PEOPLE}
@@ -67,7 +68,7 @@ class World:
 
     def start(self):
         self.install()
-        self.make_register()
+        self.make_register(self.file, REGISTER.lstrip())
         self.make_certificate()
         self.make_people()
         self.hold_network()
@@ -76,7 +77,7 @@ class World:
         self.start_site()
 
     def run(self, *words, input="", **more):
-        return subprocess.run([str(word) for word in words], input=input, text=True, capture_output=True, env=self.environment, timeout=120, **more)
+        return subprocess.run([str(word) for word in words], input=input, text=True, capture_output=True, env=self.environment, timeout=300, **more)
 
     def spawn(self, *words, log):
         with open(self.room / "log" / log, "a") as out:
@@ -109,12 +110,11 @@ class World:
         for script in ("backup", "restore"):
             (self.room / f"bin/admissions-{script}").symlink_to(HERE.parent / "tools" / script)
 
-    def make_register(self):
-        made = self.run("admissions", "init", self.file, "secondary", "2025")
-        done = self.run("admissions", "do", self.file, input=REGISTER.lstrip())
+    def make_register(self, file, lines):
+        made = self.run("admissions", "init", file, "secondary", "2025")
+        done = self.run("admissions", "do", file, input=lines)
         if made.returncode or done.returncode:
             raise RuntimeError(f"the register could not be made: {made.stderr}{done.stdout}{done.stderr}")
-        shutil.copy(self.file, self.room / "start.db")
 
     def make_certificate(self):
         for name in ("site", "other"):
@@ -151,13 +151,30 @@ class World:
     def continue_desk(self):
         self.desk.send_signal(signal.SIGCONT)
 
+    def at_desk(self):
+        """How many connections to the desk have bytes that it has not read, as the kernel lists them in its network."""
+        rows = [line.split() for line in self.run(*self.inside("cat", "/proc/net/tcp")).stdout.splitlines()[1:]]
+        return sum(row[1].endswith(f":{self.desk_port:04X}") and row[3] == "01" and not row[4].endswith(":00000000") for row in rows)
+
     def start_door(self):
         self.door = self.spawn(*self.inside("systemd-socket-activate", f"--listen={self.room}/run/desk.sock",
                                             "/lib/systemd/systemd-socket-proxyd", "--connections-max=300", f"127.0.0.1:{self.desk_port}"), log="door")
         until((self.room / "run/desk.sock").exists, "the door")
 
     def start_site(self):
-        """The site as it is installed, but with the folders and the port of the room."""
+        """The site as it is installed, but with the folders and the port of the room. Where another process took the port meanwhile, nginx
+        ends, and another port is tried."""
+        for _ in range(10):
+            self.site_port = free_port()
+            self.write_site()
+            self.tested = self.run("nginx", "-t", "-c", self.room / "nginx.conf", "-e", self.room / "log/nginx")
+            self.site = self.spawn("nginx", "-c", self.room / "nginx.conf", "-e", self.room / "log/nginx", log="nginx")
+            until(lambda: self.site.poll() is not None or self.ask("/").status, "the site")
+            if self.site.poll() is None:
+                return
+        raise RuntimeError((self.room / "log/nginx").read_text())
+
+    def write_site(self):
         text = (self.root / "etc/nginx/sites-available/admissions").read_text()
         for old, new in (("/etc/admissions", f"{self.root}/etc/admissions"), ("/run/admissions", f"{self.room}/run"), ("/var/log/admissions", f"{self.room}/log"),
                          ("/usr/local/share", f"{self.root}/usr/local/share"), ("listen 443", f"listen 127.0.0.1:{self.site_port}")):
@@ -169,14 +186,11 @@ class World:
         user = "user root;" if os.getuid() == 0 else ""
         (self.room / "nginx.conf").write_text(f"{user} daemon off; worker_processes 2; pid {self.room}/run/nginx.pid; error_log {self.room}/log/nginx;\n"
                                               f"events {{ worker_connections 768; }}\nhttp {{ include /etc/nginx/mime.types; {temp} include {self.room}/site.conf; }}\n")
-        self.tested = self.run("nginx", "-t", "-c", self.room / "nginx.conf", "-e", self.room / "log/nginx")
-        self.site = self.spawn("nginx", "-c", self.room / "nginx.conf", "-e", self.room / "log/nginx", log="nginx")
-        until(lambda: self.ask("/").status, "the site")
 
     def ask(self, path, who=None, body=None, origin=f"https://{NAME}", kind="application/json", password=None, options=()):
         """What curl gets, with the site's own name led to the port of the room."""
         words = ["curl", "--silent", "--cacert", self.certificate, "--connect-to", f"{NAME}:443:127.0.0.1:{self.site_port}", "--path-as-is",
-                 "--write-out", "\n%{http_code}", "--max-time", "60", "--dump-header", "-"]
+                 "--write-out", "\n%{http_code}", "--max-time", "150", "--dump-header", "-"]
         if who:
             words += ["--user", f"{who}:{password or self.passwords[who]}"]
         if body is not None:
@@ -187,7 +201,15 @@ class World:
     def connect(self):
         """A bare TLS connection to the site."""
         context = ssl.create_default_context(cafile=str(self.certificate))
-        return context.wrap_socket(socket.create_connection(("127.0.0.1", self.site_port), timeout=60), server_hostname=NAME)
+        return context.wrap_socket(self.knock(), server_hostname=NAME)
+
+    def knock(self):
+        """A connection to the site's port, before TLS."""
+        return socket.create_connection(("127.0.0.1", self.site_port), timeout=120)
+
+    def basic(self, who):
+        """The field of a head by which somebody signs in."""
+        return "Authorization: Basic " + base64.b64encode(f"{who}:{self.passwords[who]}".encode()).decode()
 
     def logged(self):
         return (self.room / "log/asked.log").read_text()
@@ -201,5 +223,5 @@ class Answer:
         head, _, self.body = text.replace("\r\n", "\n").partition("\n\n")
         if head.startswith("HTTP/1.1 100"):
             head, _, self.body = self.body.partition("\n\n")
-        self.status, self.code = int(status or 0), done.returncode
+        self.status, self.code, self.error = int(status or 0), done.returncode, done.stderr
         self.fields = dict(line.lower().split(": ", 1) for line in head.split("\n")[1:] if ": " in line)

@@ -1,0 +1,75 @@
+"""Many slow clients at the site: while they are all open and have no answer, others get theirs. The desk never sees a slow one."""
+
+import concurrent.futures
+import ssl
+import time
+
+from checks.world import NAME, until
+
+AMEND = '{"cmd":"amend","child":6,"name":"Fay Ford beside them","east":0,"north":300,"looked_after":false,"flags":[],"siblings":[]}'
+
+
+def check(world, see):
+    clients, answers, waiting = beside_slow_ones(world)
+    see("beside 20 silent clients and 20 that send a byte at a time, others get their answers", answers, [200] * 8)
+    see("and all 40 are still open then, and have no answer", waiting, 40)
+    see("a command was among the others", "Fay Ford beside them" in world.ask("/child/6/letter", "jane").body)
+    for told, some in (("silent before TLS", clients[:10]), ("silent after it", clients[10:20]), ("of a slow head", clients[20:30]), ("of a slow body", clients[30:])):
+        ended = [until(client.ended, f"the end of a client {told}") for client in some]
+        see(f"the site gives up each client {told}, without an answer", ended, ["closed"] * 10)
+    see("and the desk has seen none of them", "fault: Read" in (world.room / "log/desk").read_text(), False)
+
+
+class Slow:
+    """A client that sends `first` at once, and of `rest` a byte each time that it is asked to."""
+
+    def __init__(self, connection, first=b"", rest=b""):
+        self.connection, self.rest, self.is_broken = connection, rest, False
+        if first:
+            connection.sendall(first)
+        connection.setblocking(False)
+
+    def drip(self):
+        try:
+            if self.rest and not self.is_broken:
+                self.rest = self.rest[self.connection.send(self.rest[:1]):]
+        except (BlockingIOError, ssl.SSLWantWriteError):
+            pass
+        except OSError:
+            self.is_broken = True
+
+    def ended(self):
+        """Nothing while the site waits for more; else how it ended: 'closed', or what came."""
+        try:
+            return self.connection.recv(1000) or "closed"
+        except (BlockingIOError, ssl.SSLWantReadError):
+            return None
+        except (OSError, ssl.SSLError):
+            return "closed"
+
+
+def open_slow_ones(world):
+    head = f"GET /child/1 HTTP/1.1\r\nHost: {NAME}\r\n{world.basic('jane')}\r\nX: {'x' * 7000}".encode()
+    body = (f"POST /command HTTP/1.1\r\nHost: {NAME}\r\n{world.basic('jane')}\r\nContent-Type: application/json\r\nOrigin: https://{NAME}\r\n"
+            "Content-Length: 500000\r\n\r\n{").encode()
+    return ([Slow(world.knock()) for _ in range(10)] + [Slow(world.connect()) for _ in range(10)]
+            + [Slow(world.connect(), b"", head) for _ in range(10)] + [Slow(world.connect(), body, b" " * 100000) for _ in range(10)])
+
+
+def beside_slow_ones(world):
+    """The clients, what others were answered meanwhile, and how many of the clients were then open and without an answer. The site gives
+    up a slow one after some seconds: where the machine was too slow to answer before that, nothing is seen, and new ones are opened."""
+    for _ in range(6):
+        clients = open_slow_ones(world)
+        with concurrent.futures.ThreadPoolExecutor(8) as pool:
+            asked = [pool.submit(world.ask, "/command", "jane", AMEND)] + [pool.submit(world.ask, "/child/1", "jane") for _ in range(7)]
+            while not all(it.done() for it in asked):
+                for client in clients:
+                    client.drip()
+                time.sleep(0.05)
+        answers, waiting = [it.result().status for it in asked], sum(client.ended() is None and not client.is_broken for client in clients)
+        if waiting == len(clients):
+            break
+        for client in clients:
+            client.connection.close()
+    return clients, answers, waiting
