@@ -46,10 +46,10 @@ def find(page, number):
 
 
 def act(page, script):
-    """Presses something, and gives the answer in words when it is there."""
+    """Presses something, and gives the answer in words when it is there; nothing where the page asks first."""
     page.value("document.getElementById('answer').textContent = ''")
     page.value(script)
-    page.wait(f"{ANSWER} && !/^(Asking|Sending)/.test({ANSWER})")
+    page.wait(f"document.getElementById('sure').open || {ANSWER} && !/^(Asking|Sending)/.test({ANSWER})")
     return page.value(ANSWER)
 
 
@@ -111,10 +111,8 @@ def answers(page, see):
         see(f"a reminder in the year {year} is not sent, and the answer is about the day", act(page, f"({remind})('{day}')"),
             f"Nothing was sent: the day of the reminder is in the year {year}. The register takes days from 1 January 1990 to 31 December 2110.")
     see("its field has the focus", page.value(f"{FOCUS}.id"), "remind-day")
-    page.value(f"({remind})('2035-03-20')")
-    page.wait("document.getElementById('sure').open")
-    see("a reminder long after the offer is asked about", page.value("document.getElementById('sure-question').textContent"),
-        "Note a reminder of 20 March 2035 for child 4, <script>document.title='hit'</script>? The offer is of 3 March 2025. It is for good: the day cannot be changed.")
+    see("a reminder long after the offer is asked about", (act(page, f"({remind})('2035-03-20')"), page.value("document.getElementById('sure-question').textContent")), ("",
+        "Note a reminder of 20 March 2035 for child 4, <script>document.title='hit'</script>? The offer is of 3 March 2025. It is for good: the day cannot be changed."))
     page.value("document.getElementById('sure-no').click()")
     page.wait("!document.getElementById('sure').open")
     see("and after No nothing was sent", sent, [])
