@@ -113,9 +113,8 @@ def answers(page, see):
     see("its field has the focus", page.value(f"{FOCUS}.id"), "remind-day")
     see("a reminder long after the offer is asked about", (act(page, f"({remind})('2035-03-20')"), page.value("document.getElementById('sure-question').textContent")), ("",
         "Note a reminder of 20 March 2035 for child 4, <script>document.title='hit'</script>? The offer is of 3 March 2025. It is for good: the day cannot be changed."))
-    page.value("document.getElementById('sure-no').click()")
-    page.wait("!document.getElementById('sure').open")
-    see("and after No nothing was sent", sent, [])
+    after = f"new Promise((resolve) => {{ const box = document.getElementById('sure'); box.addEventListener('close', () => setTimeout(() => resolve({ANSWER})), {{ once: true }}); "
+    see("and after No nothing is sent", (page.value(after + "document.getElementById('sure-no').click() })"), sent), ("", []))
     page.rule = None
     see("a reminder that comes too early", act(page, f"({remind})('2025-03-10')").startswith("Refused, and nothing has changed. The day is too early"))
     see("a reminder", act(page, f"({remind})('2025-03-20')"), "Done, and kept. The reminder of 20 March 2025 is noted. Print the letter again: it has the warning.")

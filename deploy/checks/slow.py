@@ -57,9 +57,9 @@ def open_slow_ones(world):
 
 
 def beside_slow_ones(world):
-    """The clients, what others were answered meanwhile, and how many of the clients were then open and without an answer. The site gives
-    up a slow one after some seconds: where the machine was too slow to answer before that, nothing is seen, and new ones are opened."""
-    for _ in range(6):
+    """The clients, what others were answered meanwhile, and how many of the clients were then open and without an answer. The site closes
+    a slow one after some seconds: where the machine was too slow to answer before that, nothing is seen, and new ones are opened."""
+    for _ in range(5):
         clients = open_slow_ones(world)
         with concurrent.futures.ThreadPoolExecutor(8) as pool:
             asked = [pool.submit(world.ask, "/command", "jane", AMEND)] + [pool.submit(world.ask, "/child/1", "jane") for _ in range(7)]
@@ -67,8 +67,9 @@ def beside_slow_ones(world):
                 for client in clients:
                     client.drip()
                 time.sleep(0.05)
-        answers, waiting = [it.result().status for it in asked], sum(client.ended() is None and not client.is_broken for client in clients)
-        if waiting == len(clients):
+        answers, ends = [it.result().status for it in asked], ["closed" if client.is_broken else client.ended() for client in clients]
+        waiting = ends.count(None)
+        if waiting == len(clients) or set(ends) - {None, "closed"}:  # one that was answered is a failure, and no matter of time
             break
         for client in clients:
             client.connection.close()
