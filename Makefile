@@ -8,6 +8,7 @@
 #   make wrong-bodies  those that the gate leaves to the hand, each of which must be refused
 #   make sweep    each request of the built program for memory refused, in turn: what is answered and left then; some minutes
 #   make audits   admissions-audit on the rounds of 200 random registers, on files that were changed by hand, and on all allocations of small ones
+#   make races    a restore beside which a program starts at 300 random moments, and at each of its steps: no acknowledged command is lost; some minutes
 #   make bench    what is aimed at for the costs, beside what they are, in one table; at most ten minutes once the program is built
 #   make bench-more  what commands cost in more tables, beside a baseline in the same run
 #   make deploy-check  what is deployed (site, desk in its own network, page), on this machine alone; needs nginx, openssl, curl and chromium, no part of test
@@ -17,7 +18,7 @@ EXAMPLES := first_path applications season
 
 LOOKED_AT := $(addprefix examples/applications/,schools.jsonl children.jsonl applications.jsonl)
 
-.PHONY: look build demo cases test wrong-bodies sweep audits bench bench-more deploy-check install
+.PHONY: look build demo cases test wrong-bodies sweep audits races bench bench-more deploy-check install
 
 look:
 	@cat $(LOOKED_AT) | tools/look
@@ -42,6 +43,9 @@ sweep: build
 
 audits: build
 	bench/audit/run bin/admissions tools/audit
+
+races: build
+	tools/races bin/admissions tools/restore 300
 
 bench: build
 	bench/aims bin/admissions
@@ -68,6 +72,7 @@ install: build
 	for tool in lots query letters audit; do install -D -m 755 tools/$$tool $(DESTDIR)$(PREFIX)/bin/admissions-$$tool || exit 1; done
 	install -d $(DESTDIR)$(PREFIX)/share/admissions/queries
 	install -m 644 queries/*.sql $(DESTDIR)$(PREFIX)/share/admissions/queries
+	install -m 644 tools/register_files.py $(DESTDIR)$(PREFIX)/share/admissions/register_files.py
 	install -D -m 644 docs/admissions.1 $(DESTDIR)$(PREFIX)/share/man/man1/admissions.1
 	install -d $(DESTDIR)$(PREFIX)/share/doc/admissions
 	for page in OPERATIONS ANSWERS KEEPING LOTS REPORTS SERVING FORMATS; do install -m 644 docs/$$page.md $(DESTDIR)$(PREFIX)/share/doc/admissions || exit 1; done

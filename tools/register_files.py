@@ -1,0 +1,241 @@
+"""What the tools that open a register's file share: its names, its lock, its log, the program, and files that are for their owner alone.
+
+Imported by tools/backup, restore, query, letters and audit; installed as PREFIX/share/admissions/register_files.py.
+"""
+import contextlib
+import ctypes
+import errno
+import fcntl
+import os
+import shutil
+import signal
+import stat
+import struct
+import subprocess
+import sys
+import tempfile
+
+# the bytes of a database file that SQLite and the program lock while they have it open
+LOCK_START, LOCK_LENGTH = 1 << 30, 512
+# a log has 41 bytes after a close that succeeded, and below 56 no page
+LEAST_PAGES = 56
+# what SQLite and the program name after a register: the file itself, its log, an index of the log that holds nothing of its own, an older kind of log
+PARTS = ("", "-wal", "-shm", "-journal")
+OWNER_ALONE = 0o600
+CHUNK = 1 << 16
+FULL = (errno.ENOSPC, errno.EDQUOT, errno.EFBIG)
+SIGNALS = (signal.SIGHUP, signal.SIGINT, signal.SIGTERM)
+AT_FDCWD, RENAME_NOREPLACE = -100, 1
+
+
+class Refused(Exception):
+    """What a tool prints before it ends with this status."""
+
+    def __init__(self, text, status=1):
+        super().__init__(text)
+        self.status = status
+
+
+class InUse(Refused):
+    pass
+
+
+def say(stream, text):
+    """Prints a line, with names as they were given. Where nobody reads it, what was done is done all the same."""
+    with contextlib.suppress(OSError):
+        os.write(stream, os.fsencode(text + "\n"))
+
+
+def warn(tool, name, found):
+    """One line where a register can be read or written by others than its owner. `found` is what `stat` returns for it."""
+    if found.st_mode & 0o066:
+        say(2, f"admissions-{tool}: {name} can be read by others: chmod 600 {name}")
+
+
+def path_of(name, missing):
+    """The whole path of a name, without links in its folder: the program takes no name with a dash in front for one of its options. `missing` is what is
+    printed where there is no such folder."""
+    if name.endswith("/"):
+        raise Refused(f"{name} is the name of a folder")
+    folder = os.path.realpath(os.path.dirname(name) or ".")
+    if not os.path.isdir(folder):
+        raise Refused(missing)
+    return os.path.join(folder, os.path.basename(name))
+
+
+def has_content(path):
+    """Whether a file, or a log by its name, holds anything."""
+    try:
+        return os.stat(path).st_size >= (LEAST_PAGES if path.endswith("-wal") else 1)
+    except FileNotFoundError:
+        return False
+
+
+def see_file(name, path):
+    """Refuses what is there and is no regular file, before it is opened: opening a FIFO waits, opening a device acts, and a link may be changed."""
+    kind = os.lstat(path).st_mode
+    if stat.S_ISLNK(kind):
+        real = os.path.realpath(path)
+        raise Refused(f"{name} is a link: name the file itself, {real}" if os.path.exists(real) else f"{name} is a link that leads nowhere")
+    if not stat.S_ISREG(kind):
+        raise Refused(f"{name} is no file")
+
+
+@contextlib.contextmanager
+def held(name, path, exclusive=False):
+    """A descriptor of a regular file under the lock that the program takes: no program opens the file until this block ends, nor has it open.
+
+    The lock is of the open file and not of the process, so closing another descriptor of the same file does not release it. It is in the way of a program
+    either way; a shared one needs only reading, and other tools may read meanwhile.
+    """
+    see_file(name, path)
+    fd = os.open(path, (os.O_RDWR if exclusive else os.O_RDONLY) | os.O_NOFOLLOW | os.O_NONBLOCK | os.O_CLOEXEC)
+    try:
+        kind = fcntl.F_WRLCK if exclusive else fcntl.F_RDLCK
+        try:
+            fcntl.fcntl(fd, fcntl.F_OFD_SETLK, struct.pack("hhqqi4x", kind, os.SEEK_SET, LOCK_START, LOCK_LENGTH, 0))
+        except OSError as error:
+            if error.errno not in (errno.EAGAIN, errno.EACCES):
+                raise
+            raise InUse(f"{name} is in use")
+        # (the name may have been given to another file before the lock was there)
+        found, named = os.fstat(fd), os.lstat(path)
+        if not stat.S_ISREG(found.st_mode) or not os.path.samestat(found, named):
+            raise InUse(f"{name} is in use: it was replaced in this moment")
+        yield fd
+    finally:
+        # (what was written is synced before; a failure here changes nothing, and the lock ends with this process)
+        with contextlib.suppress(OSError):
+            os.close(fd)
+
+
+def write_all(fd, data, at):
+    while data:
+        count = os.pwrite(fd, data, at)
+        data, at = data[count:], at + count
+
+
+def pieces_of(fd, at=0):
+    """The pieces of an open file from a byte on, each with where it begins."""
+    while piece := os.pread(fd, CHUNK, at):
+        yield at, piece
+        at += len(piece)
+
+
+def give_to_owner(fd, found):
+    """Makes a file readable for its owner alone, and gives it the owner and the group of another where this process may."""
+    for owner, group in ((-1, found.st_gid), (found.st_uid, -1)):
+        with contextlib.suppress(OSError):
+            os.fchown(fd, owner, group)
+    os.fchmod(fd, OWNER_ALONE)
+
+
+def copy_to(source, path):
+    """Copies an open file to a new one for the owner alone, and syncs it."""
+    target = os.open(path, os.O_RDWR | os.O_CREAT | os.O_EXCL | os.O_CLOEXEC, OWNER_ALONE)
+    try:
+        give_to_owner(target, os.fstat(source))
+        for at, piece in pieces_of(source):
+            write_all(target, piece, at)
+        os.fsync(target)
+    finally:
+        os.close(target)
+
+
+def is_equal(one, path, at=0):
+    """Whether an open file and the file at a path have the same bytes, from one on."""
+    other = os.open(path, os.O_RDONLY | os.O_CLOEXEC)
+    try:
+        if os.fstat(one).st_size != os.fstat(other).st_size:
+            return False
+        return all(piece == os.pread(other, CHUNK, here) for here, piece in pieces_of(one, at))
+    finally:
+        os.close(other)
+
+
+def sync_folder(path):
+    fd = os.open(path, os.O_RDONLY | os.O_DIRECTORY | os.O_CLOEXEC)
+    try:
+        os.fsync(fd)
+    finally:
+        os.close(fd)
+
+
+def name_new(old, new):
+    """Renames a file to a name that is free, in one step. FileExistsError where it is not. Disks that cannot do that give it a second name first."""
+    libc = ctypes.CDLL(None, use_errno=True)
+    if libc.renameat2(AT_FDCWD, os.fsencode(old), AT_FDCWD, os.fsencode(new), RENAME_NOREPLACE) == 0:
+        return
+    code = ctypes.get_errno()
+    if code not in (errno.EINVAL, errno.ENOSYS):
+        raise OSError(code, os.strerror(code), new)
+    os.link(old, new)
+    os.unlink(old)
+
+
+@contextlib.contextmanager
+def room_beside(name, path):
+    """A new folder beside a file, for its owner alone, which is removed at the end."""
+    try:
+        room = tempfile.mkdtemp(prefix=os.path.basename(path) + ".part-", dir=os.path.dirname(path))
+    except OSError:
+        raise Refused(f"beside {name} nothing can be written")
+    try:
+        yield room
+    finally:
+        shutil.rmtree(room, ignore_errors=True)
+
+
+def found(names):
+    """The first of some programs that is beside the tool, or in PATH."""
+    beside = os.path.dirname(os.path.abspath(sys.argv[0]))
+    paths = [os.path.join(beside, it) for it in names]
+    return next((it for it in paths if os.path.isfile(it) and os.access(it, os.X_OK)), None) or shutil.which(names[0])
+
+
+def program():
+    """The program: the one that ADMISSIONS names, or `admissions` beside the tool, or the one in PATH."""
+    named = os.environ.get("ADMISSIONS") or found(["admissions"])
+    path = named and shutil.which(named)
+    if not path:
+        raise Refused("there is no program: name it by ADMISSIONS")
+    return path
+
+
+def take_in(program, file):
+    """Opens a register with the program, and closes it, so that the file alone is the register. What was printed where that failed, else nothing."""
+    # (the program ignores the signals that this process ignores, as that of a limit of file sizes, and so prints what is wrong)
+    try:
+        ran = subprocess.run([program, "do", file], stdin=subprocess.DEVNULL, stdout=subprocess.PIPE, stderr=subprocess.STDOUT, restore_signals=False)
+    except OSError as error:
+        return f"the program does not start: {error.strerror}"
+    said = ", ".join(os.fsdecode(ran.stdout).split("\n")).strip(", ")
+    if ran.returncode:
+        return said or f"status {ran.returncode}"
+    return (said or "a log stays") if has_content(file + "-wal") else ""
+
+
+def stop(number, _):
+    raise SystemExit(128 + number)
+
+
+def run(tool, usage, task):
+    """What a tool of two names does: its task returns the line that is printed, or raises what is printed before it ends."""
+    os.umask(0o077)
+    names = sys.argv[1:]
+    if len(names) != 2 or not all(names):
+        say(2, f"usage: {usage}")
+        return 2
+    for it in SIGNALS:
+        signal.signal(it, stop)
+    try:
+        if any("\n" in it for it in names):
+            raise Refused("a name has a line end in it")
+        say(1, task(*names))
+        return 0
+    except Refused as error:
+        say(2, f"admissions-{tool}: {error}")
+        return error.status
+    except OSError as error:
+        say(2, f"admissions-{tool}: {os.fsdecode(error.filename or 'a file')}: {error.strerror}")
+        return 1
