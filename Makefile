@@ -8,7 +8,7 @@
 #   make wrong-bodies  those that the gate leaves to the hand, each of which must be refused
 #   make sweep    each request of the built program for memory refused, in turn: what is answered and left then; some minutes
 #   make audits   admissions-audit on the rounds of 200 random registers, on files that were changed by hand, and on all allocations of small ones
-#   make races    a restore beside which a program starts at 300 random moments, and at each of its steps: no acknowledged command is lost; some minutes
+#   make races    a restore beside which a program starts at 300 random moments; restore and backup with a program started before each operation, killed, failing; some minutes
 #   make bench    what is aimed at for the costs, beside what they are, in one table; at most ten minutes once the program is built
 #   make bench-more  what commands cost in more tables, beside a baseline in the same run
 #   make deploy-check  what is deployed (site, desk in its own network, page), on this machine alone; needs nginx, openssl, curl and chromium, no part of test
@@ -46,6 +46,7 @@ audits: build
 
 races: build
 	tools/races bin/admissions tools/restore 300
+	for tool in restore backup; do for action in start kill fail; do tools/races bin/admissions tools/$$tool $$action || exit 1; done; done
 
 bench: build
 	bench/aims bin/admissions

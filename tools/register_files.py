@@ -202,17 +202,19 @@ def program():
     return path
 
 
-def take_in(program, file):
-    """Opens a register with the program, and closes it, so that the file alone is the register. What was printed where that failed, else nothing."""
-    # (the program ignores the signals that this process ignores, as that of a limit of file sizes, and so prints what is wrong)
+def opened(program, file):
+    """Opens a register with the program, and closes it. What was printed where that failed, else nothing."""
     try:
+        # (the program ignores the signals that this process ignores, as that of a limit of file sizes, and so prints what is wrong)
         ran = subprocess.run([program, "do", file], stdin=subprocess.DEVNULL, stdout=subprocess.PIPE, stderr=subprocess.STDOUT, restore_signals=False)
     except OSError as error:
         return f"the program does not start: {error.strerror}"
-    said = ", ".join(os.fsdecode(ran.stdout).split("\n")).strip(", ")
-    if ran.returncode:
-        return said or f"status {ran.returncode}"
-    return (said or "a log stays") if has_content(file + "-wal") else ""
+    return "" if ran.returncode == 0 else ", ".join(os.fsdecode(ran.stdout).split("\n")).strip(", ") or f"status {ran.returncode}"
+
+
+def take_in(program, file):
+    """The same, and no log may stay: then the file alone is the register."""
+    return opened(program, file) or ("a log stays" if has_content(file + "-wal") else "")
 
 
 def stop(number, _):
