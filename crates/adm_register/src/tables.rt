@@ -189,7 +189,7 @@ impl Tables {
     }
 
     /// How many places at the school are not those of a plan.
-    pub fn places_outside_plans(&self, code: SchoolCode) -> usize
+    pub(crate) fn places_outside_plans(&self, code: SchoolCode) -> usize
         ensures { result ≡ places_outside_plans self.now.places code }
     {
         let _all = self.course.places.len();
@@ -201,7 +201,7 @@ impl Tables {
     }
 
     /// The draw of a number.
-    pub fn draw(&self, number: u32) -> Option<&Draw>
+    pub(crate) fn draw(&self, number: u32) -> Option<&Draw>
         ensures { option_copied result ≡ map.get self.now.draws number }
     {
         self.course.draws.row(&number)
