@@ -12,7 +12,11 @@ use std::alloc::Global;
 
 impl Tables {
     /// The waiting list of the school.
-    pub(crate) fn waiting(&self, alloc: Global, school: SchoolCode) -> Result<Vec<Waiting>, ListFault>
+    pub(crate) fn waiting(
+        &self,
+        alloc: Global,
+        school: SchoolCode,
+    ) -> Result<Vec<Waiting>, ListFault>
         requires { WellFormed self.now }
         ensures list { IfOk result (λ list. option_map (list_of self.now) (rows.get self.now.schools school) ≡ Some list.items) }
         ensures unknown { (result ≡ Err ListFault.UnknownSchool) ↔ (rows.get self.now.schools school ≡ None) }
