@@ -117,7 +117,7 @@ arrive m rows i d r w h at row free next =
       guest_here = λ k e x j z ek xk l jz here. subst (λ (t : Code). is_tenant e t ≡ false) here (back k e x j z ek xk l jz).guest;
       full_here = λ k e x j z ek xk l jz here. let f = subst (λ (t : Code). quota_of m.seats t ≤ held_at rows t) here (back k e x j z ek xk l jz).full in omega (arith, more, f);
       outranked_here = λ k e x j z ek xk l jz here q c apart g. (subst (λ (t : Code). IsRejected m rows e t) here (back k e x j z ek xk l jz)).outranked q c (guest_elsewhere m rows i v s q c apart g);
-      none_lost = λ a stable. held_fact (λ e x. x.rejections ≤ assigned_rank e.list (a e.child)) m rows i d v at (h.none_lost a stable i d r at row) (h.none_lost a stable);
+      none_lost = λ o wide a stable. held_fact (λ e x. x.rejections ≤ assigned_rank e.list (a e.child)) m rows i d v at (h.none_lost o wide a stable i d r at row) (h.none_lost o wide a stable);
     }
 
 -- Nobody is rejected: the school has room, or holds tenants alone.

@@ -1,5 +1,5 @@
 -- The turn in which a school rejects an entrant: no stable allocation gives it that school.
-use Rattle.std.proofs.Common.{◌≡◌, ◌≢◌, ℕ, ◌+◌, ◌<◌, ◌≤◌, List, set, None, Some, true, false, ◌||◌, ◌&&◌, inl, inr, refl, sym, ap, ◌∙◌, subst, arith}
+use Rattle.std.proofs.Common.{◌≡◌, ◌≢◌, ℕ, ◌+◌, ◌<◌, ◌≤◌, List, length, set, None, Some, true, false, ◌||◌, ◌&&◌, inl, inr, refl, sym, ap, ◌∙◌, subst, arith}
 use Rattle.std.specs.Prelude.{nat_lt}
 use Rattle.std.specs.List.{slice_get, list_any}
 use Rattle.std.proofs.lemmas.Bool.{cases_Bool, cases_lt, cases_eq, false≢true, and_from, or_left, or_right, lt-ltb}
@@ -7,9 +7,9 @@ use Rattle.std.proofs.lemmas.Option.{none-some, same_Some, slice_get_within}
 use Rattle.adm_types.specs.Code.{has}
 use Rattle.adm_match.specs.declared.problem.Wish.{Wish}
 use Rattle.adm_match.specs.declared.progress.Progress.{Progress}
-use Rattle.adm_match.specs.Market.{Code, Candidate, Market, preference_rank, assigned_rank, is_tenant, ranks_before, quota_of}
+use Rattle.adm_match.specs.Market.{Code, Candidate, Market, preference_rank, assigned_rank, is_tenant, both_precede, ranks_before, quota_of}
 use Rattle.adm_match.specs.Stability.{Allocation, count_at, is_guest, blocks, IsStable}
-use Rattle.adm_match.specs.Turns.{held_at, WellListed, IsHeldByNext, Shaped, NoneLost, IsGuestAt, IsRejected, Sound}
+use Rattle.adm_match.specs.Turns.{held_at, IsWithin, WellListed, IsHeldByNext, Shaped, NoneLost, IsGuestAt, IsRejected, Sound}
 use Rattle.adm_match.proofs.SideBySide.{more_pass, after_set}
 use Rattle.adm_match.proofs.RanksAndBlocks.{has_true, has_tells, not_has, same_or_not, at_All, list_any_of, same_rank, ranks_before_trans, guest_from}
 use Rattle.adm_match.proofs.Arrival.{Arrived, held_set_other, held_set_less, other_has, same_entrant, held_fact, shaped_set, guest_before}
@@ -22,39 +22,52 @@ held_wish e r s holds at = elim holds [
 ]
 
 -- The school holds more than its quota, and d is the guest there that ranks last. In a stable allocation with d
--- at the school another one of those held would not be there, and it and the school would block.
-pub not_lost : (m : Market) (rows : List Progress) (s : Code) (k : ℕ) (d : Candidate) (q : Progress) → WellListed m → Shaped m rows → NoneLost m rows → slice_get m.entrants k ≡ Some d → slice_get rows k ≡ Some q → q.school ≡ Some s → is_tenant d s ≡ false → quota_of m.seats s < held_at rows s → ((l : ℕ) (c : Candidate) → l ≢ k → IsGuestAt m.entrants rows s l c → ranks_before s c d ≡ true) → (a : Allocation) → IsStable m a → q.rejections + 1 ≤ assigned_rank d.list (a d.child)
-not_lost m rows s k d q well shaped lost at row here free over last a stable =
+-- at the school, of this problem or of one that it is within, another one of those held would not be
+-- there, and it and the school would block.
+pub not_lost : (m : Market) (rows : List Progress) (s : Code) (k : ℕ) (d : Candidate) (q : Progress) → WellListed m → Shaped m rows → NoneLost m rows → slice_get m.entrants k ≡ Some d → slice_get rows k ≡ Some q → q.school ≡ Some s → is_tenant d s ≡ false → quota_of m.seats s < held_at rows s → ((l : ℕ) (c : Candidate) → l ≢ k → IsGuestAt m.entrants rows s l c → ranks_before s c d ≡ true) → (o : Market) → IsWithin m o → (a : Allocation) → IsStable o a → q.rejections + 1 ≤ assigned_rank d.list (a d.child)
+not_lost m rows s k d q well shaped lost at row here free over last o wide a stable =
     let w = held_wish d q s (shaped.holds k d q at row) here in
     elim (cases_lt q.rejections (assigned_rank d.list (a d.child))) [
       | inl less ↦ omega arith
       | inr most ↦ absurd (
-          let least = lost a stable k d q at row in
+          let least = lost o wide a stable k d q at row in
+          let whole = wide.members k d at in
+          let f = whole.1 in
+          let d_rank : preference_rank d.list s ≡ q.rejections = ap (preference_rank d.list) (sym w.2) ∙ well.own_rank k d q.rejections w.0 at w.1 in
+          let d_listed : preference_rank d.list s < length d.list = omega (arith, d_rank, slice_get_within d.list q.rejections w.0 w.1) in
           let there : a d.child ≡ Some s = same_rank d.list (a d.child) q.rejections w.0 w.1 (omega (arith, most, least)) ∙ ap Some w.2 in
-          let few = stable.feasible s (list_any_of (is_guest a s) m.entrants k d at (guest_from a s d there free)) in
-          let one = more_pass (λ r. has r.school s) (λ e. has (a e.child) s) rows m.entrants shaped.same (omega (arith, few, over)) in
+          let there' : a f.child ≡ Some s = ap a (sym whole.3.child) ∙ there in
+          let free' : is_tenant f s ≡ false = whole.3.tenant s ∙ free in
+          let few = stable.feasible s (list_any_of (is_guest a s) o.entrants whole.0 f whole.2 (guest_from a s f there' free')) in
+          let fewer = wide.counts (λ child. has (a child) s) in
+          let one = more_pass (λ r. has r.school s) (λ e. has (a e.child) s) rows m.entrants shaped.same (omega (arith, few, fewer, wide.places s, over)) in
           let l = one.0 in
           let x = one.1 in
           let c = one.2 in
           let x_here : x.school ≡ Some s = (has_tells x.school s).0 one.5 in
           let z = held_wish c x s (shaped.holds l c x one.4 one.3) x_here in
           let c_rank : preference_rank c.list s ≡ x.rejections = ap (preference_rank c.list) (sym z.2) ∙ well.own_rank l c x.rejections z.0 one.4 z.1 in
-          let c_least = lost a stable l c x one.4 one.3 in
+          let c_listed : preference_rank c.list s < length c.list = omega (arith, c_rank, slice_get_within c.list x.rejections z.0 z.1) in
+          let c_least = lost o wide a stable l c x one.4 one.3 in
+          let c_whole = wide.members l c one.4 in
+          let g = c_whole.1 in
           let c_elsewhere : assigned_rank c.list (a c.child) ≡ x.rejections → ⊥ = λ same. not_has (a c.child) s one.6 (same_rank c.list (a c.child) x.rejections z.0 z.1 same ∙ ap Some z.2) in
-          let wants : preference_rank c.list s < assigned_rank c.list (a c.child) = omega (arith, c_rank, c_least, c_elsewhere) in
-          let room = nat_lt (count_at m a s) (quota_of m.seats s) in
-          let behind = list_any (λ other. is_guest a s other && ranks_before s c other) m.entrants in
-          let entitled : (is_tenant c s || (room || behind)) ≡ true = elim (cases_Bool (is_tenant c s)) [
-            | inl tenant ↦ or_left (is_tenant c s) (room || behind) tenant
+          let g_has : assigned_rank g.list (a c.child) ≡ assigned_rank g.list (a g.child) = ap (λ n. assigned_rank g.list (a n)) c_whole.3.child in
+          let wants : preference_rank g.list s < assigned_rank g.list (a g.child) = omega (arith, c_whole.3.rank s c_listed, c_rank, c_least, c_elsewhere, c_whole.3.later (a c.child), g_has) in
+          let room = nat_lt (count_at o a s) (quota_of o.seats s) in
+          let behind = list_any (λ other. is_guest a s other && ranks_before s g other) o.entrants in
+          let entitled : (is_tenant g s || (room || behind)) ≡ true = elim (cases_Bool (is_tenant c s)) [
+            | inl tenant ↦ or_left (is_tenant g s) (room || behind) (c_whole.3.tenant s ∙ tenant)
             | inr guest ↦
                 let apart : l ≢ k = λ same. not_has (a c.child) s one.6 (ap (λ (e : Candidate). a e.child) (sym (same_entrant m k l d c at one.4 same)) ∙ there) in
                 let ranks = last l c apart (one.4, (x, one.3, x_here), guest) in
-                or_right (is_tenant c s) (room || behind) (or_right room behind
-                (list_any_of (λ other. is_guest a s other && ranks_before s c other) m.entrants k d at
-                (and_from (is_guest a s d) (ranks_before s c d) (guest_from a s d there free) ranks)))
+                let ranks' : ranks_before s g f ≡ true = (λ i. both_precede (c_whole.3.key s c_listed i) (whole.3.key s d_listed i)) ∙ ranks in
+                or_right (is_tenant g s) (room || behind) (or_right room behind
+                (list_any_of (λ other. is_guest a s other && ranks_before s g other) o.entrants whole.0 f whole.2
+                (and_from (is_guest a s f) (ranks_before s g f) (guest_from a s f there' free') ranks')))
           ] in
-          let blocking : blocks m a c s ≡ true = and_from (nat_lt (preference_rank c.list s) (assigned_rank c.list (a c.child))) (is_tenant c s || (room || behind)) (lt-ltb _ _ wants) entitled in
-          let unblocked : blocks m a c s ≡ false = at_All (λ e. (t : Code) → blocks m a e t ≡ false) m.entrants l c stable.unblocked one.4 s in
+          let blocking : blocks o a g s ≡ true = and_from (nat_lt (preference_rank g.list s) (assigned_rank g.list (a g.child))) (is_tenant g s || (room || behind)) (lt-ltb _ _ wants) entitled in
+          let unblocked : blocks o a g s ≡ false = at_All (λ e. (t : Code) → blocks o a e t ≡ false) o.entrants c_whole.0 g stable.unblocked c_whole.2 s in
           false≢true (sym unblocked ∙ blocking))
     ]
 
@@ -120,5 +133,5 @@ leave m rows i s k d q well h at row here free over last =
                   })
             ])
       ];
-      none_lost = λ a stable. held_fact (λ e x. x.rejections ≤ assigned_rank e.list (a e.child)) m rows k d v at (not_lost m rows s k d q well h.shaped h.none_lost at row here free over last a stable) (h.none_lost a stable);
+      none_lost = λ o wide a stable. held_fact (λ e x. x.rejections ≤ assigned_rank e.list (a e.child)) m rows k d v at (not_lost m rows s k d q well h.shaped h.none_lost at row here free over last o wide a stable) (h.none_lost o wide a stable);
     }

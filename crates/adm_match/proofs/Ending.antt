@@ -1,14 +1,14 @@
 -- Where no entrant that nobody holds has a school left, what the schools hold is the best allocation.
-use Rattle.std.proofs.Common.{◌≡◌, ℕ, ◌<◌, ◌≤◌, List, length, Option, Some, true, false, ◌||◌, ◌&&◌, inl, inr, sym, ap, ◌∙◌, subst, arith}
-use Rattle.std.specs.Prelude.{IfSome, nat_lt}
+use Rattle.std.proofs.Common.{◌≡◌, ℕ, ◌<◌, ◌≤◌, List, length, Option, Some, true, false, ◌||◌, ◌&&◌, inl, inr, refl, sym, ap, ◌∙◌, subst, arith}
+use Rattle.std.specs.Prelude.{All, IfSome, nat_lt}
 use Rattle.std.specs.List.{slice_get, list_any}
 use Rattle.std.proofs.lemmas.Bool.{cases_Bool, false≢true, and_parts, or_cases, ltb-true}
 use Rattle.std.proofs.lemmas.Option.{slice_get_within}
 use Rattle.adm_types.specs.Code.{has}
 use Rattle.adm_match.specs.declared.progress.Progress.{Progress}
 use Rattle.adm_match.specs.Market.{Code, Candidate, Market, preference_rank, assigned_rank, is_tenant, ranks_before, quota_of}
-use Rattle.adm_match.specs.Stability.{Allocation, count_at, is_guest, blocks, IsBest}
-use Rattle.adm_match.specs.Turns.{held_at, WellListed, Shaped, IsGuestAt, IsRejected, Sound, AllDone, AllotsWhatIsHeld}
+use Rattle.adm_match.specs.Stability.{Allocation, count_at, is_guest, blocks, IsStable, IsBest}
+use Rattle.adm_match.specs.Turns.{held_at, IsWithin, WellListed, Shaped, IsGuestAt, IsRejected, Sound, AllDone, AllotsWhatIsHeld}
 use Rattle.adm_match.proofs.SideBySide.{count_beside, element_at}
 use Rattle.adm_match.proofs.RanksAndBlocks.{All_at, list_any_gives, wish_at_rank, ranks_before_asym, guest_gives}
 
@@ -24,6 +24,21 @@ listed m rows well h k e r ek rk = elim (h.holds k e r ek rk) [
   | inl none ↦ subst (λ (o : Option Code). IfSome o (λ s. preference_rank e.list s < length e.list)) (sym none) tt
   | inr some ↦ subst (λ (o : Option Code). IfSome o (λ s. preference_rank e.list s < length e.list)) (sym some.2) (omega (arith, well.own_rank k e r.rejections some.0 ek some.1, slice_get_within e.list r.rejections some.0 some.1))
 ]
+
+-- each problem includes itself
+itself : (m : Market) → IsWithin m m
+itself m = record {
+  members = λ k e ek. (k, e, ek, record { child = refl; tenant = λ s. refl; rank = λ s l. refl; key = λ s l. refl; later = λ o. omega arith });
+  counts = λ test. omega arith;
+  places = λ s. omega arith;
+}
+
+-- what the schools hold is no worse for an entrant than a stable allocation of a problem that includes this one
+pub ends_ahead : (m : Market) (rows : List Progress) (b : Allocation) → WellListed m → Sound m rows → AllDone m.entrants rows → AllotsWhatIsHeld m rows b → (o : Market) → IsWithin m o → (a : Allocation) → IsStable o a → All (λ e. assigned_rank e.list (b e.child) ≤ assigned_rank e.list (a e.child)) m.entrants
+ends_ahead m rows b well h done gives o wide a stable = All_at (λ e. assigned_rank e.list (b e.child) ≤ assigned_rank e.list (a e.child)) m.entrants (λ k e ek.
+    let r = element_at rows k (omega (arith, slice_get_within m.entrants k e ek, h.shaped.same)) in
+    let at_rank : assigned_rank e.list (b e.child) ≡ r.0.rejections = ap (assigned_rank e.list) (gives k e r.0 ek r.1) ∙ rejections_is m rows well h.shaped done k e r.0 ek r.1 in
+    omega (arith, at_rank, h.none_lost o wide a stable k e r.0 ek r.1))
 
 pub ends_best : (m : Market) (rows : List Progress) (b : Allocation) → WellListed m → Sound m rows → AllDone m.entrants rows → AllotsWhatIsHeld m rows b → IsBest m b
 ends_best m rows b well h done gives =
@@ -69,7 +84,5 @@ ends_best m rows b well h done gives =
               ])
         ]);
       };
-      none_better = λ a stable. All_at (λ e. assigned_rank e.list (b e.child) ≤ assigned_rank e.list (a e.child)) m.entrants (λ k e ek.
-          let r = row k e ek in
-          omega (arith, at_rank k e r.0 ek r.1, h.none_lost a stable k e r.0 ek r.1));
+      none_better = ends_ahead m rows b well h done gives m (itself m);
     }

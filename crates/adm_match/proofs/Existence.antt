@@ -1,12 +1,13 @@
 -- There is a best allocation: the turns end.
 use Rattle.std.proofs.Common.{◌≡◌, ◌⊎◌, ℕ, zero, suc, ◌+◌, ◌<◌, ◌≤◌, List, [], ◌∷◌, length, map, set, Option, None, Some, not, ◌&&◌, inl, inr, refl, sym, ap, ◌∙◌, arith, add-one}
+use Rattle.std.specs.Prelude.{All}
 use Rattle.std.proofs.lemmas.Bool.{cases_Bool, cases_lt}
 use Rattle.std.proofs.lemmas.Option.{none-some, same_Some, slice_get_within}
 use Rattle.adm_types.specs.Code.{has}
 use Rattle.adm_match.specs.declared.progress.Progress.{Progress}
-use Rattle.adm_match.specs.Market.{Code, Candidate, Market, is_tenant, ranks_before, quota_of}
-use Rattle.adm_match.specs.Stability.{Allocation, IsBest}
-use Rattle.adm_match.specs.Turns.{held_at, Sound, AllDone, IsFree, IsLast, NoGuest, AreRanked, turns_left, start_of, held_by, with_rejection, found_in}
+use Rattle.adm_match.specs.Market.{Code, Candidate, Market, assigned_rank, is_tenant, ranks_before, quota_of}
+use Rattle.adm_match.specs.Stability.{Allocation, IsStable, IsBest}
+use Rattle.adm_match.specs.Turns.{held_at, IsWithin, Sound, AllDone, IsFree, IsLast, NoGuest, AreRanked, turns_left, start_of, held_by, with_rejection, found_in}
 use Rattle.adm_match.proofs.SideBySide.{element_at}
 use Rattle.adm_match.proofs.Arrival.{stay}
 use Rattle.adm_match.proofs.Departure.{leave}
@@ -15,7 +16,7 @@ use Rattle.adm_match.proofs.Turn.{came, starts, turns_left_leave}
 use Rattle.adm_match.specs.Distinct.{Distinct}
 use Rattle.adm_match.proofs.Distinct.{ranked_of}
 use Rattle.adm_match.proofs.GivenByRows.{gives_by}
-use Rattle.adm_match.proofs.Ending.{ends_best}
+use Rattle.adm_match.proofs.Ending.{ends_best, ends_ahead}
 
 free_or_done : (es : List Candidate) (rows : List Progress) → ((k : ℕ) × IsFree es rows k) ⊎ AllDone es rows
 free_or_done [] rows = inr (λ k e r ek rk none. absurd (none-some e ek))
@@ -96,9 +97,14 @@ ends m h (suc n) rows l sound = elim (free_or_done m.entrants rows) [
       ends m h n next.0 (omega (arith, next.2)) next.1
 ]
 
-pub best_exists : (m : Market) → Distinct m → (b : Allocation) × IsBest m b
-best_exists m h =
+-- a best allocation, which is no worse for an entrant than any stable allocation of a problem that includes this one
+pub best_ahead : (m : Market) → Distinct m → (b : Allocation) × IsBest m b × ((o : Market) → IsWithin m o → (a : Allocation) → IsStable o a → All (λ e. assigned_rank e.list (b e.child) ≤ assigned_rank e.list (a e.child)) m.entrants)
+best_ahead m h =
     let rows = map start_of m.entrants in
     let end = ends m h (turns_left m.entrants rows + 1) rows (omega arith) (starts m) in
     let b : Allocation = found_in end.0 in
-    (b, ends_best m end.0 b h.well end.1 end.2 (gives_by m end.0 h.children end.1.shaped))
+    let gives = gives_by m end.0 h.children end.1.shaped in
+    (b, ends_best m end.0 b h.well end.1 end.2 gives, ends_ahead m end.0 b h.well end.1 end.2 gives)
+
+pub best_exists : (m : Market) → Distinct m → (b : Allocation) × IsBest m b
+best_exists m h = let best = best_ahead m h in (best.0, best.1)

@@ -15,7 +15,10 @@ pub mod Placed
 pub mod Moved
 pub mod Beginning
 pub mod NoGain
+pub mod Generous
 pub mod Relisted
+pub mod FullSchools
+pub mod AnyList
 pub mod Heap
 pub mod Mirror
 pub mod DirectoryLemmas

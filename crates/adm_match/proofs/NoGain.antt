@@ -229,10 +229,10 @@ never_gained m m' k e e' b a w h d seated best stable wanted at free' key' gain 
     front_at : (ws : List Wish) (n : ℕ) (w : Wish) → slice_get ws n ≡ Some w → slice_get (take (n + 1) ws) n ≡ Some w
     front_at ws n w e = rw add-one (front ws n w e)
 
--- A list that names schools of the entrant's own list, by their keys there, and the same tenancy.
+-- Any list, with the entrant's own keys at the schools of its list, by which it is tenant of no other school.
 pub record Listing (e e' : Candidate) : Type 0 where
-  pub tenant : (s : Code) → is_tenant e' s ≡ is_tenant e s
-  pub own : (s : Code) → preference_rank e'.list s < length e'.list → (preference_rank e.list s < length e.list) × (key_at e'.list s ≡ key_at e.list s)
+  pub guest : (s : Code) → is_tenant e s ≡ false → is_tenant e' s ≡ false
+  pub own : (s : Code) → preference_rank e.list s < length e.list → preference_rank e'.list s < length e'.list → key_at e'.list s ≡ key_at e.list s
 
 -- Whatever such list the child hands in: no stable allocation of that problem gives it a school before the one
 -- that it has in the best allocation.
@@ -242,38 +242,40 @@ no_gain m m' k e e' b a h listing d seated tenant_last best stable = elim (given
   | inr given ↦
       let s = given.0 in
       let at' : a e'.child ≡ Some s = ap a h.child ∙ given.1 in
-      let own = listing.own s (on_list m' a k e' s stable.acceptable h.here' at') in
-      let w = wish_at_rank e.list s own.0 in
       let a_rank : assigned_rank e.list (a e.child) ≡ preference_rank e.list s = ap (assigned_rank e.list) given.1 in
       elim (cases_lt (preference_rank e.list s) (assigned_rank e.list (b e.child))) [
         | inr most ↦ omega (arith, most, a_rank)
-        | inl gain ↦ elim (cases_Bool (is_tenant e s)) [
-          | inl tenant ↦
-              -- the tenant's school is the last, and the tenant always has it or a better one
-              let wants : prefers b e s ≡ true = lt-ltb _ _ gain in
-              let unblocked = at_All (IsContent m b) m.entrants k e best.stable.unblocked h.here s in
-              absurd (false≢true (sym (full_if_unblocked m b e s wants unblocked).0 ∙ tenant))
-          | inr free ↦
-              let w_key : key_at e.list s ≡ Some w.0.key = ap (key_at e.list) (sym w.2) ∙ d.key_of k e (preference_rank e.list s) w.0 h.here w.1 in
-              let wanted : Wanted m k e (preference_rank e.list w.0.school) w.0 = record {
-                here = h.here;
-                at = ap (λ (t : Code). slice_get e.list (preference_rank e.list t)) w.2 ∙ w.1;
-                free_upto = λ j x upto jx. elim (cases_Bool (is_tenant e x.school)) [
-                  | inr free' ↦ free'
-                  | inl tenant ↦ absurd (
-                      let last = tenant_last x.school tenant in
-                      let x_rank = d.well.own_rank k e j x h.here jx in
-                      let s_rank : preference_rank e.list w.0.school ≡ preference_rank e.list s = ap (preference_rank e.list) w.2 in
-                      let same : j ≡ preference_rank e.list s = omega (arith, last, x_rank, upto, s_rank, own.0) in
-                      let x_is : x ≡ w.0 = same_Some x w.0 (sym jx ∙ (ap (slice_get e.list) same ∙ w.1)) in
-                      false≢true (sym free ∙ (ap (is_tenant e) (sym w.2 ∙ ap (λ (z : Wish). z.school) (sym x_is)) ∙ tenant)))
-                ];
-              } in
-              absurd (never_gained m m' k e e' b a w.0 h d seated best stable wanted (given.1 ∙ ap Some (sym w.2))
-              (listing.tenant w.0.school ∙ (ap (is_tenant e) w.2 ∙ free))
-              (ap (key_at e'.list) w.2 ∙ (own.1 ∙ w_key))
-              (omega (arith, ap (preference_rank e.list) w.2, gain)))
-        ]
+        | inl gain ↦
+            let inside : preference_rank e.list s < length e.list = omega (arith, gain, rank_within e.list (b e.child)) in
+            let own = listing.own s inside (on_list m' a k e' s stable.acceptable h.here' at') in
+            let w = wish_at_rank e.list s inside in
+            elim (cases_Bool (is_tenant e s)) [
+              | inl tenant ↦
+                  -- the tenant's school is the last, and the tenant always has it or a better one
+                  let wants : prefers b e s ≡ true = lt-ltb _ _ gain in
+                  let unblocked = at_All (IsContent m b) m.entrants k e best.stable.unblocked h.here s in
+                  absurd (false≢true (sym (full_if_unblocked m b e s wants unblocked).0 ∙ tenant))
+              | inr free ↦
+                  let w_key : key_at e.list s ≡ Some w.0.key = ap (key_at e.list) (sym w.2) ∙ d.key_of k e (preference_rank e.list s) w.0 h.here w.1 in
+                  let wanted : Wanted m k e (preference_rank e.list w.0.school) w.0 = record {
+                    here = h.here;
+                    at = ap (λ (t : Code). slice_get e.list (preference_rank e.list t)) w.2 ∙ w.1;
+                    free_upto = λ j x upto jx. elim (cases_Bool (is_tenant e x.school)) [
+                      | inr free' ↦ free'
+                      | inl tenant ↦ absurd (
+                          let last = tenant_last x.school tenant in
+                          let x_rank = d.well.own_rank k e j x h.here jx in
+                          let s_rank : preference_rank e.list w.0.school ≡ preference_rank e.list s = ap (preference_rank e.list) w.2 in
+                          let same : j ≡ preference_rank e.list s = omega (arith, last, x_rank, upto, s_rank, inside) in
+                          let x_is : x ≡ w.0 = same_Some x w.0 (sym jx ∙ (ap (slice_get e.list) same ∙ w.1)) in
+                          false≢true (sym free ∙ (ap (is_tenant e) (sym w.2 ∙ ap (λ (z : Wish). z.school) (sym x_is)) ∙ tenant)))
+                    ];
+                  } in
+                  absurd (never_gained m m' k e e' b a w.0 h d seated best stable wanted (given.1 ∙ ap Some (sym w.2))
+                  (listing.guest w.0.school (ap (is_tenant e) w.2 ∙ free))
+                  (ap (key_at e'.list) w.2 ∙ (own ∙ w_key))
+                  (omega (arith, ap (preference_rank e.list) w.2, gain)))
+            ]
       ]
 ]
   where

@@ -67,7 +67,7 @@ no_more m best a s b h = elim (cases_lt (count_at m a s) (count_at m best s)) [
 ]
 
 -- counts over the schools
-abbrev at_seats : List Seats → Option Code → ℕ
+abbrev pub at_seats : List Seats → Option Code → ℕ
 at_seats seats o = sum_by (λ seat. one_if (has o seat.code)) seats
 
 sum_plus : {X : Type 0} (f g : X → ℕ) (xs : List X) → sum_by (λ x. f x + g x) xs ≡ sum_by f xs + sum_by g xs
@@ -78,12 +78,12 @@ sum_zero : {X : Type 0} (xs : List X) → sum_by (λ (x : X). 0) xs ≡ 0
 sum_zero [] = refl
 sum_zero (x ∷ xs) = omega (arith, sum_by-cons (λ x. 0) x xs, sum_zero xs)
 
-sum_upto : {X : Type 0} (f g : X → ℕ) (xs : List X) → ((x : X) → f x ≤ g x) → sum_by f xs ≤ sum_by g xs
+pub sum_upto : {X : Type 0} (f g : X → ℕ) (xs : List X) → ((x : X) → f x ≤ g x) → sum_by f xs ≤ sum_by g xs
 sum_upto f g [] h = omega arith
 sum_upto f g (x ∷ xs) h = omega (arith, sum_by-cons f x xs, sum_by-cons g x xs, h x, sum_upto f g xs h)
 
 -- the same children, counted by their schools or one by one
-swap_sums : (a : Allocation) (seats : List Seats) (es : List Candidate) → sum_by (λ seat. count_by (λ e. has (a e.child) seat.code) es) seats ≡ sum_by (λ e. at_seats seats (a e.child)) es
+pub swap_sums : (a : Allocation) (seats : List Seats) (es : List Candidate) → sum_by (λ seat. count_by (λ e. has (a e.child) seat.code) es) seats ≡ sum_by (λ e. at_seats seats (a e.child)) es
 swap_sums a seats [] = sum_zero seats
 swap_sums a seats (e ∷ es) =
     let split : sum_by (λ seat. count_by (λ x. has (a x.child) seat.code) (e ∷ es)) seats ≡ sum_by (λ seat. one_if (has (a e.child) seat.code) + count_by (λ x. has (a x.child) seat.code) es) seats
@@ -123,7 +123,7 @@ seats_has (x ∷ xs) s h =
       | inr rest ↦ omega (arith, sum, seats_has xs s rest)
     ]
 
-abbrev placed : Allocation → Candidate → Bool
+abbrev pub placed : Allocation → Candidate → Bool
 placed a e = is_some (a e.child)
 
 some_of : (o : Option Code) → is_some o ≡ true → (s : Code) × (o ≡ Some s)
@@ -134,7 +134,7 @@ some_from : (o : Option Code) (s : Code) → o ≡ Some s → is_some o ≡ true
 some_from o s e = ap is_some e
 
 -- at most as many are placed as the schools have
-placed_from : (m : Market) (a : Allocation) → Seated m → IsAcceptable m a → count_by (placed a) m.entrants ≤ sum_by (λ e. at_seats m.seats (a e.child)) m.entrants
+pub placed_from : (m : Market) (a : Allocation) → Seated m → IsAcceptable m a → count_by (placed a) m.entrants ≤ sum_by (λ e. at_seats m.seats (a e.child)) m.entrants
 placed_from m a h l = sum_beside (λ e. one_if (placed a e)) (λ e. at_seats m.seats (a e.child)) m.entrants m.entrants refl (λ k e e' ek ek'.
     subst (λ (x : Candidate). one_if (placed a e) ≤ at_seats m.seats (a x.child)) (same_Some e e' (sym ek ∙ ek')) (one k e ek))
   where
@@ -150,11 +150,11 @@ placed_from m a h l = sum_beside (λ e. one_if (placed a e)) (λ e. at_seats m.s
           omega (arith, one', here)
     ]
 
-placed_upto : (m : Market) (a : Allocation) → Seated m → sum_by (λ e. at_seats m.seats (a e.child)) m.entrants ≤ count_by (placed a) m.entrants
+pub placed_upto : (m : Market) (a : Allocation) → Seated m → sum_by (λ e. at_seats m.seats (a e.child)) m.entrants ≤ count_by (placed a) m.entrants
 placed_upto m a h = sum_upto (λ e. at_seats m.seats (a e.child)) (λ e. one_if (placed a e)) m.entrants (λ e. seats_once m.seats (a e.child) h.once)
 
 -- a test that passes wherever another one does, and once more, passes more often
-count_less : {X : Type 0} (p q : X → Bool) (xs : List X) (k : ℕ) (x : X) → ((j : ℕ) (y : X) → slice_get xs j ≡ Some y → q y ≡ true → p y ≡ true) → slice_get xs k ≡ Some x → p x ≡ true → q x ≡ false → count_by q xs < count_by p xs
+pub count_less : {X : Type 0} (p q : X → Bool) (xs : List X) (k : ℕ) (x : X) → ((j : ℕ) (y : X) → slice_get xs j ≡ Some y → q y ≡ true → p y ≡ true) → slice_get xs k ≡ Some x → p x ≡ true → q x ≡ false → count_by q xs < count_by p xs
 count_less p q xs k x all at in' out = elim (cases_lt (count_by q xs) (count_by p xs)) [
   | inl less ↦ less
   | inr most ↦ absurd (differ p q xs (upto p q xs all) most k x at in' out)

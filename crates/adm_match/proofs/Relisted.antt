@@ -1,5 +1,5 @@
 -- The problem in which one child hands in another list, and the laws of stable allocations.
-use Rattle.std.proofs.Common.{◌≡◌, ℕ, ◌+◌, ◌<◌, ◌≤◌, List, [], ◌∷◌, ◌++◌, length, Option, None, Some, true, false, cond, not, inl, inr, refl, sym, ap, ◌∙◌, subst, arith}
+use Rattle.std.proofs.Common.{◌≡◌, ℕ, ◌+◌, ◌<◌, ◌≤◌, List, [], ◌∷◌, ◌++◌, length, map, Option, None, Some, true, false, cond, not, inl, inr, refl, sym, ap, ◌∙◌, subst, arith}
 use Rattle.std.specs.Prelude.{is_some, bytes_eq, option_map, find, ◌==◌}
 use Rattle.std.specs.List.{slice_get, list_any, cons_option}
 use Rattle.std.specs.Option.{option_to_list}
@@ -10,7 +10,7 @@ use Rattle.std.proofs.lemmas.Slice.Eq.{bytes_eq-Decides}
 use Rattle.adm_match.specs.declared.problem.Wish.{Wish}
 use Rattle.adm_match.specs.Market.{Code, Candidate, Market, preference_rank, assigned_rank, is_tenant, key_at, is_not_last, some_pair, same_code, same_school}
 use Rattle.adm_match.specs.Stability.{Allocation, IsStable}
-use Rattle.adm_match.specs.Relisting.{wishes_among, with_list, relist, relisted, NoGain, SamePlaced, OneBest}
+use Rattle.adm_match.specs.Relisting.{wishes_among, with_list, relisted, NoGain, SamePlaced, OneBest}
 use Rattle.adm_match.proofs.RanksAndBlocks.{has_tells, at_All, All_at, same_rank, wish_at_rank}
 use Rattle.adm_match.proofs.FirstBlock.{found_at, rank_upto}
 use Rattle.adm_match.proofs.Posed.{Posed, posed, list_any_not}
@@ -22,29 +22,36 @@ use Rattle.adm_match.proofs.Placed.{same_placed, on_list}
 use Rattle.adm_match.proofs.Moved.{Differs}
 use Rattle.adm_match.proofs.NoGain.{Listing, no_gain}
 
-relist_there : (child : ℕ) (schools : List Code) (o : Option Candidate) → ((x : Candidate) → o ≡ Some x → x.child ≡ child → ⊥) → option_map (relist child schools) o ≡ o
-relist_there child schools None h = refl
-relist_there child schools (Some x) h = elim (cases_Bool (x.child == child)) [
+-- one child's entrant changed, and the others as they are
+abbrev pub changed : ℕ → (Candidate → Candidate) → Candidate → Candidate
+changed child new x = cond (x.child == child) (new x) x
+
+changed_there : (child : ℕ) (new : Candidate → Candidate) (o : Option Candidate) → ((x : Candidate) → o ≡ Some x → x.child ≡ child → ⊥) → option_map (changed child new) o ≡ o
+changed_there child new None h = refl
+changed_there child new (Some x) h = elim (cases_Bool (x.child == child)) [
   | inl hit ↦ absurd (h x refl (eqb-true _ _ hit))
-  | inr miss ↦ ap (λ b. Some (cond b (with_list x schools) x)) miss
+  | inr miss ↦ ap (λ b. Some (cond b (new x) x)) miss
 ]
 
-pub differs_relisted : (m : Market) (schools : List Code) (k : ℕ) (e : Candidate) → Distinct m → slice_get m.entrants k ≡ Some e → Differs m (relisted m e.child schools) k e (with_list e schools)
-differs_relisted m schools k e d here = record {
+pub differs_changed : (m : Market) (new : Candidate → Candidate) (k : ℕ) (e : Candidate) → Distinct m → slice_get m.entrants k ≡ Some e → (new e).child ≡ e.child → Differs m (record m { entrants = map (changed e.child new) m.entrants }) k e (new e)
+differs_changed m new k e d here child = record {
   seats = refl;
-  same = length-map m.entrants (relist e.child schools);
+  same = length-map m.entrants (changed e.child new);
   here = here;
-  here' = slice_get-map (relist e.child schools) m.entrants k ∙ (ap (option_map (relist e.child schools)) here
-      ∙ ap (λ b. Some (cond b (with_list e schools) e)) (eq-eqb e.child e.child refl));
-  others = λ j n. slice_get-map (relist e.child schools) m.entrants j ∙ relist_there e.child schools (slice_get m.entrants j) (λ x jx same. elim (cases_order j k) [
+  here' = slice_get-map (changed e.child new) m.entrants k ∙ (ap (option_map (changed e.child new)) here
+      ∙ ap (λ b. Some (cond b (new e) e)) (eq-eqb e.child e.child refl));
+  others = λ j n. slice_get-map (changed e.child new) m.entrants j ∙ changed_there e.child new (slice_get m.entrants j) (λ x jx same. elim (cases_order j k) [
     | inl is ↦ n is
     | inr other ↦ elim other [
       | inl less ↦ d.children j k x e jx here less same
       | inr more ↦ d.children k j e x here jx more (sym same)
     ]
   ]);
-  child = refl;
+  child = child;
 }
+
+pub differs_relisted : (m : Market) (schools : List Code) (k : ℕ) (e : Candidate) → Distinct m → slice_get m.entrants k ≡ Some e → Differs m (relisted m e.child schools) k e (with_list e schools)
+differs_relisted m schools k e d here = differs_changed m (λ x. with_list x schools) k e d here refl
 
 -- the wishes for some schools are wishes of the list
 abbrev Own : List Wish → List Wish → Code → Type 0
@@ -73,8 +80,8 @@ wishes_own list (t ∷ ts) s = wish_own list (wishes_among list ts) t s (find (�
 
 listing : (e : Candidate) (schools : List Code) → Listing e (with_list e schools)
 listing e schools = record {
-  tenant = λ s. refl;
-  own = λ s l. wishes_own e.list (schools ++ option_to_list e.tenant) s l;
+  guest = λ s f. f;
+  own = λ s _ l. (wishes_own e.list (schools ++ option_to_list e.tenant) s l).1;
 }
 
 pub seated : (m : Market) → Posed m → Seated m
@@ -85,7 +92,7 @@ seated m h = record {
       not-false _ (list_any_not (λ (wish : Wish). not (list_any (λ seat. bytes_eq seat.code wish.school) m.seats)) e.list j w of_list jw);
 }
 
-tenant_last : (m : Market) → Posed m → (k : ℕ) (e : Candidate) → slice_get m.entrants k ≡ Some e → (s : Code) → is_tenant e s ≡ true → preference_rank e.list s + 1 ≡ length e.list
+pub tenant_last : (m : Market) → Posed m → (k : ℕ) (e : Candidate) → slice_get m.entrants k ≡ Some e → (s : Code) → is_tenant e s ≡ true → preference_rank e.list s + 1 ≡ length e.list
 tenant_last m h k e ek s tenant =
     let home : e.tenant ≡ Some s = (has_tells e.tenant s).0 tenant in
     let last : is_not_last e.list (Some s) ≡ false = ap (is_not_last e.list) (sym home) ∙ list_any_not (λ (entrant : Candidate). is_not_last entrant.list entrant.tenant) m.entrants k e h.tenants ek in

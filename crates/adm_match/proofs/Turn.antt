@@ -64,7 +64,7 @@ starts m =
       };
       within_quota = λ s k e g. absurd (empty s k e g);
       rejected = λ k e r j w ek rk l jw. absurd (omega (arith, l, ap (λ (x : Progress). x.rejections) (row k e r ek rk)));
-      none_lost = λ a stable k e r ek rk. omega (arith, ap (λ (x : Progress). x.rejections) (row k e r ek rk));
+      none_lost = λ o wide a stable k e r ek rk. omega (arith, ap (λ (x : Progress). x.rejections) (row k e r ek rk));
     }
 
 -- the wish that the code reads is the next one

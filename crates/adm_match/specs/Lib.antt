@@ -1,5 +1,6 @@
 pub mod Market
 pub mod Stability
+pub mod Generous
 pub mod Turns
 pub mod Distinct
 pub mod Blocks
@@ -7,3 +8,5 @@ pub mod Relisting
 pub mod Holding
 pub mod Queue
 pub mod Claims
+pub mod FullSchools
+pub mod AnyList

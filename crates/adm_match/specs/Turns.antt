@@ -1,9 +1,9 @@
 -- Where the entrants stand between two turns of deferred acceptance.
-use Rattle.std.specs.Prelude.{◌≡◌, ℕ, ◌<◌, ◌≤◌, ◌⊎◌, ◌+◌, ◌-◌, ◌≢◌, true, false, List, length, None, Some, is_none, is_some, if◌then◌else◌, slice_get, count_by, sum_by, unwrap_or, option_map, find, ◌==◌}
+use Rattle.std.specs.Prelude.{◌≡◌, ℕ, ◌<◌, ◌≤◌, ◌⊎◌, ◌+◌, ◌-◌, ◌≢◌, Bool, true, false, List, length, Option, None, Some, is_none, is_some, if◌then◌else◌, slice_get, count_by, sum_by, unwrap_or, option_map, find, ◌==◌}
 use Rattle.adm_types.specs.Code.{has}
 use Rattle.adm_match.specs.declared.problem.Wish.{Wish}
 use Rattle.adm_match.specs.declared.progress.Progress.{Progress}
-use Rattle.adm_match.specs.Market.{Code, Candidate, Market, preference_rank, assigned_rank, is_tenant, ranks_before, quota_of}
+use Rattle.adm_match.specs.Market.{Code, Candidate, Market, preference_rank, assigned_rank, is_tenant, key_at, ranks_before, quota_of}
 use Rattle.adm_match.specs.Stability.{Allocation, IsStable}
 
 -- how many of the entrants a school holds, tentatively
@@ -25,9 +25,26 @@ pub record Shaped (m : Market) (rows : List Progress) : Type 0 where
   pub holds : (k : ℕ) (e : Candidate) (r : Progress) → slice_get m.entrants k ≡ Some e → slice_get rows k ≡ Some r → IsHeldByNext e r
   pub within : (k : ℕ) (e : Candidate) (r : Progress) → slice_get m.entrants k ≡ Some e → slice_get rows k ≡ Some r → r.rejections ≤ length e.list
 
--- no stable allocation gives an entrant a school that rejected it
+-- One entrant is another one with a list that may be shorter at its end: at each school of its list it has that one's
+-- rank, key and tenancy, and it ranks nothing later than that one does.
+pub record BeginsLike (e f : Candidate) : Type 0 where
+  pub child : e.child ≡ f.child
+  pub tenant : (s : Code) → is_tenant f s ≡ is_tenant e s
+  pub rank : (s : Code) → preference_rank e.list s < length e.list → preference_rank f.list s ≡ preference_rank e.list s
+  pub key : (s : Code) → preference_rank e.list s < length e.list → key_at f.list s ≡ key_at e.list s
+  pub later : (o : Option Code) → assigned_rank e.list o ≤ assigned_rank f.list o
+
+-- Each entrant of a problem begins like one of the other problem, no test passes for more of its children than there,
+-- and no school has fewer places.
+pub record IsWithin (m other : Market) : Type 0 where
+  pub members : (k : ℕ) (e : Candidate) → slice_get m.entrants k ≡ Some e → (j : ℕ) × (f : Candidate) × (slice_get other.entrants j ≡ Some f) × BeginsLike e f
+  pub counts : (test : ℕ → Bool) → count_by (λ e. test e.child) m.entrants ≤ count_by (λ e. test e.child) other.entrants
+  pub places : (school : Code) → quota_of other.seats school ≤ quota_of m.seats school
+
+-- no stable allocation gives an entrant a school that rejected it: none of the problem, nor of one with more entrants,
+-- longer lists or fewer places
 abbrev pub NoneLost : Market → List Progress → Type 0
-NoneLost m rows = (a : Allocation) → IsStable m a → (k : ℕ) (e : Candidate) (r : Progress) → slice_get m.entrants k ≡ Some e → slice_get rows k ≡ Some r → r.rejections ≤ assigned_rank e.list (a e.child)
+NoneLost m rows = (o : Market) → IsWithin m o → (a : Allocation) → IsStable o a → (k : ℕ) (e : Candidate) (r : Progress) → slice_get m.entrants k ≡ Some e → slice_get rows k ≡ Some r → r.rejections ≤ assigned_rank e.list (a e.child)
 
 -- the school holds this entrant, which is no tenant of it
 abbrev pub IsGuestAt : List Candidate → List Progress → Code → ℕ → Candidate → Type 0
