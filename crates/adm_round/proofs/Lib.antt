@@ -5,3 +5,4 @@ pub mod ListedSchools
 pub mod Faultless
 pub mod GivenToApplicants
 pub mod OneBest
+pub mod MoreQuotas

@@ -2,3 +2,4 @@ pub mod Round
 pub mod Ranks
 pub mod Lookups
 pub mod Outcomes
+pub mod Raised

@@ -8,6 +8,7 @@ mod laws;
 mod lots;
 mod outcomes;
 mod problems;
+mod raised;
 mod wanting;
 
 pub use allotting::allot;
@@ -16,3 +17,4 @@ pub use laws::{allotment_fits, one_allotment, posed_without_fault};
 pub use lots::{drawn, wanted_pairs};
 pub use outcomes::{Totals, counts};
 pub use problems::problem_of;
+pub use raised::no_loss_by_quotas;
