@@ -4,7 +4,7 @@
 #   make build    the proved program, at bin/admissions
 #   make demo     the examples, run and compared with what they must print
 #   make cases    the cases, the same way; they take seconds once the program is built
-#   make test     every proof, wrong bodies, tests, examples and cases; its last line is 'N passed, M failed'
+#   make test     every proof, mutants, tests, examples and cases; its last line is 'N passed, M failed'
 #   make wrong-bodies  those that the gate leaves to the hand, each of which must be refused
 #   make sweep    each request of the built program for memory refused, in turn: what is answered and left then; some minutes
 #   make audits   admissions-audit on the rounds of 200 random registers, on files that were changed by hand, and on all allocations of small ones
@@ -18,19 +18,25 @@ EXAMPLES := first_path applications season
 
 LOOKED_AT := $(addprefix examples/applications/,schools.jsonl children.jsonl applications.jsonl)
 
-.PHONY: look build demo cases test wrong-bodies sweep audits races bench bench-more deploy-check install
+.PHONY: look build demo cases test wrong-bodies sweep audits races bench bench-more deploy-check install needs-demo needs-cases needs-sweep
 
 look:
+	@tools/needs look
 	@cat $(LOOKED_AT) | tools/look
 
 build:
+	@tools/needs build
 	tools/build
 
-demo: build
+demo: needs-demo build
 	@tools/examples bin/admissions $(EXAMPLES)
 
-cases: build
+cases: needs-cases build
 	@tools/cases bin/admissions $(notdir $(wildcard cases/*))
+
+# Before a build that takes an hour: what the goal needs after it
+needs-demo needs-cases needs-sweep:
+	@tools/needs $(@:needs-%=%)
 
 test:
 	@tools/test $(EXAMPLES)
@@ -38,7 +44,7 @@ test:
 wrong-bodies:
 	tools/wrong-bodies
 
-sweep: build
+sweep: needs-sweep build
 	tools/sweep bin/admissions
 
 audits: build
