@@ -16,6 +16,7 @@ use sqlite::Alter;
 use std::alloc::Global;
 use std::io::Write;
 use std::net::{Shutdown, TcpListener, TcpStream};
+use std::thread;
 use std::time::{Clock, Duration};
 
 /// How many seconds a request may take to come, from when its connection is accepted.
@@ -27,12 +28,18 @@ const SECONDS_OF_RESPONSE: u64 = 3;
 /// How many seconds are given to what still comes after the response.
 const SECONDS_OF_REST: u64 = 2;
 
+/// How many seconds are waited after an accept that failed.
+const SECONDS_BETWEEN_ACCEPTS: u64 = 1;
+
 /// How many bytes are read and dropped after the response: 2 MiB.
 const BYTES_OF_REST: usize = 2_097_152;
 
 /// Serves as many connections, one after the other, and waits for each. A connection's fault is
 /// printed as `fault: `, its name and LF, and the next one is served; a print that fails is passed
 /// over. The exit status is 4 where the desk has failed, and else 0.
+///
+/// An accept that fails, as where the process has no free descriptor, is no connection and is not
+/// counted: `fault: Accept` and LF is printed, and the next one is tried a second later.
 ///
 /// A request that has not come whole within 5 seconds is the fault Read of its connection, and a
 /// response that has not gone out within 3 is Write, both by the clock that is handed in. After a
@@ -68,7 +75,7 @@ pub(crate) fn serve_each<C: Clock, A: Answering, E: Write>(
     ensures { AnswersUpTo A.runs A.shows count (A.view desk.old) (A.view desk.new) }
 {
     for _turn in 0..count {
-        if let Err(fault) = serve_next(clock, alloc, routes, desk, listener) {
+        if let Err(fault) = serve_next(clock, alloc, routes, desk, listener, errors) {
             // A print that fails is passed over.
             let _ = errors.write_all(fault_line(fault).as_bytes());
         }
@@ -76,23 +83,42 @@ pub(crate) fn serve_each<C: Clock, A: Answering, E: Write>(
 }
 
 // Waits for a connection, and serves it.
-fn serve_next<C: Clock, A: Answering>(
+fn serve_next<C: Clock, A: Answering, E: Write>(
     clock: &C,
     alloc: Global,
     routes: &Routes,
     desk: &mut A,
     listener: &TcpListener,
+    errors: &mut E,
 ) -> Result<usize, ServeFault>
     ensures { AnswersOne A.runs A.shows (A.view desk.old) (A.view desk.new) }
 {
-    let Ok((stream, _)) = listener.accept() else {
-        return Err(ServeFault::Read);
+    let Some(stream) = accept(clock, listener, errors) else {
+        return Ok(0);
     };
     let served = serve_stream(clock, alloc, routes, desk, &stream);
     if served.is_ok() {
         take_rest(clock, &stream);
     }
     served
+}
+
+// Waits for a connection. An accept that fails is reported, and tried again a second later. `None`
+// would come after 2^64 such seconds.
+fn accept<C: Clock, E: Write>(
+    clock: &C,
+    listener: &TcpListener,
+    errors: &mut E,
+) -> Option<TcpStream> {
+    for _attempt in 0..u64::MAX {
+        if let Ok((stream, _)) = listener.accept() {
+            return Some(stream);
+        }
+        // A print that fails is passed over.
+        let _ = errors.write_all(b"fault: Accept\n");
+        thread::sleep(clock, Duration::from_secs(SECONDS_BETWEEN_ACCEPTS));
+    }
+    None
 }
 
 // Serves the request of a connection.

@@ -160,7 +160,7 @@ module _ {D : Type 0} {g : disk.Ghosts D} where
 
   file_exit : (desk : DeskState (Held (FileStore D g))) (file output : Stream) (e : Result Exit Fault) (closed : Result (Files D) (Error × FileStore D g))
       → ImportsFile desk file output e closed → status e (error_of closed) ≢ 2
-  file_exit desk file output e closed (inl left) = not_two _ (fault_exit e _ (error_of closed) left.0)
+  file_exit desk file output e closed (inl left) = not_two _ (fault_exit e _ (error_of closed) left.1)
   file_exit desk file output e closed (inr does) = imported desk does.after file output e (error_of closed) does.ends
 
   import_exit : (image : Image) (file output : Stream) (e : Result Exit Fault) (closed : Result (Files D) (Error × FileStore D g)) → ImportsInto image file output e closed

@@ -29,7 +29,7 @@ use Rattle.adm_program.specs.declared.cause.Cause.{Cause}
 use Rattle.adm_program.specs.declared.cause.Cause.TheVariants as cause
 use Rattle.adm_program.specs.declared.ended.Ended.{Ended}
 use Rattle.adm_program.specs.declared.fault.Fault.{Fault}
-use Rattle.adm_program.specs.declared.fault.Fault.TheVariants.{TooManyHolidays, YearRange, InUse, NotOurs, Version, BadRow, Disk, Memory, Read, Write, UnknownChild, UnknownSchool, NoRound, Listen, Row}
+use Rattle.adm_program.specs.declared.fault.Fault.TheVariants.{TooManyHolidays, YearRange, InUse, NotOurs, Version, BadRow, Disk, Memory, Read, Write, UnknownChild, UnknownSchool, NoRound, Listen, NotRead, Row}
 use Rattle.adm_program.specs.declared.exit.Exit.{Exit}
 use Rattle.adm_program.specs.declared.exit.Exit.TheVariants as exit
 
@@ -53,12 +53,24 @@ abbrev pub disk_text : Option Cause → List ℕ
 disk_text None = codes "fault: Disk\n"
 disk_text (Some cause.Missing) = codes "fault: Disk\ncause: no such file or folder\n"
 disk_text (Some cause.Folder) = codes "fault: Disk\ncause: it is a folder\n"
+disk_text (Some cause.NotRegular) = codes "fault: Disk\ncause: it is no regular file\n"
 disk_text (Some cause.Forbidden) = codes "fault: Disk\ncause: no permission\n"
 disk_text (Some cause.InUse) = codes "fault: Disk\ncause: it is in use\n"
 disk_text (Some cause.NoDatabase) = codes "fault: Disk\ncause: it is no database, or damaged\n"
 disk_text (Some cause.Full) = codes "fault: Disk\ncause: the disk is full\n"
+disk_text (Some cause.LogBeside) = codes "fault: Disk\ncause: a log is beside it\n"
+disk_text (Some cause.Changed) = codes "fault: Disk\ncause: it was changed meanwhile\n"
 
--- `fault: `, the fault's name and LF; before the name of a fault in the file of an import its row, and after Disk its cause
+-- the fault Read of row 0 where the file of an import was not opened, and where its cause is known a second line
+abbrev pub not_read_text : Option Cause → List ℕ
+not_read_text None = codes "fault: row 0: Read\n"
+not_read_text (Some cause.Missing) = codes "fault: row 0: Read\ncause: no such file or folder\n"
+not_read_text (Some cause.Folder) = codes "fault: row 0: Read\ncause: it is a folder\n"
+not_read_text (Some cause.NotRegular) = codes "fault: row 0: Read\ncause: it is no regular file\n"
+not_read_text (Some cause.Forbidden) = codes "fault: row 0: Read\ncause: no permission\n"
+not_read_text (Some _) = codes "fault: row 0: Read\n"
+
+-- `fault: `, the fault's name and LF; before the name of a fault in the file of an import its row, and where a file was not opened its cause
 abbrev pub fault_line : Fault → List ℕ
 fault_line TooManyHolidays = codes "fault: TooManyHolidays\n"
 fault_line YearRange = codes "fault: YearRange\n"
@@ -74,6 +86,7 @@ fault_line UnknownChild = codes "fault: UnknownChild\n"
 fault_line UnknownSchool = codes "fault: UnknownSchool\n"
 fault_line NoRound = codes "fault: NoRound\n"
 fault_line Listen = codes "fault: Listen\n"
+fault_line (NotRead cause) = not_read_text cause
 fault_line (Row fault) = row_fault_text fault.row (row_fault_end fault.fault)
 
 -- ---- each fault keeps its name

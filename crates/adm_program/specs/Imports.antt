@@ -1,5 +1,5 @@
 -- What an import of a file of rows comes to.
-use Rattle.std.specs.Prelude.{◌≡◌, ◌⊎◌, ◌++◌, List, [], ◌∷◌, true, Result, Ok, Err, IfOk, IfSome}
+use Rattle.std.specs.Prelude.{◌≡◌, ◌⊎◌, ◌++◌, List, [], ◌∷◌, true, Option, Result, Ok, Err, IfOk, IfSome}
 use Rattle.sqlite_disk.specs.declared.Disk as disk
 use Rattle.sqlite_disk.specs.declared.Files.{Files}
 use Rattle.sqlite_wal.specs.Recovery.{Image}
@@ -21,6 +21,7 @@ use Rattle.adm_program.specs.Exits.{exit_of_answer}
 use Rattle.adm_wire.specs.Streams.{Stream}
 use Rattle.adm_program.specs.Opened.{Closes, Opens}
 use Rattle.adm_program.specs.Texts.{Puts}
+use Rattle.adm_program.specs.declared.cause.Cause.{Cause}
 use Rattle.adm_program.specs.declared.exit.Exit.{Exit}
 use Rattle.adm_program.specs.declared.fault.Fault.{Fault}
 use Rattle.adm_program.specs.declared.fault.Fault.TheVariants as fault
@@ -53,7 +54,7 @@ module _ {D : Type 0} {g : disk.Ghosts D} where
   -- the open of the file failed, and nothing is changed or written; or its rows are imported
   abbrev pub ImportsFile : DeskState (Held (FileStore D g)) → Stream → Stream → Result Exit Fault → Result (Files D) (Error × FileStore D g) → Type 0
   ImportsFile desk file output e closed =
-      ((e ≡ Err (fault.Row (record { row = 0; fault = Read }))) × (file.has_failed ≡ true) × (output.new ≡ output.old) × Closes desk.conn closed) ⊎ Imports desk file output e closed
+      ((cause : Option Cause) × (e ≡ Err (fault.NotRead cause)) × (file.has_failed ≡ true) × (output.new ≡ output.old) × Closes desk.conn closed) ⊎ Imports desk file output e closed
 
   -- the same over files that held this
   abbrev pub ImportsInto : Image → Stream → Stream → Result Exit Fault → Result (Files D) (Error × FileStore D g) → Type 0

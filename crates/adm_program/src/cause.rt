@@ -1,6 +1,6 @@
 // What is known of why a file was not opened, beside the fault.
-use std::fs::{self, OpenOptions};
-use std::io::{ErrorKind, Read};
+use std::fs::{self, Metadata, OpenOptions};
+use std::io::ErrorKind;
 use std::path::Path;
 
 /// Why a file was not opened or not written to its end, as far as it is known.
@@ -10,6 +10,8 @@ pub enum Cause {
     Missing,
     /// A folder has this name.
     Folder,
+    /// A pipe, a device or a socket has this name.
+    NotRegular,
     /// The file may not be read and written.
     Forbidden,
     /// Another process has it open.
@@ -18,13 +20,21 @@ pub enum Cause {
     NoDatabase,
     /// The disk is full.
     Full,
+    /// A log with pages is beside a file that has none.
+    LogBeside,
+    /// The file was not the same when it was read again.
+    Changed,
 }
 
-/// What the system tells of a file that could not be opened. Nothing is made or changed.
+/// What the system reports of a file that could not be opened. Nothing is made or changed, and only
+/// a regular file is opened.
 pub fn cause_of(rt: &HostRuntime, file: &str) -> Option<Cause> {
     match fs::metadata(rt, file) {
-        Ok(found) if found.is_dir() => return Some(Cause::Folder),
-        Ok(_) => {}
+        Ok(found) => {
+            if let Some(cause) = cause_of_type(&found) {
+                return Some(cause);
+            }
+        }
         Err(error) => return cause_of_kind(error.kind()),
     }
     match OpenOptions::new().read(true).write(true).open(rt, file) {
@@ -33,7 +43,18 @@ pub fn cause_of(rt: &HostRuntime, file: &str) -> Option<Cause> {
     }
 }
 
-/// What the system tells of a file that could not be made.
+/// Why what has this name is not opened: only a regular file is.
+pub fn cause_of_type(found: &Metadata) -> Option<Cause> {
+    if found.is_dir() {
+        Some(Cause::Folder)
+    } else if found.is_file() {
+        None
+    } else {
+        Some(Cause::NotRegular)
+    }
+}
+
+/// What the system reports of a file that could not be made.
 pub fn cause_of_new(rt: &HostRuntime, file: &str) -> Option<Cause> {
     match cause_of(rt, file) {
         Some(Cause::Missing) => cause_of_folder(rt, file),
@@ -50,38 +71,14 @@ fn cause_of_folder(rt: &HostRuntime, file: &str) -> Option<Cause> {
     }
 }
 
-fn cause_of_kind(kind: ErrorKind) -> Option<Cause> {
+/// The cause that an error of the system names. `WouldBlock` is that of a lock.
+pub fn cause_of_kind(kind: ErrorKind) -> Option<Cause> {
     match kind {
         ErrorKind::NotFound => Some(Cause::Missing),
         ErrorKind::IsADirectory => Some(Cause::Folder),
         ErrorKind::PermissionDenied | ErrorKind::ReadOnlyFilesystem => Some(Cause::Forbidden),
-        ErrorKind::StorageFull => Some(Cause::Full),
+        ErrorKind::WouldBlock => Some(Cause::InUse),
+        ErrorKind::StorageFull | ErrorKind::QuotaExceeded => Some(Cause::Full),
         _ => None,
-    }
-}
-
-/// Whether a file is there, is not empty, has no log beside it, and does not begin as a database
-/// does: an open could only refuse it, and would leave a log beside it. With a log its first bytes
-/// say nothing, since a crash may have left them half written.
-pub fn is_foreign(rt: &HostRuntime, file: &str) -> bool {
-    let Ok(log) = format!(in rt.alloc(); "{file}-wal") else {
-        return false;
-    };
-    match fs::exists(rt, log.as_str()) {
-        Ok(false) => has_foreign_head(rt, file),
-        _ => false,
-    }
-}
-
-// Whether a file begins with other bytes than a database does.
-fn has_foreign_head(rt: &HostRuntime, file: &str) -> bool {
-    let head = b"SQLite format 3\0";
-    let mut found = [0u8; 16];
-    match fs::open(rt, file) {
-        Ok(mut opened) => match opened.read(&mut found) {
-            Ok(0) | Err(_) => false,
-            Ok(_) => found.as_slice() != head.as_slice(),
-        },
-        Err(_) => false,
     }
 }

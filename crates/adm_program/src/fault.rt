@@ -1,10 +1,10 @@
 // Why a line of the command line came to nothing, and what is printed of it.
 ghost use Rattle.std.specs.Prelude.{◌≡◌, MatchResult};
-ghost use Rattle.adm_program.specs.Exits.{fault_line, disk_text, row_fault_text, row_fault_end, of_season, of_create, of_open, of_run, of_letter, of_error};
+ghost use Rattle.adm_program.specs.Exits.{fault_line, disk_text, not_read_text, row_fault_text, row_fault_end, of_season, of_create, of_open, of_run, of_letter, of_error, IsOpenFault};
 ghost use Rattle.adm_wire.specs.Streams.{writer};
 ghost use Rattle.adm_program.specs.Told.{PrintsText};
 
-use crate::cause::Cause;
+use crate::cause::{Cause, cause_of_kind};
 use adm_csv::RowFault;
 use adm_desk::RunFault;
 use adm_letters::LetterFault;
@@ -14,6 +14,8 @@ use adm_types::SeasonFault;
 use adm_wire::{Output, WriteFailed};
 use itoa::Buffer;
 use sqlite::{Error, ErrorCode};
+use std::alloc::AllocError;
+use std::io::{self, ErrorKind};
 
 /// Why a line of the command line came to nothing.
 #[derive(Clone, Copy, Debug, PartialEq, Eq)]
@@ -34,13 +36,15 @@ pub enum Fault {
     NoRound,
     /// The port cannot be taken.
     Listen,
+    /// The file of an import was not opened, with what is known of the cause.
+    NotRead(Option<Cause>),
     /// The file of an import has no rows.
     Row(RowFault),
 }
 
 impl Fault {
     /// Prints `fault: `, the fault's name and LF; before the name of a fault in the file of an import
-    /// its row, and after Disk a line with its cause, where one is known. It takes no memory.
+    /// its row, and where a file was not opened a line with its cause, where one is known. It takes no memory.
     pub fn print<E: Output>(self, errors: &mut E) -> Result<(), WriteFailed>
         ensures { PrintsText (fault_line self) (writer E.Output errors.old errors.new) result }
     {
@@ -69,6 +73,7 @@ impl Fault {
             Fault::UnknownSchool => Ok("fault: UnknownSchool\n"),
             Fault::NoRound => Ok("fault: NoRound\n"),
             Fault::Listen => Ok("fault: Listen\n"),
+            Fault::NotRead(cause) => Ok(not_read_text(cause)),
             Fault::Row(fault) => Err(fault),
         }
     }
@@ -92,10 +97,27 @@ fn disk_text(cause: Option<Cause>) -> &'static str
         None => "fault: Disk\n",
         Some(Cause::Missing) => "fault: Disk\ncause: no such file or folder\n",
         Some(Cause::Folder) => "fault: Disk\ncause: it is a folder\n",
+        Some(Cause::NotRegular) => "fault: Disk\ncause: it is no regular file\n",
         Some(Cause::Forbidden) => "fault: Disk\ncause: no permission\n",
         Some(Cause::InUse) => "fault: Disk\ncause: it is in use\n",
         Some(Cause::NoDatabase) => "fault: Disk\ncause: it is no database, or damaged\n",
         Some(Cause::Full) => "fault: Disk\ncause: the disk is full\n",
+        Some(Cause::LogBeside) => "fault: Disk\ncause: a log is beside it\n",
+        Some(Cause::Changed) => "fault: Disk\ncause: it was changed meanwhile\n",
+    }
+}
+
+/// What is printed where the file of an import was not opened: Read in row 0, and where its cause is
+/// known a second line.
+fn not_read_text(cause: Option<Cause>) -> &'static str
+    ensures { result.now ≡ not_read_text cause }
+{
+    match cause {
+        Some(Cause::Missing) => "fault: row 0: Read\ncause: no such file or folder\n",
+        Some(Cause::Folder) => "fault: row 0: Read\ncause: it is a folder\n",
+        Some(Cause::NotRegular) => "fault: row 0: Read\ncause: it is no regular file\n",
+        Some(Cause::Forbidden) => "fault: row 0: Read\ncause: no permission\n",
+        _ => "fault: row 0: Read\n",
     }
 }
 
@@ -200,6 +222,25 @@ impl From<Error> for Fault {
             }
             Error::SqliteFailure(ErrorCode::DiskFull) => Fault::Disk(Some(Cause::Full)),
             _ => Fault::Disk(None),
+        }
+    }
+}
+
+impl From<AllocError> for Fault {
+    ghost from_gives = { λ error fault. fault ≡ Fault.Memory };
+
+    fn from(_error: AllocError) -> Fault {
+        Fault::Memory
+    }
+}
+
+impl From<io::Error> for Fault {
+    ghost from_gives = { λ error fault. IsOpenFault fault };
+
+    fn from(error: io::Error) -> Fault {
+        match error.kind() {
+            ErrorKind::OutOfMemory => Fault::Memory,
+            kind => Fault::Disk(cause_of_kind(kind)),
         }
     }
 }

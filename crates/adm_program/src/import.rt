@@ -12,7 +12,7 @@ use crate::exit::Exit;
 use crate::fault::Fault;
 use crate::print::put;
 use crate::rows::Rows;
-use adm_csv::{RowFault, read_rows};
+use adm_csv::read_rows;
 use adm_desk::{Answer, Desk};
 use adm_types::{Command, ImportRow, Seq};
 use adm_wire::{Input, Output};
@@ -85,12 +85,6 @@ pub fn import_file<D: Disk + Drop, F: Rows, O: Output>(
 {
     match rows.open(rt, csv) {
         Ok(()) => import_rows(rt.alloc(), desk, rows, output),
-        Err(_) => close(
-            desk,
-            Err(Fault::Row(RowFault {
-                row: 0,
-                fault: adm_csv::Fault::Read,
-            })),
-        ),
+        Err(error) => close(desk, Err(Fault::NotRead(error.cause))),
     }
 }

@@ -2,10 +2,12 @@
 #![tactic(auto)]
 
 mod cause;
+mod creating;
 mod document;
 mod ended;
 mod exit;
 mod fault;
+mod found;
 mod import;
 mod laws;
 mod lines;
@@ -15,7 +17,9 @@ mod rows;
 mod run;
 mod serving;
 mod telling;
+mod trial;
 
+pub use cause::Cause;
 pub use laws::next_run;
 pub use rows::{FileRows, NotOpened, Rows};
 pub use run::run_words;

@@ -1,12 +1,15 @@
 // The file of rows that an import names.
 ghost use Rattle.std.specs.Prelude.{◌≡◌, ◌||◌, ℕ, List, Option, None, false, is_err, OnOk};
 
+use crate::cause::{Cause, cause_of_kind, cause_of_type};
 use adm_wire::{Input, ReadFailed, Watched};
-use std::fs::File;
+use std::fs::{self, File};
 
-/// The file of rows was not opened.
+/// The file of rows was not opened, with what is known of the cause.
 #[derive(Clone, Copy, Debug, PartialEq, Eq)]
-pub struct NotOpened;
+pub struct NotOpened {
+    pub cause: Option<Cause>,
+}
 
 /// A reader of the rows of an import: it is set to the file that the words name.
 pub trait Rows: Input {
@@ -60,15 +63,32 @@ impl Rows for FileRows {
     ghost bytes_at = { λ _ _. None };
 
     fn open(&mut self, rt: &HostRuntime, path: &str) -> Result<(), NotOpened> {
-        match File::open(rt, path) {
+        match open_regular(rt, path) {
             Ok(file) => {
                 self.file = Some(Watched::new(file));
                 Ok(())
             }
-            Err(_) => {
+            Err(error) => {
                 self.has_failed = true;
-                Err(NotOpened)
+                Err(error)
             }
         }
+    }
+}
+
+/// Opens a regular file. A pipe would be waited for, and a device may have no end.
+fn open_regular(rt: &HostRuntime, path: &str) -> Result<File, NotOpened> {
+    let opened = match fs::metadata(rt, path) {
+        Ok(found) => match cause_of_type(&found) {
+            None => File::open(rt, path),
+            cause => return Err(NotOpened { cause }),
+        },
+        Err(error) => Err(error),
+    };
+    match opened {
+        Ok(file) => Ok(file),
+        Err(error) => Err(NotOpened {
+            cause: cause_of_kind(error.kind()),
+        }),
     }
 }

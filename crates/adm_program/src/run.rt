@@ -1,5 +1,5 @@
 // What each line of the command line does, over a reader and writers.
-ghost use Rattle.std.specs.Prelude.{◌≡◌, false, codes, IsTrue, IfOk, IfErr, OnErr, IsErrAnd};
+ghost use Rattle.std.specs.Prelude.{◌≡◌, codes, IsTrue, IfOk, IfErr, OnErr, IsErrAnd};
 ghost use Rattle.sqlite_wal.specs.Files.{image_at};
 ghost use Rattle.adm_program.specs.Exits.{has_many_holidays, IsCauseIn, IsOpenFault, RunsWords, IsDisk};
 ghost use Rattle.adm_program.specs.declared.fault.Fault.TheVariants.{TooManyHolidays};
@@ -7,29 +7,26 @@ ghost use Rattle.adm_program.specs.Does.{Does};
 ghost use Rattle.adm_program.specs.Imports.{ImportsInto};
 ghost use Rattle.adm_wire.specs.Streams.{reader, writer};
 ghost use Rattle.adm_program.specs.Opened.{files};
-ghost use Rattle.adm_program.specs.Runs.{Creates, CreatesIn};
 ghost use Rattle.adm_program.specs.Served.{ServesOver};
 ghost use Rattle.adm_program.specs.Texts.{Prints};
 ghost use Rattle.adm_program.specs.Words.{DoesWords, texts};
 
+use crate::creating::init;
 use crate::document::Document;
 use crate::ended::Ended;
-use crate::exit::Exit;
 use crate::fault::Fault;
 use crate::import::import_file;
 use crate::lines::{do_lines, tell_lines};
-use crate::opening::{open_desk, open_file};
+use crate::opening::open_desk;
 use crate::print::print_document;
 use crate::rows::Rows;
 use crate::serving::serve_connections;
 use crate::telling::{end, refuse_words};
-use adm_store::create;
 use adm_types::Season;
 use adm_wire::{Input, Output};
 use adm_words::{Action, action};
-use sqlite::{Connection, FileFrom, FileStore, Start};
+use sqlite::{FileFrom, Start};
 use sqlite_disk::Disk;
-use std::alloc::Global;
 use std::io::Write;
 
 /// Does what the words ask for, with the program's name first, and gives the exit status:
@@ -103,42 +100,6 @@ fn run_action<S: Start, F: Rows, I: Input, O: Output, L: Write>(
         Action::Pairs { file, school } => {
             print(rt, file, start, Document::Pairs(school), output)
         }
-    }
-}
-
-/// Creates the register of a season in the file. The `Err` is why it was not opened.
-fn init<S: Start>(
-    rt: &HostRuntime,
-    file: &str,
-    start: S,
-    season: &Season,
-) -> Result<Ended<FileFrom<S>>, Fault>
-    ensures ok { IfOk result (λ ended. Creates (image_at S.Start) season.now ended.exit ended.closed) }
-    ensures err { IfErr result IsOpenFault }
-    ensures memory { file.now ≡ codes ":memory:" → IsErrAnd result IsDisk }
-{
-    let conn = open_file(rt, file, start)?;
-    Ok(create_register(rt.alloc(), conn, season))
-}
-
-/// Creates the register of a season, and closes the connection, whatever comes.
-fn create_register<D: Disk + Drop>(
-    alloc: Global,
-    mut conn: Connection<FileStore<D>>,
-    season: &Season,
-) -> Ended<D>
-    requires { conn.in_transaction ≡ false }
-    ensures { CreatesIn conn season.now result.exit result.closed }
-{
-    match create(alloc, &mut conn, season) {
-        Ok(()) => Ended {
-            exit: Ok(Exit::Done),
-            closed: conn.close_files(),
-        },
-        Err(fault) => Ended {
-            exit: Err(Fault::from(fault)),
-            closed: conn.close_files(),
-        },
     }
 }
 

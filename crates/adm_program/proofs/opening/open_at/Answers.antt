@@ -1,6 +1,6 @@
 use Rattle.std.proofs.Common.{ap, Err}
 use Rattle.adm_program.proofs.Closing.{closes}
-use Rattle.adm_program.proofs.opening.open_desk.Goals as goal
+use Rattle.adm_program.proofs.opening.open_at.Goals as goal
 
 pub returns-in-Ok-clause-ok : goal.returns-in-Ok-clause-ok
 returns-in-Ok-clause-ok g c =

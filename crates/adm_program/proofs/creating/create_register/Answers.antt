@@ -1,6 +1,6 @@
 use Rattle.std.proofs.Common.{refl, ap, Err}
 use Rattle.adm_program.proofs.Closing.{closes}
-use Rattle.adm_program.proofs.run.create_register.Goals as goal
+use Rattle.adm_program.proofs.creating.create_register.Goals as goal
 
 pub returns-in-Ok : goal.returns-in-Ok
 returns-in-Ok g c =
