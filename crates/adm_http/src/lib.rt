@@ -2,6 +2,7 @@
 #![tactic(auto)]
 
 mod answering;
+mod arrivals;
 mod desk;
 mod heads;
 mod laws;

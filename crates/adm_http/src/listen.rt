@@ -7,6 +7,7 @@ ghost use Rattle.adm_http.specs.Connections.{AnswersOne, AnswersUpTo, connection
 ghost use Rattle.adm_http.specs.Shows.{Shows};
 
 use crate::answering::Answering;
+use crate::arrivals::{Arrival, Arrivals, SECONDS_OF_REQUEST};
 use crate::patience::Patient;
 use crate::routes::Routes;
 use crate::serve::{ServeFault, serve};
@@ -16,11 +17,7 @@ use sqlite::Alter;
 use std::alloc::Global;
 use std::io::Write;
 use std::net::{Shutdown, TcpListener, TcpStream};
-use std::thread;
 use std::time::{Clock, Duration};
-
-/// How many seconds a request may take to come, from when its connection is accepted.
-const SECONDS_OF_REQUEST: u64 = 5;
 
 /// How many seconds a response may take to go out.
 const SECONDS_OF_RESPONSE: u64 = 3;
@@ -28,24 +25,24 @@ const SECONDS_OF_RESPONSE: u64 = 3;
 /// How many seconds are given to what still comes after the response.
 const SECONDS_OF_REST: u64 = 2;
 
-/// How many seconds are waited after an accept that failed.
-const SECONDS_BETWEEN_ACCEPTS: u64 = 1;
-
 /// How many bytes are read and dropped after the response: 2 MiB.
 const BYTES_OF_REST: usize = 2_097_152;
 
-/// Serves as many connections, one after the other, and waits for each. A connection's fault is
-/// printed as `fault: `, its name and LF, and the next one is served; a print that fails is passed
-/// over. The exit status is 4 where the desk has failed, and else 0.
+/// Serves as many connections, one after the other: of those that wait the first on which bytes have
+/// come, so that a silent one holds up no other. A connection's fault is printed as `fault: `, its
+/// name and LF, and the next one is served; a print that fails is passed over. The exit status is 4
+/// where the desk has failed, and else 0.
 ///
 /// An accept that fails, as where the process has no free descriptor, is no connection and is not
 /// counted: `fault: Accept` and LF is printed, and the next one is tried a second later.
 ///
-/// A request that has not come whole within 5 seconds is the fault Read of its connection, and a
-/// response that has not gone out within 3 is Write, both by the clock that is handed in. After a
-/// response the connection's sending side is ended, and what still comes is read and dropped, to
-/// its end, for 2 seconds and up to 2 MiB at most: a close over bytes that nobody read would reset the connection,
-/// and its client could lose the response. So one client holds the desk for 10 seconds at most. No clause speaks of time.
+/// A request that has not come whole within 5 seconds from its accept is the fault Read of its
+/// connection, unless it lies there whole when its turn comes. A response that has not gone out
+/// within 3 seconds is Write. Both are by the clock that is handed in. After a response the
+/// connection's sending side is ended, and what still comes is read and dropped, to its end, for 2
+/// seconds and up to 2 MiB at most: a close over bytes that nobody read would reset the connection,
+/// and its client could lose the response. So one client holds the desk for 10 seconds at most, and
+/// only once it has sent a byte. No clause speaks of time.
 pub fn serve_on<C: Clock, S: Alter, E: Write>(
     clock: &C,
     alloc: Global,
@@ -74,65 +71,53 @@ pub(crate) fn serve_each<C: Clock, A: Answering, E: Write>(
 )
     ensures { AnswersUpTo A.runs A.shows count (A.view desk.old) (A.view desk.new) }
 {
-    for _turn in 0..count {
-        if let Err(fault) = serve_next(clock, alloc, routes, desk, listener, errors) {
+    let mut arrivals = Arrivals::new(alloc);
+    for turn in 0..count {
+        // no more are accepted than are served
+        let most = (count - turn) as usize;
+        let next = arrivals.next(clock, listener, most, errors);
+        if let Err(fault) = serve_next(clock, alloc, routes, desk, next) {
             // A print that fails is passed over.
             let _ = errors.write_all(fault_line(fault).as_bytes());
         }
     }
 }
 
-// Waits for a connection, and serves it.
-fn serve_next<C: Clock, A: Answering, E: Write>(
+// Serves a connection, where there is one.
+fn serve_next<C: Clock, A: Answering>(
     clock: &C,
     alloc: Global,
     routes: &Routes,
     desk: &mut A,
-    listener: &TcpListener,
-    errors: &mut E,
+    next: Option<Arrival>,
 ) -> Result<usize, ServeFault>
     ensures { AnswersOne A.runs A.shows (A.view desk.old) (A.view desk.new) }
 {
-    let Some(stream) = accept(clock, listener, errors) else {
+    let Some(arrival) = next else {
         return Ok(0);
     };
-    let served = serve_stream(clock, alloc, routes, desk, &stream);
+    let served = serve_arrival(clock, alloc, routes, desk, &arrival);
     if served.is_ok() {
-        take_rest(clock, &stream);
+        take_rest(clock, &arrival.stream);
     }
     served
 }
 
-// Waits for a connection. An accept that fails is reported, and tried again a second later. `None`
-// would come after 2^64 such seconds.
-fn accept<C: Clock, E: Write>(
-    clock: &C,
-    listener: &TcpListener,
-    errors: &mut E,
-) -> Option<TcpStream> {
-    for _attempt in 0..u64::MAX {
-        if let Ok((stream, _)) = listener.accept() {
-            return Some(stream);
-        }
-        // A print that fails is passed over.
-        let _ = errors.write_all(b"fault: Accept\n");
-        thread::sleep(clock, Duration::from_secs(SECONDS_BETWEEN_ACCEPTS));
-    }
-    None
-}
-
 // Serves the request of a connection.
-fn serve_stream<C: Clock, A: Answering>(
+fn serve_arrival<C: Clock, A: Answering>(
     clock: &C,
     alloc: Global,
     routes: &Routes,
     desk: &mut A,
-    stream: &TcpStream,
+    arrival: &Arrival,
 ) -> Result<usize, ServeFault>
     ensures { AnswersOne A.runs A.shows (A.view desk.old) (A.view desk.new) }
 {
-    let request = Patient::new(stream, clock, Duration::from_secs(SECONDS_OF_REQUEST));
-    let response = Patient::new(stream, clock, Duration::from_secs(SECONDS_OF_RESPONSE));
+    let stream = &arrival.stream;
+    let request_time = Duration::from_secs(SECONDS_OF_REQUEST);
+    let response_time = Duration::from_secs(SECONDS_OF_RESPONSE);
+    let request = Patient::new(stream, clock, request_time, arrival.since);
+    let response = Patient::new(stream, clock, response_time, None);
     let mut reader = Watched::new(request);
     let mut writer = Watched::new(response);
     serve(alloc, routes, desk, &mut reader, &mut writer)
@@ -143,7 +128,7 @@ fn take_rest<C: Clock>(clock: &C, stream: &TcpStream) {
     if stream.shutdown(Shutdown::Write).is_err() {
         return;
     }
-    let rest = Patient::new(stream, clock, Duration::from_secs(SECONDS_OF_REST));
+    let rest = Patient::new(stream, clock, Duration::from_secs(SECONDS_OF_REST), None);
     let mut reader = Watched::new(rest);
     let mut buffer = [0u8; 8192];
     let mut left = BYTES_OF_REST;

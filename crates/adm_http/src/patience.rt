@@ -3,8 +3,9 @@ use std::io::{self, Read, Write};
 use std::net::TcpStream;
 use std::time::{Clock, Duration, Instant};
 
-/// The reads, or the writes, of a connection. From the first of them on they all together wait for so
-/// long at most; then each is an error. So it is where the clock cannot be read.
+/// The reads, or the writes, of a connection. From an instant on, or else from the first of them, they
+/// all together wait for so long at most. Then a read takes what has come already, and is an error
+/// where that is nothing, and each write is an error. So is each where the clock cannot be read.
 #[derive(Drop)]
 pub(crate) struct Patient<'a, C: Clock> {
     stream: &'a TcpStream,
@@ -14,13 +15,18 @@ pub(crate) struct Patient<'a, C: Clock> {
 }
 
 impl<'a, C: Clock> Patient<'a, C> {
-    /// A side that has not been waited for yet.
-    pub(crate) fn new(stream: &'a TcpStream, clock: &'a C, time: Duration) -> Self {
+    /// A side whose time begins at an instant, or where there is none at its first call.
+    pub(crate) fn new(
+        stream: &'a TcpStream,
+        clock: &'a C,
+        time: Duration,
+        since: Option<Instant>,
+    ) -> Self {
         Patient {
             stream,
             clock,
             time,
-            since: None,
+            since,
         }
     }
 
@@ -41,16 +47,22 @@ impl<'a, C: Clock> Patient<'a, C> {
 impl<C: Clock> Read for Patient<'_, C> {
     fn read(&mut self, buf: &mut [u8]) -> io::Result<usize> {
         let left = self.left()?;
-        // no time at all is an error
-        self.stream.set_read_timeout(Some(left))?;
         let mut stream = self.stream;
-        stream.read(buf)
+        if !left.is_zero() {
+            stream.set_read_timeout(Some(left))?;
+            return stream.read(buf);
+        }
+        stream.set_nonblocking(true)?;
+        let got = stream.read(buf);
+        stream.set_nonblocking(false)?;
+        got
     }
 }
 
 impl<C: Clock> Write for Patient<'_, C> {
     fn write(&mut self, buf: &[u8]) -> io::Result<usize> {
         let left = self.left()?;
+        // no time at all is an error
         self.stream.set_write_timeout(Some(left))?;
         let mut stream = self.stream;
         stream.write(buf)

@@ -3,6 +3,7 @@ ghost use Rattle.std.specs.Prelude.{◌≡◌, MatchResult};
 ghost use Rattle.adm_program.specs.Exits.{fault_line, disk_text, not_read_text, row_fault_text, row_fault_end, of_season, of_create, of_open, of_run, of_letter, of_error, IsOpenFault};
 ghost use Rattle.adm_wire.specs.Streams.{writer};
 ghost use Rattle.adm_program.specs.Told.{PrintsText};
+ghost use Rattle.adm_program.specs.declared.fault.Fault.TheVariants.{Memory};
 
 use crate::cause::{Cause, cause_of_kind};
 use adm_csv::RowFault;
@@ -227,7 +228,7 @@ impl From<Error> for Fault {
 }
 
 impl From<AllocError> for Fault {
-    ghost from_gives = { λ error fault. fault ≡ Fault.Memory };
+    ghost from_gives = { λ error fault. fault ≡ Memory };
 
     fn from(_error: AllocError) -> Fault {
         Fault::Memory

@@ -1,0 +1,159 @@
+// Connections that were accepted and wait together for their turn.
+ghost use Rattle.std.specs.Prelude.{◌<◌, IfSome, vec_len};
+
+use std::alloc::Global;
+use std::io::{ErrorKind, Write};
+use std::net::{TcpListener, TcpStream};
+use std::thread;
+use std::time::{Clock, Duration, Instant};
+
+/// How many connections wait together. Further ones wait in the system's queue.
+const MOST: usize = 64;
+
+/// How many seconds a request may take to come, from when its connection is accepted.
+pub(crate) const SECONDS_OF_REQUEST: u64 = 5;
+
+/// How many seconds are waited after an accept that failed.
+const SECONDS_BETWEEN_ACCEPTS: u64 = 1;
+
+/// How many milliseconds the first that waits is waited for, before the others are looked at.
+const MILLISECONDS_OF_A_LOOK: u64 = 5;
+
+/// A connection, and when it was accepted, where the clock could be read.
+#[derive(Drop)]
+pub(crate) struct Arrival {
+    pub(crate) stream: TcpStream,
+    pub(crate) since: Option<Instant>,
+}
+
+/// Connections in the order in which they came. Each has its 5 seconds from its own accept, so those
+/// that stay silent use them up together.
+#[derive(Drop)]
+pub(crate) struct Arrivals {
+    waiting: Vec<Arrival>,
+}
+
+impl Arrivals {
+    /// None yet. Where there is no memory for the list, each connection is given out as it comes.
+    pub(crate) fn new(alloc: Global) -> Arrivals {
+        Arrivals {
+            waiting: match Vec::with_capacity(alloc, MOST) {
+                Ok(room) => room,
+                Err(_) => Vec::new(alloc),
+            },
+        }
+    }
+
+    /// Waits for the first connection on which bytes have come, which has ended, or whose time is
+    /// over. At most `most` are accepted before one is given out. `None` would come after 2^64 turns.
+    pub(crate) fn next<C: Clock, E: Write>(
+        &mut self,
+        clock: &C,
+        listener: &TcpListener,
+        most: usize,
+        errors: &mut E,
+    ) -> Option<Arrival> {
+        for _turn in 0..u64::MAX {
+            if self.waiting.is_empty() {
+                let arrival = accept(clock, listener, errors)?;
+                if self.waiting.len() >= self.waiting.capacity() {
+                    return Some(arrival);
+                }
+                self.waiting.push_reserved(arrival);
+            }
+            if let Some(at) = self.first_due(clock) {
+                return Some(self.waiting.remove(at));
+            }
+            self.take_more(clock, listener, most);
+        }
+        None
+    }
+
+    /// Where the first is that need not be waited for any longer. The oldest is waited for a moment.
+    fn first_due<C: Clock>(&self, clock: &C) -> Option<usize>
+        ensures { IfSome result (λ at. at < vec_len self.now.waiting) }
+    {
+        for at in 0..self.waiting.len() {
+            let arrival = &self.waiting[at];
+            if has_come(&arrival.stream, at == 0) || is_over(clock, arrival.since) {
+                return Some(at);
+            }
+        }
+        None
+    }
+
+    /// Accepts what is in the system's queue, without waiting.
+    fn take_more<C: Clock>(&mut self, clock: &C, listener: &TcpListener, most: usize) {
+        if listener.set_nonblocking(true).is_err() {
+            return;
+        }
+        for _room in 0..MOST {
+            if self.waiting.len() >= most || self.waiting.len() >= self.waiting.capacity() {
+                break;
+            }
+            match listener.accept() {
+                Ok((stream, _)) => self.waiting.push_reserved(Arrival {
+                    stream,
+                    since: Instant::now(clock).ok(),
+                }),
+                Err(_) => break,
+            }
+        }
+        // Where this fails, the next accept fails too, and is reported.
+        let _ = listener.set_nonblocking(false);
+    }
+}
+
+/// Waits for a connection. An accept that fails, as where no descriptor is free, is no connection: it
+/// is reported, and tried again a second later. `None` would come after 2^64 such seconds.
+fn accept<C: Clock, E: Write>(
+    clock: &C,
+    listener: &TcpListener,
+    errors: &mut E,
+) -> Option<Arrival> {
+    for _attempt in 0..u64::MAX {
+        if let Ok((stream, _)) = listener.accept() {
+            return Some(Arrival {
+                stream,
+                since: Instant::now(clock).ok(),
+            });
+        }
+        // A print that fails is passed over.
+        let _ = errors.write_all(b"fault: Accept\n");
+        thread::sleep(clock, Duration::from_secs(SECONDS_BETWEEN_ACCEPTS));
+    }
+    None
+}
+
+/// Whether bytes have come, or the connection has ended or failed. Nothing is taken from it.
+fn has_come(stream: &TcpStream, may_wait: bool) -> bool {
+    let mut first = [0u8; 1];
+    let seen = if may_wait {
+        let look = Duration::from_millis(MILLISECONDS_OF_A_LOOK);
+        match stream.set_read_timeout(Some(look)) {
+            Ok(()) => stream.peek(&mut first),
+            Err(error) => Err(error),
+        }
+    } else {
+        match stream.set_nonblocking(true) {
+            Ok(()) => stream.peek(&mut first),
+            Err(error) => Err(error),
+        }
+    };
+    let is_blocking = may_wait || stream.set_nonblocking(false).is_ok();
+    match seen {
+        Err(error) if is_blocking => {
+            error.kind() != ErrorKind::WouldBlock && error.kind() != ErrorKind::Interrupted
+        }
+        _ => true,
+    }
+}
+
+/// Whether a request may take no longer. Where the clock cannot be read it may not.
+fn is_over<C: Clock>(clock: &C, since: Option<Instant>) -> bool {
+    match (since, Instant::now(clock)) {
+        (Some(since), Ok(now)) => now.duration_since(since)
+            >= Duration::from_secs(SECONDS_OF_REQUEST),
+        _ => true,
+    }
+}
