@@ -7,6 +7,7 @@
 #   make test     every proof, mutants, tests, examples and cases; its last line is 'N passed, M failed'
 #   make wrong-bodies  those that the gate leaves to the hand, each of which must be refused
 #   make sweep    each request of the built program for memory refused, in turn: what is answered and left then; some minutes
+#   make killed-opens  an open after a crash, and opens that are refused, killed at each of their calls to the system; a minute
 #   make audits   admissions-audit on the rounds of 200 random registers, on files that were changed by hand, and on all allocations of small ones
 #   make races    a restore beside which a program starts at 300 random moments; restore and backup with a program started before each operation, killed, failing; some minutes
 #   make bench    what is aimed at for the costs, beside what they are, in one table; at most ten minutes once the program is built
@@ -18,7 +19,7 @@ EXAMPLES := first_path applications season
 
 LOOKED_AT := $(addprefix examples/applications/,schools.jsonl children.jsonl applications.jsonl)
 
-.PHONY: look build demo cases test wrong-bodies sweep audits races bench bench-more deploy-check install needs-demo needs-cases needs-sweep
+.PHONY: look build demo cases test wrong-bodies sweep killed-opens audits races bench bench-more deploy-check install needs-demo needs-cases needs-sweep
 
 look:
 	@tools/needs look
@@ -46,6 +47,9 @@ wrong-bodies:
 
 sweep: needs-sweep build
 	tools/sweep bin/admissions
+
+killed-opens: build
+	tools/killed-opens bin/admissions
 
 audits: build
 	bench/audit/run bin/admissions tools/audit
