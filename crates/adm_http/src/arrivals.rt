@@ -24,6 +24,30 @@ const MILLISECONDS_OF_A_LOOK: u64 = 5;
 pub(crate) struct Arrival {
     pub(crate) stream: TcpStream,
     pub(crate) since: Option<Instant>,
+    /// Whether it broke while it waited. The system reports that once, so no read reports it again.
+    pub(crate) is_broken: bool,
+}
+
+impl Arrival {
+    /// A connection that was just accepted.
+    fn now<C: Clock>(clock: &C, stream: TcpStream) -> Arrival {
+        Arrival {
+            stream,
+            since: Instant::now(clock).ok(),
+            is_broken: false,
+        }
+    }
+}
+
+/// What a look at a connection finds.
+#[derive(Clone, Copy, PartialEq, Eq)]
+enum Look {
+    /// Nothing has come yet.
+    Waits,
+    /// Bytes have come, or it has ended.
+    HasCome,
+    /// It is broken.
+    Broken,
 }
 
 /// Connections in the order in which they came. Each has its 5 seconds from its own accept, so those
@@ -61,22 +85,27 @@ impl Arrivals {
                 }
                 self.waiting.push_reserved(arrival);
             }
-            if let Some(at) = self.first_due(clock) {
-                return Some(self.waiting.remove(at));
+            if let Some((at, is_broken)) = self.first_due(clock) {
+                let mut arrival = self.waiting.remove(at);
+                arrival.is_broken = is_broken;
+                return Some(arrival);
             }
             self.take_more(clock, listener, most);
         }
         None
     }
 
-    /// Where the first is that need not be waited for any longer. The oldest is waited for a moment.
-    fn first_due<C: Clock>(&self, clock: &C) -> Option<usize>
-        ensures { IfSome result (λ at. at < vec_len self.now.waiting) }
+    /// Where the first is that need not be waited for any longer, and whether it is broken. The oldest
+    /// is waited for a moment.
+    fn first_due<C: Clock>(&self, clock: &C) -> Option<(usize, bool)>
+        ensures { IfSome result (λ due. due.0 < vec_len self.now.waiting) }
     {
         for at in 0..self.waiting.len() {
             let arrival = &self.waiting[at];
-            if has_come(&arrival.stream, at == 0) || is_over(clock, arrival.since) {
-                return Some(at);
+            match look_at(&arrival.stream, at == 0) {
+                Look::Waits if is_over(clock, arrival.since) => return Some((at, false)),
+                Look::Waits => {}
+                look => return Some((at, look == Look::Broken)),
             }
         }
         None
@@ -92,10 +121,7 @@ impl Arrivals {
                 break;
             }
             match listener.accept() {
-                Ok((stream, _)) => self.waiting.push_reserved(Arrival {
-                    stream,
-                    since: Instant::now(clock).ok(),
-                }),
+                Ok((stream, _)) => self.waiting.push_reserved(Arrival::now(clock, stream)),
                 Err(_) => break,
             }
         }
@@ -113,10 +139,7 @@ fn accept<C: Clock, E: Write>(
 ) -> Option<Arrival> {
     for _attempt in 0..u64::MAX {
         if let Ok((stream, _)) = listener.accept() {
-            return Some(Arrival {
-                stream,
-                since: Instant::now(clock).ok(),
-            });
+            return Some(Arrival::now(clock, stream));
         }
         // A print that fails is passed over.
         let _ = errors.write_all(b"fault: Accept\n");
@@ -125,8 +148,8 @@ fn accept<C: Clock, E: Write>(
     None
 }
 
-/// Whether bytes have come, or the connection has ended or failed. Nothing is taken from it.
-fn has_come(stream: &TcpStream, may_wait: bool) -> bool {
+/// Looks whether bytes have come, and takes none.
+fn look_at(stream: &TcpStream, may_wait: bool) -> Look {
     let mut first = [0u8; 1];
     let seen = if may_wait {
         let look = Duration::from_millis(MILLISECONDS_OF_A_LOOK);
@@ -142,10 +165,10 @@ fn has_come(stream: &TcpStream, may_wait: bool) -> bool {
     };
     let is_blocking = may_wait || stream.set_nonblocking(false).is_ok();
     match seen {
-        Err(error) if is_blocking => {
-            error.kind() != ErrorKind::WouldBlock && error.kind() != ErrorKind::Interrupted
-        }
-        _ => true,
+        Ok(_) if is_blocking => Look::HasCome,
+        Err(error) if is_blocking && error.kind() == ErrorKind::WouldBlock => Look::Waits,
+        Err(error) if is_blocking && error.kind() == ErrorKind::Interrupted => Look::Waits,
+        _ => Look::Broken,
     }
 }
 

@@ -113,6 +113,9 @@ fn serve_arrival<C: Clock, A: Answering>(
 ) -> Result<usize, ServeFault>
     ensures { AnswersOne A.runs A.shows (A.view desk.old) (A.view desk.new) }
 {
+    if arrival.is_broken {
+        return Err(ServeFault::Read);
+    }
     let stream = &arrival.stream;
     let request_time = Duration::from_secs(SECONDS_OF_REQUEST);
     let response_time = Duration::from_secs(SECONDS_OF_RESPONSE);

@@ -1,5 +1,5 @@
 // How the file of a register is opened.
-ghost use Rattle.std.specs.Prelude.{◌≡◌, ◌⊎◌, None, false, codes, IfOk, IfErr, IsErr, IsErrAnd};
+ghost use Rattle.std.specs.Prelude.{◌≡◌, None, false, codes, IfOk, IfErr, IsErr, IsErrAnd};
 ghost use Rattle.sqlite_wal.specs.Files.{image_at};
 ghost use Rattle.sqlite.specs.Files.{file_state};
 ghost use Rattle.adm_rows.specs.StandsFor.{IsStarted};
