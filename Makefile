@@ -12,7 +12,7 @@
 #   make races    a restore beside which a program starts at 300 random moments; restore and backup with a program started before each operation, killed, failing; some minutes
 #   make bench    what is aimed at for the costs, beside what they are, in one table; at most ten minutes once the program is built
 #   make bench-more  what commands cost in more tables, beside a baseline in the same run
-#   make deploy-check  what is deployed (site, desk in its own network, page), on this machine alone; needs nginx, openssl, curl and chromium, no part of test
+#   make deploy-check  what is deployed (site, desk in its own network, page), on this machine alone; needs nginx, openssl, curl, chromium and poppler-utils, no part of test
 #   make install  the program, the office's tools, the manual page and three documents (docs/OPERATIONS.md); PREFIX=/usr/local by default
 PREFIX ?= /usr/local
 EXAMPLES := first_path applications season
