@@ -1,5 +1,5 @@
--- A problem in which one child hands in any list of any schools, with any keys at those that it does not truly list
--- (Roth 1982; Dubins and Freedman 1981).
+-- A problem in which one child hands in any list of any schools (Roth 1982; Dubins and Freedman 1981).
+-- Its keys at the schools that it truly lists stay as they are; those at other schools are any.
 use Rattle.std.specs.Prelude.{◌≡◌, ℕ, ◌≤◌, true, ◌==◌, if◌then◌else◌, List, map, Option, None, IfSome, All}
 use Rattle.adm_match.specs.declared.problem.Wish.{Wish}
 use Rattle.adm_match.specs.Market.{Code, Candidate, Market, assigned_rank, is_tenant, key_at, first_fault}

@@ -1,5 +1,5 @@
--- A problem at least as generous as another one: rivals may be missing, lists may end earlier, and schools may have more
--- places (Gale and Shapley 1962; Roth 1982; this profile adds tenants and free places).
+-- A problem at least as generous as another: fewer rivals, lists that end earlier, more places (Gale and Shapley 1962; Roth 1982).
+-- Tenants, and places that stay free, are this profile's.
 use Rattle.std.specs.Prelude.{◌≡◌, ℕ, ◌≤◌, None, All, Any, take, length, map, filter, not, ◌==◌, if◌then◌else◌, List}
 use Rattle.adm_match.specs.declared.problem.Seats.{Seats}
 use Rattle.adm_match.specs.Market.{Code, Candidate, Market, assigned_rank, quota_of, first_fault}
