@@ -15,6 +15,7 @@
 #   make deploy-check  what is deployed (site, desk in its own network, page), on this machine alone; needs nginx, openssl, curl, chromium and poppler-utils, no part of test
 #   make install  the program, the office's tools, the manual page and three documents (docs/OPERATIONS.md); PREFIX=/usr/local by default
 PREFIX ?= /usr/local
+PROGRAM ?= bin/admissions
 EXAMPLES := first_path applications season
 
 LOOKED_AT := $(addprefix examples/applications/,schools.jsonl children.jsonl applications.jsonl)
@@ -77,7 +78,7 @@ deploy-check:
 	deploy/check $(PROGRAM)
 
 install: build
-	install -D -m 755 bin/admissions $(DESTDIR)$(PREFIX)/bin/admissions
+	install -D -m 755 $(PROGRAM) $(DESTDIR)$(PREFIX)/bin/admissions
 	install -D -m 755 tools/backup $(DESTDIR)$(PREFIX)/bin/admissions-backup
 	install -D -m 755 tools/restore $(DESTDIR)$(PREFIX)/bin/admissions-restore
 	for tool in lots query letters audit; do install -D -m 755 tools/$$tool $(DESTDIR)$(PREFIX)/bin/admissions-$$tool || exit 1; done

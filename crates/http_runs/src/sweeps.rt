@@ -15,6 +15,9 @@ pub(crate) struct Sweep<'a> {
     pub(crate) input: &'a [u8],
 }
 
+/// How many bytes a call of a reader or a writer that fails takes at most: each byte by itself, a few, or all at once.
+const BYTES_OF_A_CALL: [usize; 3] = [1, 7, 8192];
+
 /// A reader or a writer that passes so many calls, each of so many bytes at most.
 fn limits(calls: usize, bytes: usize) -> Limits {
     Limits {
@@ -94,46 +97,67 @@ impl<'a> Sweep<'a> {
         }
     }
 
-    /// Serves the request over a reader that fails at its first call, at its second, and so on, all by one desk, until
-    /// no call fails. Then it is to be answered as by a desk that served no other: no command was run before.
+    /// Serves the request over a reader that fails at its first call, at its second, and so on, for some sizes of a call.
     pub(crate) fn reader_fails(&self, rt: &impl Print) -> io::Result<()> {
+        for bytes in BYTES_OF_A_CALL {
+            self.reader_of_fails(rt, bytes)?;
+        }
+        Ok(())
+    }
+
+    /// Serves the request over a reader of so many bytes a call that fails at its first call, at its second, and so on,
+    /// all by one desk, until no call fails. Then it is to be answered as by a desk that served no other: no command was
+    /// run before.
+    fn reader_of_fails(&self, rt: &impl Print, bytes: usize) -> io::Result<()> {
         let whole = self.whole(&mut self.desk()?);
         let mut desk = self.desk()?;
         for calls in 0..self.input.len().saturating_add(2) {
-            let served = self.at(&mut desk, self.input, (limits(calls, 1), NO_LIMITS));
+            let served = self.at(&mut desk, self.input, (limits(calls, bytes), NO_LIMITS));
             if served.is_same(&whole) {
-                println!(rt; "  fault: Read at each of {calls} calls, nothing written")?;
+                println!(rt;
+                    "  {bytes} bytes a call: fault: Read at each of {calls} calls, nothing written"
+                )?;
                 break;
             }
             if served.ended != Err(ServeFault::Read) || !served.written.is_empty() {
-                println!(rt; "  PROBLEM: after {calls} reads")?;
+                println!(rt; "  PROBLEM: after {calls} reads of {bytes} bytes")?;
             }
         }
         Ok(())
     }
 
-    /// Serves the request over a writer that fails at its first call, at its second, and so on, each time by a desk of
-    /// its own, until no call fails. Each desk is to answer the request the next time as one that had written it all:
-    /// its command was run.
+    /// Serves the request over a writer that fails at its first call, at its second, and so on, for some sizes of a call.
     pub(crate) fn writer_fails(&self, rt: &impl Print) -> io::Result<()> {
+        for bytes in BYTES_OF_A_CALL {
+            self.writer_of_fails(rt, bytes)?;
+        }
+        Ok(())
+    }
+
+    /// Serves the request over a writer of so many bytes a call that fails at its first call, at its second, and so on,
+    /// each time by a desk of its own, until no call fails. Each desk is to answer the request the next time as one that
+    /// had written it all: its command was run.
+    fn writer_of_fails(&self, rt: &impl Print, bytes: usize) -> io::Result<()> {
         let mut desk = self.desk()?;
         let whole = self.whole(&mut desk);
         let again = self.whole(&mut desk);
         for calls in 0..whole.written.len().saturating_add(2) {
             let mut desk = self.desk()?;
-            let served = self.at(&mut desk, self.input, (NO_LIMITS, limits(calls, 1)));
+            let served = self.at(&mut desk, self.input, (NO_LIMITS, limits(calls, bytes)));
             if served.is_same(&whole) {
                 println!(rt;
-                    "  fault: Write at each of {calls} calls, the bytes before it written"
+                    "  {bytes} bytes a call: fault: Write at each of {calls} calls, the bytes before it written"
                 )?;
                 break;
             }
-            let front = whole.written.get(..calls);
+            let front = whole.written.get(..calls.saturating_mul(bytes));
             if served.ended != Err(ServeFault::Write) || front != Some(served.written.as_slice()) {
-                println!(rt; "  PROBLEM: after {calls} writes")?;
+                println!(rt; "  PROBLEM: after {calls} writes of {bytes} bytes")?;
             }
             if !self.whole(&mut desk).is_same(&again) {
-                println!(rt; "  PROBLEM: the request again, after {calls} writes")?;
+                println!(rt;
+                    "  PROBLEM: the request again, after {calls} writes of {bytes} bytes"
+                )?;
             }
         }
         Ok(())
