@@ -46,6 +46,7 @@ fn doubtful(rt: &HostRuntime, file: &str) -> Result<Option<Found>, Fault>
     ensures { IfErr result IsOpenFault }
 {
     match Found::at(rt, file) {
+        Ok(found) if found.is_unfinished(rt) => Ok(Some(found)),
         Ok(found) if found.is_foreign(rt) => Err(Fault::Disk(Some(Cause::NoDatabase))),
         Ok(found) if !found.has_pages => Ok(None),
         Ok(found) if found.size == 0 => Err(Fault::Disk(Some(Cause::LogBeside))),

@@ -58,6 +58,12 @@ impl Found {
         self.size > 0 && !self.has_pages && has_foreign_head(rt, self.path.as_str())
     }
 
+    /// Whether a program that made the file was killed: `sqlite` writes the first byte of a new database
+    /// last, and a zero before. Nothing is in such a file.
+    pub fn is_unfinished(&self, rt: &HostRuntime) -> bool {
+        self.size > 0 && !self.has_pages && has_unfinished_head(rt, self.path.as_str())
+    }
+
     /// Whether an open may write to the file before it is known to be a register: it takes in the
     /// pages of the log, and makes an empty file a database. A file with a second name is refused
     /// by `sqlite` before that.
@@ -117,6 +123,20 @@ fn has_foreign_head(rt: &HostRuntime, file: &str) -> bool {
         Ok(mut opened) => match opened.read(&mut found) {
             Ok(0) | Err(_) => false,
             Ok(_) => found.as_slice() != head.as_slice(),
+        },
+        Err(_) => false,
+    }
+}
+
+// Whether a file is a new database whose first byte has not been written yet.
+fn has_unfinished_head(rt: &HostRuntime, file: &str) -> bool {
+    let head = b"\0QLite format 3\0";
+    let mut found = [0u8; 16];
+    match fs::open(rt, file) {
+        Ok(mut opened) => match opened.read(&mut found) {
+            Ok(1) => found[0] == 0,
+            Ok(_) => found.as_slice() == head.as_slice(),
+            Err(_) => false,
         },
         Err(_) => false,
     }
