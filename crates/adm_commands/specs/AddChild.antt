@@ -7,6 +7,9 @@ use Rattle.adm_types.specs.declared.commands.Refusal.TheVariants.{ChildKnown, Ba
 use Rattle.adm_types.specs.Limits.{is_name, is_child_in_range, most_children}
 use Rattle.adm_register.specs.State.{State}
 use Rattle.adm_register.specs.WellFormed.{are_schools}
+use Rattle.adm_register.specs.Change.{change_of_child}
+use Rattle.adm_commands.specs.KeptByTypes.{KeptByChild}
+use Rattle.adm_commands.specs.Rules.{Rules, changes_just}
 
 -- its number is new, its name and its numbers are in their limits, its siblings' schools are there, and there are fewer than 2,000 children
 unfoldable pub tests : State → Child → List (Bool × Refusal)
@@ -17,3 +20,7 @@ tests old child =
     ∷ (are_schools old.schools child.siblings, UnknownSchool)
     ∷ (nat_lt (len old.children) most_children, RegisterFull)
     ∷ []
+
+-- the command: the child is put
+abbrev pub rules : Child → Rules
+rules child = changes_just (KeptByChild child) (λ old. tests old child) (λ old. change_of_child child)

@@ -8,6 +8,8 @@ use Rattle.adm_types.specs.Limits.{is_name, is_school_in_range, most_schools}
 use Rattle.adm_register.specs.declared.difference.Difference.{Difference}
 use Rattle.adm_register.specs.State.{State}
 use Rattle.adm_register.specs.Change.{no_change}
+use Rattle.adm_commands.specs.KeptByTypes.{KeptBySchool}
+use Rattle.adm_commands.specs.Rules.{Rules, changes_just}
 
 -- its code is new, its name and its numbers are in their limits, and there are fewer than 200 schools
 unfoldable pub tests : State → School → List (Bool × Refusal)
@@ -21,3 +23,7 @@ tests old school =
 -- the school is put
 unfoldable pub change_of : School → Difference
 change_of school = record no_change { schools = school ∷ [] }
+
+-- the command
+abbrev pub rules : School → Rules
+rules school = changes_just (KeptBySchool school) (λ old. tests old school) (λ old. change_of school)

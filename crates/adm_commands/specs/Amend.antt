@@ -7,6 +7,9 @@ use Rattle.adm_types.specs.declared.commands.Refusal.TheVariants.{UnknownChild, 
 use Rattle.adm_types.specs.Limits.{is_name, is_child_in_range}
 use Rattle.adm_register.specs.State.{State}
 use Rattle.adm_register.specs.WellFormed.{are_schools}
+use Rattle.adm_register.specs.Change.{change_of_child}
+use Rattle.adm_commands.specs.KeptByTypes.{KeptByChild}
+use Rattle.adm_commands.specs.Rules.{Rules, changes_just}
 
 -- the child is there, its name and its numbers are in their limits, and its siblings' schools are there
 unfoldable pub tests : State → Child → List (Bool × Refusal)
@@ -16,3 +19,7 @@ tests old child =
     ∷ (is_child_in_range child, OutOfRange)
     ∷ (are_schools old.schools child.siblings, UnknownSchool)
     ∷ []
+
+-- the command: the child is put in place of what was there
+abbrev pub rules : Child → Rules
+rules child = changes_just (KeptByChild child) (λ old. tests old child) (λ old. change_of_child child)

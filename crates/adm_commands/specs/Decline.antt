@@ -1,5 +1,5 @@
 -- To decline a place.
-use Rattle.std.specs.Prelude.{ℕ, Bool, List, [], ◌∷◌}
+use Rattle.std.specs.Prelude.{⊤, ℕ, Bool, List, [], ◌∷◌}
 use Rattle.std.specs.FinMap.{get, contains_key}
 use Rattle.adm_types.specs.declared.commands.Refusal.{Refusal}
 use Rattle.adm_types.specs.declared.commands.Refusal.TheVariants.{UnknownChild, UnknownSchool, NotOffered}
@@ -7,6 +7,7 @@ use Rattle.adm_register.specs.declared.difference.Difference.{Difference}
 use Rattle.adm_register.specs.State.{State}
 use Rattle.adm_register.specs.Change.{no_change}
 use Rattle.adm_register.specs.WellFormed.{is_unplanned_at}
+use Rattle.adm_commands.specs.Rules.{Rules, changes_just}
 
 -- the child and the school are there, and the child has a place at the school that is not that of a plan
 unfoldable pub tests : State → ℕ → List ℕ → List (Bool × Refusal)
@@ -19,3 +20,7 @@ tests old child school =
 -- its place ends, and the school is left
 unfoldable pub change_of : ℕ → List ℕ → Difference
 change_of child school = record no_change { left = record { child = child; school = school } ∷ []; vacated = child ∷ [] }
+
+-- the command
+abbrev pub rules : ℕ → List ℕ → Rules
+rules child school = changes_just ⊤ (λ old. tests old child school) (λ old. change_of child school)

@@ -1,12 +1,16 @@
 -- To fill a vacancy: of the children that wait, the one that ranks first with its lot is offered the place.
 -- School Admissions Code 2021, section 2: who waits ranks by the oversubscription criteria, and not by the day of joining
 -- the list; the lots of a vacancy are this profile's.
-use Rattle.std.specs.Prelude.{ℕ, ◌+◌, Bool, true, false, not, ◌&&◌, nat_eq, nat_le, nat_lt, List, [], ◌∷◌, map, length, Option, Some, None}
-use Rattle.std.specs.FinMap.{contains_key}
+use Rattle.std.specs.Prelude.{◌≡◌, ℕ, ◌+◌, Bool, true, false, not, ◌&&◌, nat_eq, nat_le, nat_lt, List, [], ◌∷◌, map, length, Option, Some, None}
+use Rattle.std.specs.FinMap.{get, contains_key}
 use Rattle.adm_types.specs.Lots.{repeats_lot}
 use Rattle.adm_types.specs.Limits.{most_draws, most_lots}
 use Rattle.adm_types.specs.Seasons.{lists_end}
 use Rattle.adm_types.specs.declared.rows.PlaceState.TheVariants.{Offered}
+use Rattle.adm_types.specs.declared.rows.School.{School}
+use Rattle.adm_types.specs.declared.commands.Reply.{Reply}
+use Rattle.adm_types.specs.declared.commands.Reply.TheVariants.{Filled}
+use Rattle.adm_waiting.specs.Waiting.{first_by_lot}
 use Rattle.adm_types.specs.declared.draws.Draw.{Draw}
 use Rattle.adm_types.specs.declared.draws.Lot.{Lot}
 use Rattle.adm_types.specs.declared.commands.Refusal.{Refusal}
@@ -19,6 +23,8 @@ use Rattle.adm_register.specs.Change.{no_change}
 use Rattle.adm_register.specs.Draws.{is_due, draws_so_far}
 use Rattle.adm_register.specs.Rows.{vacancies}
 use Rattle.adm_register.specs.Waits.{waiting_at}
+use Rattle.adm_commands.specs.KeptByTypes.{KeptByRound}
+use Rattle.adm_commands.specs.Rules.{Rules, by_tests}
 
 -- for whom lots are drawn, in their order: who waits at the school
 abbrev pub fill_pairs : State → List ℕ → List Pair
@@ -61,3 +67,14 @@ change_of old draw school day numbers child = record no_change {
   places = record { child = child; place = record { school = school; state = Offered day None } } ∷ [];
   draws = filled_draw old draw school day numbers child ∷ [];
 }
+
+-- of those that wait at the school one ranks before all others by class, distance and the lots handed in: just this child is offered the vacancy, and named
+abbrev pub IsFillResult : State → ℕ → List ℕ → ℕ → List ℕ → Difference → Reply → Type 0
+IsFillResult old draw school day lots change reply =
+    (row : School) × (get old.schools school ≡ Some row)
+    × (child : ℕ) × (first_by_lot row (waiting_at old school) lots ≡ Some child)
+    × (change ≡ change_of old draw school day lots child) × (reply ≡ Filled child)
+
+-- the command
+abbrev pub rules : ℕ → List ℕ → ℕ → List ℕ → Rules
+rules draw school day lots = record { kept = KeptByRound day lots; refused = λ old. by_tests (tests old draw school day lots); changes = λ old. IsFillResult old draw school day lots }

@@ -15,6 +15,9 @@ use Rattle.adm_register.specs.Change.{after, no_change, change_of_child}
 use Rattle.adm_commands.specs.Tests.{first_failing}
 use Rattle.adm_commands.specs.AddChild as add_child
 use Rattle.adm_commands.specs.Apply as apply
+use Rattle.std.specs.List.{AllByRecursion}
+use Rattle.adm_commands.specs.KeptByTypes.{KeptByImportRow}
+use Rattle.adm_commands.specs.Rules.{Rules}
 
 -- what rows add: the children, their applications, and the rows themselves
 unfoldable pub change_of : List ImportRow → Difference
@@ -64,3 +67,7 @@ abbrev pub IsImported : State → List ImportRow → Difference → Reply → Ty
 IsImported old rows change reply =
     (added : List ImportRow) × IsPermutation (new_rows old rows) added × IsStrictlySortedBy nat_cmp (map (λ row. row.child.no) added)
     × (change ≡ change_of added) × (reply ≡ Imported (length added) (length rows - length added))
+
+-- the command
+abbrev pub rules : List ImportRow → Rules
+rules rows = record { kept = AllByRecursion KeptByImportRow rows; refused = λ old. refused_from old 1 rows; changes = λ old. IsImported old rows }

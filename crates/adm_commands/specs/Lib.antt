@@ -1,5 +1,6 @@
 pub mod KeptByTypes
 pub mod Tests
+pub mod Rules
 pub mod AddSchool
 pub mod RaisePan
 pub mod AddChild

@@ -1,17 +1,13 @@
 -- What a command leaves and answers: one step of the register.
-use Rattle.std.specs.Prelude.{◌≡◌, ⊤, ℕ, Bool, List, [], Option, Some, None, Result, Ok, Err, IsTrue, nat_le}
-use Rattle.std.specs.List.{AllByRecursion}
-use Rattle.adm_types.specs.Limits.{first_day, last_day}
+use Rattle.std.specs.Prelude.{◌≡◌, ⊤, ℕ, Option, Some, None, Result, Ok, Err}
 use Rattle.adm_types.specs.declared.commands.Command.{Command}
 use Rattle.adm_types.specs.declared.commands.Command.TheVariants.{AddSchool, RaisePan, AddChild, Amend, NamePlan, Apply, Round, Accept, Decline, Remind, Lapse, LeaveList, Fill, Import}
 use Rattle.adm_types.specs.declared.commands.Refusal.{Refusal}
 use Rattle.adm_types.specs.declared.commands.Reply.{Reply}
-use Rattle.adm_types.specs.declared.commands.Reply.TheVariants.{Done, Filled}
 use Rattle.adm_register.specs.declared.difference.Difference.{Difference}
 use Rattle.adm_register.specs.State.{State}
-use Rattle.adm_register.specs.Change.{after, change_of_child}
-use Rattle.adm_commands.specs.Tests.{first_failing}
-use Rattle.adm_commands.specs.KeptByTypes.{KeptBySchool, KeptByChild, KeptByRound, KeptByImportRow}
+use Rattle.adm_register.specs.Change.{after}
+use Rattle.adm_commands.specs.Rules.{Rules}
 use Rattle.adm_register.specs.WellFormed.{WellFormed}
 use Rattle.adm_commands.specs.AddSchool as add_school
 use Rattle.adm_commands.specs.RaisePan as raise_pan
@@ -26,97 +22,39 @@ use Rattle.adm_commands.specs.Remind as remind
 use Rattle.adm_commands.specs.Lapse as lapse
 use Rattle.adm_commands.specs.LeaveList as leave_list
 use Rattle.adm_commands.specs.Fill as fill
-use Rattle.adm_register.specs.Waits.{waiting_at}
-use Rattle.adm_waiting.specs.Waiting.{first_by_lot}
-use Rattle.adm_types.specs.declared.rows.School.{School}
-use Rattle.std.specs.FinMap.{get}
 use Rattle.adm_commands.specs.Import as import
-use Rattle.adm_types.specs.declared.draws.Outcome.{Outcome as OutcomeRow}
 use Rattle.adm_commands.specs.declared.not_done.NotDone.{NotDone}
 use Rattle.adm_commands.specs.declared.proposals.Proposal.{Proposal}
 use Rattle.adm_commands.specs.declared.not_done.NotDone.TheVariants.{Refused, Memory}
 
+-- the rules of each command
+abbrev pub rules_of : Command → Rules
+rules_of (AddSchool school) = add_school.rules school
+rules_of (RaisePan school pan) = raise_pan.rules school pan
+rules_of (AddChild child) = add_child.rules child
+rules_of (Amend child) = amend.rules child
+rules_of (NamePlan child school) = name_plan.rules child school
+rules_of (Apply application) = apply.rules application
+rules_of (Round draw day lots) = round.rules draw day lots
+rules_of (Accept child school) = accept.rules child school
+rules_of (Decline child school) = decline.rules child school
+rules_of (Remind child school day) = remind.rules child school day
+rules_of (Lapse child school day) = lapse.rules child school day
+rules_of (LeaveList child school) = leave_list.rules child school
+rules_of (Fill draw school day lots) = fill.rules draw school day lots
+rules_of (Import rows) = import.rules rows
+
 -- what the types of a command's values keep
 abbrev pub KeptByTypes : Command → Type 0
-KeptByTypes (AddSchool school) = KeptBySchool school
-KeptByTypes (RaisePan school pan) = ⊤
-KeptByTypes (AddChild child) = KeptByChild child
-KeptByTypes (Amend child) = KeptByChild child
-KeptByTypes (NamePlan child school) = ⊤
-KeptByTypes (Apply application) = IsTrue (nat_le first_day application.day)
-KeptByTypes (Round draw day lots) = KeptByRound day lots
-KeptByTypes (Accept child school) = ⊤
-KeptByTypes (Decline child school) = ⊤
-KeptByTypes (Remind child school day) = IsTrue (nat_le day last_day)
-KeptByTypes (Lapse child school day) = ⊤
-KeptByTypes (LeaveList child school) = ⊤
-KeptByTypes (Fill draw school day lots) = KeptByRound day lots
-KeptByTypes (Import rows) = AllByRecursion KeptByImportRow rows
+KeptByTypes command = (rules_of command).kept
 
--- the tests of a command, in their order; those of an import are its rows', below
-abbrev pub tests_of : State → Command → List (Bool × Refusal)
-tests_of old (AddSchool school) = add_school.tests old school
-tests_of old (RaisePan school pan) = raise_pan.tests old school pan
-tests_of old (AddChild child) = add_child.tests old child
-tests_of old (Amend child) = amend.tests old child
-tests_of old (NamePlan child school) = name_plan.tests old child school
-tests_of old (Apply application) = apply.tests old application
-tests_of old (Round draw day lots) = round.tests old draw day lots
-tests_of old (Accept child school) = accept.tests old child school
-tests_of old (Decline child school) = decline.tests old child school
-tests_of old (Remind child school day) = remind.tests old child school day
-tests_of old (Lapse child school day) = lapse.tests old child school day
-tests_of old (LeaveList child school) = leave_list.tests old child school
-tests_of old (Fill draw school day lots) = fill.tests old draw school day lots
-tests_of old (Import rows) = []
-
--- a refusal that names no row
-abbrev pub without_row : Option Refusal → Option (Refusal × ℕ)
-without_row None = None
-without_row (Some refusal) = Some (refusal, 0)
-
--- why a command is refused: by the first of its tests that fails. Beside it stands 0; for an import, the number of the first row that is refused, from 1
+-- why a command is refused: by the first of its tests that fails. Beside it is 0; for an import, the number of the first row that is refused, from 1
 abbrev pub refused : State → Command → Option (Refusal × ℕ)
-refused old (Import rows) = import.refused_from old 1 rows
-refused old command = without_row (first_failing (tests_of old command))
-
--- just this is changed, and the reply is Done
-abbrev pub ChangesJust : Difference → Difference → Reply → Type 0
-ChangesJust only change reply = (change ≡ only) × (reply ≡ Done)
-
--- a round has outcomes, which are those of the child-optimal stable allocation of its problem: these are changed and counted
-abbrev pub IsRoundResult : State → ℕ → ℕ → List ℕ → Difference → Reply → Type 0
-IsRoundResult old draw day lots change reply =
-    (outcomes : List OutcomeRow) × round.AreOutcomes old lots outcomes × (change ≡ round.change_of old draw day lots outcomes) × (reply ≡ round.reply_of old outcomes)
-
--- of those that wait at the school one ranks before all others by class, distance and the lots handed in: just this child is offered the vacancy, and named
-abbrev pub IsFillResult : State → ℕ → List ℕ → ℕ → List ℕ → Difference → Reply → Type 0
-IsFillResult old draw school day lots change reply =
-    (row : School) × (get old.schools school ≡ Some row)
-    × (child : ℕ) × (first_by_lot row (waiting_at old school) lots ≡ Some child)
-    × (change ≡ fill.change_of old draw school day lots child) × (reply ≡ Filled child)
+refused old command = (rules_of command).refused old
 
 -- what an accepted command changes, and what it answers
 abbrev pub Changes : State → Command → Difference → Reply → Type 0
-Changes old (AddSchool school) = ChangesJust (add_school.change_of school)
-Changes old (RaisePan school pan) = ChangesJust (raise_pan.change_of old school pan)
-Changes old (AddChild child) = ChangesJust (change_of_child child)
-Changes old (Amend child) = ChangesJust (change_of_child child)
-Changes old (NamePlan child school) = ChangesJust (name_plan.change_of child school)
-Changes old (Apply application) = ChangesJust (apply.change_of application)
-Changes old (Round draw day lots) = IsRoundResult old draw day lots
-Changes old (Accept child school) = ChangesJust (accept.change_of child school)
-Changes old (Decline child school) = ChangesJust (decline.change_of child school)
-Changes old (Remind child school day) = ChangesJust (remind.change_of old child school day)
-Changes old (Lapse child school day) = ChangesJust (decline.change_of child school)
-Changes old (LeaveList child school) = ChangesJust (leave_list.change_of child school)
-Changes old (Fill draw school day lots) = IsFillResult old draw school day lots
-Changes old (Import rows) = import.IsImported old rows
-
--- what comes of a command that is refused so, or changes this where it is not
-abbrev pub Comes : Option (Refusal × ℕ) → (Difference → Reply → Type 0) → Result (Difference × Reply) (Refusal × ℕ) → Type 0
-Comes why changes (Ok made) = (why ≡ None) × changes made.0 made.1
-Comes why changes (Err reason) = why ≡ Some reason
+Changes old command = (rules_of command).changes old
 
 -- what an accepted command answers, and leaves
 abbrev pub Effect : State → Command → Reply → State → Type 0

@@ -1,5 +1,5 @@
 -- To hold a round (School Admissions Code 2021, sections 1 and 2; Gale and Shapley 1962; entrants, tenants and lots are this profile's).
-use Rattle.std.specs.Prelude.{ℕ, ◌+◌, ◌-◌, Bool, not, ◌&&◌, ◌||◌, nat_eq, nat_le, nat_lt, List, [], ◌∷◌, map, length, count_by, is_none, Option, None, option_map, if◌then◌else◌, bytes_eq}
+use Rattle.std.specs.Prelude.{◌≡◌, ℕ, ◌+◌, ◌-◌, Bool, not, ◌&&◌, ◌||◌, nat_eq, nat_le, nat_lt, List, [], ◌∷◌, map, length, count_by, is_none, Option, None, option_map, if◌then◌else◌, bytes_eq}
 use Rattle.std.specs.List.{filter_map}
 use Rattle.std.specs.Ordering.{nat_cmp}
 use Rattle.std.specs.FinMap.{FinMap, get, values}
@@ -29,6 +29,8 @@ use Rattle.adm_register.specs.Change.{no_change}
 use Rattle.adm_register.specs.Draws.{is_due, draws_so_far}
 use Rattle.adm_register.specs.WellFormed.{has_first_round}
 use Rattle.adm_register.specs.Wanted.{wanted_of, own_school}
+use Rattle.adm_commands.specs.KeptByTypes.{KeptByRound}
+use Rattle.adm_commands.specs.Rules.{Rules, by_tests}
 
 -- ---- the problem of a round
 
@@ -116,3 +118,12 @@ change_of old draw day numbers outcomes = record no_change {
 abbrev pub reply_of : State → List Outcome → Reply
 reply_of old outcomes =
     Round ((draws_so_far old).rounds + 1) (count_by (λ outcome. outcome.fresh) outcomes) (count_by is_kept outcomes) (count_by (λ outcome. is_none outcome.school) outcomes)
+
+-- a round has outcomes, which are those of the child-optimal stable allocation of its problem: these are changed and counted
+abbrev pub IsRoundResult : State → ℕ → ℕ → List ℕ → Difference → Reply → Type 0
+IsRoundResult old draw day lots change reply =
+    (outcomes : List Outcome) × AreOutcomes old lots outcomes × (change ≡ change_of old draw day lots outcomes) × (reply ≡ reply_of old outcomes)
+
+-- the command
+abbrev pub rules : ℕ → ℕ → List ℕ → Rules
+rules draw day lots = record { kept = KeptByRound day lots; refused = λ old. by_tests (tests old draw day lots); changes = λ old. IsRoundResult old draw day lots }

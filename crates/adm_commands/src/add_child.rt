@@ -1,9 +1,8 @@
 // To add a child.
 ghost use Rattle.std.specs.Prelude.{◌≡◌, IfOk};
-ghost use Rattle.adm_register.specs.Change.{change_of_child};
 ghost use Rattle.adm_commands.specs.Tests.{first_failing};
-ghost use Rattle.adm_commands.specs.Outcome.{Comes, ChangesJust, without_row};
-ghost use Rattle.adm_commands.specs.AddChild.{tests};
+ghost use Rattle.adm_commands.specs.Rules.{Follows};
+ghost use Rattle.adm_commands.specs.AddChild.{rules, tests};
 
 use crate::child_values::put_child;
 use crate::failing::first_failing;
@@ -32,7 +31,7 @@ pub(crate) fn refusal_of(old: &Tables, child: &Child) -> Option<Refusal>
 
 /// The child is put.
 pub(crate) fn tried(old: &Tables, alloc: Global, child: &Child) -> Result<Tried, AllocError>
-    ensures { IfOk result (λ tried. Comes (without_row (first_failing (tests old.now child.now))) (ChangesJust (change_of_child child.now)) tried) }
+    ensures { IfOk result (Follows (rules child.now) old.now) }
 {
     match refusal_of(old, child) {
         Some(refusal) => Ok(refused(refusal)),

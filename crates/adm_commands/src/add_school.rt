@@ -1,8 +1,8 @@
 // To add a school.
 ghost use Rattle.std.specs.Prelude.{◌≡◌, IfOk};
 ghost use Rattle.adm_commands.specs.Tests.{first_failing};
-ghost use Rattle.adm_commands.specs.Outcome.{Comes, ChangesJust, without_row};
-ghost use Rattle.adm_commands.specs.AddSchool.{tests, change_of};
+ghost use Rattle.adm_commands.specs.Rules.{Follows};
+ghost use Rattle.adm_commands.specs.AddSchool.{rules, tests};
 
 use crate::failing::first_failing;
 use crate::one_row::one;
@@ -29,7 +29,7 @@ fn refusal_of(old: &Tables, school: &School) -> Option<Refusal>
 /// The school is put.
 #[tactic(auto, unfolding(crate::specs::AddSchool::change_of))]
 pub(crate) fn tried(old: &Tables, alloc: Global, school: &School) -> Result<Tried, AllocError>
-    ensures { IfOk result (λ tried. Comes (without_row (first_failing (tests old.now school.now))) (ChangesJust (change_of school.now)) tried) }
+    ensures { IfOk result (Follows (rules school.now) old.now) }
 {
     if let Some(refusal) = refusal_of(old, school) {
         return Ok(refused(refusal));

@@ -2,8 +2,8 @@
 ghost use Rattle.std.specs.Prelude.{◌≡◌, ◌&&◌, length, IfOk};
 ghost use Rattle.adm_types.specs.Limits.{is_from, is_without_repeat, most_preferences};
 ghost use Rattle.adm_commands.specs.Tests.{first_failing};
-ghost use Rattle.adm_commands.specs.Outcome.{Comes, ChangesJust, without_row};
-ghost use Rattle.adm_commands.specs.Apply.{tests, further_tests, change_of};
+ghost use Rattle.adm_commands.specs.Rules.{Follows};
+ghost use Rattle.adm_commands.specs.Apply.{rules, tests, further_tests};
 
 use crate::failing::first_failing;
 use crate::one_row::one;
@@ -64,7 +64,7 @@ pub(crate) fn tried(
     alloc: Global,
     application: &Application,
 ) -> Result<Tried, AllocError>
-    ensures { IfOk result (λ tried. Comes (without_row (first_failing (tests old.now application.now))) (ChangesJust (change_of application.now)) tried) }
+    ensures { IfOk result (Follows (rules application.now) old.now) }
 {
     if let Some(refusal) = refusal_of(old, application) {
         return Ok(refused(refusal));

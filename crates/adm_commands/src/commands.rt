@@ -1,10 +1,11 @@
-// What comes of each command, by its own module, and what the types of its values keep.
+// What results from each command, by its own module.
 ghost use Rattle.std.specs.Prelude.{◌≡◌, IfOk};
 ghost use Rattle.adm_register.specs.Draws.{IsWithin, draws_so_far};
 ghost use Rattle.adm_register.specs.WellFormed.{WellFormed};
-ghost use Rattle.adm_commands.specs.Outcome.{Comes, refused, Changes, KeptByTypes};
+ghost use Rattle.adm_commands.specs.Outcome.{rules_of, KeptByTypes};
+ghost use Rattle.adm_commands.specs.Rules.{Follows};
 
-use crate::child_values::kept_by_child;
+use crate::kept::{kept_by_child, kept_by_round, kept_by_rows, kept_by_school};
 use crate::tried::Tried;
 use crate::{
     accept, add_child, add_school, amend, apply, decline, fill, import, lapse, leave_list,
@@ -25,19 +26,40 @@ pub(crate) fn tried(
     requires well_formed { WellFormed old.now }
     requires draws { so_far.now ≡ draws_so_far old.now }
     requires within { IsWithin so_far.now }
-    ensures { IfOk result (λ tried. Comes (refused old.now command.now) (Changes old.now command.now) tried) }
+    ensures follows { IfOk result (Follows (rules_of command.now) old.now) }
+    ensures kept { KeptByTypes command.now }
 {
     match command {
-        Command::AddSchool(school) => add_school::tried(old, alloc, school),
+        Command::AddSchool(school) => {
+            kept_by_school(school);
+            add_school::tried(old, alloc, school)
+        }
         Command::RaisePan { school, pan } => raise_pan::tried(old, alloc, *school, *pan),
-        Command::AddChild(child) => add_child::tried(old, alloc, child),
-        Command::Amend(child) => amend::tried(old, alloc, child),
+        Command::AddChild(child) => {
+            kept_by_child(child);
+            add_child::tried(old, alloc, child)
+        }
+        Command::Amend(child) => {
+            kept_by_child(child);
+            amend::tried(old, alloc, child)
+        }
         Command::NamePlan { child, school } => name_plan::tried(old, alloc, *child, *school),
-        Command::Apply(application) => apply::tried(old, alloc, application),
-        Command::Round { draw, day, lots } => round::tried(old, so_far, alloc, *draw, *day, lots),
+        Command::Apply(application) => {
+            // read only so that the check sees what its type keeps
+            let _number = application.day.number();
+            apply::tried(old, alloc, application)
+        }
+        Command::Round { draw, day, lots } => {
+            kept_by_round(*day, lots);
+            round::tried(old, so_far, alloc, *draw, *day, lots)
+        }
         Command::Accept { child, school } => accept::tried(old, alloc, *child, *school),
         Command::Decline { child, school } => decline::tried(old, alloc, *child, *school),
-        Command::Remind { child, school, day } => remind::tried(old, alloc, *child, *school, *day),
+        Command::Remind { child, school, day } => {
+            // read only so that the check sees what its type keeps
+            let _number = day.number();
+            remind::tried(old, alloc, *child, *school, *day)
+        }
         Command::Lapse { child, school, day } => lapse::tried(old, alloc, *child, *school, *day),
         Command::LeaveList { child, school } => leave_list::tried(old, alloc, *child, *school),
         Command::Fill {
@@ -45,37 +67,13 @@ pub(crate) fn tried(
             school,
             day,
             lots,
-        } => fill::tried(old, so_far, alloc, *draw, *school, *day, lots),
-        Command::Import(rows) => import::tried(old, alloc, rows.as_slice()),
-    }
-}
-
-/// Tells what the types of the command's values keep. It does nothing.
-pub(crate) fn kept_by_types(command: &Command)
-    ensures { KeptByTypes command.now }
-{
-    match command {
-        // Each is read only so that the check sees what its type keeps.
-        Command::AddSchool(school) => {
-            let _code = school.code.as_str();
-            let _text = school.name.as_str();
+        } => {
+            kept_by_round(*day, lots);
+            fill::tried(old, so_far, alloc, *draw, *school, *day, lots)
         }
-        Command::AddChild(child) | Command::Amend(child) => kept_by_child(child),
-        Command::RaisePan { .. }
-        | Command::NamePlan { .. }
-        | Command::Accept { .. }
-        | Command::Decline { .. }
-        | Command::Lapse { .. }
-        | Command::LeaveList { .. } => {}
-        Command::Import(rows) => import::kept_by_rows(rows.as_slice()),
-        Command::Apply(application) => {
-            let _number = application.day.number();
-        }
-        Command::Round { day, lots, .. } | Command::Fill { day, lots, .. } => round::kept_by_round(
-            *day, lots,
-        ),
-        Command::Remind { day, .. } => {
-            let _number = day.number();
+        Command::Import(rows) => {
+            kept_by_rows(rows.as_slice());
+            import::tried(old, alloc, rows.as_slice())
         }
     }
 }

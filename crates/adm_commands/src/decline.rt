@@ -1,8 +1,8 @@
 // To decline a place.
 ghost use Rattle.std.specs.Prelude.{◌≡◌, IfOk};
 ghost use Rattle.adm_commands.specs.Tests.{first_failing};
-ghost use Rattle.adm_commands.specs.Outcome.{Comes, ChangesJust, without_row};
-ghost use Rattle.adm_commands.specs.Decline.{tests, change_of};
+ghost use Rattle.adm_commands.specs.Rules.{Follows};
+ghost use Rattle.adm_commands.specs.Decline.{rules, tests, change_of};
 
 use crate::failing::first_failing;
 use crate::one_row::one;
@@ -45,7 +45,7 @@ pub(crate) fn tried(
     child: ChildNo,
     school: SchoolCode,
 ) -> Result<Tried, AllocError>
-    ensures { IfOk result (λ tried. Comes (without_row (first_failing (tests old.now child school))) (ChangesJust (change_of child school)) tried) }
+    ensures { IfOk result (Follows (rules child school) old.now) }
 {
     match refusal_of(old, child, school) {
         Some(refusal) => Ok(refused(refusal)),

@@ -8,9 +8,9 @@ ghost use Rattle.adm_register.specs.Draws.{IsWithin, draws_so_far};
 ghost use Rattle.adm_register.specs.Waits.{waiting_at};
 ghost use Rattle.adm_commands.specs.Tests.{first_failing};
 ghost use Rattle.adm_register.specs.WellFormed.{WellFormed};
-ghost use Rattle.adm_commands.specs.Outcome.{Comes, IsFillResult, without_row};
+ghost use Rattle.adm_commands.specs.Rules.{Follows};
 ghost use Rattle.adm_register.specs.Rows.{vacancies};
-ghost use Rattle.adm_commands.specs.Fill.{tests, is_vacant, fill_lots, draw_of_fill};
+ghost use Rattle.adm_commands.specs.Fill.{rules, tests, is_vacant, fill_lots, draw_of_fill};
 
 use crate::failing::first_failing;
 use crate::one_row::{one, one_place};
@@ -76,7 +76,7 @@ pub(crate) fn tried(
     requires well_formed { WellFormed old.now }
     requires draws { so_far.now ≡ draws_so_far old.now }
     requires within { IsWithin so_far.now }
-    ensures { IfOk result (λ tried. Comes (without_row (first_failing (tests old.now draw school day lots.now))) (IsFillResult old.now draw school day lots.now) tried) }
+    ensures { IfOk result (Follows (rules draw school day lots.now) old.now) }
 {
     let waiting = old.waiting_at(alloc, school)?;
     let drawn = lots_for(alloc, school, &waiting, lots.as_slice())?;

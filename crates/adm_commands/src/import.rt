@@ -1,14 +1,12 @@
 // To import children with their applications.
 ghost use Rattle.std.specs.Prelude.{◌≡◌, [], ◌∷◌, ◌++◌, map, None, IfOk, OnOk};
-ghost use Rattle.std.specs.List.{AllByRecursion, IsDistinct};
+ghost use Rattle.std.specs.List.{IsDistinct};
 ghost use Rattle.std.specs.List.Sorted.{IsPermutation, IsStrictlySortedBy};
 ghost use Rattle.std.specs.Ordering.{eq_by_cmp, nat_cmp};
-ghost use Rattle.adm_commands.specs.Import.{change_of, is_known, refusal_of_row, with_row, refused_from, new_rows, IsImported};
-ghost use Rattle.adm_commands.specs.KeptByTypes.{KeptByImportRow};
-ghost use Rattle.adm_commands.specs.Outcome.{Comes};
+ghost use Rattle.adm_commands.specs.Import.{rules, change_of, is_known, refusal_of_row, with_row, refused_from, new_rows};
+ghost use Rattle.adm_commands.specs.Rules.{Follows};
 ghost use Rattle.adm_register.specs.State.{application_of};
 
-use crate::child_values::kept_by_child;
 use crate::one_row::one;
 use crate::tried::Tried;
 use crate::{add_child, apply};
@@ -29,7 +27,7 @@ struct Walked {
 /// those that were known; or the first row that is refused, with its number from 1. What it costs
 /// grows with the rows, and for each that is new with the pieces of three tables.
 pub(crate) fn tried(old: &Tables, alloc: Global, rows: &[ImportRow]) -> Result<Tried, AllocError>
-    ensures { IfOk result (λ tried. Comes (refused_from old.now 1 rows.now) (IsImported old.now rows.now) tried) }
+    ensures { IfOk result (Follows (rules rows.now) old.now) }
 {
     let Walked { why, added } = walk(old, alloc, rows)?;
     if let Some(refused) = why {
@@ -191,23 +189,4 @@ fn application_of(row: &ImportRow) -> Result<Application, AllocError>
         day: row.day,
         list: row.preferences.clone()?,
     })
-}
-
-/// Tells what the types of the rows keep. It reads them for the check alone.
-pub(crate) fn kept_by_rows(rows: &[ImportRow])
-    ensures { AllByRecursion KeptByImportRow rows.now }
-{
-    let mut rest = rows;
-    while let Some((row, others)) = rest.split_first() {
-        kept_by_row(row);
-        rest = others;
-    }
-}
-
-/// Tells what the types of a row's values keep: those of its child, and a day.
-fn kept_by_row(row: &ImportRow)
-    ensures { KeptByImportRow row.now }
-{
-    kept_by_child(&row.child);
-    let _number = row.day.number();
 }

@@ -1,9 +1,8 @@
 // To let an offer lapse.
 ghost use Rattle.std.specs.Prelude.{◌≡◌, IfOk};
 ghost use Rattle.adm_commands.specs.Tests.{first_failing};
-ghost use Rattle.adm_commands.specs.Outcome.{Comes, ChangesJust, without_row};
-ghost use Rattle.adm_commands.specs.Decline.{change_of};
-ghost use Rattle.adm_commands.specs.Lapse.{tests};
+ghost use Rattle.adm_commands.specs.Rules.{Follows};
+ghost use Rattle.adm_commands.specs.Lapse.{rules, tests};
 
 use crate::decline::change_of;
 use crate::failing::first_failing;
@@ -36,7 +35,7 @@ pub(crate) fn tried(
     school: SchoolCode,
     day: Day,
 ) -> Result<Tried, AllocError>
-    ensures { IfOk result (λ tried. Comes (without_row (first_failing (tests old.now child school day))) (ChangesJust (change_of child school)) tried) }
+    ensures { IfOk result (Follows (rules child school day) old.now) }
 {
     match refusal_of(old, child, school, day) {
         Some(refusal) => Ok(refused(refusal)),

@@ -13,6 +13,7 @@ mod entrants;
 mod failing;
 mod fill;
 mod import;
+mod kept;
 mod lapse;
 mod laws;
 mod leave_list;

@@ -6,7 +6,7 @@ ghost use Rattle.adm_register.specs.Difference.{IsDifference};
 ghost use Rattle.adm_commands.specs.Outcome.{Decides, decision};
 
 use crate::NotDone;
-use crate::commands::{kept_by_types, tried};
+use crate::commands::tried;
 use adm_register::{Difference, Register};
 use adm_round::allotment_fits;
 use adm_types::{Command, Reply};
@@ -21,7 +21,6 @@ pub fn propose(old: &Register, alloc: Global, command: &Command) -> Result<Propo
     ensures schools { IfOk result (λ proposal. KeepsSchools old.now proposal.register) }
     ensures change { IfOk result (λ proposal. IsDifference old.now proposal.register proposal.change) }
 {
-    kept_by_types(command);
     allotment_fits();
     match tried(old.tables(), old.draws_so_far(), alloc, command)? {
         Err((refusal, row)) => Err(NotDone::Refused { refusal, row }),

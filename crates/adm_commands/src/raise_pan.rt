@@ -1,8 +1,8 @@
 // To raise the admission number of a school.
 ghost use Rattle.std.specs.Prelude.{◌≡◌, IfOk, option_copied};
 ghost use Rattle.adm_commands.specs.Tests.{first_failing};
-ghost use Rattle.adm_commands.specs.Outcome.{Comes, ChangesJust, without_row};
-ghost use Rattle.adm_commands.specs.RaisePan.{may_have, tests, with_pan, change_of};
+ghost use Rattle.adm_commands.specs.Rules.{Follows};
+ghost use Rattle.adm_commands.specs.RaisePan.{rules, may_have, tests, with_pan};
 
 use crate::failing::first_failing;
 use crate::one_row::one;
@@ -58,7 +58,7 @@ pub(crate) fn tried(
     school: SchoolCode,
     pan: u32,
 ) -> Result<Tried, AllocError>
-    ensures { IfOk result (λ tried. Comes (without_row (first_failing (tests old.now school pan))) (ChangesJust (change_of old.now school pan)) tried) }
+    ensures { IfOk result (Follows (rules school pan) old.now) }
 {
     if let Some(refusal) = refusal_of(old, school, pan) {
         return Ok(refused(refusal));

@@ -1,8 +1,8 @@
 // To remind of an offer.
 ghost use Rattle.std.specs.Prelude.{◌≡◌, IfOk};
 ghost use Rattle.adm_commands.specs.Tests.{first_failing};
-ghost use Rattle.adm_commands.specs.Outcome.{Comes, ChangesJust, without_row};
-ghost use Rattle.adm_commands.specs.Remind.{tests, change_of};
+ghost use Rattle.adm_commands.specs.Rules.{Follows};
+ghost use Rattle.adm_commands.specs.Remind.{rules, tests};
 
 use crate::failing::first_failing;
 use crate::offered::{is_after_offer, is_reminded, offer_at};
@@ -36,7 +36,7 @@ pub(crate) fn tried(
     school: SchoolCode,
     day: Day,
 ) -> Result<Tried, AllocError>
-    ensures { IfOk result (λ tried. Comes (without_row (first_failing (tests old.now child school day))) (ChangesJust (change_of old.now child school day)) tried) }
+    ensures { IfOk result (Follows (rules child school day) old.now) }
 {
     if let Some(refusal) = refusal_of(old, child, school, day) {
         return Ok(refused(refusal));

@@ -1,13 +1,11 @@
 // To hold a round.
-ghost use Rattle.std.specs.Prelude.{◌≡◌, ◌≤◌, ◌∷◌, [], None, IfOk, IsTrue, length, count_by, is_none, nat_lt};
+ghost use Rattle.std.specs.Prelude.{◌≡◌, ◌≤◌, ◌∷◌, [], None, IfOk, length, count_by, is_none};
 ghost use Rattle.adm_types.specs.declared.commands.Reply.TheVariants.{Round as RoundReply};
-ghost use Rattle.std.specs.List.{list_all};
 ghost use Rattle.adm_commands.specs.Tests.{first_failing};
 ghost use Rattle.adm_register.specs.WellFormed.{WellFormed};
-ghost use Rattle.adm_commands.specs.KeptByTypes.{KeptByRound};
-ghost use Rattle.adm_commands.specs.Outcome.{Comes, IsRoundResult, without_row};
+ghost use Rattle.adm_commands.specs.Rules.{Follows};
 ghost use Rattle.adm_register.specs.Draws.{IsWithin, draws_so_far};
-ghost use Rattle.adm_commands.specs.Round.{tests, is_lot_count, are_lots_apart, offer_of, offers_on};
+ghost use Rattle.adm_commands.specs.Round.{rules, tests, is_lot_count, are_lots_apart, offer_of, offers_on};
 ghost use Rattle.adm_round.specs.Outcomes.{is_kept};
 
 use crate::failing::first_failing;
@@ -66,7 +64,7 @@ pub(crate) fn tried(
     requires well_formed { WellFormed old.now }
     requires draws { so_far.now ≡ draws_so_far old.now }
     requires within { IsWithin so_far.now }
-    ensures { IfOk result (λ tried. Comes (without_row (first_failing (tests old.now draw day lots.now))) (IsRoundResult old.now draw day lots.now) tried) }
+    ensures { IfOk result (Follows (rules draw day lots.now) old.now) }
 {
     let Parts {
         sites,
@@ -150,24 +148,5 @@ fn reply_of(round: u32, outcomes: &[Outcome]) -> Reply
         offers: totals.offers as u32,
         kept: totals.kept as u32,
         unplaced: totals.unplaced as u32,
-    }
-}
-
-/// Tells what the types of a round's values keep. It does nothing.
-pub(crate) fn kept_by_round(day: Day, lots: &Seq<u32>)
-    ensures { KeptByRound day lots.now }
-{
-    let _number = day.number();
-    are_lots(lots.as_slice());
-}
-
-/// Tells that each number is below 2^32. It reads them for the check alone.
-fn are_lots(lots: &[u32])
-    ensures { IsTrue (list_all (λ number. nat_lt number 4294967296) lots.now) }
-{
-    let mut rest = lots;
-    while let Some((lot, others)) = rest.split_first() {
-        let _lot = *lot;
-        rest = others;
     }
 }

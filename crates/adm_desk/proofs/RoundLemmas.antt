@@ -16,7 +16,8 @@ use Rattle.adm_types.specs.declared.commands.Command.TheVariants.{Round}
 use Rattle.adm_register.specs.State.{State as Register}
 use Rattle.adm_register.specs.Draws.{no_draws, count_draw, count_draws, draws_so_far, is_next, are_in_order}
 use Rattle.adm_register.specs.declared.draws_so_far.DrawsSoFar.{DrawsSoFar}
-use Rattle.adm_commands.specs.Outcome.{Accepts, without_row}
+use Rattle.adm_commands.specs.Outcome.{Accepts}
+use Rattle.adm_commands.specs.Rules.{without_row}
 use Rattle.adm_commands.specs.Tests.{first_failing}
 use Rattle.adm_commands.specs.Round as round
 use Rattle.adm_commands.specs.History.{DrawsInOrder, DrawsStay, DrawsKept, RoundIsRecorded, RecordsRound}

@@ -9,7 +9,7 @@ use Rattle.adm_round.specs.declared.applicants.Pair.{Pair}
 use Rattle.adm_round.specs.Round.{lots_of}
 use Rattle.adm_waiting.specs.Waiting.{first_by_lot}
 use Rattle.adm_commands.specs.Fill as fill
-use Rattle.adm_commands.specs.Outcome.{without_row}
+use Rattle.adm_commands.specs.Rules.{without_row}
 use Rattle.adm_register.proofs.WaitLemmas.{waiters_rise, waiters_fit}
 use Rattle.adm_commands.proofs.FillFit.{school_there, each_has_lot}
 use Rattle.adm_commands.proofs.fill.tried.Goals as goal

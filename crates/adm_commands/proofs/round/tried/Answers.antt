@@ -8,7 +8,7 @@ use Rattle.adm_round.specs.Round.{number_of}
 use Rattle.adm_round.specs.Outcomes.{is_kept}
 use Rattle.adm_commands.specs.Round.{offers_on, round_lots}
 use Rattle.adm_commands.specs.Round as round
-use Rattle.adm_commands.specs.Outcome.{without_row}
+use Rattle.adm_commands.specs.Rules.{without_row}
 use Rattle.adm_commands.proofs.Posed.{lots_pass, posed_as, best_as, few_entrants}
 use Rattle.adm_commands.proofs.round.tried.Goals as goal
 

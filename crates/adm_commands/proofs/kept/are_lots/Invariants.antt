@@ -1,7 +1,7 @@
 use Rattle.std.proofs.Common.{◌≡◌, length}
 use Rattle.std.specs.Prelude.{nat_lt}
 use Rattle.std.specs.List.{list_all}
-use Rattle.adm_commands.proofs.round.are_lots.Given as goal
+use Rattle.adm_commands.proofs.kept.are_lots.Given as goal
 
 -- those that are left decide for all
 abbrev pub invariant-loop-lot : goal.invariant-loop-lot

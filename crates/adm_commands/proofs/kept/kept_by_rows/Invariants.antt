@@ -1,7 +1,7 @@
 use Rattle.std.proofs.Common.{length}
 use Rattle.std.specs.List.{AllByRecursion}
 use Rattle.adm_commands.specs.KeptByTypes.{KeptByImportRow}
-use Rattle.adm_commands.proofs.import.kept_by_rows.Given as goal
+use Rattle.adm_commands.proofs.kept.kept_by_rows.Given as goal
 
 -- what is so of those that are left is so of all
 abbrev pub invariant-loop-row : goal.invariant-loop-row
