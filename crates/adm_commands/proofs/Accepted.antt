@@ -28,11 +28,11 @@ use Rattle.adm_commands.specs.KeptByTypes.{KeptBySchool, KeptByChild}
 use Rattle.adm_register.specs.WellFormed.{AllRows, WellFormed, ChildFits, has_first_round, places_outside_plans, is_unplanned_at, lists_school}
 use Rattle.adm_register.specs.Draws.{DrawFits, are_in_order, no_draws, count_draws}
 use Rattle.adm_commands.specs.Tests.{first_failing}
-use Rattle.adm_commands.specs.AddSchool as add_school
-use Rattle.adm_commands.specs.AddChild as add_child
-use Rattle.adm_commands.specs.Amend as amend
-use Rattle.adm_commands.specs.NamePlan as name_plan
-use Rattle.adm_commands.specs.Apply as apply
+use Rattle.adm_commands.specs.Commands.AddSchool as add_school
+use Rattle.adm_commands.specs.Commands.AddChild as add_child
+use Rattle.adm_commands.specs.Commands.Amend as amend
+use Rattle.adm_commands.specs.Commands.NamePlan as name_plan
+use Rattle.adm_commands.specs.Commands.Apply as apply
 use Rattle.adm_commands.proofs.Keeps.{all_pass, len-insert_room}
 use Rattle.adm_register.proofs.Maps.{code_cmp-IsAntisymmetric}
 use Rattle.adm_commands.proofs.HeldLemmas.{held_le, none_held}

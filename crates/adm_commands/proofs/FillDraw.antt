@@ -29,8 +29,8 @@ use Rattle.adm_commands.specs.KeptByTypes.{KeptByRound}
 use Rattle.adm_commands.specs.Tests.{first_failing}
 use Rattle.adm_register.specs.WellFormed.{WellFormed, has_first_round}
 use Rattle.adm_register.specs.Waits.{waits, waiting_child, waiting_at}
-use Rattle.adm_commands.specs.Fill as fill
-use Rattle.adm_commands.specs.Fill.{fill_pairs, fill_lots, filled_draw}
+use Rattle.adm_commands.specs.Commands.Fill as fill
+use Rattle.adm_commands.specs.Commands.Fill.{fill_pairs, fill_lots, filled_draw}
 use Rattle.adm_commands.proofs.Keeps.{all_pass}
 use Rattle.adm_commands.proofs.Posed.{pairs_again}
 use Rattle.adm_commands.proofs.RoundNext.{lots-few}

@@ -26,8 +26,8 @@ use Rattle.adm_commands.specs.Tests.{first_failing}
 use Rattle.adm_register.specs.WellFormed.{WellFormed, has_first_round, lists_school}
 use Rattle.adm_register.specs.Wanted.{has_left}
 use Rattle.adm_register.specs.Waits.{waiting_at}
-use Rattle.adm_commands.specs.Fill as fill
-use Rattle.adm_commands.specs.Fill.{filled_draw}
+use Rattle.adm_commands.specs.Commands.Fill as fill
+use Rattle.adm_commands.specs.Commands.Fill.{filled_draw}
 use Rattle.adm_register.specs.Fits.{Fit}
 use Rattle.adm_commands.proofs.Keeps.{all_pass}
 use Rattle.adm_register.proofs.Tidy.{tidy_none, tidy_put}

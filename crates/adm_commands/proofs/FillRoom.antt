@@ -16,7 +16,7 @@ use Rattle.adm_types.specs.declared.rows.PlaceRow.{PlaceRow}
 use Rattle.adm_register.specs.State.{State, is_plan}
 use Rattle.adm_register.specs.Rows.{places_at, vacancies}
 use Rattle.adm_register.specs.WellFormed.{WellFormed, AllRows, is_unplanned_at, places_outside_plans}
-use Rattle.adm_commands.specs.Fill.{is_vacant}
+use Rattle.adm_commands.specs.Commands.Fill.{is_vacant}
 use Rattle.adm_commands.proofs.HeldLemmas.{held_le}
 
 one_at_most : (b : Bool) → one_if b ≤ 1

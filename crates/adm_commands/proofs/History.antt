@@ -3,7 +3,7 @@ use Rattle.std.proofs.Common.{◌∙◌, ap}
 use Rattle.std.specs.Cmp.{nat_cmp_total}
 use Rattle.std.specs.FinMap.{get}
 use Rattle.adm_register.specs.Change.{after}
-use Rattle.adm_commands.specs.Round as round
+use Rattle.adm_commands.specs.Commands.Round as round
 use Rattle.adm_commands.specs.History.{DrawsKept, RoundIsRecorded, drawn_on}
 use Rattle.adm_commands.proofs.EachCommand.{shows}
 use Rattle.adm_commands.proofs.PutAgain.{get-insert_same}

@@ -17,7 +17,7 @@ use Rattle.adm_register.specs.State.{State}
 use Rattle.adm_register.specs.Change.{after, put_all}
 use Rattle.adm_commands.specs.Tests.{first_failing}
 use Rattle.adm_register.specs.WellFormed.{WellFormed, AllRows}
-use Rattle.adm_commands.specs.Import.{change_of, is_same_as, is_known, row_tests, refusal_of_row, with_row, after_row, refused_from, or_later, new_rows}
+use Rattle.adm_commands.specs.Commands.Import.{change_of, is_same_as, is_known, row_tests, refusal_of_row, with_row, after_row, refused_from, or_later, new_rows}
 use Rattle.adm_commands.proofs.EachOf.{each_permuted}
 use Rattle.adm_commands.proofs.ImportWalk.{IsAddable, new_rows-addable}
 use Rattle.adm_register.proofs.Puts.{stays, all_stay}

@@ -19,7 +19,7 @@ use Rattle.adm_types.specs.declared.rows.ImportRow.{ImportRow}
 use Rattle.adm_register.specs.State.{State, application_of}
 use Rattle.adm_register.specs.Change.{after, put_all}
 use Rattle.adm_commands.specs.KeptByTypes.{KeptByImportRow}
-use Rattle.adm_commands.specs.Import.{change_of, refused_from, new_rows}
+use Rattle.adm_commands.specs.Commands.Import.{change_of, refused_from, new_rows}
 use Rattle.adm_register.specs.WellFormed.{WellFormed, ChildFits, ApplicationFits, ImportFits}
 use Rattle.adm_commands.proofs.Accepted.{draws_stay}
 use Rattle.adm_commands.proofs.EachOf.{each_permuted, each_map, map_twice}

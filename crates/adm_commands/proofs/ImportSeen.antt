@@ -5,7 +5,7 @@ use Rattle.std.proofs.lemmas.List.{append_assoc}
 use Rattle.adm_types.specs.declared.rows.ImportRow.{ImportRow}
 use Rattle.adm_types.specs.declared.commands.Refusal.{Refusal}
 use Rattle.adm_register.specs.State.{State}
-use Rattle.adm_commands.specs.Import.{is_known, refusal_of_row, with_row, after_row, refused_from, or_later, new_rows}
+use Rattle.adm_commands.specs.Commands.Import.{is_known, refusal_of_row, with_row, after_row, refused_from, or_later, new_rows}
 
 -- what comes of the rows that are left, beside those that were seen, comes of all rows
 pub record Seen (old : State) (rows : List ImportRow) (seen : State) (number : ℕ) (rest added : List ImportRow) : Type 0 where

@@ -17,9 +17,9 @@ use Rattle.adm_types.specs.declared.commands.Refusal.{Refusal}
 use Rattle.adm_register.specs.State.{State}
 use Rattle.adm_commands.specs.Tests.{first_failing}
 use Rattle.adm_register.specs.WellFormed.{are_schools}
-use Rattle.adm_commands.specs.AddChild as add_child
-use Rattle.adm_commands.specs.Apply as apply
-use Rattle.adm_commands.specs.Import.{change_of, is_known, row_tests, refusal_of_row, with_row, after_row, refused_from, or_later, new_rows}
+use Rattle.adm_commands.specs.Commands.AddChild as add_child
+use Rattle.adm_commands.specs.Commands.Apply as apply
+use Rattle.adm_commands.specs.Commands.Import.{change_of, is_known, row_tests, refusal_of_row, with_row, after_row, refused_from, or_later, new_rows}
 use Rattle.adm_commands.proofs.EachOf.{each_map}
 use Rattle.adm_commands.proofs.Keeps.{all_pass}
 

@@ -10,7 +10,7 @@ use Rattle.adm_types.specs.declared.commands.Command.TheVariants.{Import}
 use Rattle.adm_types.specs.declared.commands.Reply.TheVariants.{Imported}
 use Rattle.adm_register.specs.State.{State}
 use Rattle.adm_register.specs.Change.{after}
-use Rattle.adm_commands.specs.Import as import
+use Rattle.adm_commands.specs.Commands.Import as import
 use Rattle.adm_commands.specs.Imports.{Reaches, AddsNothing, ImportOnce}
 use Rattle.adm_commands.proofs.EachCommand.{shows}
 use Rattle.adm_commands.proofs.ImportAgain.{IsKept, ImportsKnown, imports_known, rows_kept, none_new, none_added}

@@ -12,7 +12,7 @@ use Rattle.adm_register.specs.WellFormed.{WellFormed, is_unplanned_at}
 use Rattle.adm_register.specs.Wanted.{has_left}
 use Rattle.adm_commands.specs.Tests.{first_failing}
 use Rattle.adm_register.specs.Waits.{waits, is_waiting}
-use Rattle.adm_commands.specs.LeaveList as leave_list
+use Rattle.adm_commands.specs.Commands.LeaveList as leave_list
 use Rattle.adm_commands.proofs.Keeps.{all_pass}
 use Rattle.adm_register.proofs.Maps.{left_cmp-total}
 use Rattle.adm_register.proofs.Tidy.{tidy_none, tidy_put}

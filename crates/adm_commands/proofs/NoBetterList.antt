@@ -4,7 +4,7 @@ use Rattle.std.specs.Prelude.{All}
 use Rattle.adm_match.specs.Market.{Code, Candidate, assigned_rank, first_fault}
 use Rattle.adm_match.specs.Relisting.{NoGain}
 use Rattle.adm_round.specs.Outcomes.{PosedWithoutFault}
-use Rattle.adm_commands.specs.Round.{sites, entrants, round_lots, round_market}
+use Rattle.adm_commands.specs.Commands.Round.{sites, entrants, round_lots, round_market}
 use Rattle.adm_commands.specs.WhatIf.{NoBetterList}
 use Rattle.adm_commands.proofs.Posed.{posed}
 

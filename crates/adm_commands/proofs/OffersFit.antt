@@ -20,10 +20,10 @@ use Rattle.adm_register.specs.WellFormed.{WellFormed, has_first_round, is_unplan
 use Rattle.adm_commands.specs.Tests.{first_failing}
 use Rattle.adm_register.specs.Wanted.{has_left}
 use Rattle.adm_commands.specs.Offered.{offer_days, offer_at, is_after_offer}
-use Rattle.adm_commands.specs.Accept as accept
-use Rattle.adm_commands.specs.Decline as decline
-use Rattle.adm_commands.specs.Remind as remind
-use Rattle.adm_commands.specs.Lapse as lapse
+use Rattle.adm_commands.specs.Commands.Accept as accept
+use Rattle.adm_commands.specs.Commands.Decline as decline
+use Rattle.adm_commands.specs.Commands.Remind as remind
+use Rattle.adm_commands.specs.Commands.Lapse as lapse
 use Rattle.adm_commands.proofs.Keeps.{all_pass}
 use Rattle.adm_commands.proofs.HeldLemmas.{held_le}
 use Rattle.adm_register.proofs.Puts.{there_before}

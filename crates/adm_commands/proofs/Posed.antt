@@ -35,8 +35,8 @@ use Rattle.adm_register.specs.State.{State}
 use Rattle.adm_commands.specs.Tests.{first_failing}
 use Rattle.adm_register.specs.WellFormed.{WellFormed}
 use Rattle.adm_register.specs.Wanted.{above, has_left, wanted_of, own_school}
-use Rattle.adm_commands.specs.Round.{takes_part, applicant_of, entrants, quota, sites, round_pairs, round_lots, is_lot_count, are_lots_apart, AreOutcomes}
-use Rattle.adm_commands.specs.Round as round
+use Rattle.adm_commands.specs.Commands.Round.{takes_part, applicant_of, entrants, quota, sites, round_pairs, round_lots, is_lot_count, are_lots_apart, AreOutcomes}
+use Rattle.adm_commands.specs.Commands.Round as round
 use Rattle.adm_commands.specs.Problem.{lots_fault}
 use Rattle.adm_commands.specs.declared.problems.DrawFault.TheVariants.{LotCount, LotsRepeated}
 use Rattle.adm_register.proofs.Maps.{code_cmp-IsAntisymmetric}

@@ -16,7 +16,7 @@ use Rattle.adm_register.specs.WellFormed.{WellFormed, places_outside_plans}
 use Rattle.adm_register.proofs.Maps.{code_cmp-IsAntisymmetric}
 use Rattle.adm_register.proofs.Puts.{AllRows-put_all}
 use Rattle.adm_register.proofs.Tidy.{tidy_none, tidy_put}
-use Rattle.adm_commands.specs.RaisePan.{tests, may_have, with_pan, change_of}
+use Rattle.adm_commands.specs.Commands.RaisePan.{tests, may_have, with_pan, change_of}
 use Rattle.adm_commands.specs.Tests.{first_failing}
 use Rattle.adm_commands.proofs.Accepted.{draws_stay}
 use Rattle.adm_commands.proofs.Keeps.{all_pass}

@@ -32,7 +32,7 @@ use Rattle.adm_round.specs.Outcomes.{is_fresh, HasListedSchool}
 use Rattle.adm_register.specs.State.{State}
 use Rattle.adm_register.specs.Draws.{DrawFits, is_due, is_next, are_in_order, no_draws, count_draws, is_choice, is_known_outcome, is_known_lot, draws_so_far}
 use Rattle.adm_commands.specs.KeptByTypes.{KeptByRound}
-use Rattle.adm_commands.specs.Round.{entrants, sites, round_pairs, round_lots}
+use Rattle.adm_commands.specs.Commands.Round.{entrants, sites, round_pairs, round_lots}
 use Rattle.adm_register.specs.WellFormed.{WellFormed, has_first_round}
 use Rattle.adm_register.proofs.DrawLemmas.{next_number}
 use Rattle.adm_register.proofs.RoundLemmas.{rises_by}

@@ -18,7 +18,7 @@ use Rattle.adm_round.specs.declared.applicants.Applicant.{Applicant}
 use Rattle.adm_round.specs.declared.applicants.Site.{Site}
 use Rattle.adm_round.specs.Round.{code_of_site, number_of, listed, is_site, IsListFit, IsPosed}
 use Rattle.adm_register.specs.State.{State}
-use Rattle.adm_commands.specs.Round.{takes_part, applicant_of, entrants, quota, sites}
+use Rattle.adm_commands.specs.Commands.Round.{takes_part, applicant_of, entrants, quota, sites}
 use Rattle.adm_register.specs.Wanted.{wanted_of, own_school}
 use Rattle.adm_register.specs.WellFormed.{WellFormed}
 use Rattle.adm_register.proofs.Maps.{code_cmp-IsAntisymmetric}

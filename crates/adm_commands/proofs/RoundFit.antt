@@ -10,9 +10,9 @@ use Rattle.adm_round.specs.Round.{IsPosed}
 use Rattle.adm_round.specs.Outcomes.{AllotmentFits}
 use Rattle.adm_register.specs.State.{State}
 use Rattle.adm_commands.specs.KeptByTypes.{KeptByRound}
-use Rattle.adm_commands.specs.Round.{entrants, sites, round_lots, AreOutcomes}
+use Rattle.adm_commands.specs.Commands.Round.{entrants, sites, round_lots, AreOutcomes}
 use Rattle.adm_register.specs.Draws.{draws_so_far}
-use Rattle.adm_commands.specs.Round as round
+use Rattle.adm_commands.specs.Commands.Round as round
 use Rattle.adm_commands.specs.Tests.{first_failing}
 use Rattle.adm_register.specs.WellFormed.{WellFormed, has_first_round}
 use Rattle.adm_register.specs.Fits.{Fit}

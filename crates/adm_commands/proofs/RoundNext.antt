@@ -10,8 +10,8 @@ use Rattle.adm_round.specs.Round.{lots_of}
 use Rattle.adm_register.specs.State.{State}
 use Rattle.adm_commands.specs.Tests.{first_failing}
 use Rattle.adm_register.specs.Draws.{are_in_order, draws_so_far}
-use Rattle.adm_commands.specs.Round as round
-use Rattle.adm_commands.specs.Round.{round_lots, round_pairs}
+use Rattle.adm_commands.specs.Commands.Round as round
+use Rattle.adm_commands.specs.Commands.Round.{round_lots, round_pairs}
 use Rattle.adm_commands.proofs.Keeps.{all_pass}
 
 -- as many lots as there are pairs and numbers

@@ -23,7 +23,7 @@ use Rattle.adm_round.specs.declared.applicants.Applicant.{Applicant}
 use Rattle.adm_round.specs.Round.{number_of, listed, IsPosed}
 use Rattle.adm_round.specs.Outcomes.{is_fresh, outcome_of, HasListedSchool, KeepsTenant, HasRoom, AllotmentFits}
 use Rattle.adm_register.specs.State.{State, is_plan}
-use Rattle.adm_commands.specs.Round.{entrants, sites, round_lots, AreOutcomes, offer_of, offers_on}
+use Rattle.adm_commands.specs.Commands.Round.{entrants, sites, round_lots, AreOutcomes, offer_of, offers_on}
 use Rattle.adm_register.specs.Wanted.{has_left, own_school}
 use Rattle.adm_register.specs.WellFormed.{WellFormed, PlaceFits, has_first_round, has_days_in_order, lists_school}
 use Rattle.adm_register.proofs.RoundLemmas.{listed_in, in_listed}

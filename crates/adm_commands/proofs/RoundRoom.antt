@@ -24,7 +24,7 @@ use Rattle.adm_round.specs.Round.{number_of}
 use Rattle.adm_round.specs.Outcomes.{HasRoom, KeepsTenant, outcomes_at, has_fresh}
 use Rattle.adm_register.specs.State.{State, is_plan}
 use Rattle.adm_register.specs.Change.{put_all}
-use Rattle.adm_commands.specs.Round.{quota, sites, offer_of, offers_on}
+use Rattle.adm_commands.specs.Commands.Round.{quota, sites, offer_of, offers_on}
 use Rattle.adm_register.specs.WellFormed.{AllRows, is_unplanned_at, places_outside_plans}
 use Rattle.adm_commands.proofs.HeldLemmas.{held_le}
 use Rattle.adm_register.proofs.Puts.{get-put_all}

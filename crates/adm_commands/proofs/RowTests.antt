@@ -10,9 +10,9 @@ use Rattle.adm_types.specs.declared.commands.Refusal.TheVariants.{RowDiffers, Un
 use Rattle.adm_register.specs.State.{State, application_of}
 use Rattle.adm_register.specs.Change.{after, change_of_child}
 use Rattle.adm_commands.specs.Tests.{first_failing}
-use Rattle.adm_commands.specs.AddChild as add_child
-use Rattle.adm_commands.specs.Apply as apply
-use Rattle.adm_commands.specs.Import.{is_known, row_tests, refusal_of_row}
+use Rattle.adm_commands.specs.Commands.AddChild as add_child
+use Rattle.adm_commands.specs.Commands.Apply as apply
+use Rattle.adm_commands.specs.Commands.Import.{is_known, row_tests, refusal_of_row}
 
 -- the first refusal, or else the second
 abbrev pub or_next : Option Refusal → Option Refusal → Option Refusal

@@ -14,7 +14,7 @@ use Rattle.adm_register.specs.Change.{after}
 use Rattle.adm_register.specs.Fits.{Fit}
 use Rattle.adm_register.specs.WellFormed.{WellFormed}
 use Rattle.adm_commands.specs.History.{DrawsInOrder, DrawsStay}
-use Rattle.adm_commands.specs.Outcome.{Changes, KeptByTypes, refused}
+use Rattle.adm_commands.specs.Commands.{Changes, KeptByTypes, refused}
 use Rattle.adm_commands.specs.Rules.{without_row}
 use Rattle.adm_commands.proofs.DrawsStay.{unchanged}
 use Rattle.adm_commands.proofs.ImportAgain.{ImportsKnown}

@@ -23,10 +23,10 @@ use Rattle.adm_register.specs.Fits.{Fit}
 use Rattle.adm_register.specs.Waits.{waiting_at}
 use Rattle.adm_register.specs.WellFormed.{WellFormed}
 use Rattle.adm_commands.specs.Tests.{first_failing}
-use Rattle.adm_commands.specs.Round as round
-use Rattle.adm_commands.specs.Round.{sites, entrants, round_lots, round_market}
-use Rattle.adm_commands.specs.Fill as fill
-use Rattle.adm_commands.specs.Import as import
+use Rattle.adm_commands.specs.Commands.Round as round
+use Rattle.adm_commands.specs.Commands.Round.{sites, entrants, round_lots, round_market}
+use Rattle.adm_commands.specs.Commands.Fill as fill
+use Rattle.adm_commands.specs.Commands.Import as import
 use Rattle.adm_commands.specs.History.{drawn_on}
 use Rattle.adm_register.proofs.DrawLemmas.{values_put, with_draws-append}
 use Rattle.adm_register.proofs.Puts.{there_each}

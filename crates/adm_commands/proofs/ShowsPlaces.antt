@@ -12,12 +12,12 @@ use Rattle.adm_register.specs.Change.{after}
 use Rattle.adm_register.specs.Plans.{is_plan_row}
 use Rattle.adm_register.specs.WellFormed.{is_unplanned_at}
 use Rattle.adm_commands.specs.Tests.{first_failing}
-use Rattle.adm_commands.specs.NamePlan as name_plan
-use Rattle.adm_commands.specs.Accept as accept
-use Rattle.adm_commands.specs.Decline as decline
-use Rattle.adm_commands.specs.Remind as remind
-use Rattle.adm_commands.specs.Lapse as lapse
-use Rattle.adm_commands.specs.LeaveList as leave_list
+use Rattle.adm_commands.specs.Commands.NamePlan as name_plan
+use Rattle.adm_commands.specs.Commands.Accept as accept
+use Rattle.adm_commands.specs.Commands.Decline as decline
+use Rattle.adm_commands.specs.Commands.Remind as remind
+use Rattle.adm_commands.specs.Commands.Lapse as lapse
+use Rattle.adm_commands.specs.Commands.LeaveList as leave_list
 use Rattle.adm_commands.specs.Offered.{offer_at, offer_days, is_reminded}
 use Rattle.adm_commands.proofs.Accepted.{name_plan-fit}
 use Rattle.adm_commands.proofs.Keeps.{all_pass}

@@ -8,10 +8,10 @@ use Rattle.adm_types.specs.declared.rows.Application.{Application}
 use Rattle.adm_types.specs.declared.rows.Child.{Child}
 use Rattle.adm_types.specs.declared.rows.School.{School}
 use Rattle.adm_register.specs.Change.{after, change_of_child}
-use Rattle.adm_commands.specs.AddSchool as add_school
-use Rattle.adm_commands.specs.RaisePan as raise_pan
-use Rattle.adm_commands.specs.AddChild as add_child
-use Rattle.adm_commands.specs.Apply as apply
+use Rattle.adm_commands.specs.Commands.AddSchool as add_school
+use Rattle.adm_commands.specs.Commands.RaisePan as raise_pan
+use Rattle.adm_commands.specs.Commands.AddChild as add_child
+use Rattle.adm_commands.specs.Commands.Apply as apply
 use Rattle.adm_commands.proofs.Accepted.{add_school-fit, add_child-fit, amend-fit, apply-fit}
 use Rattle.adm_commands.proofs.Keeps.{all_pass}
 use Rattle.adm_commands.proofs.PutAgain.{insert_again, not_again}

@@ -9,7 +9,7 @@ use Rattle.adm_types.specs.declared.rows.School.{School}
 use Rattle.adm_types.specs.declared.rows.PlaceRow.{PlaceRow}
 use Rattle.adm_round.specs.declared.applicants.Site.{Site}
 use Rattle.adm_register.specs.State.{is_plan}
-use Rattle.adm_commands.specs.Round.{plans_at}
+use Rattle.adm_commands.specs.Commands.Round.{plans_at}
 
 module _ {X Y : Type 0} (p : Y → Bool) (f : X → Y) (q : X → Bool) where
   -- those that pass one test after those that pass another are those that pass both

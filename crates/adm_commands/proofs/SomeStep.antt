@@ -5,7 +5,8 @@ use Rattle.adm_types.specs.declared.commands.Refusal.{Refusal}
 use Rattle.adm_types.specs.declared.commands.Reply.{Reply}
 use Rattle.adm_register.specs.State.{State}
 use Rattle.adm_register.specs.Change.{after}
-use Rattle.adm_commands.specs.Outcome.{SomeStep, Step, refused}
+use Rattle.adm_commands.specs.Commands.{refused}
+use Rattle.adm_commands.specs.Outcome.{SomeStep, Step}
 use Rattle.adm_commands.proofs.EachCommand.{shows}
 use Rattle.adm_commands.proofs.Shows.{Laws}
 

@@ -8,7 +8,7 @@ use Rattle.adm_types.specs.declared.draws.Outcome.{Outcome}
 use Rattle.adm_register.specs.State.{State}
 use Rattle.adm_register.specs.Draws.{no_draws, are_in_order, draws_so_far}
 use Rattle.adm_register.specs.WellFormed.{AllRows}
-use Rattle.adm_commands.specs.Round.{round_lots, AreOutcomes}
+use Rattle.adm_commands.specs.Commands.Round.{round_lots, AreOutcomes}
 use Rattle.adm_commands.specs.Outcome.{Accepts}
 
 -- each draw stands at its own number, and is the next after those before it, as in every register

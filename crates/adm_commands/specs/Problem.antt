@@ -3,7 +3,7 @@ use Rattle.std.specs.Prelude.{◌≡◌, ℕ, List, Option, None, Some, if◌the
 use Rattle.adm_register.specs.State.{State}
 use Rattle.adm_register.specs.WellFormed.{WellFormed}
 use Rattle.adm_round.specs.Round.{IsPosed}
-use Rattle.adm_commands.specs.Round.{sites, entrants, round_lots, is_lot_count, are_lots_apart}
+use Rattle.adm_commands.specs.Commands.Round.{sites, entrants, round_lots, is_lot_count, are_lots_apart}
 use Rattle.adm_commands.specs.declared.problems.DrawFault.{DrawFault}
 use Rattle.adm_commands.specs.declared.problems.DrawFault.TheVariants.{LotCount, LotsRepeated}
 

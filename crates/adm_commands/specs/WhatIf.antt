@@ -7,7 +7,7 @@ use Rattle.adm_match.specs.declared.what_ifs.WhatIfFault.TheVariants as list
 use Rattle.adm_register.specs.State.{State}
 use Rattle.adm_register.specs.WellFormed.{WellFormed}
 use Rattle.adm_commands.specs.Problem.{lots_fault}
-use Rattle.adm_commands.specs.Round.{round_market}
+use Rattle.adm_commands.specs.Commands.Round.{round_market}
 use Rattle.adm_commands.specs.declared.problems.DrawFault.{DrawFault}
 use Rattle.adm_commands.specs.declared.problems.DrawFault.TheVariants as draw
 use Rattle.adm_commands.specs.declared.what_ifs.NotTold.{NotTold}

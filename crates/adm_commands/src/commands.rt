@@ -2,15 +2,26 @@
 ghost use Rattle.std.specs.Prelude.{◌≡◌, IfOk};
 ghost use Rattle.adm_register.specs.Draws.{IsWithin, draws_so_far};
 ghost use Rattle.adm_register.specs.WellFormed.{WellFormed};
-ghost use Rattle.adm_commands.specs.Outcome.{rules_of, KeptByTypes};
+ghost use Rattle.adm_commands.specs.Commands.{rules_of, KeptByTypes};
 ghost use Rattle.adm_commands.specs.Rules.{Follows};
+
+mod accept;
+mod add_child;
+mod add_school;
+mod amend;
+mod apply;
+mod decline;
+mod fill;
+mod import;
+mod lapse;
+mod leave_list;
+mod name_plan;
+mod raise_pan;
+mod remind;
+mod round;
 
 use crate::kept::{kept_by_child, kept_by_round, kept_by_rows, kept_by_school};
 use crate::tried::Tried;
-use crate::{
-    accept, add_child, add_school, amend, apply, decline, fill, import, lapse, leave_list,
-    name_plan, raise_pan, remind, round,
-};
 use adm_register::{DrawsSoFar, Tables};
 use adm_types::Command;
 use std::alloc::{AllocError, Global};

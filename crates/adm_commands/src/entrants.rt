@@ -2,7 +2,7 @@
 ghost use Rattle.std.specs.Prelude.{◌≡◌, IfOk, filter, map, count_by, ◌-◌, bytes_eq};
 ghost use Rattle.std.specs.List.{filter_map};
 ghost use Rattle.adm_register.specs.State.{is_plan};
-ghost use Rattle.adm_commands.specs.Round.{takes_part, applicant_of, entrants, sites};
+ghost use Rattle.adm_commands.specs.Commands.Round.{takes_part, applicant_of, entrants, sites};
 
 use adm_register::{Tables, is_plan};
 use adm_round::{Applicant, Site};

@@ -1,32 +1,18 @@
 // The commands that change a register: when each is refused, what it changes, and what it answers.
 #![tactic(auto)]
 
-mod accept;
-mod add_child;
-mod add_school;
-mod amend;
-mod apply;
 mod child_values;
 mod commands;
-mod decline;
 mod entrants;
 mod failing;
-mod fill;
-mod import;
 mod kept;
-mod lapse;
 mod laws;
-mod leave_list;
-mod name_plan;
 mod not_done;
 mod offered;
 mod one_row;
 mod pairs;
 mod problems;
 mod proposals;
-mod raise_pan;
-mod remind;
-mod round;
 mod tried;
 mod what_ifs;
 

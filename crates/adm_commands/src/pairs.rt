@@ -1,7 +1,7 @@
 // For whom lots are drawn, in their order.
 ghost use Rattle.std.specs.Prelude.{◌≡◌, IfOk, map};
-ghost use Rattle.adm_commands.specs.Round.{entrants, sites, round_pairs};
-ghost use Rattle.adm_commands.specs.Fill.{fill_pairs};
+ghost use Rattle.adm_commands.specs.Commands.Round.{entrants, sites, round_pairs};
+ghost use Rattle.adm_commands.specs.Commands.Fill.{fill_pairs};
 
 use crate::entrants::{entrants, sites};
 use adm_register::{Register, Tables};

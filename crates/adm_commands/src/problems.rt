@@ -1,6 +1,6 @@
 // The problem of the next round.
 ghost use Rattle.std.specs.Prelude.{◌≡◌, ◌⊎◌, None, Some, IfOk, IfErr, OnOk};
-ghost use Rattle.adm_commands.specs.Round.{entrants, sites, round_lots, round_market, is_lot_count, are_lots_apart};
+ghost use Rattle.adm_commands.specs.Commands.Round.{entrants, sites, round_lots, round_market, is_lot_count, are_lots_apart};
 ghost use Rattle.adm_commands.specs.Problem.{lots_fault};
 ghost use Rattle.adm_commands.specs.declared.problems.DrawFault.TheVariants.{Memory};
 

@@ -1,7 +1,7 @@
 // What a child would have by another list.
 ghost use Rattle.std.specs.Prelude.{◌≡◌, ◌⊎◌, None, Some, IfOk, IfErr};
 ghost use Rattle.adm_match.specs.Relisting.{IsWhatIf, IsNoGain};
-ghost use Rattle.adm_commands.specs.Round.{round_market};
+ghost use Rattle.adm_commands.specs.Commands.Round.{round_market};
 ghost use Rattle.adm_commands.specs.WhatIf.{by_lots, by_list, told_fault};
 ghost use Rattle.adm_commands.specs.declared.what_ifs.NotTold.TheVariants.{Memory};
 

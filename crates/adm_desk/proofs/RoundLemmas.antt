@@ -19,7 +19,7 @@ use Rattle.adm_register.specs.declared.draws_so_far.DrawsSoFar.{DrawsSoFar}
 use Rattle.adm_commands.specs.Outcome.{Accepts}
 use Rattle.adm_commands.specs.Rules.{without_row}
 use Rattle.adm_commands.specs.Tests.{first_failing}
-use Rattle.adm_commands.specs.Round as round
+use Rattle.adm_commands.specs.Commands.Round as round
 use Rattle.adm_commands.specs.History.{DrawsInOrder, DrawsStay, DrawsKept, RoundIsRecorded, RecordsRound}
 use Rattle.sqlite.specs.State.{State as Disk}
 use Rattle.adm_commands.specs.Imports.{Reaches}

@@ -5,7 +5,7 @@ use Rattle.adm_wire.specs.declared.fault.WireFault.TheVariants as fault
 use Rattle.adm_wire.specs.declared.what_if.WhatIf.{WhatIf}
 use Rattle.adm_match.specs.Relisting.{IsWhatIf, IsNoGain}
 use Rattle.adm_register.specs.State.{State as Register}
-use Rattle.adm_commands.specs.Round.{round_market}
+use Rattle.adm_commands.specs.Commands.Round.{round_market}
 use Rattle.adm_commands.specs.WhatIf.{told_fault}
 use Rattle.adm_commands.specs.declared.what_ifs.NotTold.TheVariants as untold
 use Rattle.adm_desk.specs.DeskState.{DeskState}

@@ -3,8 +3,8 @@ use Rattle.std.specs.Prelude.{ℕ, List, ◌++◌, codes, decimal, map, Option, 
 use Rattle.std.specs.FinMap.{get}
 use Rattle.adm_round.specs.declared.applicants.Pair.{Pair}
 use Rattle.adm_register.specs.State.{State}
-use Rattle.adm_commands.specs.Round.{round_pairs}
-use Rattle.adm_commands.specs.Fill.{fill_pairs}
+use Rattle.adm_commands.specs.Commands.Round.{round_pairs}
+use Rattle.adm_commands.specs.Commands.Fill.{fill_pairs}
 use Rattle.adm_letters.specs.Lines.{lines_text}
 
 -- the code of a school, a blank, and the number of a child

@@ -1,7 +1,7 @@
 // For whom lots are drawn.
 ghost use Rattle.std.specs.Prelude.{◌≡◌, IfOk, [], ◌∷◌, map, string_bytes};
-ghost use Rattle.adm_commands.specs.Round.{round_pairs};
-ghost use Rattle.adm_commands.specs.Fill.{fill_pairs};
+ghost use Rattle.adm_commands.specs.Commands.Round.{round_pairs};
+ghost use Rattle.adm_commands.specs.Commands.Fill.{fill_pairs};
 ghost use Rattle.adm_letters.specs.Answers.{GivesText};
 ghost use Rattle.adm_letters.specs.declared.fault.LetterFault.TheVariants.{UnknownSchool};
 ghost use Rattle.adm_letters.specs.Lines.{AddsLines, lines_text};

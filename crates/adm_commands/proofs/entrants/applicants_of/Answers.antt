@@ -1,6 +1,6 @@
 use Rattle.std.proofs.Common.{◌∙◌, ap, sym, ◌++◌, ◌∷◌, []}
 use Rattle.adm_lists.proofs.Walks.{next_added, next_left_out}
-use Rattle.adm_commands.specs.Round.{applicant_of}
+use Rattle.adm_commands.specs.Commands.Round.{applicant_of}
 use Rattle.adm_commands.proofs.entrants.applicants_of.Goals as goal
 use Rattle.adm_commands.proofs.entrants.applicants_of.Goals.{in-Some+in_ok-push, in_default}
 

@@ -1,6 +1,6 @@
 use Rattle.std.proofs.Common.{◌≡◌, take}
 use Rattle.std.specs.List.{filter_map}
-use Rattle.adm_commands.specs.Round.{applicant_of}
+use Rattle.adm_commands.specs.Commands.Round.{applicant_of}
 use Rattle.adm_commands.proofs.entrants.applicants_of.Given as goal
 
 -- those so far are those of as many applications

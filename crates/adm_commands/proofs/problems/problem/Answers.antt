@@ -2,7 +2,7 @@ use Rattle.std.proofs.Common.{◌≡◌, ◌∙◌, ap, sym, inl, cond, true, fa
 use Rattle.adm_round.specs.Ranks.{market_of_round}
 use Rattle.adm_register.specs.State.{State}
 use Rattle.adm_commands.specs.Problem.{lots_fault}
-use Rattle.adm_commands.specs.Round.{sites, entrants, round_lots, is_lot_count, are_lots_apart}
+use Rattle.adm_commands.specs.Commands.Round.{sites, entrants, round_lots, is_lot_count, are_lots_apart}
 use Rattle.adm_commands.specs.declared.problems.DrawFault.TheVariants.{LotCount, LotsRepeated}
 use Rattle.adm_commands.proofs.Posed.{posed_as}
 use Rattle.adm_commands.proofs.problems.problem.Goals as goal

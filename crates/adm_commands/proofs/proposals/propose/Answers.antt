@@ -1,6 +1,6 @@
 use Rattle.std.proofs.Common.{subst, Ok}
 use Rattle.adm_register.specs.State.{State}
-use Rattle.adm_commands.specs.Outcome.{rules_of}
+use Rattle.adm_commands.specs.Commands.{rules_of}
 use Rattle.adm_commands.specs.Rules.{Follows}
 use Rattle.adm_commands.proofs.EachCommand.{shows}
 use Rattle.adm_commands.proofs.proposals.propose.Goals as goal

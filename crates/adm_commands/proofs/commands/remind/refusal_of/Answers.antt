@@ -1,0 +1,21 @@
+use Rattle.std.proofs.Common.{◌∙◌, ap, [], ◌∷◌}
+use Rattle.std.specs.Prelude.{is_some, not}
+use Rattle.adm_types.specs.declared.commands.Refusal.TheVariants.{UnknownChild, UnknownSchool, NotOffered, AlreadyReminded, TooSoon}
+use Rattle.adm_commands.specs.Tests.{first_failing}
+use Rattle.adm_commands.specs.Commands.Remind.{tests}
+use Rattle.adm_commands.specs.Offered.{is_reminded, is_after_offer}
+use Rattle.adm_commands.proofs.commands.remind.refusal_of.Goals as goal
+
+-- the tests in their order
+pub returns : goal.returns
+unfolding tests
+returns c =
+    let offer = c.offer_at-offer.ensures in
+    c.first_failing.ensures
+    ∙ (λ i. first_failing
+    ((c.has_child.ensures i, UnknownChild)
+    ∷ (c.has_school.ensures i, UnknownSchool)
+    ∷ ((c.is_some.ensures ∙ ap is_some offer) i, NotOffered)
+    ∷ (not ((c.is_reminded.ensures ∙ ap is_reminded offer) i), AlreadyReminded)
+    ∷ ((c.is_after_offer.ensures ∙ ap (λ o. is_after_offer o c.args.day) offer) i, TooSoon)
+    ∷ []))

@@ -1,0 +1,40 @@
+// To add a child.
+ghost use Rattle.std.specs.Prelude.{◌≡◌, IfOk};
+ghost use Rattle.adm_commands.specs.Tests.{first_failing};
+ghost use Rattle.adm_commands.specs.Rules.{Follows};
+ghost use Rattle.adm_commands.specs.Commands.AddChild.{rules, tests};
+
+use crate::child_values::put_child;
+use crate::failing::first_failing;
+use crate::tried::{Tried, done, refused};
+use adm_register::Tables;
+use adm_types::limits::{MOST_CHILDREN, is_child_in_range, is_name};
+use adm_types::{Child, Refusal};
+use std::alloc::{AllocError, Global};
+
+/// Why the child is refused.
+#[tactic(auto, unfolding(crate::specs::Commands::AddChild::tests))]
+pub(crate) fn refusal_of(old: &Tables, child: &Child) -> Option<Refusal>
+    ensures { result ≡ first_failing (tests old.now child.now) }
+{
+    first_failing(&[
+        (!old.has_child(child.no), Refusal::ChildKnown),
+        (is_name(&child.name), Refusal::BadText),
+        (is_child_in_range(child), Refusal::OutOfRange),
+        (
+            old.are_schools(child.siblings.as_slice()),
+            Refusal::UnknownSchool,
+        ),
+        (old.child_count() < MOST_CHILDREN, Refusal::RegisterFull),
+    ])
+}
+
+/// The child is put.
+pub(crate) fn tried(old: &Tables, alloc: Global, child: &Child) -> Result<Tried, AllocError>
+    ensures { IfOk result (Follows (rules child.now) old.now) }
+{
+    match refusal_of(old, child) {
+        Some(refusal) => Ok(refused(refusal)),
+        None => Ok(done(put_child(alloc, child)?)),
+    }
+}

@@ -1,0 +1,76 @@
+// To apply: a child's list of schools, in its order of preference.
+ghost use Rattle.std.specs.Prelude.{◌≡◌, ◌&&◌, length, IfOk};
+ghost use Rattle.adm_types.specs.Limits.{is_from, is_without_repeat, most_preferences};
+ghost use Rattle.adm_commands.specs.Tests.{first_failing};
+ghost use Rattle.adm_commands.specs.Rules.{Follows};
+ghost use Rattle.adm_commands.specs.Commands.Apply.{rules, tests, further_tests};
+
+use crate::failing::first_failing;
+use crate::one_row::one;
+use crate::tried::{Tried, done, refused};
+use adm_register::{Difference, Tables};
+use adm_table::Shared;
+use adm_types::limits::{MOST_PREFERENCES, is_without_repeat};
+use adm_types::{Application, ChildNo, Day, Refusal, SchoolCode};
+use std::alloc::{AllocError, Global};
+
+/// Why the application is refused.
+#[tactic(auto, unfolding(crate::specs::Commands::Apply::tests))]
+fn refusal_of(old: &Tables, application: &Application) -> Option<Refusal>
+    ensures { result ≡ first_failing (tests old.now application.now) }
+{
+    if !old.has_child(application.child) {
+        return Some(Refusal::UnknownChild);
+    }
+    further_refusal_of(
+        old,
+        application.child,
+        application.day,
+        application.list.as_slice(),
+    )
+}
+
+/// Why an application of these values is refused, for a child that is there.
+pub(crate) fn further_refusal_of(
+    old: &Tables,
+    child: ChildNo,
+    day: Day,
+    list: &[SchoolCode],
+) -> Option<Refusal>
+    ensures { result ≡ first_failing (further_tests old.now (record { child = child; day = day; list = list.now })) }
+{
+    let in_time = day <= old.season().lists_end();
+    first_failing(&[
+        (!old.has_plan(child), Refusal::HasPlan),
+        (!old.has_application(child), Refusal::AlreadyApplied),
+        (in_time, Refusal::ListClosed),
+        (is_preference_list(list), Refusal::BadPreferences),
+        (old.are_schools(list), Refusal::UnknownSchool),
+    ])
+}
+
+/// Whether there are 1 to 10 schools without repeat.
+fn is_preference_list(list: &[SchoolCode]) -> bool
+    ensures { result ≡ (is_from 1 most_preferences (length list.now) && is_without_repeat list.now) }
+{
+    let count = 1 <= list.len() && list.len() <= MOST_PREFERENCES;
+    count && is_without_repeat(list)
+}
+
+/// The application is put.
+#[tactic(auto, unfolding(crate::specs::Commands::Apply::change_of))]
+pub(crate) fn tried(
+    old: &Tables,
+    alloc: Global,
+    application: &Application,
+) -> Result<Tried, AllocError>
+    ensures { IfOk result (Follows (rules application.now) old.now) }
+{
+    if let Some(refusal) = refusal_of(old, application) {
+        return Ok(refused(refusal));
+    }
+    let row = Shared::new(alloc, application.clone()?)?;
+    let mut change = Difference::none(alloc);
+    change.applications = one(alloc, row)?;
+    Ok(done(change))
+}

@@ -1,0 +1,43 @@
+// To name a school in a child's plan.
+ghost use Rattle.std.specs.Prelude.{◌≡◌, IfOk};
+ghost use Rattle.adm_commands.specs.Tests.{first_failing};
+ghost use Rattle.adm_commands.specs.Rules.{Follows};
+ghost use Rattle.adm_commands.specs.Commands.NamePlan.{rules, tests};
+
+use crate::failing::first_failing;
+use crate::one_row::{one, one_place};
+use crate::tried::{Tried, done, refused};
+use adm_register::{Difference, Tables};
+use adm_types::{ChildNo, PlaceState, Refusal, SchoolCode};
+use std::alloc::{AllocError, Global};
+
+/// Why the plan is refused.
+#[tactic(auto, unfolding(crate::specs::Commands::NamePlan::tests))]
+fn refusal_of(old: &Tables, child: ChildNo, school: SchoolCode) -> Option<Refusal>
+    ensures { result ≡ first_failing (tests old.now child school) }
+{
+    first_failing(&[
+        (old.has_child(child), Refusal::UnknownChild),
+        (old.has_school(school), Refusal::UnknownSchool),
+        (!old.has_plan(child), Refusal::HasPlan),
+    ])
+}
+
+/// The place of the plan is put, and the child's application is cut.
+#[tactic(auto, unfolding(crate::specs::Commands::NamePlan::change_of))]
+pub(crate) fn tried(
+    old: &Tables,
+    alloc: Global,
+    child: ChildNo,
+    school: SchoolCode,
+) -> Result<Tried, AllocError>
+    ensures { IfOk result (Follows (rules child school) old.now) }
+{
+    if let Some(refusal) = refusal_of(old, child, school) {
+        return Ok(refused(refusal));
+    }
+    let mut change = Difference::none(alloc);
+    change.places = one_place(alloc, child, school, PlaceState::Plan)?;
+    change.ended = one(alloc, child)?;
+    Ok(done(change))
+}
