@@ -24,20 +24,20 @@ use Rattle.adm_desk.specs.declared.answer.Answer.{Answer}
 use Rattle.adm_desk.specs.declared.answer.Answer.TheVariants as answer
 use Rattle.adm_desk.specs.declared.run.Run.{Run}
 use Rattle.adm_desk.specs.declared.run.RunFault.{RunFault}
-use Rattle.adm_program.specs.Exits.{of_season, of_lines, has_many_holidays, IsCauseIn, ExitsBy, exit_of_answer, ending_of, error_of, told_of, line_outcome, exit_of_words, exit_code}
+use Rattle.adm_files.specs.Exits.{of_season, of_lines, has_many_holidays, IsCauseIn, ExitsBy, exit_of_answer, ending_of, error_of, told_of, line_outcome, exit_of_words, exit_code}
 use Rattle.adm_wire.specs.Streams.{Stream}
-use Rattle.adm_program.specs.Opened.{IsNotOpened}
-use Rattle.adm_program.specs.Imports.{ImportsAs, ImportsFile, ImportsInto}
+use Rattle.adm_files.specs.Opened.{IsNotOpened}
+use Rattle.adm_files.specs.Imports.{ImportsAs, ImportsFile, ImportsInto}
 use Rattle.adm_program.specs.Served.{ServesAs, ServesOver}
-use Rattle.adm_program.specs.Texts.{Prints, PrintsAs, document_text}
-use Rattle.adm_program.specs.Runs.{Liner, OpensAndRuns, Creates, CreatesAs}
+use Rattle.adm_files.specs.Texts.{Prints, PrintsAs, document_text}
+use Rattle.adm_files.specs.Runs.{Liner, OpensAndRuns, Creates, CreatesAs}
 use Rattle.adm_program.specs.Does.{Does}
-use Rattle.adm_program.specs.declared.document.Document.{Document}
-use Rattle.adm_program.specs.declared.document.Document.TheVariants as document
-use Rattle.adm_program.specs.declared.ended.Ended.{Ended}
-use Rattle.adm_program.specs.declared.exit.Exit.{Exit}
-use Rattle.adm_program.specs.declared.exit.Exit.TheVariants as exit
-use Rattle.adm_program.specs.declared.fault.Fault.{Fault}
+use Rattle.adm_files.specs.declared.document.Document.{Document}
+use Rattle.adm_files.specs.declared.document.Document.TheVariants as document
+use Rattle.adm_files.specs.declared.ended.Ended.{Ended}
+use Rattle.adm_files.specs.declared.exit.Exit.{Exit}
+use Rattle.adm_files.specs.declared.exit.Exit.TheVariants as exit
+use Rattle.adm_files.specs.declared.fault.Fault.{Fault}
 
 pub if_ok : {X E : Type 0} {P Q : X → Type 0} → ((x : X) → P x → Q x) → (r : Result X E) → IfOk r P → IfOk r Q
 if_ok more (Ok x) holds = more x holds

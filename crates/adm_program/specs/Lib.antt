@@ -1,10 +1,3 @@
-pub mod Exits
-pub mod Opened
-pub mod Told
-pub mod Texts
-pub mod Imports
-pub mod Runs
 pub mod Served
 pub mod Does
-pub mod NextRun
 pub mod Words

@@ -11,13 +11,13 @@ use Rattle.sqlite.specs.declared.error.Error.{Error}
 use Rattle.adm_words.specs.Lines.{ReadsWords}
 use Rattle.adm_words.specs.declared.actions.Action.{Action}
 use Rattle.adm_words.specs.declared.faults.WordsFault.{WordsFault}
-use Rattle.adm_program.specs.Exits.{has_many_holidays, IsCauseIn, ending_of, error_of, told_of, exit_code, exit_of_words, fault_line}
+use Rattle.adm_files.specs.Exits.{has_many_holidays, IsCauseIn, ending_of, error_of, told_of, exit_code, exit_of_words, fault_line}
 use Rattle.adm_wire.specs.Streams.{Stream}
-use Rattle.adm_program.specs.Told.{Tells, TellsOutcome, TellsWords}
+use Rattle.adm_files.specs.Told.{Tells, TellsOutcome, TellsWords}
 use Rattle.adm_program.specs.Does.{Does}
-use Rattle.adm_program.specs.declared.exit.Exit.{Exit}
-use Rattle.adm_program.specs.declared.fault.Fault.{Fault}
-use Rattle.adm_program.specs.declared.fault.Fault.TheVariants.{TooManyHolidays}
+use Rattle.adm_files.specs.declared.exit.Exit.{Exit}
+use Rattle.adm_files.specs.declared.fault.Fault.{Fault}
+use Rattle.adm_files.specs.declared.fault.Fault.TheVariants.{TooManyHolidays}
 
 -- the words, as texts
 abbrev pub texts : List (Bor (List ℕ)) → List (List ℕ)

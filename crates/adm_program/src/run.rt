@@ -1,27 +1,21 @@
 // What each line of the command line does, over a reader and writers.
 ghost use Rattle.std.specs.Prelude.{◌≡◌, codes, IsTrue, IfOk, IfErr, OnErr, IsErrAnd};
 ghost use Rattle.sqlite_wal.specs.Files.{image_at};
-ghost use Rattle.adm_program.specs.Exits.{has_many_holidays, IsCauseIn, IsOpenFault, RunsWords, IsDisk};
-ghost use Rattle.adm_program.specs.declared.fault.Fault.TheVariants.{TooManyHolidays};
+ghost use Rattle.adm_files.specs.Exits.{has_many_holidays, IsCauseIn, IsOpenFault, RunsWords, IsDisk};
+ghost use Rattle.adm_files.specs.declared.fault.Fault.TheVariants.{TooManyHolidays};
 ghost use Rattle.adm_program.specs.Does.{Does};
-ghost use Rattle.adm_program.specs.Imports.{ImportsInto};
+ghost use Rattle.adm_files.specs.Imports.{ImportsInto};
 ghost use Rattle.adm_wire.specs.Streams.{reader, writer};
-ghost use Rattle.adm_program.specs.Opened.{files};
+ghost use Rattle.adm_files.specs.Opened.{files};
 ghost use Rattle.adm_program.specs.Served.{ServesOver};
-ghost use Rattle.adm_program.specs.Texts.{Prints};
+ghost use Rattle.adm_files.specs.Texts.{Prints};
 ghost use Rattle.adm_program.specs.Words.{DoesWords, texts};
 
-use crate::creating::init;
-use crate::document::Document;
-use crate::ended::Ended;
-use crate::fault::Fault;
-use crate::import::import_file;
-use crate::lines::{do_lines, tell_lines};
-use crate::opening::open_desk;
-use crate::print::print_document;
-use crate::rows::Rows;
 use crate::serving::serve_connections;
-use crate::telling::{end, refuse_words};
+use adm_files::{
+    Document, Ended, Fault, Rows, do_lines, end, import, init, open_desk, print, refuse_words,
+    tell_lines,
+};
 use adm_types::Season;
 use adm_wire::{Input, Output};
 use adm_words::{Action, action};
@@ -100,51 +94,6 @@ fn run_action<S: Start, F: Rows, I: Input, O: Output, L: Write>(
         Action::Pairs { file, school } => {
             print(rt, file, start, Document::Pairs(school), output)
         }
-    }
-}
-
-/// Imports the rows of the file `csv` into the register in the file, which is there. The `Err` is why
-/// it was not opened; then nothing was written.
-fn import<S: Start, F: Rows, O: Output>(
-    rt: &HostRuntime,
-    file: &str,
-    csv: &str,
-    start: S,
-    rows: &mut F,
-    output: &mut O,
-) -> Result<Ended<FileFrom<S>>, Fault>
-    ensures ok { IfOk result (λ ended. ImportsInto (image_at S.Start) (files F.Rows rows.old rows.new csv.now)
-        (writer O.Output output.old output.new)
-        ended.exit ended.closed) }
-    ensures err { IfErr result IsOpenFault }
-    ensures memory { file.now ≡ codes ":memory:" → IsErrAnd result IsDisk }
-    ensures untouched { OnErr result (O.contents output.new ≡ O.contents output.old) }
-{
-    match open_desk(rt, file, start)? {
-        Ok(desk) => Ok(import_file(rt, desk, csv, rows, output)),
-        Err(ended) => Ok(ended),
-    }
-}
-
-/// Prints a document of the register in the file, which is there. The `Err` is why it was not opened;
-/// then nothing was written.
-fn print<S: Start, O: Output>(
-    rt: &HostRuntime,
-    file: &str,
-    start: S,
-    document: Document,
-    output: &mut O,
-) -> Result<Ended<FileFrom<S>>, Fault>
-    ensures ok { IfOk result (λ ended. Prints (image_at S.Start) document
-        (writer O.Output output.old output.new)
-        ended.exit ended.closed) }
-    ensures err { IfErr result IsOpenFault }
-    ensures memory { file.now ≡ codes ":memory:" → IsErrAnd result IsDisk }
-    ensures untouched { OnErr result (O.contents output.new ≡ O.contents output.old) }
-{
-    match open_desk(rt, file, start)? {
-        Ok(desk) => Ok(print_document(rt.alloc(), desk, document, output)),
-        Err(ended) => Ok(ended),
     }
 }
 

@@ -2,13 +2,10 @@
 ghost use Rattle.std.specs.Prelude.{◌≡◌, IfOk, IfErr, string_bytes};
 ghost use Rattle.adm_wire.specs.Streams.{writer};
 ghost use Rattle.adm_program.specs.Served.{IsListenFault, Serves, serving_text};
-ghost use Rattle.adm_program.specs.Texts.{Puts};
+ghost use Rattle.adm_files.specs.Texts.{Puts};
 
-use crate::ended::{Ended, close};
-use crate::exit::Exit;
-use crate::fault::Fault;
-use crate::print::put;
 use adm_desk::Desk;
+use adm_files::{Ended, Exit, Fault, close, put};
 use adm_http::{Routes, serve_on};
 use adm_wire::Output;
 use sqlite::FileStore;

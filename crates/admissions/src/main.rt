@@ -1,7 +1,8 @@
 // The program: it takes its words and the streams of its process, and runs on real files.
 #![tactic(auto)]
 
-use adm_program::{FileRows, run_words, tell_memory};
+use adm_files::{FileRows, tell_memory};
+use adm_program::run_words;
 use adm_wire::Watched;
 use sqlite::Unknown;
 use std::io::ErrorKind;

@@ -4,8 +4,8 @@ use Rattle.adm_types.specs.Numbers.{is_from}
 use Rattle.adm_types.specs.declared.seasons.SeasonFault.TheVariants as season
 use Rattle.adm_words.specs.declared.actions.Action.{Action}
 use Rattle.adm_words.specs.declared.actions.Action.TheVariants as action
-use Rattle.adm_program.specs.Exits.{IsCauseIn}
-use Rattle.adm_program.specs.declared.fault.Fault.{Fault}
+use Rattle.adm_files.specs.Exits.{IsCauseIn}
+use Rattle.adm_files.specs.declared.fault.Fault.{Fault}
 use Rattle.adm_program.proofs.Doing.{if_ok, no_season, season_made}
 use Rattle.adm_program.proofs.run.run_action.Goals as goal
 

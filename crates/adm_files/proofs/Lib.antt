@@ -1,0 +1,4 @@
+pub mod Closing
+pub mod Importing
+pub mod NextRunLemmas
+pub mod Wording

@@ -1,0 +1,19 @@
+use Rattle.std.proofs.Common.{refl, ap, Err}
+use Rattle.adm_files.proofs.Closing.{closes}
+use Rattle.adm_files.proofs.creating.create_register.Goals as goal
+
+pub returns-in-Ok : goal.returns-in-Ok
+returns-in-Ok g c =
+    record {
+      left = c.create.new.conn;
+      made = (refl, c.in-Ok.ensures.ok);
+      closes = closes c.create.new.conn c.close_files.result _ c.close_files.ensures.copied c.close_files.ensures.err;
+    }
+
+pub returns-in-Err : goal.returns-in-Err
+returns-in-Err g c =
+    record {
+      left = c.create.new.conn;
+      made = (c.in-Err.fault, c.from.ensures, c.in-Err.ensures.err, λ e. c.in-Err.ensures.in_use (ap Err e));
+      closes = closes c.create.new.conn c.close_files-in-Err.result _ c.close_files-in-Err.ensures.copied c.close_files-in-Err.ensures.err;
+    }

@@ -1,0 +1,7 @@
+pub mod Exits
+pub mod Opened
+pub mod Told
+pub mod Texts
+pub mod Imports
+pub mod Runs
+pub mod NextRun

@@ -1,0 +1,66 @@
+-- What the open of a register in a file comes to, and what a close leaves.
+use Rattle.std.specs.Prelude.{◌≡◌, ◌⊎◌, ℕ, Bool, false, IsTrue, List, Option, Result, Ok, Err, MatchResult}
+use Rattle.sqlite_disk.specs.declared.Disk as disk
+use Rattle.sqlite_disk.specs.declared.Files.{Files}
+use Rattle.sqlite_wal.specs.Recovery.{Image}
+use Rattle.sqlite_wal.specs.Reads.{AreClean}
+use Rattle.sqlite_store.specs.declared.store.FileStore.{FileStore}
+use Rattle.sqlite.specs.declared.error.Error.{Error}
+use Rattle.sqlite.specs.State.{HasCleanDisk, Survives}
+use Rattle.sqlite.specs.Held.{Held}
+use Rattle.sqlite.specs.Files.{file_state, IsClosed}
+use Rattle.sqlite.specs.Closing.{IsCopied}
+use Rattle.sqlite.specs.Start.{FindsIn}
+use Rattle.adm_rows.specs.StandsFor.{LeavesOnly, LeavesNone}
+use Rattle.adm_store.specs.Migration.{IsMigrated}
+use Rattle.adm_rows.specs.Faults.{IsNoRegister}
+use Rattle.adm_rows.specs.FirstFault.{IsFirstFault}
+use Rattle.adm_rows.specs.declared.fault.OpenFault.{OpenFault}
+use Rattle.adm_desk.specs.DeskState.{DeskState}
+use Rattle.adm_wire.specs.Streams.{Stream}
+use Rattle.adm_files.specs.Exits.{of_open}
+use Rattle.adm_files.specs.declared.ended.Ended.{Ended}
+use Rattle.adm_files.specs.declared.exit.Exit.{Exit}
+use Rattle.adm_files.specs.declared.fault.Fault.{Fault}
+
+-- what the file of rows at a path held, and what was left of it
+abbrev pub files : {S : Type 0} → record { remaining : S → Option (List ℕ); has_failed : S → Bool; bytes_at : S → List ℕ → Option (List ℕ) } → S → S → List ℕ → Stream
+files g old new path = record { old = g.bytes_at old path; new = g.remaining new; has_failed = g.has_failed new }
+
+module _ {D : Type 0} {g : disk.Ghosts D} where
+  -- The close of a connection: on a clean disk the last commit is in the file alone, or its error tells what is left.
+  abbrev pub Closes : Held (FileStore D g) → Result (Files D) (Error × FileStore D g) → Type 0
+  Closes c closed = MatchResult closed (λ files. AreClean g files.log files.db → IsCopied c files) (λ e. IsClosed c e.1)
+
+  -- a connection to files that held this, which is open
+  abbrev pub IsFound : Image → Held (FileStore D g) → Type 0
+  IsFound image c = HasCleanDisk (file_state c) → IsTrue (file_state c).is_open × FindsIn image (file_state c)
+
+  -- the files stand for no register, or could not be read, and stay as they were, or stand for the same register in the second version; the first fault that fits is told
+  pub record IsNotOpened (image : Image) (e : Result Exit Fault) (closed : Result (Files D) (Error × FileStore D g)) : Type 0 where
+    pub found : Held (FileStore D g)
+    pub is_found : IsFound image found
+    pub cause : OpenFault
+    pub told : e ≡ Err (of_open cause)
+    pub left : Held (FileStore D g)
+    pub none : IsNoRegister cause → LeavesNone (file_state left)
+    pub first : HasCleanDisk (file_state left) → IsNoRegister cause → IsFirstFault (file_state found).now cause
+    pub kept : Survives (file_state found) (file_state left) (IsMigrated (file_state found))
+    pub closes : Closes left closed
+
+  -- the desk has the register that the files stood for, and a crash leaves the files as they were, or in the second version for the same register
+  pub record IsOpened (image : Image) (desk : DeskState (Held (FileStore D g))) : Type 0 where
+    pub found : Held (FileStore D g)
+    pub is_found : IsFound image found
+    pub alive : desk.failed ≡ false
+    pub leaves : LeavesOnly desk.register (file_state desk.conn)
+    pub kept : Survives (file_state found) (file_state desk.conn) (IsMigrated (file_state found))
+
+  -- a desk, or how the line ended without one
+  abbrev pub OpensAs : Image → Result (DeskState (Held (FileStore D g))) (Ended D g) → Type 0
+  OpensAs image (Ok desk) = IsOpened image desk
+  OpensAs image (Err ended) = IsNotOpened image ended.exit ended.closed
+
+  -- the register is not opened, and the streams stay as they were; or this comes of a desk that has it
+  abbrev pub Opens : Image → Type 0 → Result Exit Fault → Result (Files D) (Error × FileStore D g) → (DeskState (Held (FileStore D g)) → Type 0) → Type 0
+  Opens image Stays e closed Comes = (IsNotOpened image e closed × Stays) ⊎ ((desk : DeskState (Held (FileStore D g))) × IsOpened image desk × Comes desk)

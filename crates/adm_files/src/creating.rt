@@ -1,0 +1,160 @@
+// How the register of a season is created in a file.
+ghost use Rattle.std.specs.Prelude.{◌≡◌, false, codes, IfOk, IfErr, IsErr, IsErrAnd};
+ghost use Rattle.sqlite_wal.specs.Files.{image_at};
+ghost use Rattle.adm_files.specs.Exits.{IsOpenFault, IsDisk};
+ghost use Rattle.adm_files.specs.Runs.{Creates, CreatesIn};
+
+use crate::cause::Cause;
+use crate::ended::Ended;
+use crate::exit::Exit;
+use crate::fault::Fault;
+use crate::found::{Found, Head, is_reserved, make_empty};
+use crate::opening::open_file;
+use crate::trial::Trial;
+use adm_store::{CreateFault, create};
+use adm_types::Season;
+use sqlite::{Connection, FileFrom, FileStore, Start, Unknown};
+use sqlite_disk::Disk;
+use std::alloc::Global;
+
+/// Creates the register of a season in the file. The `Err` is why it was not opened.
+///
+/// A file that is made here is one that its owner alone may read and write. A file that is refused
+/// stays as it was, and so does its log: where the log has pages, the file is tried on a copy first,
+/// and an empty or a missing file beside such a log is refused.
+pub fn init<S: Start>(
+    rt: &HostRuntime,
+    file: &str,
+    start: S,
+    season: &Season,
+) -> Result<Ended<FileFrom<S>>, Fault>
+    ensures ok { IfOk result (λ ended. Creates (image_at S.Start) season.now ended.exit ended.closed) }
+    ensures err { IfErr result IsOpenFault }
+    ensures memory { file.now ≡ codes ":memory:" → IsErrAnd result IsDisk }
+{
+    if is_reserved(file) {
+        return Err(Fault::Disk(None));
+    }
+    match doubtful(rt, file)? {
+        Some(found) => create_after_trial(rt, file, &found, start, season),
+        None => create_at(rt, file, start, season),
+    }
+}
+
+/// Finds or makes the file. `Some` where its log has pages, so that an open would write to it.
+fn doubtful(rt: &HostRuntime, file: &str) -> Result<Option<Found>, Fault>
+    ensures { IfErr result IsOpenFault }
+{
+    match Found::at(rt, file) {
+        Ok(found) => match found.head(rt) {
+            Head::Foreign => Err(Fault::Disk(Some(Cause::NoDatabase))),
+            Head::Unfinished => Ok(Some(found)),
+            Head::Database if !found.has_pages => Ok(None),
+            Head::Database if found.size == 0 => Err(Fault::Disk(Some(Cause::LogBeside))),
+            Head::Database => Ok(Some(found)),
+        },
+        Err(Fault::Disk(Some(Cause::Missing))) => {
+            make_empty(rt, file)?;
+            Ok(None)
+        }
+        Err(fault) => Err(fault),
+    }
+}
+
+/// Creates the register in the file where one can be created in its copy; else the copy's refusal is
+/// the file's.
+fn create_after_trial<S: Start>(
+    rt: &HostRuntime,
+    file: &str,
+    found: &Found,
+    start: S,
+    season: &Season,
+) -> Result<Ended<FileFrom<S>>, Fault>
+    ensures ok { IfOk result (λ ended. Creates (image_at S.Start) season.now ended.exit ended.closed) }
+    ensures err { IfErr result IsOpenFault }
+{
+    let trial = Trial::hold(rt, found)?;
+    match is_taken(rt, &trial, season) {
+        Ok(false) => {
+            trial.end(rt);
+            create_at(rt, file, start, season)
+        }
+        Ok(true) => {
+            let refused = refuse(rt, &trial, start, season);
+            trial.end(rt);
+            refused
+        }
+        Err(fault) => {
+            trial.end(rt);
+            Err(fault)
+        }
+    }
+}
+
+/// Whether the copies have tables already. The `Err` is why that could not be found out.
+fn is_taken(rt: &HostRuntime, trial: &Trial, season: &Season) -> Result<bool, Fault>
+    ensures { IfErr result IsOpenFault }
+{
+    trial.make_copies(rt)?;
+    let mut conn = open_file(rt, trial.copy(), Unknown)?;
+    match create(rt.alloc(), &mut conn, season) {
+        Ok(()) => Ok(false),
+        Err(CreateFault::InUse) => Ok(true),
+        Err(CreateFault::Disk) => Err(Fault::Disk(None)),
+        Err(CreateFault::Memory) => Err(Fault::Memory),
+    }
+}
+
+/// Refuses new copies, and so the file: it never gives a register, which would be one in a copy.
+fn refuse<S: Start>(
+    rt: &HostRuntime,
+    trial: &Trial,
+    start: S,
+    season: &Season,
+) -> Result<Ended<FileFrom<S>>, Fault>
+    ensures ok { IfOk result (λ ended. Creates (image_at S.Start) season.now ended.exit ended.closed) }
+    ensures refused { IfOk result (λ ended. IsErr ended.exit) }
+    ensures err { IfErr result IsOpenFault }
+{
+    trial.make_copies(rt)?;
+    let Ended { exit, closed } = create_at(rt, trial.copy(), start, season)?;
+    match exit {
+        Ok(_done) => Err(Fault::Disk(Some(Cause::Changed))),
+        Err(_) => Ok(Ended { exit, closed }),
+    }
+}
+
+/// Creates the register in the file at the path.
+fn create_at<S: Start>(
+    rt: &HostRuntime,
+    path: &str,
+    start: S,
+    season: &Season,
+) -> Result<Ended<FileFrom<S>>, Fault>
+    ensures ok { IfOk result (λ ended. Creates (image_at S.Start) season.now ended.exit ended.closed) }
+    ensures err { IfErr result IsOpenFault }
+{
+    let conn = open_file(rt, path, start)?;
+    Ok(create_register(rt.alloc(), conn, season))
+}
+
+/// Creates the register of a season, and closes the connection, whatever comes.
+fn create_register<D: Disk + Drop>(
+    alloc: Global,
+    mut conn: Connection<FileStore<D>>,
+    season: &Season,
+) -> Ended<D>
+    requires { conn.in_transaction ≡ false }
+    ensures { CreatesIn conn season.now result.exit result.closed }
+{
+    match create(alloc, &mut conn, season) {
+        Ok(()) => Ended {
+            exit: Ok(Exit::Done),
+            closed: conn.close_files(),
+        },
+        Err(fault) => Ended {
+            exit: Err(Fault::from(fault)),
+            closed: conn.close_files(),
+        },
+    }
+}

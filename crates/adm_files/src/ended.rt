@@ -1,0 +1,46 @@
+// How a line of the command line ended, with what the close left of the files.
+ghost use Rattle.std.specs.Prelude.{◌≡◌};
+ghost use Rattle.adm_files.specs.Exits.{ending_of, error_of};
+ghost use Rattle.adm_files.specs.Opened.{Closes};
+
+use crate::exit::Exit;
+use crate::fault::Fault;
+use adm_desk::Desk;
+use sqlite::{Error, FileStore, Files};
+use sqlite_disk::Disk;
+
+/// What a connection's close gives: the files, or why it failed and the store that is left.
+pub type Closed<D> = Result<Files<D>, (Error, FileStore<D>)>;
+
+/// How a line ended, and what the close of its connection left.
+pub struct Ended<D: Disk> {
+    pub exit: Result<Exit, Fault>,
+    pub closed: Closed<D>,
+}
+
+/// Closes the desk's connection, after a line that ended so.
+pub fn close<D: Disk + Drop>(desk: Desk<FileStore<D>>, exit: Result<Exit, Fault>) -> Ended<D>
+    ensures exit { result.exit ≡ exit }
+    ensures closes { Closes desk.conn result.closed }
+{
+    Ended {
+        exit,
+        closed: desk.into_connection().close_files(),
+    }
+}
+
+/// How the line as a whole ended: a fault before all else, and a close that failed is one, but
+/// after a Failed.
+pub fn ending<D: Disk + Drop>(ended: Ended<D>) -> Result<Exit, Fault>
+    ensures { result ≡ ending_of ended.exit (error_of ended.closed) }
+{
+    let Ended { exit, closed } = ended;
+    match exit {
+        Ok(Exit::Failed) => Ok(Exit::Failed),
+        Ok(exit) => match closed {
+            Ok(_files) => Ok(exit),
+            Err((error, _store)) => Err(Fault::from(error)),
+        },
+        Err(fault) => Err(fault),
+    }
+}

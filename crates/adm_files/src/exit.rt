@@ -1,0 +1,81 @@
+// The exit status of a run.
+ghost use Rattle.std.specs.Prelude.{◌≡◌, OnOk};
+ghost use Rattle.adm_files.specs.Exits.{exit_code, exit_of, exit_of_answer, exit_of_status, exit_of_words};
+
+use adm_desk::{Answer, Run};
+use adm_words::WordsFault;
+
+/// How the program exits.
+#[derive(Clone, Copy, Debug, PartialEq, Eq)]
+pub enum Exit {
+    /// Done.
+    Done,
+    /// A fault, whose name was printed.
+    Fault,
+    /// Words that ask for nothing.
+    Words,
+    /// An import or some line was refused, faulty or met want of memory.
+    Refused,
+    /// The store failed, and the desk answered Failed from then on.
+    Failed,
+}
+
+impl Exit {
+    /// The exit of a run of lines.
+    pub fn of(run: Run) -> Exit
+        ensures { result ≡ exit_of run }
+    {
+        if run.failed {
+            Exit::Failed
+        } else if run.refused > 0 {
+            Exit::Refused
+        } else {
+            Exit::Done
+        }
+    }
+
+    /// The exit of one answer.
+    pub fn of_answer(answer: Answer) -> Exit
+        ensures { result ≡ exit_of_answer answer }
+    {
+        match answer {
+            Answer::Done(_) => Exit::Done,
+            Answer::Refused { .. } | Answer::Memory => Exit::Refused,
+            Answer::Failed => Exit::Failed,
+        }
+    }
+
+    /// The exit of serving, by the status that it gave.
+    pub fn of_served(status: u8) -> Exit
+        ensures { result ≡ exit_of_status status }
+    {
+        if status == 4 {
+            Exit::Failed
+        } else {
+            Exit::Done
+        }
+    }
+
+    /// The exit of words that ask for nothing, or that could not be read for want of memory.
+    pub fn of_words(fault: &WordsFault) -> Exit
+        ensures { result ≡ exit_of_words fault.now }
+    {
+        match fault {
+            WordsFault::Memory => Exit::Fault,
+            WordsFault::Words(_) | WordsFault::BadDate | WordsFault::BadWord => Exit::Words,
+        }
+    }
+
+    /// The exit status.
+    pub fn code(self) -> u8
+        ensures { result ≡ exit_code self }
+    {
+        match self {
+            Exit::Done => 0,
+            Exit::Fault => 1,
+            Exit::Words => 2,
+            Exit::Refused => 3,
+            Exit::Failed => 4,
+        }
+    }
+}

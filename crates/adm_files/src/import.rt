@@ -1,0 +1,116 @@
+// The rows of a file of comma-separated values, imported into a register.
+ghost use Rattle.std.specs.Prelude.{◌≡◌, ◌++◌, [], ◌∷◌, codes, IfOk, IfErr, OnErr, IsErrAnd};
+ghost use Rattle.sqlite.specs.Held.{state};
+ghost use Rattle.sqlite_wal.specs.Files.{image_at};
+ghost use Rattle.adm_desk.specs.Lines.{answer_text};
+ghost use Rattle.adm_files.specs.Exits.{IsOpenFault, IsDisk};
+ghost use Rattle.adm_files.specs.Imports.{IsHandled, Imports, ImportsFile, ImportsInto};
+ghost use Rattle.adm_wire.specs.Streams.{reader, writer};
+ghost use Rattle.adm_files.specs.Opened.{files};
+ghost use Rattle.adm_files.specs.Texts.{Puts};
+
+use crate::ended::{Ended, close};
+use crate::exit::Exit;
+use crate::fault::Fault;
+use crate::opening::open_desk;
+use crate::print::put;
+use crate::rows::Rows;
+use adm_csv::read_rows;
+use adm_desk::{Answer, Desk};
+use adm_types::{Command, ImportRow, Seq};
+use adm_wire::{Input, Output};
+use sqlite::{Alter, FileFrom, FileStore, Start};
+use sqlite_disk::Disk;
+use std::alloc::Global;
+
+/// Writes an answer as a line. The `Err` is Write, or Memory where memory ran out before.
+fn put_answer<O: Output>(alloc: Global, output: &mut O, answer: &Answer) -> Result<(), Fault>
+    ensures { Puts (answer_text answer.now ++ 10 ∷ [])
+        (writer O.Output output.old output.new) result }
+{
+    let Ok(mut text) = answer.text(alloc) else {
+        return Err(Fault::Memory);
+    };
+    if text.push_str("\n").is_err() {
+        return Err(Fault::Memory);
+    }
+    put(output, text.as_str())
+}
+
+/// Hands the rows to the desk as one command, and writes its answer.
+fn handle_rows<S: Alter, O: Output>(
+    alloc: Global,
+    desk: &mut Desk<S>,
+    rows: Vec<ImportRow>,
+    output: &mut O,
+) -> Result<Exit, Fault>
+    ensures { IsHandled (state S.Store) desk.old desk.new rows.items
+        (writer O.Output output.old output.new) result }
+{
+    let answer = desk.handle(&Command::Import(Seq::from_vec(rows)));
+    match put_answer(alloc, output, &answer) {
+        Ok(()) => Ok(Exit::of_answer(answer)),
+        Err(fault) => Err(fault),
+    }
+}
+
+/// Imports the rows that the reader gives, and closes the connection, whatever comes.
+fn import_rows<D: Disk + Drop, I: Input, O: Output>(
+    alloc: Global,
+    mut desk: Desk<FileStore<D>>,
+    rows: &mut I,
+    output: &mut O,
+) -> Ended<D>
+    ensures { Imports desk
+        (reader I.Input rows.old rows.new)
+        (writer O.Output output.old output.new)
+        result.exit result.closed }
+{
+    match read_rows(alloc, rows) {
+        Ok(rows) => {
+            let exit = handle_rows(alloc, &mut desk, rows, output);
+            close(desk, exit)
+        }
+        Err(fault) => close(desk, Err(Fault::Row(fault))),
+    }
+}
+
+/// Imports the rows of the file, and closes the connection, whatever comes.
+fn import_file<D: Disk + Drop, F: Rows, O: Output>(
+    rt: &HostRuntime,
+    desk: Desk<FileStore<D>>,
+    csv: &str,
+    rows: &mut F,
+    output: &mut O,
+) -> Ended<D>
+    ensures { ImportsFile desk (files F.Rows rows.old rows.new csv.now) (writer O.Output output.old output.new)
+        result.exit result.closed }
+{
+    match rows.open(rt, csv) {
+        Ok(()) => import_rows(rt.alloc(), desk, rows, output),
+        Err(error) => close(desk, Err(Fault::NotRead(error.cause))),
+    }
+}
+
+/// Imports the rows of the file `csv` into the register in the file, which is there. The `Err` is why
+/// it was not opened; then nothing was written.
+pub fn import<S: Start, F: Rows, O: Output>(
+    rt: &HostRuntime,
+    file: &str,
+    csv: &str,
+    start: S,
+    rows: &mut F,
+    output: &mut O,
+) -> Result<Ended<FileFrom<S>>, Fault>
+    ensures ok { IfOk result (λ ended. ImportsInto (image_at S.Start) (files F.Rows rows.old rows.new csv.now)
+        (writer O.Output output.old output.new)
+        ended.exit ended.closed) }
+    ensures err { IfErr result IsOpenFault }
+    ensures memory { file.now ≡ codes ":memory:" → IsErrAnd result IsDisk }
+    ensures untouched { OnErr result (O.contents output.new ≡ O.contents output.old) }
+{
+    match open_desk(rt, file, start)? {
+        Ok(desk) => Ok(import_file(rt, desk, csv, rows, output)),
+        Err(ended) => Ok(ended),
+    }
+}

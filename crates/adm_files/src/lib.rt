@@ -1,0 +1,32 @@
+// The file of a register: how it is created and opened, and what is done with it but serving: lines, imports, documents.
+#![tactic(auto)]
+
+mod cause;
+mod creating;
+mod document;
+mod ended;
+mod exit;
+mod fault;
+mod found;
+mod import;
+mod laws;
+mod lines;
+mod opening;
+mod print;
+mod rows;
+mod telling;
+mod trial;
+
+pub use cause::Cause;
+pub use creating::init;
+pub use document::Document;
+pub use ended::{Closed, Ended, close};
+pub use exit::Exit;
+pub use fault::Fault;
+pub use import::import;
+pub use laws::next_run;
+pub use lines::{do_lines, tell_lines};
+pub use opening::open_desk;
+pub use print::{print, put};
+pub use rows::{FileRows, NotOpened, Rows};
+pub use telling::{end, refuse_words, tell_memory};

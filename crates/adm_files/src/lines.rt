@@ -1,0 +1,99 @@
+// The lines of an input answered over the register in a file: commands, and questions.
+ghost use Rattle.std.specs.Prelude.{◌≡◌, codes, IfOk, IfErr, OnErr, IsErrAnd};
+ghost use Rattle.sqlite_wal.specs.Files.{image_at};
+ghost use Rattle.sqlite.specs.Files.{file_state};
+ghost use Rattle.adm_desk.specs.Lines.{AnswersLine};
+ghost use Rattle.adm_desk.specs.Questions.{TellsLine};
+ghost use Rattle.adm_desk.specs.DeskState.{Handles};
+ghost use Rattle.adm_files.specs.Exits.{IsOpenFault, IsDisk};
+ghost use Rattle.adm_wire.specs.Streams.{reader, writer};
+ghost use Rattle.adm_files.specs.Runs.{OpensAndRuns, Runs};
+
+use crate::ended::{Ended, close};
+use crate::exit::Exit;
+use crate::fault::Fault;
+use crate::opening::open_desk;
+use adm_desk::Desk;
+use adm_wire::{Input, Output};
+use sqlite::{FileFrom, FileStore, Start};
+use sqlite_disk::Disk;
+
+/// Answers the lines of the input over the register in the file, which is there: an open makes no
+/// file here. The `Err` is why it was not opened; then nothing was read or written.
+pub fn do_lines<S: Start, I: Input, O: Output>(
+    rt: &HostRuntime,
+    file: &str,
+    start: S,
+    input: &mut I,
+    output: &mut O,
+) -> Result<Ended<FileFrom<S>>, Fault>
+    ensures ok { IfOk result (λ ended. OpensAndRuns (AnswersLine (Handles file_state)) (image_at S.Start)
+        (reader I.Input input.old input.new)
+        (writer O.Output output.old output.new)
+        ended.exit ended.closed) }
+    ensures err { IfErr result IsOpenFault }
+    ensures memory { file.now ≡ codes ":memory:" → IsErrAnd result IsDisk }
+    ensures untouched { OnErr result ((I.remaining input.new ≡ I.remaining input.old) × (O.contents output.new ≡ O.contents output.old)) }
+{
+    match open_desk(rt, file, start)? {
+        Ok(desk) => Ok(run_desk(desk, input, output)),
+        Err(ended) => Ok(ended),
+    }
+}
+
+/// Answers the lines of the input, and closes the connection, whatever comes.
+fn run_desk<D: Disk + Drop, I: Input, O: Output>(
+    mut desk: Desk<FileStore<D>>,
+    input: &mut I,
+    output: &mut O,
+) -> Ended<D>
+    ensures { Runs (AnswersLine (Handles file_state)) desk
+        (reader I.Input input.old input.new)
+        (writer O.Output output.old output.new)
+        result.exit result.closed }
+{
+    match desk.run_lines(input, output) {
+        Ok(run) => close(desk, Ok(Exit::of(run))),
+        Err(fault) => close(desk, Err(Fault::from(fault))),
+    }
+}
+
+/// Answers the questions of the input over the register in the file, which is there: an open makes no
+/// file here. The `Err` is why it was not opened; then nothing was read or written.
+pub fn tell_lines<S: Start, I: Input, O: Output>(
+    rt: &HostRuntime,
+    file: &str,
+    start: S,
+    input: &mut I,
+    output: &mut O,
+) -> Result<Ended<FileFrom<S>>, Fault>
+    ensures ok { IfOk result (λ ended. OpensAndRuns TellsLine (image_at S.Start)
+        (reader I.Input input.old input.new)
+        (writer O.Output output.old output.new)
+        ended.exit ended.closed) }
+    ensures err { IfErr result IsOpenFault }
+    ensures memory { file.now ≡ codes ":memory:" → IsErrAnd result IsDisk }
+    ensures untouched { OnErr result ((I.remaining input.new ≡ I.remaining input.old) × (O.contents output.new ≡ O.contents output.old)) }
+{
+    match open_desk(rt, file, start)? {
+        Ok(desk) => Ok(tell_desk(desk, input, output)),
+        Err(ended) => Ok(ended),
+    }
+}
+
+/// Answers the questions of the input, and closes the connection, whatever comes.
+fn tell_desk<D: Disk + Drop, I: Input, O: Output>(
+    desk: Desk<FileStore<D>>,
+    input: &mut I,
+    output: &mut O,
+) -> Ended<D>
+    ensures { Runs TellsLine desk
+        (reader I.Input input.old input.new)
+        (writer O.Output output.old output.new)
+        result.exit result.closed }
+{
+    match desk.tell_lines(input, output) {
+        Ok(run) => close(desk, Ok(Exit::of(run))),
+        Err(fault) => close(desk, Err(Fault::from(fault))),
+    }
+}

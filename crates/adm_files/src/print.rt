@@ -1,0 +1,89 @@
+// A text on the output, and a document of a register printed as one.
+ghost use Rattle.std.specs.Prelude.{◌≡◌, codes, false, IfOk, IfErr, OnErr, IsErrAnd};
+ghost use Rattle.sqlite_wal.specs.Files.{image_at};
+ghost use Rattle.adm_wire.specs.Streams.{writer};
+ghost use Rattle.adm_files.specs.Exits.{IsOpenFault, IsDisk};
+ghost use Rattle.adm_files.specs.Opened.{Closes};
+ghost use Rattle.adm_files.specs.Texts.{Puts, Prints, PrintsAs, document_text};
+
+use crate::document::Document;
+use crate::ended::{Ended, close};
+use crate::exit::Exit;
+use crate::fault::Fault;
+use crate::opening::open_desk;
+use adm_desk::Desk;
+use adm_wire::Output;
+use sqlite::{Alter, FileFrom, FileStore, Start};
+use sqlite_disk::Disk;
+use std::alloc::Global;
+
+/// Writes a text. The `Err` is Write.
+pub fn put<O: Output>(output: &mut O, text: &str) -> Result<(), Fault>
+    ensures { Puts text.now (writer O.Output output.old output.new) result }
+{
+    match output.put(text.as_bytes()) {
+        Ok(()) => Ok(()),
+        Err(_) => Err(Fault::Write),
+    }
+}
+
+/// Prints a document of the desk's register.
+fn print_from<S: Alter, O: Output>(
+    alloc: Global,
+    desk: &Desk<S>,
+    document: Document,
+    output: &mut O,
+) -> Result<Exit, Fault>
+    requires { desk.now.failed ≡ false }
+    ensures { PrintsAs (document_text desk.now.register document)
+        (writer O.Output output.old output.new) result }
+{
+    let Some(register) = desk.register() else {
+        unreachable!()
+    };
+    match document.text(alloc, register) {
+        Ok(text) => match put(output, text.as_str()) {
+            Ok(()) => Ok(Exit::Done),
+            Err(fault) => Err(fault),
+        },
+        Err(fault) => Err(fault),
+    }
+}
+
+/// Prints a document of the desk's register, and closes the connection, whatever comes.
+fn print_document<D: Disk + Drop, O: Output>(
+    alloc: Global,
+    desk: Desk<FileStore<D>>,
+    document: Document,
+    output: &mut O,
+) -> Ended<D>
+    requires { desk.failed ≡ false }
+    ensures printed { PrintsAs (document_text desk.register document)
+        (writer O.Output output.old output.new) result.exit }
+    ensures closes { Closes desk.conn result.closed }
+{
+    let exit = print_from(alloc, &desk, document, output);
+    close(desk, exit)
+}
+
+/// Prints a document of the register in the file, which is there. The `Err` is why it was not opened;
+/// then nothing was written.
+pub fn print<S: Start, O: Output>(
+    rt: &HostRuntime,
+    file: &str,
+    start: S,
+    document: Document,
+    output: &mut O,
+) -> Result<Ended<FileFrom<S>>, Fault>
+    ensures ok { IfOk result (λ ended. Prints (image_at S.Start) document
+        (writer O.Output output.old output.new)
+        ended.exit ended.closed) }
+    ensures err { IfErr result IsOpenFault }
+    ensures memory { file.now ≡ codes ":memory:" → IsErrAnd result IsDisk }
+    ensures untouched { OnErr result (O.contents output.new ≡ O.contents output.old) }
+{
+    match open_desk(rt, file, start)? {
+        Ok(desk) => Ok(print_document(rt.alloc(), desk, document, output)),
+        Err(ended) => Ok(ended),
+    }
+}
