@@ -11,9 +11,9 @@ use Rattle.matchit.specs.Seek.{has_slash, first}
 use Rattle.matchit.specs.Rows.{RowsOf}
 use Rattle.adm_http.specs.Rows.{six_routes}
 use Rattle.matchit.specs.Router.{RouteOf}
-use Rattle.adm_http.specs.Targets.{after_prefix, part_of, tail_of, Found, or_found, at_end, with_part, child_after, route_of}
-use Rattle.adm_http.specs.declared.targets.Route.{Route}
-use Rattle.adm_http.specs.declared.targets.Route.TheVariants.{Command, Child, Letter, Waiting, Round, WhatIf}
+use Rattle.adm_http.specs.Routes.{after_prefix, part_of, tail_of, Found, or_found, at_end, with_part, child_after, route_of}
+use Rattle.adm_http.specs.declared.routes.Route.{Route}
+use Rattle.adm_http.specs.declared.routes.Route.TheVariants.{Command, Child, Letter, Waiting, Round, WhatIf}
 use Rattle.adm_http.proofs.RouteLemmas.{route_row, IsBytes, some_found}
 use Rattle.adm_http.proofs.RowLemmas.{text_by_test}
 use Rattle.adm_http.proofs.WalkLemmas.{walk_to_end, walk_to_suffix}

@@ -6,8 +6,8 @@ use Rattle.std.proofs.lemmas.Grind.{common_steps}
 use Rattle.adm_http.specs.Texts.{Response, response_bytes, bare}
 use Rattle.adm_http.specs.Responses.{of_answer, Carries, AnswersRequest, Responds}
 use Rattle.adm_http.specs.declared.heads.Verdict.TheVariants.{Run}
-use Rattle.adm_http.specs.declared.targets.Purpose.{Purpose}
-use Rattle.adm_http.specs.declared.targets.Resource.{Resource}
+use Rattle.adm_http.specs.declared.routes.Purpose.{Purpose}
+use Rattle.adm_http.specs.declared.routes.Resource.{Resource}
 use Rattle.adm_desk.specs.declared.answer.LineAnswer.{LineAnswer}
 use Rattle.adm_http.specs.declared.answering.Shown.{Shown}
 

@@ -8,10 +8,10 @@ use Rattle.matchit.specs.Level.{IsText}
 use Rattle.matchit.specs.Router.{RouteOf, map_key}
 use Rattle.matchit.proofs.SeekLemmas.{seek-empty, or_else-none}
 use Rattle.matchit.proofs.RenameLemmas.{first-rename}
-use Rattle.adm_http.specs.Rows.{six_routes, row}
-use Rattle.adm_http.specs.Targets.{after_prefix, part_of, tail_of, Found, or_found, at_end, with_part, child_after, route_of}
-use Rattle.adm_http.specs.declared.targets.Route.{Route}
-use Rattle.adm_http.specs.declared.targets.Route.TheVariants.{Command, Child, Letter, Waiting, Round, WhatIf}
+use Rattle.adm_http.specs.Rows.{six_routes, row_of}
+use Rattle.adm_http.specs.Routes.{after_prefix, part_of, tail_of, Found, or_found, at_end, with_part, child_after, route_of}
+use Rattle.adm_http.specs.declared.routes.Route.{Route}
+use Rattle.adm_http.specs.declared.routes.Route.TheVariants.{Command, Child, Letter, Waiting, Round, WhatIf}
 
 -- ---- what follows /child/, /round/ and /school/
 
@@ -210,23 +210,18 @@ all_found t small =
     let f = option_and_then (at_end WhatIf) (after_prefix (codes "/what-if") t) in
     rw (f3, f2, f1, f0, child, command, round, school, question, key_or a (or_found b (or_found d (or_found e f))), key_or b (or_found d (or_found e f)), key_or d (or_found e f), key_or e f) refl
 
+abbrev pub route_row : Route → RouteOf Route
+route_row route = (row_of route).1
+
 -- the row of a key
 row_at : ℕ → RouteOf Route
 row_at k =
-    cond (k == 0) (row (codes "/child/" ++ param_token ∷ codes "/letter") (codes "/child/{no}/letter") ((8, 10) ∷ []) Letter).1
-    (cond (k == 1) (row (codes "/child/" ++ param_token ∷ []) (codes "/child/{no}") ((8, 10) ∷ []) Child).1
-    (cond (k == 2) (row (codes "/command") (codes "/command") [] Command).1
-    (cond (k == 3) (row (codes "/round/" ++ param_token ∷ []) (codes "/round/{no}") ((8, 10) ∷ []) Round).1
-    (cond (k == 4) (row (codes "/school/" ++ param_token ∷ codes "/waiting") (codes "/school/{code}/waiting") ((9, 13) ∷ []) Waiting).1
-    (row (codes "/what-if") (codes "/what-if") [] WhatIf).1))))
-
-abbrev pub route_row : Route → RouteOf Route
-route_row Letter = (row (codes "/child/" ++ param_token ∷ codes "/letter") (codes "/child/{no}/letter") ((8, 10) ∷ []) Letter).1
-route_row Child = (row (codes "/child/" ++ param_token ∷ []) (codes "/child/{no}") ((8, 10) ∷ []) Child).1
-route_row Command = (row (codes "/command") (codes "/command") [] Command).1
-route_row Round = (row (codes "/round/" ++ param_token ∷ []) (codes "/round/{no}") ((8, 10) ∷ []) Round).1
-route_row Waiting = (row (codes "/school/" ++ param_token ∷ codes "/waiting") (codes "/school/{code}/waiting") ((9, 13) ∷ []) Waiting).1
-route_row WhatIf = (row (codes "/what-if") (codes "/what-if") [] WhatIf).1
+    cond (k == 0) (route_row Letter)
+    (cond (k == 1) (route_row Child)
+    (cond (k == 2) (route_row Command)
+    (cond (k == 3) (route_row Round)
+    (cond (k == 4) (route_row Waiting)
+    (route_row WhatIf)))))
 
 six_found : (t : List ℕ) → IsBytes t → first six_routes t ≡ map_key row_at (key_of (route_of t))
 unfolding six_routes row_at

@@ -9,7 +9,7 @@ use Rattle.matchit.specs.Rows.{Rows, prepend, param_token, catch_all_token}
 use Rattle.matchit.specs.Seek.{own, step, or_else, seek, first, param_step, has_slash, segment, cuts, longest_suffix, with_suffix}
 use Rattle.matchit.specs.Level.{IsText}
 use Rattle.matchit.proofs.SeekLemmas.{prepend-nil, own-append, step-append, own-prepend, step-hit, step-miss, seek-empty, seek-drop, seek-lit, or_else-none, param_step-empty}
-use Rattle.adm_http.specs.Targets.{after_prefix, part_of, tail_of}
+use Rattle.adm_http.specs.Routes.{after_prefix, part_of, tail_of}
 
 -- ---- rows that begin with bytes
 

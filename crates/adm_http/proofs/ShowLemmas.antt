@@ -7,10 +7,11 @@ use Rattle.adm_desk.specs.DeskState.{DeskState}
 use Rattle.adm_letters.specs.Answers.{GivesText}
 use Rattle.adm_letters.specs.declared.fault.LetterFault.{LetterFault}
 use Rattle.adm_letters.specs.declared.fault.LetterFault.TheVariants as letter
-use Rattle.adm_http.specs.Shows.{text_in, IsShown, IsShownAs, Shows}
+use Rattle.adm_http.specs.Routes.{text_in}
+use Rattle.adm_http.specs.Shows.{IsShown, IsShownAs, Shows}
 use Rattle.adm_http.specs.declared.answering.Shown.{Shown}
 use Rattle.adm_http.specs.declared.answering.Shown.TheVariants.{Text, Missing, Memory, Failed}
-use Rattle.adm_http.specs.declared.targets.Resource.{Resource}
+use Rattle.adm_http.specs.declared.routes.Resource.{Resource}
 
 -- what was given is shown
 pub given_shown : {A : Type 0} (text : Option (List ℕ)) (fault : LetterFault) (given : Result (String A) LetterFault) (shown : Shown)

@@ -4,11 +4,12 @@ use Rattle.std.specs.Prelude.{Option, Bool, true, false, ◌||◌}
 use Rattle.std.specs.Io.KnownBytes.{Consumes, Keeps}
 use Rattle.std.proofs.KnownBytes.{Consumes-trans, Consumes-kept}
 use Rattle.std.proofs.lemmas.List.{length-drop, length-append}
-use Rattle.httparse.specs.Grammar.{print_request}
-use Rattle.adm_http.specs.Heads.{window, IsJudgement}
+use Rattle.httparse.specs.Grammar.{RequestHead, print_request}
+use Rattle.adm_http.specs.Heads.{window, HeadDecides, IsJudgement, IsInside}
 use Rattle.adm_http.specs.Reading.{MayGoOn, GoesOnTo, IsNotFarPast}
+use Rattle.adm_http.specs.declared.heads.Verdict.{Verdict}
 use Rattle.adm_http.specs.declared.heads.Verdict.TheVariants.{Run}
-use Rattle.adm_http.specs.declared.targets.Purpose.{Purpose}
+use Rattle.adm_http.specs.declared.routes.Purpose.{Purpose}
 use Rattle.adm_http.specs.declared.heads.Judgement.TheVariants.{Whole, Unfinished}
 use Rattle.adm_http.proofs.ReadingLemmas.{drop_front, window_front, reads_on}
 
@@ -39,36 +40,49 @@ failed_step a b c start seen input new before input_is near kept new_is = record
 pub consumed_on : (a b c : Option (List ℕ)) (input more new : List ℕ) → Consumes a b input → Consumes b c more → new ≡ input ++ more → Consumes a c new
 consumed_on a b c input more new before now new_is = subst (Consumes a c) (sym new_is) (Consumes-trans a b c input more before now)
 
+-- a whole head decides the same, whatever follows
+pub whole_stays : (input more : List ℕ) (len : ℕ) (v : Verdict) → HeadDecides input len v → HeadDecides (input ++ more) len v
+whole_stays input more len v judged = record {
+  head = h;
+  has = record { reads = (judged.has.reads.0, sym joined ∙ ap (λ x. print_request h ++ x) (sym tail)); room = judged.has.room };
+  len_is = judged.len_is;
+  verdict_is = judged.verdict_is;
+}
+  where
+    h : RequestHead
+    h = judged.head
+
+    front : (rest : List ℕ) × (window (input ++ more) ≡ window input ++ rest)
+    front = window_front input more
+
+    joined : print_request h ++ (drop (length (print_request h)) (window input) ++ front.0) ≡ window (input ++ more)
+    joined = sym (append_assoc (print_request h) (drop (length (print_request h)) (window input)) front.0) ∙ ap (λ x. x ++ front.0) (sym judged.has.reads.1) ∙ sym front.1
+
+    tail : drop (length (print_request h)) (window (input ++ more)) ≡ drop (length (print_request h)) (window input) ++ front.0
+    tail = drop_front (print_request h) (drop (length (print_request h)) (window input) ++ front.0) (window (input ++ more)) joined
+
+-- so it is judged the same when more is read
+pub judged_same : (input more new : List ℕ) (len : ℕ) (v : Verdict) → IsJudgement input (Whole len v) → IsInside input (Whole len v) → new ≡ input ++ more
+    → IsJudgement new (Whole len v) × IsInside new (Whole len v)
+judged_same input more new len v judged inside is =
+    let longer = ap length is ∙ length-append input more in
+    (subst (λ b. IsJudgement b (Whole len v)) (sym is) (whole_stays input more len v judged), (omega (arith, longer, inside.0), inside.1, inside.2))
+
 -- a whole head whose body is not all there, and the number of bytes that end it
 pub body_goes_on : (input : List ℕ) (purpose : Purpose) (len n total : ℕ) → IsJudgement input (Whole len (Run purpose n)) → len ≤ length input → len ≤ 8192 → n ≤ 1048576
     → total ≡ len + n → length input < total → GoesOnTo total input
 body_goes_on input purpose len n total judged inside low small total_is fewer = record {
   fewer = fewer;
   limit = omega arith;
-  on = λ more short.
-      let front = window_front input more in
-      let h = judged.head in
-      let print_len = drop_front (print_request h) (drop (length (print_request h)) (window input) ++ front.0) (window (input ++ more)) (joined more front) in (
-        Whole len (Run purpose n),
-        record {
-          head = h;
-          has = record { reads = (judged.has.reads.0, sym (joined more front) ∙ ap (λ x. print_request h ++ x) (sym print_len)); room = judged.has.room };
-          len_is = judged.len_is;
-          verdict_is = judged.verdict_is;
-        },
-        λ settled.
-            let rest = length-drop len (input ++ more) in
-            let longer = length-append input more in
-            omega (arith, rest, longer, short, settled, inside, total_is),
-      );
+  on = λ more short. (
+    Whole len (Run purpose n),
+    whole_stays input more len (Run purpose n) judged,
+    λ settled.
+        let rest = length-drop len (input ++ more) in
+        let longer = length-append input more in
+        omega (arith, rest, longer, short, settled, inside, total_is),
+  );
 }
-  where
-    joined : (more : List ℕ) (front : (rest : List ℕ) × (window (input ++ more) ≡ window input ++ rest))
-        → print_request judged.head ++ (drop (length (print_request judged.head)) (window input) ++ front.0) ≡ window (input ++ more)
-    joined more front =
-        let h = judged.head in
-        sym (append_assoc (print_request h) (drop (length (print_request h)) (window input)) front.0) ∙ ap (λ x. x ++ front.0) (sym judged.has.reads.1)
-        ∙ sym front.1
 
 -- an unfinished head wants one byte more
 pub head_goes_on : (input : List ℕ) (total : ℕ) → IsJudgement input Unfinished → length input < 8192 → total ≡ length input + 1 → GoesOnTo total input

@@ -5,10 +5,10 @@ use Rattle.httparse.specs.Ascii.{space}
 use Rattle.httparse.specs.Grammar.{LineEnd, RequestHead, print_blank, print_request, is_uri_byte, AllPass, IsToken, ReadsRequest, HasNoRequest, MayBecomeRequest}
 use Rattle.httparse.specs.Spans.{RequestOverflows, name_and_value}
 use Rattle.adm_http.specs.Lengths.{body_length_of}
-use Rattle.adm_http.specs.Targets.{target_of}
-use Rattle.adm_http.specs.declared.targets.Target.{Target}
-use Rattle.adm_http.specs.declared.targets.Target.TheVariants.{Body, Text}
-use Rattle.adm_http.specs.declared.targets.Purpose.{Purpose}
+use Rattle.adm_http.specs.Routes.{target_of}
+use Rattle.adm_http.specs.declared.routes.Target.{Target}
+use Rattle.adm_http.specs.declared.routes.Target.TheVariants.{Body, Text}
+use Rattle.adm_http.specs.declared.routes.Purpose.{Purpose}
 use Rattle.adm_http.specs.declared.heads.Verb.{Verb}
 use Rattle.adm_http.specs.declared.heads.Verb.TheVariants.{Get, Post}
 use Rattle.adm_http.specs.declared.heads.Verdict.{Verdict}

@@ -1,6 +1,6 @@
 pub mod Lengths
 pub mod Rows
-pub mod Targets
+pub mod Routes
 pub mod Heads
 pub mod Replies
 pub mod Texts

@@ -5,8 +5,8 @@ use Rattle.adm_desk.specs.Lines.{AnswersLine}
 use Rattle.adm_desk.specs.Questions.{TellsLine}
 use Rattle.adm_desk.specs.DeskState.{Handles, DeskState}
 use Rattle.adm_desk.specs.declared.answer.LineAnswer.{LineAnswer}
-use Rattle.adm_http.specs.declared.targets.Purpose.{Purpose}
-use Rattle.adm_http.specs.declared.targets.Purpose.TheVariants.{Command, Question}
+use Rattle.adm_http.specs.declared.routes.Purpose.{Purpose}
+use Rattle.adm_http.specs.declared.routes.Purpose.TheVariants.{Command, Question}
 
 -- a command is handled, and a question is told and changes nothing
 abbrev pub RunsBody : {C : Type 0} → (C → Disk) → Purpose → DeskState C → List ℕ → LineAnswer → DeskState C → Type 0

@@ -4,16 +4,14 @@ use Rattle.adm_http.specs.Heads.{IsJudgement, verdict_at_end}
 use Rattle.adm_wire.specs.Texts.{memory_text, failed_text}
 use Rattle.adm_desk.specs.Lines.{line_text}
 use Rattle.adm_http.specs.Replies.{status_of}
+use Rattle.adm_http.specs.Routes.{media_of}
 use Rattle.adm_http.specs.Texts.{Response, response_bytes, json, bare, not_allowed}
-use Rattle.adm_http.specs.declared.targets.Purpose.{Purpose}
-use Rattle.adm_http.specs.declared.targets.Resource.{Resource}
-use Rattle.adm_http.specs.declared.targets.Resource.TheVariants.{ChildState, ChildLetter, WaitingList, RoundReport}
+use Rattle.adm_http.specs.declared.routes.Purpose.{Purpose}
+use Rattle.adm_http.specs.declared.routes.Resource.{Resource}
 use Rattle.adm_http.specs.declared.heads.Verdict.{Verdict}
 use Rattle.adm_http.specs.declared.heads.Verdict.TheVariants.{Reject, NotAllowed, Show, Run}
 use Rattle.adm_http.specs.declared.heads.Judgement.{Judgement}
 use Rattle.adm_http.specs.declared.heads.Judgement.TheVariants.{Whole, Malformed, Unfinished}
-use Rattle.adm_http.specs.declared.responses.Media.TheVariants.{Json, PlainText}
-use Rattle.adm_http.specs.declared.responses.Media.{Media}
 use Rattle.adm_http.specs.declared.answering.Shown.{Shown}
 use Rattle.adm_http.specs.declared.answering.Shown.TheVariants as shown
 use Rattle.adm_desk.specs.declared.answer.LineAnswer.{LineAnswer}
@@ -21,13 +19,6 @@ use Rattle.adm_desk.specs.declared.answer.LineAnswer.{LineAnswer}
 -- the response to what running a body answered: its text
 abbrev pub of_answer : LineAnswer → Response
 of_answer answer = json (status_of answer) (line_text answer)
-
--- a child's state is JSON, and what people read is text
-abbrev pub media_of : Resource → Media
-media_of (ChildState child) = Json
-media_of (ChildLetter child) = PlainText
-media_of (WaitingList school) = PlainText
-media_of (RoundReport round) = PlainText
 
 -- the response to what asking for a text gave
 abbrev pub of_shown : Resource → Shown → Response

@@ -1,25 +1,13 @@
 -- What may be shown of a register.
 use Rattle.std.specs.Prelude.{◌≡◌, ℕ, List, Option, Some, None, Result, Ok, Err, MatchBool, string_bytes}
 use Rattle.std.specs.declared.string.String.{String}
-use Rattle.adm_register.specs.State.{State}
 use Rattle.adm_desk.specs.DeskState.{DeskState}
-use Rattle.adm_letters.specs.Letters.{letter_text}
-use Rattle.adm_letters.specs.Lists.{list_text}
-use Rattle.adm_letters.specs.Reports.{report_text}
 use Rattle.adm_letters.specs.declared.fault.LetterFault.{LetterFault}
 use Rattle.adm_letters.specs.declared.fault.LetterFault.TheVariants as letter
-use Rattle.adm_http.specs.States.{child_text}
+use Rattle.adm_http.specs.Routes.{text_in}
 use Rattle.adm_http.specs.declared.answering.Shown.{Shown}
 use Rattle.adm_http.specs.declared.answering.Shown.TheVariants.{Text, Missing, Memory, Failed}
-use Rattle.adm_http.specs.declared.targets.Resource.{Resource}
-use Rattle.adm_http.specs.declared.targets.Resource.TheVariants.{ChildState, ChildLetter, WaitingList, RoundReport}
-
--- the text that is asked for, if the register has such a child, school or round
-abbrev pub text_in : State → Resource → Option (List ℕ)
-text_in s (ChildState child) = child_text s child
-text_in s (ChildLetter child) = letter_text s child
-text_in s (WaitingList school) = list_text s school
-text_in s (RoundReport round) = report_text s round
+use Rattle.adm_http.specs.declared.routes.Resource.{Resource}
 
 -- the text, if there is one, or that there is none; for a text memory may run out
 abbrev pub IsShown : Option (List ℕ) → Shown → Type 0

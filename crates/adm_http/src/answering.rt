@@ -1,8 +1,10 @@
 // What requests are asked of: a trait that runs bodies and shows texts, which the desk has.
 ghost use Rattle.std.specs.Prelude.{◌≡◌, List, ℕ};
+ghost use Rattle.adm_http.specs.Shows.{IsShownAs};
 
-use crate::targets::{Purpose, Resource};
+use crate::routes::{Purpose, Resource};
 use adm_desk::LineAnswer;
+use adm_letters::LetterFault;
 use std::alloc::Global;
 
 /// What asking for a text gave.
@@ -18,8 +20,8 @@ pub enum Shown {
 /// What runs bodies and shows texts.
 pub(crate) trait Answering {
     ghost use Rattle.adm_desk.specs.declared.answer.LineAnswer.{LineAnswer};
-    ghost use Rattle.adm_http.specs.declared.targets.Purpose.{Purpose as Use};
-    ghost use Rattle.adm_http.specs.declared.targets.Resource.{Resource};
+    ghost use Rattle.adm_http.specs.declared.routes.Purpose.{Purpose as Use};
+    ghost use Rattle.adm_http.specs.declared.routes.Resource.{Resource};
     ghost use Rattle.adm_http.specs.declared.answering.Shown.{Shown};
 
     // What is asked, as contracts see it.
@@ -40,4 +42,16 @@ pub(crate) trait Answering {
     /// The text that is asked for.
     fn show(&self, alloc: Global, resource: &Resource) -> Shown
         ensures { shows (view self.now) resource.now result };
+}
+
+/// What a call that makes a text gave.
+pub(crate) fn given(text: Result<String, LetterFault>) -> Shown
+    ensures { IsShownAs text result }
+{
+    match text {
+        Ok(text) => Shown::Text(text),
+        Err(LetterFault::Memory) => Shown::Memory,
+        Err(LetterFault::UnknownChild | LetterFault::UnknownSchool | LetterFault::NoRound) =>
+            Shown::Missing,
+    }
 }

@@ -9,10 +9,9 @@ ghost use Rattle.adm_http.specs.Shows.{Shows};
 
 use crate::answering::{Answering, Shown};
 use crate::respond::respond;
-use crate::routes::Routes;
+use crate::router::Routes;
+use crate::routes::{Purpose, Resource, show};
 use crate::serve::{ServeFault, serve};
-use crate::shows::show;
-use crate::targets::{Purpose, Resource};
 use adm_desk::{Desk, LineAnswer};
 use adm_wire::{Input, Output, read_command};
 use sqlite::Alter;

@@ -4,8 +4,8 @@ ghost use Rattle.httparse.specs.Spans.{IsHeaderWithin, header_bytes};
 ghost use Rattle.adm_http.specs.Heads.{window, verb_of, by_length as verdict_by_length, values_of, AreCounted, is_named, body_verdict, verdict_of, IsJudgement, IsInside, IsSmall};
 
 use crate::lengths::body_length;
-use crate::routes::Routes;
-use crate::targets::{Purpose, Resource, Target};
+use crate::router::Routes;
+use crate::routes::{Purpose, Resource, Target};
 use http::StatusCode;
 use httparse::Status;
 use httparse::spans::{EMPTY_HEADER_SPAN, HeaderSpan, parse_request};

@@ -11,14 +11,13 @@ mod listen;
 mod patience;
 mod respond;
 mod responses;
+mod router;
 mod routes;
 mod serve;
-mod shows;
 mod states;
-mod targets;
 
 pub use desk::{answer, serve_one};
 pub use laws::judged_in_one_way;
 pub use listen::serve_on;
-pub use routes::Routes;
+pub use router::Routes;
 pub use serve::ServeFault;

@@ -9,7 +9,7 @@ ghost use Rattle.adm_http.specs.Shows.{Shows};
 use crate::answering::Answering;
 use crate::arrivals::{Arrival, Arrivals, SECONDS_OF_REQUEST};
 use crate::patience::Patient;
-use crate::routes::Routes;
+use crate::router::Routes;
 use crate::serve::{ServeFault, serve};
 use adm_desk::Desk;
 use adm_wire::{Input, Watched};

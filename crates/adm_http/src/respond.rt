@@ -1,14 +1,15 @@
 // The response to the request that some bytes are, and its status.
 ghost use Rattle.std.specs.Prelude.{◌≡◌, IfOk, ℕ, List, nat_le, ◌≤◌, drop, length, if◌then◌else◌};
+ghost use Rattle.adm_http.specs.Heads.{IsJudgement, IsInside};
 ghost use Rattle.adm_http.specs.Texts.{Response, response_bytes, json};
 ghost use Rattle.adm_http.specs.Replies.{status_of, status_of_command, status_of_told, status_of_fault};
-ghost use Rattle.adm_http.specs.Responses.{of_answer, of_shown, media_of, Carries, Responds};
+ghost use Rattle.adm_http.specs.Responses.{of_answer, of_shown, Carries, Responds};
 
 use crate::answering::{Answering, Shown};
 use crate::heads::{HEAD_LIMIT, Judgement, Verdict, judge};
 use crate::responses::{Media, bare, response};
-use crate::routes::Routes;
-use crate::targets::Resource;
+use crate::router::Routes;
+use crate::routes::{Resource, media};
 use adm_commands::NotTold;
 use adm_desk::{Answer, LineAnswer, Told};
 use adm_wire::{WireFault, failed_text, memory_text};
@@ -27,10 +28,26 @@ pub(crate) fn respond<A: Answering>(
     ensures { (output : List ℕ) × Responds A.runs A.shows (A.view desk.old) input.now output (A.view desk.new)
         × IfOk result (λ bytes. bytes.items ≡ output) }
 {
+    let judgement = judge(routes, input);
+    respond_to(alloc, desk, input, judgement)
+}
+
+/// The same of an input that was judged.
+pub(crate) fn respond_to<A: Answering>(
+    alloc: Global,
+    desk: &mut A,
+    input: &[u8],
+    judgement: Judgement,
+) -> Result<Vec<u8>, AllocError>
+    requires judged { IsJudgement input.now judgement }
+    requires inside { IsInside input.now judgement }
+    ensures { (output : List ℕ) × Responds A.runs A.shows (A.view desk.old) input.now output (A.view desk.new)
+        × IfOk result (λ bytes. bytes.items ≡ output) }
+{
     if input.is_empty() {
         return Ok(Vec::new(alloc));
     }
-    match judge(routes, input) {
+    match judgement {
         Judgement::Whole(len, verdict) => carry(alloc, desk, after(input, len), verdict),
         Judgement::Malformed => bare(alloc, StatusCode::BAD_REQUEST, None),
         Judgement::Unfinished => bare(alloc, unfinished(input), None),
@@ -145,18 +162,6 @@ fn shown_response(alloc: Global, resource: Resource, shown: Shown) -> Result<Vec
         Shown::Missing => bare(alloc, StatusCode::NOT_FOUND, None),
         Shown::Memory => unavailable(alloc, memory_text()),
         Shown::Failed => unavailable(alloc, failed_text()),
-    }
-}
-
-// The type of a text.
-fn media(resource: Resource) -> Media
-    ensures { result ≡ media_of resource }
-{
-    match resource {
-        Resource::ChildState(_) => Media::Json,
-        Resource::ChildLetter(_) | Resource::WaitingList(_) | Resource::RoundReport(_) => {
-            Media::PlainText
-        }
     }
 }
 

@@ -1,53 +1,64 @@
-// The router of the six routes.
-ghost use Rattle.std.specs.Prelude.{◌≡◌, IfOk, OnOk, Ok, option_map};
-ghost use Rattle.matchit.specs.Route.{parse_route};
-ghost use Rattle.matchit.specs.Router.{InsertsRead};
-ghost use Rattle.adm_http.specs.Rows.{six_routes, IsRouteFree};
-ghost use Rattle.adm_http.specs.Targets.{route_of, target_of};
+// The six routes: the path of each, what it names, and for a text its media type and how it is made.
+ghost use Rattle.std.specs.Prelude.{◌≡◌, IfOk};
+ghost use Rattle.adm_types.specs.Fields.{child_named};
+ghost use Rattle.adm_http.specs.Routes.{named_by, media_of, text_in};
+ghost use Rattle.adm_http.specs.Rows.{six_routes};
+ghost use Rattle.adm_http.specs.Shows.{IsShown};
 
-use crate::targets::{Route, Target, named};
-use matchit::{InsertError, Router};
+use crate::answering::{Shown, given};
+use crate::responses::Media;
+use crate::router::add;
+use crate::states::child_text;
+use adm_letters::{letter, list_text, report_text};
+use adm_register::Register;
+use adm_types::{ChildNo, SchoolCode, plain};
+use matchit::Router;
 use std::alloc::{AllocError, Global};
 
-/// The six routes.
-#[derive(Drop)]
-pub struct Routes {
-    router: Router<Route>,
-    ghost six: { router ≡ six_routes },
+/// A route.
+#[derive(Clone, Copy)]
+pub enum Route {
+    Command,
+    Child,
+    Letter,
+    Waiting,
+    Round,
+    WhatIf,
 }
 
-impl Routes {
-    /// The six routes. The `Err` is want of memory, and comes for nothing else.
-    pub fn new(alloc: Global) -> Result<Routes, AllocError> {
-        let router = six(alloc)?;
-        Ok(Routes { router })
-    }
-
-    /// What the target names, if it has a route.
-    pub(crate) fn target(&self, target: &str) -> Option<Target>
-        ensures { result ≡ target_of target.now }
-    {
-        let (route, part) = self.find(target)?;
-        named(route, part)
-    }
-
-    // The route of the target, and the part that its parameter takes.
-    fn find<'t>(&self, target: &'t str) -> Option<(Route, &'t str)>
-        ensures { option_map (λ found. (found.0, found.1.now)) result ≡ route_of target.now }
-    {
-        let Ok(found) = self.router.at(target) else {
-            return None;
-        };
-        let part = match found.params.iter().next() {
-            Some((_, part)) => part,
-            None => "",
-        };
-        Some((*found.value, part))
-    }
+/// What a body is read as.
+#[derive(Clone, Copy)]
+pub enum Purpose {
+    /// A command, which is run.
+    Command,
+    /// A question where a child would be by another list, which changes nothing.
+    Question,
 }
 
-// The router of the six.
-fn six(alloc: Global) -> Result<Router<Route>, AllocError>
+/// A text that can be asked for.
+#[derive(Clone, Copy)]
+pub enum Resource {
+    /// A child's place, and where it waits.
+    ChildState(ChildNo),
+    /// The letter to a child.
+    ChildLetter(ChildNo),
+    /// The waiting list of a school.
+    WaitingList(SchoolCode),
+    /// The report of a round.
+    RoundReport(u32),
+}
+
+/// What a target names.
+#[derive(Clone, Copy)]
+pub enum Target {
+    /// A body, sent by POST.
+    Body(Purpose),
+    /// A text, asked for by GET.
+    Text(Resource),
+}
+
+/// A router of the paths.
+pub(crate) fn six(alloc: Global) -> Result<Router<Route>, AllocError>
     ensures { IfOk result (λ router. router ≡ six_routes) }
 {
     let mut router = Router::new(alloc);
@@ -60,14 +71,47 @@ fn six(alloc: Global) -> Result<Router<Route>, AllocError>
     Ok(router)
 }
 
-// Adds a route that conflicts with none.
-fn add(router: &mut Router<Route>, text: &str, route: Route) -> Result<(), AllocError>
-    requires { IsRouteFree (parse_route text.now) router.old }
-    ensures { OnOk result (InsertsRead (parse_route text.now) route router.old router.new (Ok tt)) }
+/// What the part of a route names, where it has the form that the route asks for.
+pub(crate) fn named(route: Route, part: &str) -> Option<Target>
+    ensures { result ≡ named_by (route, part.now) }
 {
-    match router.insert(text, route) {
-        Ok(()) => Ok(()),
-        Err(InsertError::OutOfMemory) => Err(AllocError),
-        Err(_) => unreachable!(),
+    match route {
+        Route::Command => Some(Target::Body(Purpose::Command)),
+        Route::WhatIf => Some(Target::Body(Purpose::Question)),
+        Route::Child => Some(Target::Text(Resource::ChildState(child_number(part)?))),
+        Route::Letter => Some(Target::Text(Resource::ChildLetter(child_number(part)?))),
+        Route::Waiting => Some(Target::Text(Resource::WaitingList(SchoolCode::new(part)?))),
+        Route::Round => Some(Target::Text(Resource::RoundReport(plain(part)?))),
     }
+}
+
+/// The media type of a text.
+pub(crate) fn media(resource: Resource) -> Media
+    ensures { result ≡ media_of resource }
+{
+    match resource {
+        Resource::ChildState(_) => Media::Json,
+        Resource::ChildLetter(_) | Resource::WaitingList(_) | Resource::RoundReport(_) => {
+            Media::PlainText
+        }
+    }
+}
+
+/// The text that is asked for, if the register has such a child, school or round.
+pub(crate) fn show(alloc: Global, register: &Register, resource: &Resource) -> Shown
+    ensures { IsShown (text_in register.now resource.now) result }
+{
+    match resource {
+        Resource::ChildState(child) => given(child_text(alloc, register, *child)),
+        Resource::ChildLetter(child) => given(letter(alloc, register, *child)),
+        Resource::WaitingList(school) => given(list_text(alloc, register, *school)),
+        Resource::RoundReport(round) => given(report_text(alloc, register, *round)),
+    }
+}
+
+// The number of a child that the text writes as a plain number.
+fn child_number(text: &str) -> Option<ChildNo>
+    ensures { result ≡ child_named text.now }
+{
+    ChildNo::new(plain(text)?)
 }

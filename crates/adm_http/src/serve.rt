@@ -1,12 +1,13 @@
 // One request of a connection: what is read, and what is written.
-ghost use Rattle.std.specs.Prelude.{◌≡◌, ◌≢◌, ◌||◌, ◌≤◌, ℕ, List, ◌++◌, length, MatchResult, MatchOption, MatchBool, IfOk, IfErr};
+ghost use Rattle.std.specs.Prelude.{◌≡◌, ◌≢◌, ◌||◌, ◌≤◌, ◌⊎◌, ℕ, List, ◌++◌, drop, length, MatchResult, MatchBool, IfOk, IfErr};
 ghost use Rattle.std.specs.Io.KnownBytes.{Consumes, Keeps, IsAtEnd};
-ghost use Rattle.adm_http.specs.Reading.{MayStop, GoesOnTo, IsNotFarPast, HasRead, HasReadSome, Served, is_read_fault, is_write_fault};
+ghost use Rattle.adm_http.specs.Heads.{IsJudgement, IsInside};
+ghost use Rattle.adm_http.specs.Reading.{HasBody, GoesOnTo, IsNotFarPast, HasRead, HasReadSome, Served, is_read_fault, is_write_fault};
 
 use crate::answering::Answering;
 use crate::heads::{HEAD_LIMIT, Judgement, Verdict, judge};
-use crate::respond::respond;
-use crate::routes::Routes;
+use crate::respond::respond_to;
+use crate::router::Routes;
 use adm_wire::{Input, Output};
 use std::alloc::Global;
 use thiserror::Error;
@@ -39,11 +40,11 @@ pub(crate) fn serve<A: Answering, R: Input, W: Output>(
     ensures reader { R.has_failed reader.new ≡ (R.has_failed reader.old || is_read_fault result) }
     ensures writer { W.has_failed writer.new ≡ (W.has_failed writer.old || is_write_fault result) }
 {
-    let input = match read_request(alloc, routes, reader) {
-        Ok(input) => input,
+    let request = match read_request(alloc, routes, reader) {
+        Ok(request) => request,
         Err(fault) => return Err(fault),
     };
-    let Ok(output) = respond(alloc, routes, desk, &input) else {
+    let Ok(output) = respond_to(alloc, desk, &request.input, request.judgement) else {
         return Err(ServeFault::Memory);
     };
     match writer.put(&output) {
@@ -52,48 +53,84 @@ pub(crate) fn serve<A: Answering, R: Input, W: Output>(
     }
 }
 
-// Reads until the bytes are settled, or to the end of the input.
+// The bytes of a request, and what they are judged to be.
+#[derive(Drop)]
+struct Request {
+    input: Vec<u8>,
+    judgement: Judgement,
+}
+
+// Reads until the bytes are settled, or to the end of the input. A head that is whole is not judged
+// again: more bytes leave it as it is.
 fn read_request<R: Input>(
     alloc: Global,
     routes: &Routes,
     reader: &mut R,
-) -> Result<Vec<u8>, ServeFault>
-    ensures ok { IfOk result (λ input. HasRead (R.remaining reader.old) (R.remaining reader.new) input.items) }
+) -> Result<Request, ServeFault>
+    ensures ok { IfOk result (λ request. HasRead (R.remaining reader.old) (R.remaining reader.new) request.input.items) }
+    ensures judged { IfOk result (λ request. IsJudgement request.input.items request.judgement × IsInside request.input.items request.judgement) }
     ensures err { IfErr result (λ fault. (fault ≢ ServeFault.Write) × ((got : List ℕ) × HasReadSome (R.remaining reader.old) (R.remaining reader.new) got)) }
     ensures reader { R.has_failed reader.new ≡ (R.has_failed reader.old || is_read_fault result) }
 {
     let mut input = Vec::new(alloc);
-    while let Some(total) = wanted(routes, &input) {
-        match read_to(reader, &mut input, total) {
-            Ok(true) => {}
-            Ok(false) => return Ok(input),
-            Err(fault) => return Err(fault),
+    loop {
+        match judge(routes, &input) {
+            Judgement::Whole(len, verdict) => match read_body(reader, &mut input, len, &verdict) {
+                Ok(()) => {
+                    let judgement = Judgement::Whole(len, verdict);
+                    return Ok(Request { input, judgement });
+                }
+                Err(fault) => return Err(fault),
+            },
+            Judgement::Malformed => {
+                let judgement = Judgement::Malformed;
+                return Ok(Request { input, judgement });
+            }
+            Judgement::Unfinished => {
+                if input.len() >= HEAD_LIMIT {
+                    let judgement = Judgement::Unfinished;
+                    return Ok(Request { input, judgement });
+                }
+                let total = input.len() + 1;
+                match read_to(reader, &mut input, total) {
+                    Ok(true) => {}
+                    Ok(false) => {
+                        let judgement = judge(routes, &input);
+                        return Ok(Request { input, judgement });
+                    }
+                    Err(fault) => return Err(fault),
+                }
+            }
         }
     }
-    Ok(input)
 }
 
-// How many bytes there must be before the request can be settled; none where it is.
-fn wanted(routes: &Routes, input: &[u8]) -> Option<usize>
-    ensures { MatchOption result (MayStop input.now) (λ total. GoesOnTo total input.now) }
+// Reads the body that a whole head of this length asks for, as far as it is there.
+fn read_body<R: Input>(
+    reader: &mut R,
+    input: &mut Vec<u8>,
+    len: usize,
+    verdict: &Verdict,
+) -> Result<(), ServeFault>
+    requires judged { IsJudgement input.old.items (Judgement.Whole len verdict.now) }
+    requires inside { IsInside input.old.items (Judgement.Whole len verdict.now) }
+    requires near { IsNotFarPast input.old.items }
+    ensures bytes { (more : List ℕ) × Consumes (R.remaining reader.old) (R.remaining reader.new) more
+        × (input.new.items ≡ input.old.items ++ more) × IsNotFarPast input.new.items }
+    ensures stopped { MatchResult result
+        (λ done. HasBody (drop len input.new.items) verdict.now ⊎ IsAtEnd (R.remaining reader.new))
+        (λ fault. fault ≢ ServeFault.Write) }
+    ensures reader { R.has_failed reader.new ≡ (R.has_failed reader.old || is_read_fault result) }
 {
-    match judge(routes, input) {
-        Judgement::Whole(len, Verdict::Run(_, length)) => {
-            let total = len + length as usize;
+    match verdict {
+        Verdict::Run(_, length) => {
+            let total = len + *length as usize;
             if input.len() < total {
-                Some(total)
-            } else {
-                None
+                read_to(reader, input, total)?;
             }
+            Ok(())
         }
-        Judgement::Whole(_, _) | Judgement::Malformed => None,
-        Judgement::Unfinished => {
-            if input.len() < HEAD_LIMIT {
-                Some(input.len() + 1)
-            } else {
-                None
-            }
-        }
+        Verdict::Reject(_) | Verdict::NotAllowed(_) | Verdict::Show(_) => Ok(()),
     }
 }
 

@@ -1,27 +1,111 @@
-use Rattle.std.proofs.Common.{◌≡◌, ℕ, Option, Some, None, refl, inl, subst}
-use Rattle.std.specs.Prelude.{MatchOption}
-use Rattle.adm_http.specs.Reading.{MayStop}
-use Rattle.adm_http.proofs.StepLemmas.{consumed_on}
+use Rattle.std.proofs.Common.{◌≡◌, ◌<◌, ◌≤◌, ◌||◌, Bool, true, false, length, inl, inr, ⊎_elim, arith}
+use Rattle.adm_http.specs.declared.heads.Judgement.TheVariants.{Whole, Malformed, Unfinished}
+use Rattle.adm_http.proofs.StepLemmas.{consumed_on, judged_same, head_goes_on, still}
 use Rattle.adm_http.proofs.serve.read_request.Goals as goal
+
+-- a flag that was kept
+kept : (b d : Bool) → d ≡ b → d ≡ (b || false)
+kept true d e = e
+kept false d e = e
+
+-- the head is whole
+
+pub returns-in-Ok-clause-ok : goal.returns-in-Ok-clause-ok
+returns-in-Ok-clause-ok g c =
+    let more = c.in-Ok.ensures.bytes in
+    let judged = rw c.deref.ensures.value at c.in-Whole.ensures.judged in
+    let inside = rw c.deref.ensures.value at c.in-Whole.ensures.inside in
+    let same = judged_same c.loop-len.input.items more.0 c.read_body.new.input.items c.in-Whole.len c.in-Whole.verdict judged inside more.2 in
+    record {
+      consumed = consumed_on _ _ _ c.loop-len.input.items more.0 _ c.loop-len.invariant.consumed more.1 more.2;
+      near = more.3;
+      stopped = ⊎_elim (λ body. inl (Whole c.in-Whole.len c.in-Whole.verdict, same.0, body)) (λ end. inr end) c.in-Ok.ensures.stopped;
+    }
+
+pub returns-in-Ok-clause-judged : goal.returns-in-Ok-clause-judged
+returns-in-Ok-clause-judged g c =
+    let judged = rw c.deref.ensures.value at c.in-Whole.ensures.judged in
+    let inside = rw c.deref.ensures.value at c.in-Whole.ensures.inside in
+    let more = c.in-Ok.ensures.bytes in
+    judged_same c.loop-len.input.items more.0 c.read_body.new.input.items c.in-Whole.len c.in-Whole.verdict judged inside more.2
 
 pub returns-in-Err-clause-err : goal.returns-in-Err-clause-err
 returns-in-Err-clause-err g c =
     let less = c.in-Err.ensures.bytes in (
-      c.in-Err.ensures.reached,
+      c.in-Err.ensures.stopped,
       (
-        c.read_to.new.input.items,
-        record { consumed = consumed_on _ _ _ c.loop-total.input.items less.0 _ c.loop-total.invariant.consumed less.1 less.2; near = less.3 },
+        c.read_body.new.input.items,
+        record { consumed = consumed_on _ _ _ c.loop-len.input.items less.0 _ c.loop-len.invariant.consumed less.1 less.2; near = less.3 },
       ),
     )
 
--- what a test that gave none says
-none_wanted : (wanted : Option ℕ) (A : Type 0) (B : ℕ → Type 0) → MatchOption wanted A B → ((total : ℕ) → wanted ≡ Some total → ⊥) → A
-none_wanted None A B h none = h
-none_wanted (Some total) A B h none = absurd (none total refl)
+-- no head can come
 
-pub returns-clause-ok : goal.returns-clause-ok
-returns-clause-ok g c = record {
-  consumed = c.loop-total.invariant.consumed;
-  near = c.loop-total.invariant.near;
-  stopped = inl (subst MayStop c.deref.ensures.value (none_wanted c.wanted.result _ _ c.wanted.ensures c.in_default.not-Some));
-}
+pub returns-in-Malformed-clause-ok : goal.returns-in-Malformed-clause-ok
+returns-in-Malformed-clause-ok g c =
+    let judged = rw c.deref.ensures.value at c.in-Malformed.ensures.judged in
+    record { consumed = c.loop-len.invariant.consumed; near = c.loop-len.invariant.near; stopped = inl (Malformed, judged, tt) }
+
+pub returns-in-Malformed-clause-judged : goal.returns-in-Malformed-clause-judged
+returns-in-Malformed-clause-judged g c =
+    let judged = rw c.deref.ensures.value at c.in-Malformed.ensures.judged in
+    (judged, tt)
+
+-- there is none yet, in as many bytes as a head may have
+
+pub returns-then-len-ge-HEAD_LIMIT-clause-ok : goal.returns-then-len-ge-HEAD_LIMIT-clause-ok
+returns-then-len-ge-HEAD_LIMIT-clause-ok g c =
+    let judged = rw c.deref.ensures.value at c.in-Unfinished.ensures.judged in
+    let full : 8192 ≤ length c.loop-len.input.items = omega (arith, c.len.ensures, c.if-len-ge-HEAD_LIMIT.true) in
+    record { consumed = c.loop-len.invariant.consumed; near = c.loop-len.invariant.near; stopped = inl (Unfinished, judged, full) }
+
+pub returns-then-len-ge-HEAD_LIMIT-clause-judged : goal.returns-then-len-ge-HEAD_LIMIT-clause-judged
+returns-then-len-ge-HEAD_LIMIT-clause-judged g c =
+    let judged = rw c.deref.ensures.value at c.in-Unfinished.ensures.judged in
+    (judged, tt)
+
+pub returns-then-len-ge-HEAD_LIMIT-clause-reader : goal.returns-then-len-ge-HEAD_LIMIT-clause-reader
+returns-then-len-ge-HEAD_LIMIT-clause-reader g c = kept (g.R.Input.has_failed c.args.reader.now) _ c.loop-len.invariant.unfailed
+
+-- there may come one
+
+pub read_to-requires-clause-on : goal.read_to-requires-clause-on
+read_to-requires-clause-on g c =
+    let judged = rw c.deref.ensures.value at c.in-Unfinished.ensures.judged in
+    let short : length c.loop-len.input.items < 8192 = omega (arith, c.len.ensures, c.if-len-ge-HEAD_LIMIT.false) in
+    head_goes_on c.loop-len.input.items _ judged short (omega (arith, c.len-total.ensures))
+
+pub loop-len-preserved : goal.loop-len-preserved
+loop-len-preserved g c =
+    let more = c.in-Ok-true.ensures.bytes in
+    record {
+      consumed = consumed_on _ _ _ c.loop-len.input.items more.0 _ c.loop-len.invariant.consumed more.1 more.2;
+      near = more.3;
+      unfailed = still (g.R.Input.has_failed c.loop-len.reader) _ _ c.in-Ok-true.ensures.reader c.loop-len.invariant.unfailed;
+    }
+
+pub returns-in-Ok-false-clause-ok : goal.returns-in-Ok-false-clause-ok
+returns-in-Ok-false-clause-ok g c =
+    let more = c.in-Ok-false.ensures.bytes in
+    let end = rw c.in-Ok-false.field-0-test at c.in-Ok-false.ensures.reached in
+    record {
+      consumed = consumed_on _ _ _ c.loop-len.input.items more.0 _ c.loop-len.invariant.consumed more.1 more.2;
+      near = more.3;
+      stopped = inr end;
+    }
+
+pub returns-in-Ok-false-clause-judged : goal.returns-in-Ok-false-clause-judged
+returns-in-Ok-false-clause-judged g c =
+    let judged = rw c.deref-in-Ok-false.ensures.value at c.judge-judgement.ensures.judged in
+    let inside = rw c.deref-in-Ok-false.ensures.value at c.judge-judgement.ensures.inside in
+    (judged, inside)
+
+pub returns-in-Err-read_to-clause-err : goal.returns-in-Err-read_to-clause-err
+returns-in-Err-read_to-clause-err g c =
+    let less = c.in-Err-read_to.ensures.bytes in (
+      c.in-Err-read_to.ensures.reached,
+      (
+        c.read_to.new.input.items,
+        record { consumed = consumed_on _ _ _ c.loop-len.input.items less.0 _ c.loop-len.invariant.consumed less.1 less.2; near = less.3 },
+      ),
+    )

@@ -3,12 +3,12 @@ use Rattle.std.specs.Io.KnownBytes.{Consumes}
 use Rattle.adm_http.specs.Reading.{IsNotFarPast}
 use Rattle.adm_http.proofs.serve.read_request.Given as goal
 
-abbrev pub invariant-loop-total : goal.invariant-loop-total
-invariant-loop-total g l = record {
+abbrev pub invariant-loop-len : goal.invariant-loop-len
+invariant-loop-len g l = record {
   consumed : Consumes (g.R.Input.remaining l.fn.reader) (g.R.Input.remaining l.reader) l.input.items;
   near : IsNotFarPast l.input.items;
   unfailed : g.R.Input.has_failed l.reader ≡ g.R.Input.has_failed l.fn.reader;
 }
 
-abbrev pub decreases-loop-total : goal.decreases-loop-total
-decreases-loop-total g l = 1056768 - vec_len l.input
+abbrev pub decreases-loop-len : goal.decreases-loop-len
+decreases-loop-len g l = 1056768 - vec_len l.input

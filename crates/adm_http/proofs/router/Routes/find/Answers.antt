@@ -2,8 +2,8 @@ use Rattle.std.proofs.Common.{ap, ◌∙◌, inl, inr, arith}
 use Rattle.matchit.specs.Params.{walk}
 use Rattle.adm_http.proofs.RouteLemmas.{none_found}
 use Rattle.adm_http.proofs.FormLemmas.{found_part, Gave}
-use Rattle.adm_http.proofs.routes.Routes.find.Goals as goal
-use Rattle.adm_http.proofs.routes.Routes.find.Goals.{in-Some, in-None}
+use Rattle.adm_http.proofs.router.Routes.find.Goals as goal
+use Rattle.adm_http.proofs.router.Routes.find.Goals.{in-Some, in-None}
 
 pub returns-in_default : goal.returns-in_default
 returns-in_default c =

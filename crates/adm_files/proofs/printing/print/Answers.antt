@@ -1,5 +1,5 @@
 use Rattle.std.proofs.Common.{inr}
-use Rattle.adm_files.proofs.print.print.Goals as goal
+use Rattle.adm_files.proofs.printing.print.Goals as goal
 
 pub returns-in-Ok-clause-ok : goal.returns-in-Ok-clause-ok
 returns-in-Ok-clause-ok g c = inr (c.in-Ok.desk, rw c.in-Ok.is at c.in_ok-desk.ensures.ok, (c.print_document.ensures.printed, c.print_document.ensures.closes))

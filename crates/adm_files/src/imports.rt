@@ -13,7 +13,7 @@ use crate::ended::{Ended, close};
 use crate::exit::Exit;
 use crate::fault::Fault;
 use crate::opening::open_desk;
-use crate::print::put;
+use crate::printing::put;
 use crate::rows::Rows;
 use adm_csv::read_rows;
 use adm_desk::{Answer, Desk};

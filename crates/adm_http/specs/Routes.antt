@@ -1,13 +1,21 @@
--- The targets of the six routes, and what each names.
+-- The six routes: the targets of each, what it names, and for a text its media type and what it is.
 use Rattle.std.specs.Prelude.{ℕ, ◌==◌, ◌&&◌, List, [], ◌∷◌, length, nat_lt, if◌then◌else◌, Option, Some, None, option_map, option_and_then, codes, bytes_eq}
 use Rattle.adm_types.specs.Code.{code_of}
 use Rattle.adm_types.specs.Fields.{plain_of, child_named}
-use Rattle.adm_http.specs.declared.targets.Route.{Route}
-use Rattle.adm_http.specs.declared.targets.Route.TheVariants.{Command, Child, Letter, Waiting, Round, WhatIf}
-use Rattle.adm_http.specs.declared.targets.Target.{Target}
-use Rattle.adm_http.specs.declared.targets.Target.TheVariants.{Body, Text}
-use Rattle.adm_http.specs.declared.targets.Purpose.TheVariants as purpose
-use Rattle.adm_http.specs.declared.targets.Resource.TheVariants.{ChildState, ChildLetter, WaitingList, RoundReport}
+use Rattle.adm_register.specs.State.{State}
+use Rattle.adm_letters.specs.Letters.{letter_text}
+use Rattle.adm_letters.specs.Lists.{list_text}
+use Rattle.adm_letters.specs.Reports.{report_text}
+use Rattle.adm_http.specs.States.{child_text}
+use Rattle.adm_http.specs.declared.responses.Media.{Media}
+use Rattle.adm_http.specs.declared.responses.Media.TheVariants.{Json, PlainText}
+use Rattle.adm_http.specs.declared.routes.Route.{Route}
+use Rattle.adm_http.specs.declared.routes.Route.TheVariants.{Command, Child, Letter, Waiting, Round, WhatIf}
+use Rattle.adm_http.specs.declared.routes.Target.{Target}
+use Rattle.adm_http.specs.declared.routes.Target.TheVariants.{Body, Text}
+use Rattle.adm_http.specs.declared.routes.Purpose.TheVariants as purpose
+use Rattle.adm_http.specs.declared.routes.Resource.{Resource}
+use Rattle.adm_http.specs.declared.routes.Resource.TheVariants.{ChildState, ChildLetter, WaitingList, RoundReport}
 
 -- what follows the text, where the bytes begin with it
 abbrev pub after_prefix : List ℕ → List ℕ → Option (List ℕ)
@@ -68,3 +76,17 @@ named_by (Round, part) = option_map (λ n. Text (RoundReport n)) (plain_of part)
 -- what the target names, if it has a route
 abbrev pub target_of : List ℕ → Option Target
 target_of target = option_and_then named_by (route_of target)
+
+-- a child's state is JSON, and what people read is text
+abbrev pub media_of : Resource → Media
+media_of (ChildState child) = Json
+media_of (ChildLetter child) = PlainText
+media_of (WaitingList school) = PlainText
+media_of (RoundReport round) = PlainText
+
+-- the text that is asked for, if the register has such a child, school or round
+abbrev pub text_in : State → Resource → Option (List ℕ)
+text_in s (ChildState child) = child_text s child
+text_in s (ChildLetter child) = letter_text s child
+text_in s (WaitingList school) = list_text s school
+text_in s (RoundReport round) = report_text s round

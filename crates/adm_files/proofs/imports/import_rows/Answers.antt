@@ -5,7 +5,7 @@ use Rattle.adm_files.specs.declared.exit.Exit.{Exit}
 use Rattle.adm_files.specs.declared.fault.Fault.{Fault}
 use Rattle.adm_files.specs.declared.fault.Fault.TheVariants.{Row}
 use Rattle.adm_files.proofs.Importing.{imports_as}
-use Rattle.adm_files.proofs.import.import_rows.Goals as goal
+use Rattle.adm_files.proofs.imports.import_rows.Goals as goal
 
 pub returns-in-Ok : goal.returns-in-Ok
 returns-in-Ok g c =
