@@ -38,7 +38,7 @@ form_of n.AddSchool d = do
   Ok (c.AddSchool s)
 form_of n.RaisePan d = do
   r ← pan_form d
-  Ok (c.RaisePan r.0 r.1)
+  Ok (c.RaisePan r.0 r.1.0)
 form_of n.AddChild d = do
   x ← child_form d
   Ok (c.AddChild x)
@@ -47,31 +47,31 @@ form_of n.Amend d = do
   Ok (c.Amend x)
 form_of n.NamePlan d = do
   p ← pair_form d
-  Ok (c.NamePlan p.0 p.1)
+  Ok (c.NamePlan p.0 p.1.0)
 form_of n.Apply d = do
   a ← application_form d
   Ok (c.Apply a)
 form_of n.Round d = do
   r ← draw_form d
-  Ok (c.Round r.0 r.1 r.2)
+  Ok (c.Round r.0 r.1.0 r.1.1.0)
 form_of n.Accept d = do
   p ← pair_form d
-  Ok (c.Accept p.0 p.1)
+  Ok (c.Accept p.0 p.1.0)
 form_of n.Decline d = do
   p ← pair_form d
-  Ok (c.Decline p.0 p.1)
+  Ok (c.Decline p.0 p.1.0)
 form_of n.Remind d = do
   p ← notice_form d
-  Ok (c.Remind p.0 p.1 p.2)
+  Ok (c.Remind p.0 p.1.0 p.1.1.0)
 form_of n.Lapse d = do
   p ← notice_form d
-  Ok (c.Lapse p.0 p.1 p.2)
+  Ok (c.Lapse p.0 p.1.0 p.1.1.0)
 form_of n.LeaveList d = do
   p ← pair_form d
-  Ok (c.LeaveList p.0 p.1)
+  Ok (c.LeaveList p.0 p.1.0)
 form_of n.Fill d = do
   f ← fill_form d
-  Ok (c.Fill f.0 f.1 f.2 f.3)
+  Ok (c.Fill f.0 f.1.0 f.1.1.0 f.1.1.1.0)
 
 -- what JSON data says
 unfoldable pub command_in : Data → Result Command WireFault

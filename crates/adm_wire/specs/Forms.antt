@@ -1,82 +1,79 @@
--- The written forms of the commands: for each its fields, in the order in which they are tested.
-use Rattle.std.specs.Prelude.{ℕ, List, [], ◌∷◌, codes, None, Result}
+-- The written forms of records and commands: their fields in the order in which they are tested, and no further key.
+use Rattle.std.specs.Prelude.{ℕ, List, [], ◌∷◌, codes, Option, Result, Ok}
 use Rattle.serde_json.specs.Data.{Data}
-use Rattle.adm_types.specs.Flags.{bits_of}
 use Rattle.adm_types.specs.declared.rows.Application.{Application}
 use Rattle.adm_types.specs.declared.rows.Child.{Child}
 use Rattle.adm_types.specs.declared.rows.School.{School}
+use Rattle.adm_fields.specs.Lists.{Way, school_fields, pan_fields, child_fields, pair_fields, notice_fields, draw_fields, fill_fields, application_fields}
+use Rattle.adm_fields.specs.Records.{school_of, child_of, application_of}
 use Rattle.adm_wire.specs.declared.fault.WireFault.{WireFault}
-use Rattle.adm_wire.specs.Kinds.{a_text, a_number, a_truth, a_child, a_flag, a_code, a_code_or_none, a_day, a_criterion, a_list, only}
-use Rattle.adm_wire.specs.Reading.{◌>>=◌, field_at, field_or}
+use Rattle.adm_wire.specs.Kinds.{a_text, a_number, a_truth, a_child, a_code, a_code_or_none, a_day, a_criterion, a_list, some_flags, only}
+use Rattle.adm_wire.specs.Reading.{◌>>=◌, field_in, before}
+
+-- what an object says in its fields: the first that is missing or of another kind is the fault
+abbrev pub json : Way (λ A. Data → Option A) (λ A. Data → Result A WireFault)
+json = record {
+  field = λ name otherwise kind others. before (field_in otherwise kind name) others;
+  no_more = λ d. Ok tt;
+  a_child = a_child;
+  a_code = a_code;
+  a_code_or_none = a_code_or_none;
+  a_text = a_text;
+  a_number = a_number;
+  a_truth = a_truth;
+  a_day = a_day;
+  some_flags = some_flags;
+  some_codes = a_list a_code;
+  some_criteria = a_list a_criterion;
+  some_numbers = a_list a_number;
+}
+
+-- the names of the fields
+abbrev pub names : Way (λ _. Unit {0}) (λ _. List (List ℕ))
+names = record {
+  field = λ name otherwise kind others. name ∷ others;
+  no_more = [];
+  a_child = tt;
+  a_code = tt;
+  a_code_or_none = tt;
+  a_text = tt;
+  a_number = tt;
+  a_truth = tt;
+  a_day = tt;
+  some_flags = tt;
+  some_codes = tt;
+  some_criteria = tt;
+  some_numbers = tt;
+}
+
+-- the values of fields, unless there is a key beside these
+abbrev pub alone : {A : Type 0} → List (List ℕ) → (Data → Result A WireFault) → Data → Result A WireFault
+alone known fields d = fields d >>= λ v. only known d v
+
+-- the values of the fields of a command, unless there is a key beside theirs and `cmd`
+abbrev pub of_command : {A : Type 0} → List (List ℕ) → (Data → Result A WireFault) → Data → Result A WireFault
+of_command known fields d = alone (codes "cmd" ∷ known) fields d
 
 unfoldable pub school_form : Data → Result School WireFault
-school_form d = do
-  c ← field_at a_code (codes "school") d
-  nm ← field_at a_text (codes "name") d
-  p ← field_at a_number (codes "pan") d
-  e ← field_at a_number (codes "east") d
-  nn ← field_at a_number (codes "north") d
-  cs ← field_at (a_list a_criterion) (codes "criteria") d
-  only (codes "cmd" ∷ codes "school" ∷ codes "name" ∷ codes "pan" ∷ codes "east" ∷ codes "north" ∷ codes "criteria" ∷ []) d
-      (record { code = c; name = nm; pan = p; at = record { east = e; north = nn }; criteria = cs })
+school_form d = of_command (school_fields names) (school_fields json) d >>= λ v. Ok (school_of v)
 
--- a school and its admission number
-unfoldable pub pan_form : Data → Result (List ℕ × ℕ) WireFault
-pan_form d = do
-  s ← field_at a_code (codes "school") d
-  p ← field_at a_number (codes "pan") d
-  only (codes "cmd" ∷ codes "school" ∷ codes "pan" ∷ []) d (s, p)
-
--- a child, to add or to amend; where its present school is missing it has none
 unfoldable pub child_form : Data → Result Child WireFault
-child_form d = do
-  c ← field_at a_child (codes "child") d
-  nm ← field_at a_text (codes "name") d
-  e ← field_at a_number (codes "east") d
-  nn ← field_at a_number (codes "north") d
-  l ← field_at a_truth (codes "looked_after") d
-  fs ← field_at (a_list a_flag) (codes "flags") d
-  ss ← field_at (a_list a_code) (codes "siblings") d
-  ps ← field_or None a_code_or_none (codes "present") d
-  only (codes "cmd" ∷ codes "child" ∷ codes "name" ∷ codes "east" ∷ codes "north" ∷ codes "looked_after" ∷ codes "flags" ∷ codes "siblings" ∷ codes "present" ∷ []) d
-      (record { no = c; name = nm; home = record { east = e; north = nn }; looked_after = l; flags = bits_of fs; siblings = ss; present = ps })
+child_form d = of_command (child_fields names) (child_fields json) d >>= λ v. Ok (child_of v)
 
--- a child and a school
-unfoldable pub pair_form : Data → Result (ℕ × List ℕ) WireFault
-pair_form d = do
-  c ← field_at a_child (codes "child") d
-  s ← field_at a_code (codes "school") d
-  only (codes "cmd" ∷ codes "child" ∷ codes "school" ∷ []) d (c, s)
-
--- a notice of an offer: its child, its school and the day of the notice
-unfoldable pub notice_form : Data → Result (ℕ × List ℕ × ℕ) WireFault
-notice_form d = do
-  c ← field_at a_child (codes "child") d
-  s ← field_at a_code (codes "school") d
-  t ← field_at a_day (codes "day") d
-  only (codes "cmd" ∷ codes "child" ∷ codes "school" ∷ codes "day" ∷ []) d (c, s, t)
-
--- a draw of lots: its number, its day and its lots
-unfoldable pub draw_form : Data → Result (ℕ × ℕ × List ℕ) WireFault
-draw_form d = do
-  n ← field_at a_number (codes "draw") d
-  t ← field_at a_day (codes "day") d
-  ls ← field_at (a_list a_number) (codes "lots") d
-  only (codes "cmd" ∷ codes "draw" ∷ codes "day" ∷ codes "lots" ∷ []) d (n, t, ls)
-
--- a draw of lots for a vacancy of a school: its number, its school, its day and its lots
-unfoldable pub fill_form : Data → Result (ℕ × List ℕ × ℕ × List ℕ) WireFault
-fill_form d = do
-  n ← field_at a_number (codes "draw") d
-  s ← field_at a_code (codes "school") d
-  t ← field_at a_day (codes "day") d
-  ls ← field_at (a_list a_number) (codes "lots") d
-  only (codes "cmd" ∷ codes "draw" ∷ codes "school" ∷ codes "day" ∷ codes "lots" ∷ []) d (n, s, t, ls)
-
--- an application: a child, a day and the schools of its preference
 unfoldable pub application_form : Data → Result Application WireFault
-application_form d = do
-  c ← field_at a_child (codes "child") d
-  t ← field_at a_day (codes "day") d
-  ps ← field_at (a_list a_code) (codes "preferences") d
-  only (codes "cmd" ∷ codes "child" ∷ codes "day" ∷ codes "preferences" ∷ []) d (record { child = c; day = t; list = ps })
+application_form d = of_command (application_fields names) (application_fields json) d >>= λ v. Ok (application_of v)
+
+unfoldable pub pan_form : Data → Result (List ℕ × (ℕ × Unit {0})) WireFault
+pan_form d = of_command (pan_fields names) (pan_fields json) d
+
+unfoldable pub pair_form : Data → Result (ℕ × (List ℕ × Unit {0})) WireFault
+pair_form d = of_command (pair_fields names) (pair_fields json) d
+
+unfoldable pub notice_form : Data → Result (ℕ × (List ℕ × (ℕ × Unit {0}))) WireFault
+notice_form d = of_command (notice_fields names) (notice_fields json) d
+
+unfoldable pub draw_form : Data → Result (ℕ × (ℕ × (List ℕ × Unit {0}))) WireFault
+draw_form d = of_command (draw_fields names) (draw_fields json) d
+
+unfoldable pub fill_form : Data → Result (ℕ × (List ℕ × (ℕ × (List ℕ × Unit {0})))) WireFault
+fill_form d = of_command (fill_fields names) (fill_fields json) d

@@ -7,7 +7,7 @@ use Rattle.serde_json.specs.Find.{as_number, as_u64, as_bool, as_str, as_array, 
 use Rattle.adm_types.specs.Code.{code_of, code_or_none_of}
 use Rattle.adm_types.specs.DayText.{day_named}
 use Rattle.adm_types.specs.Fields.{criterion_of}
-use Rattle.adm_types.specs.Flags.{flag_of}
+use Rattle.adm_types.specs.Flags.{flag_of, bits_of}
 use Rattle.adm_types.specs.Numbers.{child_of}
 use Rattle.adm_types.specs.declared.rows.Criterion.{Criterion}
 use Rattle.adm_wire.specs.declared.fault.WireFault.{WireFault}
@@ -59,6 +59,10 @@ each kind (item d ds) = option_and_then (λ x. option_map (λ xs. x ∷ xs) (eac
 -- a list of values of the kind
 abbrev pub a_list : {A : Type 0} → (Data → Option A) → Data → Option (List A)
 a_list kind d = option_and_then (each kind) (as_array d)
+
+-- verified flags, as the bits of a number
+abbrev pub some_flags : Data → Option ℕ
+some_flags d = option_map bits_of (a_list a_flag d)
 
 -- ---- the keys of an object
 

@@ -20,13 +20,17 @@ some_or fault (Some x) = Ok x
 abbrev pub field_at : {A : Type 0} → (Data → Option A) → List ℕ → Data → Result A WireFault
 field_at kind key d = some_or MissingField (get key d) >>= λ v. some_or WrongKind (kind v)
 
--- the value in a field of this kind, or the other value where there is no such field
-abbrev pub value_or : {A : Type 0} → A → (Data → Option A) → Option Data → Result A WireFault
-value_or other kind None = Ok other
-value_or other kind (Some v) = some_or WrongKind (kind v)
+-- the same, or what the field is where it may be left out
+abbrev pub value_in : {A : Type 0} → Option A → (Data → Option A) → Option Data → Result A WireFault
+value_in otherwise kind None = some_or MissingField otherwise
+value_in otherwise kind (Some v) = some_or WrongKind (kind v)
 
-abbrev pub field_or : {A : Type 0} → A → (Data → Option A) → List ℕ → Data → Result A WireFault
-field_or other kind key d = value_or other kind (get key d)
+abbrev pub field_in : {A : Type 0} → Option A → (Data → Option A) → List ℕ → Data → Result A WireFault
+field_in otherwise kind key d = value_in otherwise kind (get key d)
+
+-- one reading before another
+abbrev pub before : {A B : Type 0} → (Data → Result A WireFault) → (Data → Result B WireFault) → Data → Result (A × B) WireFault
+before first others d = first d >>= λ x. others d >>= λ xs. Ok (x, xs)
 
 -- A call that failed for another cause than memory failed as reading does.
 abbrev pub Fails : {A : Type 0} → WireFault → Result A WireFault → Type 0

@@ -1,21 +1,18 @@
 -- What bytes say: a question what a child would be allotted by another list, or the first fault.
-use Rattle.std.specs.Prelude.{ℕ, List, [], ◌∷◌, codes, Result}
+use Rattle.std.specs.Prelude.{ℕ, List, Result, Ok}
 use Rattle.serde_json.specs.Data.{Data}
 use Rattle.serde_json.specs.Find.{as_object}
 use Rattle.adm_wire.specs.Commands.{json_of}
 use Rattle.adm_wire.specs.declared.fault.WireFault.{WireFault}
 use Rattle.adm_wire.specs.declared.fault.WireFault.TheVariants.{NotJson, WrongKind}
 use Rattle.adm_wire.specs.declared.what_if.WhatIf.{WhatIf}
-use Rattle.adm_wire.specs.Kinds.{a_number, a_child, a_code, a_list, only}
-use Rattle.adm_wire.specs.Reading.{◌>>=◌, some_or, field_at}
+use Rattle.adm_fields.specs.Lists.{what_if_fields}
+use Rattle.adm_wire.specs.Forms.{json, names, alone}
+use Rattle.adm_wire.specs.Reading.{◌>>=◌, some_or}
 
--- its fields, in the order in which they are tested
+-- its fields, in the order in which they are tested, and no further key
 unfoldable pub what_if_form : Data → Result WhatIf WireFault
-what_if_form d = do
-  c ← field_at a_child (codes "child") d
-  ls ← field_at (a_list a_number) (codes "lots") d
-  ps ← field_at (a_list a_code) (codes "preferences") d
-  only (codes "child" ∷ codes "lots" ∷ codes "preferences" ∷ []) d (record { child = c; lots = ls; preferences = ps })
+what_if_form d = alone (what_if_fields names) (what_if_fields json) d >>= λ v. Ok (record { child = v.0; lots = v.1.0; preferences = v.1.1.0 })
 
 -- what JSON data ask
 unfoldable pub what_if_in : Data → Result WhatIf WireFault

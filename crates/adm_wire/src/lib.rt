@@ -3,8 +3,8 @@
 #![tactic(auto)]
 
 mod fault;
-mod field;
-mod keys;
+mod fields;
+mod kinds;
 mod read;
 mod streams;
 mod texts;

@@ -7,12 +7,12 @@ ghost use Rattle.adm_wire.specs.Reading.{Gives, GivesSeen, some_or};
 ghost use Rattle.adm_wire.specs.declared.fault.WireFault.TheVariants.{NotJson};
 
 use crate::WireFault;
-use crate::field::{field, field_or};
-use crate::keys::only;
-use adm_types::{
-    Application, Child, ChildNo, Command, Day, Flag, Point, School, SchoolCode, Seq, Text,
-    flag_bits,
+use crate::fields::{command_name, of_command};
+use adm_fields::{
+    ApplicationFields, ChildFields, DrawFields, FillFields, NoticeFields, PairFields, PanFields,
+    SchoolFields, application_of, child_of, school_of,
 };
+use adm_types::{Application, Child, ChildNo, Command, Day, School, SchoolCode, Seq};
 use serde_json::Value;
 use std::alloc::Global;
 
@@ -20,129 +20,62 @@ use std::alloc::Global;
 fn school(alloc: Global, object: &Value) -> Result<School, WireFault>
     ensures { Gives result (school_form (view object.now)) }
 {
-    let code = field(alloc, object, "school")?;
-    let name = field(alloc, object, "name")?;
-    let pan = field(alloc, object, "pan")?;
-    let east = field(alloc, object, "east")?;
-    let north = field(alloc, object, "north")?;
-    let criteria = field(alloc, object, "criteria")?;
-    only(
-        object,
-        &["cmd", "school", "name", "pan", "east", "north", "criteria"],
-    )?;
-    Ok(School {
-        code,
-        name,
-        pan,
-        at: Point { east, north },
-        criteria,
-    })
-}
-
-/// A school and its admission number.
-#[tactic(auto, unfolding(crate::specs::Forms::pan_form))]
-fn pan(alloc: Global, object: &Value) -> Result<(SchoolCode, u32), WireFault>
-    ensures { Gives result (pan_form (view object.now)) }
-{
-    let school = field(alloc, object, "school")?;
-    let pan = field(alloc, object, "pan")?;
-    only(object, &["cmd", "school", "pan"])?;
-    Ok((school, pan))
+    let values = of_command::<SchoolFields>(alloc, object)?;
+    Ok(school_of(values))
 }
 
 #[tactic(auto, unfolding(crate::specs::Forms::child_form))]
 fn child(alloc: Global, object: &Value) -> Result<Child, WireFault>
     ensures { Gives result (child_form (view object.now)) }
 {
-    let no = field(alloc, object, "child")?;
-    let name = field(alloc, object, "name")?;
-    let east = field(alloc, object, "east")?;
-    let north = field(alloc, object, "north")?;
-    let looked_after = field(alloc, object, "looked_after")?;
-    let flags: Seq<Flag> = field(alloc, object, "flags")?;
-    let siblings = field(alloc, object, "siblings")?;
-    let present = field_or(alloc, object, "present", None)?;
-    let known = [
-        "cmd",
-        "child",
-        "name",
-        "east",
-        "north",
-        "looked_after",
-        "flags",
-        "siblings",
-        "present",
-    ];
-    only(object, &known)?;
-    Ok(Child {
-        no,
-        name,
-        home: Point { east, north },
-        looked_after,
-        flags: flag_bits(flags.as_slice()),
-        siblings,
-        present,
-    })
+    let values = of_command::<ChildFields>(alloc, object)?;
+    Ok(child_of(values))
 }
 
-/// A child and a school.
-#[tactic(auto, unfolding(crate::specs::Forms::pair_form))]
-fn pair(alloc: Global, object: &Value) -> Result<(ChildNo, SchoolCode), WireFault>
-    ensures { Gives result (pair_form (view object.now)) }
-{
-    let child = field(alloc, object, "child")?;
-    let school = field(alloc, object, "school")?;
-    only(object, &["cmd", "child", "school"])?;
-    Ok((child, school))
-}
-
-/// A notice of an offer: its child, its school and the day of the notice.
-#[tactic(auto, unfolding(crate::specs::Forms::notice_form))]
-fn notice(alloc: Global, object: &Value) -> Result<(ChildNo, SchoolCode, Day), WireFault>
-    ensures { Gives result (notice_form (view object.now)) }
-{
-    let child = field(alloc, object, "child")?;
-    let school = field(alloc, object, "school")?;
-    let day = field(alloc, object, "day")?;
-    only(object, &["cmd", "child", "school", "day"])?;
-    Ok((child, school, day))
-}
-
-/// A draw of lots: its number, its day and its lots.
-#[tactic(auto, unfolding(crate::specs::Forms::draw_form))]
-fn draw(alloc: Global, object: &Value) -> Result<(u32, Day, Seq<u32>), WireFault>
-    ensures { Gives result (draw_form (view object.now)) }
-{
-    let number = field(alloc, object, "draw")?;
-    let day = field(alloc, object, "day")?;
-    let lots = field(alloc, object, "lots")?;
-    only(object, &["cmd", "draw", "day", "lots"])?;
-    Ok((number, day, lots))
-}
-
-/// A draw of lots for a vacancy of a school: its number, its school, its day and its lots.
-#[tactic(auto, unfolding(crate::specs::Forms::fill_form))]
-fn fill(alloc: Global, object: &Value) -> Result<(u32, SchoolCode, Day, Seq<u32>), WireFault>
-    ensures { Gives result (fill_form (view object.now)) }
-{
-    let number = field(alloc, object, "draw")?;
-    let school = field(alloc, object, "school")?;
-    let day = field(alloc, object, "day")?;
-    let lots = field(alloc, object, "lots")?;
-    only(object, &["cmd", "draw", "school", "day", "lots"])?;
-    Ok((number, school, day, lots))
-}
-
-/// An application: a child, a day and the schools of its preference.
 #[tactic(auto, unfolding(crate::specs::Forms::application_form))]
 fn application(alloc: Global, object: &Value) -> Result<Application, WireFault>
     ensures { Gives result (application_form (view object.now)) }
 {
-    let child = field(alloc, object, "child")?;
-    let day = field(alloc, object, "day")?;
-    let list = field(alloc, object, "preferences")?;
-    only(object, &["cmd", "child", "day", "preferences"])?;
-    Ok(Application { child, day, list })
+    let values = of_command::<ApplicationFields>(alloc, object)?;
+    Ok(application_of(values))
+}
+
+#[tactic(auto, unfolding(crate::specs::Forms::pan_form))]
+fn pan(alloc: Global, object: &Value) -> Result<(SchoolCode, (u32, ())), WireFault>
+    ensures { Gives result (pan_form (view object.now)) }
+{
+    of_command::<PanFields>(alloc, object)
+}
+
+#[tactic(auto, unfolding(crate::specs::Forms::pair_form))]
+fn pair(alloc: Global, object: &Value) -> Result<(ChildNo, (SchoolCode, ())), WireFault>
+    ensures { Gives result (pair_form (view object.now)) }
+{
+    of_command::<PairFields>(alloc, object)
+}
+
+#[tactic(auto, unfolding(crate::specs::Forms::notice_form))]
+fn notice(alloc: Global, object: &Value) -> Result<(ChildNo, (SchoolCode, (Day, ()))), WireFault>
+    ensures { Gives result (notice_form (view object.now)) }
+{
+    of_command::<NoticeFields>(alloc, object)
+}
+
+#[tactic(auto, unfolding(crate::specs::Forms::draw_form))]
+fn draw(alloc: Global, object: &Value) -> Result<(u32, (Day, (Seq<u32>, ()))), WireFault>
+    ensures { Gives result (draw_form (view object.now)) }
+{
+    of_command::<DrawFields>(alloc, object)
+}
+
+#[tactic(auto, unfolding(crate::specs::Forms::fill_form))]
+fn fill(
+    alloc: Global,
+    object: &Value,
+) -> Result<(u32, (SchoolCode, (Day, (Seq<u32>, ())))), WireFault>
+    ensures { Gives result (fill_form (view object.now)) }
+{
+    of_command::<FillFields>(alloc, object)
 }
 
 /// The name of a command.
@@ -194,33 +127,41 @@ fn command(alloc: Global, name: Name, object: &Value) -> Result<Command, WireFau
     match name {
         Name::AddSchool => Ok(Command::AddSchool(school(alloc, object)?)),
         Name::RaisePan => {
-            pan(alloc, object).map(|(school, pan)| Command::RaisePan { school, pan })
+            pan(alloc, object).map(|(school, (pan, ()))| Command::RaisePan { school, pan })
         }
         Name::AddChild => Ok(Command::AddChild(child(alloc, object)?)),
         Name::Amend => Ok(Command::Amend(child(alloc, object)?)),
         Name::NamePlan => {
-            pair(alloc, object).map(|(child, school)| Command::NamePlan { child, school })
+            pair(alloc, object).map(|(child, (school, ()))| Command::NamePlan { child, school })
         }
         Name::Apply => Ok(Command::Apply(application(alloc, object)?)),
         Name::Round => {
-            draw(alloc, object).map(|(draw, day, lots)| Command::Round { draw, day, lots })
+            draw(alloc, object).map(|(draw, (day, (lots, ())))| Command::Round { draw, day, lots })
         }
         Name::Accept => {
-            pair(alloc, object).map(|(child, school)| Command::Accept { child, school })
+            pair(alloc, object).map(|(child, (school, ()))| Command::Accept { child, school })
         }
         Name::Decline => {
-            pair(alloc, object).map(|(child, school)| Command::Decline { child, school })
+            pair(alloc, object).map(|(child, (school, ()))| Command::Decline { child, school })
         }
         Name::Remind => {
-            notice(alloc, object).map(|(child, school, day)| Command::Remind { child, school, day })
+            notice(alloc, object).map(|(child, (school, (day, ())))| Command::Remind {
+                child,
+                school,
+                day,
+            })
         }
         Name::Lapse => {
-            notice(alloc, object).map(|(child, school, day)| Command::Lapse { child, school, day })
+            notice(alloc, object).map(|(child, (school, (day, ())))| Command::Lapse {
+                child,
+                school,
+                day,
+            })
         }
         Name::LeaveList => {
-            pair(alloc, object).map(|(child, school)| Command::LeaveList { child, school })
+            pair(alloc, object).map(|(child, (school, ()))| Command::LeaveList { child, school })
         }
-        Name::Fill => fill(alloc, object).map(|(draw, school, day, lots)| Command::Fill {
+        Name::Fill => fill(alloc, object).map(|(draw, (school, (day, (lots, ()))))| Command::Fill {
             draw,
             school,
             day,
@@ -236,7 +177,7 @@ fn command_in(alloc: Global, value: &Value) -> Result<Command, WireFault>
     if !value.is_object() {
         return Err(WireFault::WrongKind);
     }
-    let text: Text = field(alloc, value, "cmd")?;
+    let text = command_name(alloc, value)?;
     let name = read_name(text.as_str()).ok_or(WireFault::UnknownCommand)?;
     command(alloc, name, value)
 }

@@ -4,9 +4,9 @@ ghost use Rattle.adm_wire.specs.WhatIfs.{what_if_form, what_if_in, what_if_of};
 ghost use Rattle.adm_wire.specs.Reading.{Gives};
 
 use crate::WireFault;
-use crate::field::field;
-use crate::keys::only;
+use crate::fields::alone;
 use crate::read::json;
+use adm_fields::WhatIfFields;
 use adm_types::{ChildNo, SchoolCode, Seq};
 use serde_json::Value;
 use std::alloc::Global;
@@ -24,10 +24,7 @@ pub struct WhatIf {
 fn question(alloc: Global, object: &Value) -> Result<WhatIf, WireFault>
     ensures { Gives result (what_if_form (view object.now)) }
 {
-    let child = field(alloc, object, "child")?;
-    let lots = field(alloc, object, "lots")?;
-    let preferences = field(alloc, object, "preferences")?;
-    only(object, &["child", "lots", "preferences"])?;
+    let (child, (lots, (preferences, ()))) = alone::<WhatIfFields>(alloc, object)?;
     Ok(WhatIf {
         child,
         lots,

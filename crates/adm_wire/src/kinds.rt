@@ -1,13 +1,13 @@
-// One field of a command's object, read by its kind.
+// The kinds of a field's value.
 ghost use Rattle.std.specs.Prelude.{◌≡◌, Option};
 ghost use Rattle.serde_json.specs.Data.{Data};
 ghost use Rattle.serde_json.specs.View.{view, items_view};
 ghost use Rattle.adm_wire.specs.Kinds as kinds;
-ghost use Rattle.adm_wire.specs.Reading.{Gives, some_or, field_at, field_or};
+ghost use Rattle.adm_wire.specs.Reading.{Gives, some_or};
 ghost use Rattle.adm_wire.specs.declared.fault.WireFault.TheVariants.{WrongKind};
 
 use crate::WireFault;
-use adm_types::{ChildNo, Criterion, Day, Flag, SchoolCode, Seq, Text};
+use adm_types::{ChildNo, Criterion, Day, Flag, SchoolCode, Seq, Text, flag_bits};
 use serde_json::Value;
 use std::alloc::Global;
 
@@ -61,6 +61,16 @@ impl Kind for SchoolCode {
     fn read(_alloc: Global, value: &Value) -> Result<SchoolCode, WireFault> {
         let text = value.as_str().ok_or(WireFault::WrongKind)?;
         SchoolCode::new(text).ok_or(WireFault::WrongKind)
+    }
+}
+
+/// Flags, as the bits of a number.
+impl Kind for u16 {
+    ghost kind = { kinds.some_flags };
+
+    fn read(alloc: Global, value: &Value) -> Result<u16, WireFault> {
+        let flags = Seq::<Flag>::read(alloc, value)?;
+        Ok(flag_bits(flags.as_slice()))
     }
 }
 
@@ -118,27 +128,4 @@ fn read_each<T: Kind>(alloc: Global, items: &[Value]) -> Result<Seq<T>, WireFaul
         list.push(T::read(alloc, item)?)?;
     }
     Ok(Seq::from_vec(list))
-}
-
-/// The value of a field of an object.
-pub(crate) fn field<T: Kind>(alloc: Global, object: &Value, key: &str) -> Result<T, WireFault>
-    ensures { Gives result (field_at T.kind key.now (view object.now)) }
-{
-    let value = object.get(key).ok_or(WireFault::MissingField)?;
-    T::read(alloc, value)
-}
-
-/// The value of a field of an object, or the other value where the object has no such field.
-pub(crate) fn field_or<T: Kind>(
-    alloc: Global,
-    object: &Value,
-    key: &str,
-    other: T,
-) -> Result<T, WireFault>
-    ensures { Gives result (field_or other T.kind key.now (view object.now)) }
-{
-    match object.get(key) {
-        Some(value) => T::read(alloc, value),
-        None => Ok(other),
-    }
 }

@@ -2,7 +2,7 @@ use Rattle.std.proofs.Common.{◌≡◌, drop}
 use Rattle.serde_json.specs.View.{items_view}
 use Rattle.adm_lists.proofs.Options.{with_front}
 use Rattle.adm_wire.specs.Kinds.{each}
-use Rattle.adm_wire.proofs.field.read_each.Given as goal
+use Rattle.adm_wire.proofs.kinds.read_each.Given as goal
 
 abbrev pub invariant-loop-item : goal.invariant-loop-item
 invariant-loop-item g l =
