@@ -1,9 +1,9 @@
 -- The kinds of a field: what its text says, or the fault of the kind. No text is a field that is none, or no UTF-8.
-use Rattle.std.specs.Prelude.{ℕ, List, Bool, true, false, codes, Option, Some, None, option_and_then, Result, if◌then◌else◌}
+use Rattle.std.specs.Prelude.{ℕ, List, Bool, true, false, codes, Option, Some, None, option_and_then, option_map, Result, if◌then◌else◌}
 use Rattle.std.specs.Str.{bytes_eq}
 use Rattle.adm_types.specs.Code.{code_or_none_of}
 use Rattle.adm_types.specs.Fields.{plain_of, child_named}
-use Rattle.adm_types.specs.Flags.{flag_of}
+use Rattle.adm_types.specs.Flags.{flag_of, bits_of}
 use Rattle.adm_types.specs.DayText.{day_named}
 use Rattle.adm_types.specs.Joined.{items_of, codes_of}
 use Rattle.adm_csv.specs.declared.fault.Fault.{Fault}
@@ -41,6 +41,10 @@ flags_of = items_of flag_named
 
 abbrev pub some_flags : Option Text → Result (List ℕ) Fault
 some_flags text = some_or BadNumber (option_and_then flags_of text)
+
+-- the same as the bits of a number
+abbrev pub flag_bits : Option Text → Result ℕ Fault
+flag_bits text = some_or BadNumber (option_map bits_of (option_and_then flags_of text))
 
 -- codes of schools, with `;` between each two
 abbrev pub some_codes : Option Text → Result (List Text) Fault

@@ -1,78 +1,32 @@
 -- The rows of an import, over the records of its file.
-use Rattle.std.specs.Prelude.{◌≡◌, ℕ, suc, ◌+◌, ◌<◌, ◌≤◌, ◌==◌, ◌&&◌, ◌||◌, List, [], ◌∷◌, length, take, Bool, true, false, codes, nat_lt, Option, Some, None, option_and_then, Result, Ok, Err, if◌then◌else◌}
-use Rattle.std.specs.Option.{option_map_or}
+use Rattle.std.specs.Prelude.{◌≡◌, ℕ, suc, ◌+◌, ◌<◌, ◌≤◌, List, [], ◌∷◌, length, take, Bool, true, false, nat_lt, Result, Ok, Err, if◌then◌else◌}
 use Rattle.std.specs.Result.{IsOk}
-use Rattle.std.specs.Str.{bytes_eq, is_utf8}
 use Rattle.csv.specs.Reading.{records, default_config, strip_bom}
-use Rattle.csv.specs.Records.{field_at}
-use Rattle.adm_types.specs.Children.{with_present}
-use Rattle.adm_types.specs.Flags.{bits_of}
-use Rattle.adm_types.specs.declared.rows.Child.{Child}
+use Rattle.adm_fields.specs.Lists.{import_fields}
+use Rattle.adm_fields.specs.Records.{import_of}
 use Rattle.adm_types.specs.declared.rows.ImportRow.{ImportRow}
 use Rattle.adm_csv.specs.declared.fault.Fault.{Fault}
-use Rattle.adm_csv.specs.declared.fault.Fault.TheVariants.{Header, FieldCount, TooManyRows, Read, Memory}
+use Rattle.adm_csv.specs.declared.fault.Fault.TheVariants.{Header, TooManyRows, Read, Memory}
 use Rattle.adm_csv.specs.declared.fault.RowFault.{RowFault}
 use Rattle.adm_csv.specs.Reading.{◌>>=◌}
-use Rattle.adm_csv.specs.Kinds.{Text, a_child, a_text, a_number, a_truth, some_flags, some_codes, a_code_or_none, a_day}
-
--- the fields of a record, as bytes
-abbrev pub Record : Type 0
-Record = List Text
+use Rattle.adm_csv.specs.Kinds.{Text}
+use Rattle.adm_csv.specs.Cells.{csv, header, row_of}
+pub use Rattle.adm_csv.specs.Cells.{Record}
 
 -- the records of a file: fields between commas, double quotes around them or none, any number in a record;
 -- a byte order mark at the start and empty lines are no part of any
 abbrev pub records_of : Text → List Record
 records_of text = records default_config (strip_bom text)
 
--- ---- the fields of a row, from left to right
-
--- the field at a place, where it is UTF-8
-abbrev pub text_at : Record → ℕ → Option Text
-text_at fields i = option_and_then (λ b. if is_utf8 b then Some b else None) (field_at fields i)
-
--- a child without a present school
-unfoldable pub child_in : Record → Result Child Fault
-child_in fields = do
-  c ← a_child (text_at fields 0)
-  nm ← a_text (text_at fields 1)
-  e ← a_number (text_at fields 2)
-  nn ← a_number (text_at fields 3)
-  l ← a_truth (text_at fields 4)
-  fs ← some_flags (text_at fields 5)
-  ss ← some_codes (text_at fields 6)
-  Ok (record { no = c; name = nm; home = record { east = e; north = nn }; looked_after = l; flags = bits_of fs; siblings = ss; present = None })
-
--- the present school, where the rows have a field for it after the other nine; it is tested last
-abbrev pub present_in : ℕ → Record → Result (Option Text) Fault
-present_in width fields = if width == 10 then a_code_or_none (text_at fields 9) else Ok None
-
--- a row of as many fields as the header has
+-- a row of as many fields as the header has, or the first fault from left to right
 unfoldable pub row_in : ℕ → Record → Result ImportRow Fault
-row_in width fields = if length fields == width then (do
-  c ← child_in fields
-  t ← a_day (text_at fields 7)
-  ps ← some_codes (text_at fields 8)
-  s ← present_in width fields
-  Ok (record { child = with_present c s; day = t; preferences = ps })) else Err FieldCount
+row_in width fields = row_of (import_fields csv) width fields >>= λ v. Ok (import_of v)
+
+-- the names of the fields; the last may be left out where it may be so in a row
+unfoldable pub is_header : Record → Bool
+is_header fields = (import_fields header).1 0 fields
 
 -- ---- the records: a header, and a row each
-
-abbrev pub is_field : Record → ℕ → Text → Bool
-is_field fields i text = option_map_or (λ b. bytes_eq b text) (field_at fields i) false
-
--- the first four fields of the header, and the next five
-abbrev pub names_home : Record → Bool
-names_home fields = is_field fields 0 (codes "child") && (is_field fields 1 (codes "name") && (is_field fields 2 (codes "east") && is_field fields 3 (codes "north")))
-
-abbrev pub names_wishes : Record → Bool
-names_wishes fields = is_field fields 4 (codes "looked_after") && (is_field fields 5 (codes "flags") && (is_field fields 6 (codes "siblings") && (is_field fields 7 (codes "day") && is_field fields 8 (codes "preferences"))))
-
--- these nine fields, or these and the present school after them
-abbrev pub ends_well : Record → Bool
-ends_well fields = (length fields == 9) || ((length fields == 10) && is_field fields 9 (codes "present"))
-
-abbrev pub is_header : Record → Bool
-is_header fields = names_home fields && (names_wishes fields && ends_well fields)
 
 -- how many rows a file has at the most
 abbrev pub most_rows : ℕ

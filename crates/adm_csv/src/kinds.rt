@@ -8,7 +8,7 @@ ghost use Rattle.adm_csv.specs.declared.fault.Fault.{Fault};
 ghost use Rattle.adm_csv.specs.declared.fault.Fault.TheVariants.{BadNumber};
 
 use crate::Fault;
-use adm_types::{ChildNo, Day, Flag, SchoolCode, Seq, Text, codes, plain};
+use adm_types::{ChildNo, Day, Flag, SchoolCode, Seq, Text, codes, flag_bits, plain};
 use std::alloc::{AllocError, Global};
 
 /// A kind of field. No text is a field that is none, or no UTF-8.
@@ -80,12 +80,14 @@ impl Kind for Option<SchoolCode> {
     }
 }
 
-impl Kind for Seq<Flag> {
-    ghost says = { kinds.some_flags };
+/// Flags, as the bits of a number.
+impl Kind for u16 {
+    ghost says = { kinds.flag_bits };
 
-    fn read(alloc: Global, text: Option<&str>) -> Result<Seq<Flag>, Fault> {
+    fn read(alloc: Global, text: Option<&str>) -> Result<u16, Fault> {
         let text = text.ok_or(Fault::BadNumber)?;
-        flags(alloc, text)
+        let flags = flags(alloc, text)?;
+        Ok(flag_bits(flags.as_slice()))
     }
 }
 

@@ -2,9 +2,9 @@
 //! The rows of an import, read from a file of comma-separated values.
 #![tactic(auto)]
 
+mod cell;
+mod cells;
 mod fault;
-mod field;
-mod header;
 mod input;
 mod kinds;
 mod row;

@@ -1,46 +1,22 @@
-// One row: its fields, from left to right.
+// The header of a file, and its rows: their fields, from left to right.
+ghost use Rattle.std.specs.Prelude.{◌≡◌};
 ghost use Rattle.csv.specs.Records.{fields_of};
-ghost use Rattle.adm_csv.specs.Rows.{child_in, present_in, row_in};
+ghost use Rattle.adm_csv.specs.Rows.{row_in, is_header};
 ghost use Rattle.adm_csv.specs.Reading.{Gives};
 
 use crate::Fault;
-use crate::field::field;
-use adm_types::{Child, Flag, ImportRow, Point, SchoolCode, Seq, flag_bits};
+use crate::cells::{CsvFields, row};
+use adm_fields::{ImportFields, import_of};
+use adm_types::ImportRow;
 use csv::ByteRecord;
 use std::alloc::Global;
 
-/// The child of a record, without a present school.
-#[tactic(auto, unfolding(crate::specs::Rows::child_in))]
-fn child_in(alloc: Global, fields: &ByteRecord) -> Result<Child, Fault>
-    ensures { Gives result (child_in (fields_of fields.now)) }
+/// Whether a record is a header.
+#[tactic(auto, unfolding(crate::specs::Rows::is_header))]
+pub(crate) fn is_header(fields: &ByteRecord) -> bool
+    ensures { result ≡ is_header (fields_of fields.now) }
 {
-    let no = field(alloc, fields, 0)?;
-    let name = field(alloc, fields, 1)?;
-    let east = field(alloc, fields, 2)?;
-    let north = field(alloc, fields, 3)?;
-    let looked_after = field(alloc, fields, 4)?;
-    let flags: Seq<Flag> = field(alloc, fields, 5)?;
-    let siblings = field(alloc, fields, 6)?;
-    Ok(Child {
-        no,
-        name,
-        home: Point { east, north },
-        looked_after,
-        flags: flag_bits(flags.as_slice()),
-        siblings,
-        present: None,
-    })
-}
-
-/// The present school of a record under a header of so many fields.
-fn present_in(alloc: Global, width: usize, fields: &ByteRecord) -> Result<Option<SchoolCode>, Fault>
-    ensures { Gives result (present_in width (fields_of fields.now)) }
-{
-    if width == 10 {
-        field(alloc, fields, 9)
-    } else {
-        Ok(None)
-    }
+    ImportFields::are_named(0, fields)
 }
 
 /// The row that a record is, under a header of so many fields.
@@ -48,16 +24,6 @@ fn present_in(alloc: Global, width: usize, fields: &ByteRecord) -> Result<Option
 pub(crate) fn row_in(alloc: Global, width: usize, fields: &ByteRecord) -> Result<ImportRow, Fault>
     ensures { Gives result (row_in width (fields_of fields.now)) }
 {
-    if fields.len() != width {
-        return Err(Fault::FieldCount);
-    }
-    let mut child = child_in(alloc, fields)?;
-    let day = field(alloc, fields, 7)?;
-    let preferences = field(alloc, fields, 8)?;
-    child.present = present_in(alloc, width, fields)?;
-    Ok(ImportRow {
-        child,
-        day,
-        preferences,
-    })
+    let values = row::<ImportFields>(alloc, width, fields)?;
+    Ok(import_of(values))
 }

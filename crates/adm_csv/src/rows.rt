@@ -6,9 +6,8 @@ ghost use Rattle.adm_csv.specs.Ended.{ReadsNeeded, RunsOutAt, StopsAfter};
 ghost use Rattle.adm_csv.specs.Reading.{Gives};
 ghost use Rattle.adm_csv.specs.Rows.{FailsAt, IsReached, IsReachedUnder, Record, ReadsRows, ReadsFrom, is_header, is_read_fault, most_rows, records_of, import_row_at};
 
-use crate::header::is_header;
 use crate::input::read_text;
-use crate::row::row_in;
+use crate::row::{is_header, row_in};
 use crate::{Fault, RowFault};
 use adm_types::ImportRow;
 use adm_wire::Input;

@@ -11,8 +11,13 @@ use adm_types::{
 };
 
 /// The fields of a child but its present school, and then others.
-pub type HomeFields<Others> =
-    (ChildField, (Name, (East, (North, (LookedAfter, (Flags, (Siblings, Others)))))));
+pub type HomeFields<Others> = (
+    ChildField,
+    (
+        Name,
+        (East, (North, (LookedAfter, (Flags, (Siblings, Others))))),
+    ),
+);
 
 /// The day and the preferences of an application, and then others.
 pub type WishFields<Others> = (Day, (Preferences, Others));
@@ -39,11 +44,16 @@ pub type FillFields = (Draw, (SchoolField, (Day, (Lots, ()))));
 pub type WhatIfFields = (ChildField, (Lots, (Preferences, ())));
 
 /// The values of the fields of a child but its present school, and then others.
-pub type ChildValues<Others> =
-    (ChildNo, (Text, (u32, (u32, (bool, (u16, (Seq<SchoolCode>, Others)))))));
+pub type ChildValues<Others> = (
+    ChildNo,
+    (Text, (u32, (u32, (bool, (u16, (Seq<SchoolCode>, Others)))))),
+);
 
 pub fn school_of(
-    values: (SchoolCode, (Text, (u32, (u32, (u32, (Seq<Criterion>, ())))))),
+    values: (
+        SchoolCode,
+        (Text, (u32, (u32, (u32, (Seq<Criterion>, ()))))),
+    ),
 ) -> School
     ensures { result ≡ school_of values }
 {
@@ -72,9 +82,7 @@ pub fn child_of(values: ChildValues<(Option<SchoolCode>, ())>) -> Child
     }
 }
 
-pub fn application_of(
-    values: (ChildNo, (adm_types::Day, (Seq<SchoolCode>, ()))),
-) -> Application
+pub fn application_of(values: (ChildNo, (adm_types::Day, (Seq<SchoolCode>, ())))) -> Application
     ensures { result ≡ application_of values }
 {
     let (child, (day, (list, ()))) = values;
@@ -89,7 +97,13 @@ pub fn import_of(
     let (no, (name, (east, (north, (looked_after, (flags, (siblings, others))))))) = values;
     let (day, (preferences, last)) = others;
     ImportRow {
-        child: child_of((no, (name, (east, (north, (looked_after, (flags, (siblings, last)))))))),
+        child: child_of((
+            no,
+            (
+                name,
+                (east, (north, (looked_after, (flags, (siblings, last))))),
+            ),
+        )),
         day,
         preferences,
     }

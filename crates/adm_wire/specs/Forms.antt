@@ -4,7 +4,7 @@ use Rattle.serde_json.specs.Data.{Data}
 use Rattle.adm_types.specs.declared.rows.Application.{Application}
 use Rattle.adm_types.specs.declared.rows.Child.{Child}
 use Rattle.adm_types.specs.declared.rows.School.{School}
-use Rattle.adm_fields.specs.Lists.{Way, school_fields, pan_fields, child_fields, pair_fields, notice_fields, draw_fields, fill_fields, application_fields}
+use Rattle.adm_fields.specs.Lists.{Way, More, school_fields, pan_fields, child_fields, pair_fields, notice_fields, draw_fields, fill_fields, application_fields}
 use Rattle.adm_fields.specs.Records.{school_of, child_of, application_of}
 use Rattle.adm_wire.specs.declared.fault.WireFault.{WireFault}
 use Rattle.adm_wire.specs.Kinds.{a_text, a_number, a_truth, a_child, a_code, a_code_or_none, a_day, a_criterion, a_list, some_flags, only}
@@ -16,7 +16,6 @@ json = record {
   field = λ name otherwise kind others. before (field_in otherwise kind name) others;
   no_more = λ d. Ok tt;
   a_child = a_child;
-  a_code = a_code;
   a_code_or_none = a_code_or_none;
   a_text = a_text;
   a_number = a_number;
@@ -24,9 +23,10 @@ json = record {
   a_day = a_day;
   some_flags = some_flags;
   some_codes = a_list a_code;
-  some_criteria = a_list a_criterion;
-  some_numbers = a_list a_number;
 }
+
+abbrev pub json_more : More (λ A. Data → Option A)
+json_more = record { a_code = a_code; some_criteria = a_list a_criterion; some_numbers = a_list a_number }
 
 -- the names of the fields
 abbrev pub names : Way (λ _. Unit {0}) (λ _. List (List ℕ))
@@ -34,7 +34,6 @@ names = record {
   field = λ name otherwise kind others. name ∷ others;
   no_more = [];
   a_child = tt;
-  a_code = tt;
   a_code_or_none = tt;
   a_text = tt;
   a_number = tt;
@@ -42,9 +41,10 @@ names = record {
   a_day = tt;
   some_flags = tt;
   some_codes = tt;
-  some_criteria = tt;
-  some_numbers = tt;
 }
+
+abbrev pub names_more : More (λ _. Unit {0})
+names_more = record { a_code = tt; some_criteria = tt; some_numbers = tt }
 
 -- the values of fields, unless there is a key beside these
 abbrev pub alone : {A : Type 0} → List (List ℕ) → (Data → Result A WireFault) → Data → Result A WireFault
@@ -55,7 +55,7 @@ abbrev pub of_command : {A : Type 0} → List (List ℕ) → (Data → Result A 
 of_command known fields d = alone (codes "cmd" ∷ known) fields d
 
 unfoldable pub school_form : Data → Result School WireFault
-school_form d = of_command (school_fields names) (school_fields json) d >>= λ v. Ok (school_of v)
+school_form d = of_command (school_fields names names_more) (school_fields json json_more) d >>= λ v. Ok (school_of v)
 
 unfoldable pub child_form : Data → Result Child WireFault
 child_form d = of_command (child_fields names) (child_fields json) d >>= λ v. Ok (child_of v)
@@ -64,16 +64,16 @@ unfoldable pub application_form : Data → Result Application WireFault
 application_form d = of_command (application_fields names) (application_fields json) d >>= λ v. Ok (application_of v)
 
 unfoldable pub pan_form : Data → Result (List ℕ × (ℕ × Unit {0})) WireFault
-pan_form d = of_command (pan_fields names) (pan_fields json) d
+pan_form d = of_command (pan_fields names names_more) (pan_fields json json_more) d
 
 unfoldable pub pair_form : Data → Result (ℕ × (List ℕ × Unit {0})) WireFault
-pair_form d = of_command (pair_fields names) (pair_fields json) d
+pair_form d = of_command (pair_fields names names_more) (pair_fields json json_more) d
 
 unfoldable pub notice_form : Data → Result (ℕ × (List ℕ × (ℕ × Unit {0}))) WireFault
-notice_form d = of_command (notice_fields names) (notice_fields json) d
+notice_form d = of_command (notice_fields names names_more) (notice_fields json json_more) d
 
 unfoldable pub draw_form : Data → Result (ℕ × (ℕ × (List ℕ × Unit {0}))) WireFault
-draw_form d = of_command (draw_fields names) (draw_fields json) d
+draw_form d = of_command (draw_fields names names_more) (draw_fields json json_more) d
 
 unfoldable pub fill_form : Data → Result (ℕ × (List ℕ × (ℕ × (List ℕ × Unit {0})))) WireFault
-fill_form d = of_command (fill_fields names) (fill_fields json) d
+fill_form d = of_command (fill_fields names names_more) (fill_fields json json_more) d
