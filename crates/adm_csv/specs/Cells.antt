@@ -3,10 +3,10 @@ use Rattle.std.specs.Prelude.{ℕ, ◌+◌, ◌==◌, ◌&&◌, List, length, Bo
 use Rattle.std.specs.Option.{option_map_or}
 use Rattle.std.specs.Str.{bytes_eq, is_utf8}
 use Rattle.csv.specs.Records.{field_at}
-use Rattle.adm_fields.specs.Lists.{Way}
+use Rattle.adm_fields.specs.Lists.{Format}
 use Rattle.adm_csv.specs.declared.fault.Fault.{Fault}
 use Rattle.adm_csv.specs.declared.fault.Fault.TheVariants.{FieldCount}
-use Rattle.adm_csv.specs.Kinds.{Text, a_child, a_text, a_number, a_truth, a_day, flag_bits, some_codes, a_code_or_none}
+use Rattle.adm_csv.specs.Kinds.{Text, a_child, a_text, a_number, a_truth, a_day, some_flags, some_codes, a_code_or_none}
 use Rattle.adm_csv.specs.Reading.{◌>>=◌}
 
 -- the fields of a record, as bytes
@@ -35,7 +35,7 @@ cell_in (Some x) says width place fields = if nat_lt place width then says (text
 abbrev pub before : {A B : Type 0} → Cells A → Cells B → Cells (A × B)
 before first others width place fields = first width place fields >>= λ x. others width (place + 1) fields >>= λ xs. Ok (x, xs)
 
-abbrev pub csv : Way (λ A. Option Text → Result A Fault) Cells
+abbrev pub csv : Format (λ A. Option Text → Result A Fault) Cells
 csv = record {
   field = λ name otherwise kind others. before (cell_in otherwise kind) others;
   no_more = λ width place fields. Ok tt;
@@ -45,7 +45,7 @@ csv = record {
   a_number = a_number;
   a_truth = a_truth;
   a_day = a_day;
-  some_flags = flag_bits;
+  some_flags = some_flags;
   some_codes = some_codes;
 }
 
@@ -67,7 +67,7 @@ may_be_left_out (Some x) = true
 abbrev pub names_then : Bool → Text → (ℕ → Record → Bool) → ℕ → Record → Bool
 names_then ends name others place fields = if length fields == place then ends else (is_field fields place name && others (place + 1) fields)
 
-abbrev pub header : Way (λ _. Unit {0}) Names
+abbrev pub header : Format (λ _. Unit {0}) Names
 header = record {
   field = λ name otherwise kind others. (may_be_left_out otherwise && others.0, names_then (may_be_left_out otherwise && others.0) name others.1);
   no_more = (true, λ place fields. length fields == place);

@@ -39,12 +39,9 @@ flag_named text = option_and_then flag_of (plain_of text)
 abbrev pub flags_of : Text → Option (List ℕ)
 flags_of = items_of flag_named
 
-abbrev pub some_flags : Option Text → Result (List ℕ) Fault
-some_flags text = some_or BadNumber (option_and_then flags_of text)
-
--- the same as the bits of a number
-abbrev pub flag_bits : Option Text → Result ℕ Fault
-flag_bits text = some_or BadNumber (option_map bits_of (option_and_then flags_of text))
+-- flags, as the bits of a number
+abbrev pub some_flags : Option Text → Result ℕ Fault
+some_flags text = some_or BadNumber (option_map bits_of (option_and_then flags_of text))
 
 -- codes of schools, with `;` between each two
 abbrev pub some_codes : Option Text → Result (List Text) Fault

@@ -82,7 +82,7 @@ impl Kind for Option<SchoolCode> {
 
 /// Flags, as the bits of a number.
 impl Kind for u16 {
-    ghost says = { kinds.flag_bits };
+    ghost says = { kinds.some_flags };
 
     fn read(alloc: Global, text: Option<&str>) -> Result<u16, Fault> {
         let text = text.ok_or(Fault::BadNumber)?;

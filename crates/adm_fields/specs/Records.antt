@@ -1,12 +1,11 @@
 -- Records of the values of their fields.
-use Rattle.std.specs.Prelude.{ℕ, Bool, List, Option}
+use Rattle.std.specs.Prelude.{◌≡◌, ℕ, Bool, List, Option, None}
+use Rattle.std.specs.Borrow.{Bor}
 use Rattle.adm_types.specs.declared.rows.Application.{Application}
 use Rattle.adm_types.specs.declared.rows.Child.{Child}
-use Rattle.adm_types.specs.declared.rows.Criterion.{Criterion}
 use Rattle.adm_types.specs.declared.rows.ImportRow.{ImportRow}
-use Rattle.adm_types.specs.declared.rows.School.{School}
 
--- the values of a child but its present school, and then others
+-- the values of the fields of a child that must be there, and then others
 abbrev pub ChildValues : Type 0 → Type 0
 ChildValues Others = ℕ × (List ℕ × (ℕ × (ℕ × (Bool × (ℕ × (List (List ℕ) × Others))))))
 
@@ -14,35 +13,70 @@ ChildValues Others = ℕ × (List ℕ × (ℕ × (ℕ × (Bool × (ℕ × (List 
 abbrev pub others : {Others : Type 0} → ChildValues Others → Others
 others v = v.1.1.1.1.1.1.1
 
-abbrev pub SchoolValues : Type 0
-SchoolValues = List ℕ × (List ℕ × (ℕ × (ℕ × (ℕ × (List Criterion × Unit {0})))))
+-- the values of the fields of a child that may be left out
+abbrev pub OptionalValues : Type 0
+OptionalValues = Option (List ℕ) × Unit {0}
 
 abbrev pub ApplicationValues : Type 0
 ApplicationValues = ℕ × (ℕ × (List (List ℕ) × Unit {0}))
 
+abbrev pub ApplicationWishes : Type 0
+ApplicationWishes = ℕ × (List (List ℕ) × Unit {0})
+
 abbrev pub ImportValues : Type 0
-ImportValues = ChildValues (ℕ × (List (List ℕ) × (Option (List ℕ) × Unit {0})))
+ImportValues = ChildValues (ℕ × (List (List ℕ) × OptionalValues))
 
-abbrev pub school_of : SchoolValues → School
-school_of v = record { code = v.0; name = v.1.0; pan = v.1.1.0; at = record { east = v.1.1.1.0; north = v.1.1.1.1.0 }; criteria = v.1.1.1.1.1.0 }
-
--- a child with this present school
-abbrev pub child_with : {Others : Type 0} → ChildValues Others → Option (List ℕ) → Child
-child_with v present = record {
+-- the child with these values, and with these of fields that may be left out
+abbrev pub child_with : {Others : Type 0} → ChildValues Others → OptionalValues → Child
+child_with v optional = record {
   no = v.0;
   name = v.1.0;
   home = record { east = v.1.1.0; north = v.1.1.1.0 };
   looked_after = v.1.1.1.1.0;
   flags = v.1.1.1.1.1.0;
   siblings = v.1.1.1.1.1.1.0;
-  present = present;
+  present = optional.0;
 }
 
-abbrev pub child_of : ChildValues (Option (List ℕ) × Unit {0}) → Child
-child_of v = child_with v (others v).0
+abbrev pub child_of : ChildValues OptionalValues → Child
+child_of v = child_with v (others v)
 
 abbrev pub application_of : ApplicationValues → Application
 application_of v = record { child = v.0; day = v.1.0; list = v.1.1.0 }
 
 abbrev pub import_of : ImportValues → ImportRow
-import_of v = record { child = child_with v (others v).1.1.0; day = (others v).0; preferences = (others v).1.0 }
+import_of v = record { child = child_with v (others v).1.1; day = (others v).0; preferences = (others v).1.0 }
+
+-- the values of fields that are left out
+abbrev pub left_out : OptionalValues
+left_out = (None, tt)
+
+-- the same without the fields that may be left out, as the tables have them
+abbrev pub home_of : ChildValues (Unit {0}) → Child
+home_of v = child_with v left_out
+
+abbrev pub bare_import_of : ChildValues ApplicationWishes → ImportRow
+bare_import_of v = record { child = child_with v left_out; day = (others v).0; preferences = (others v).1.0 }
+
+-- ---- and back
+
+abbrev pub values_and : {Others : Type 0} → Child → Others → ChildValues Others
+values_and c others = (c.no, (c.name, (c.home.east, (c.home.north, (c.looked_after, (c.flags, (c.siblings, others)))))))
+
+abbrev pub child_values : Child → ChildValues OptionalValues
+child_values c = values_and c (c.present, tt)
+
+abbrev pub home_values : Child → ChildValues (Unit {0})
+home_values c = values_and c tt
+
+abbrev pub application_values : Application → ApplicationValues
+application_values a = (a.child, (a.day, (a.list, tt)))
+
+abbrev pub import_values : ImportRow → ChildValues ApplicationWishes
+import_values r = values_and r.child (r.day, (r.preferences, tt))
+
+-- the references are to the fields of the child
+abbrev pub refs_are : Child → Bor ℕ × (Bor (List ℕ) × (Bor ℕ × (Bor ℕ × (Bor Bool × (Bor ℕ × (Bor (List (List ℕ)) × (Bor (Option (List ℕ)) × Unit {0}))))))) → Type 0
+refs_are c r =
+    (c.no ≡ r.0.now) × (c.name ≡ r.1.0.now) × (c.home.east ≡ r.1.1.0.now) × (c.home.north ≡ r.1.1.1.0.now) × (c.looked_after ≡ r.1.1.1.1.0.now) × (c.flags ≡ r.1.1.1.1.1.0.now)
+    × (c.siblings ≡ r.1.1.1.1.1.1.0.now) × (c.present ≡ r.1.1.1.1.1.1.1.0.now)

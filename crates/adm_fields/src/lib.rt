@@ -1,13 +1,14 @@
-// The fields of each record, stated once: what reads and writes records in a form goes by these lists.
-//! The fields of records, and records as lists of them.
+// Records as lists of fields: JSON, files of comma-separated values and tables read and write them by these lists.
+//! The fields of children, applications and imported rows, each stated once.
 #![tactic(auto)]
 
-pub mod field;
+pub mod child;
+mod field;
 mod records;
 
 pub use field::{Field, Fields};
 pub use records::{
-    ApplicationFields, ChildFields, ChildValues, DrawFields, FillFields, HomeFields, ImportFields,
-    NoticeFields, PairFields, PanFields, SchoolFields, WhatIfFields, WishFields, application_of,
-    child_of, import_of, school_of,
+    ApplicationFields, ChildColumns, ChildFields, ChildRefs, ChildValues, HomeFields,
+    ImportColumns, ImportFields, OptionalFields, OptionalValues, WishFields, application_of,
+    bare_import_of, child_of, child_refs, home_of, import_of,
 };

@@ -1,16 +1,13 @@
-// Records and commands as lists of fields, and records of the values of their fields.
+// Records as lists of fields, and records of the values of their fields.
 ghost use Rattle.std.specs.Prelude.{◌≡◌};
-ghost use Rattle.adm_fields.specs.Records.{school_of, child_of, application_of, import_of};
+ghost use Rattle.adm_fields.specs.Records.{refs_are, home_of, child_of, application_of, import_of, bare_import_of};
 
-use crate::field::{
-    ChildField, Criteria, Day, Draw, East, Flags, LookedAfter, Lots, Name, North, Pan, Preferences,
-    Present, SchoolField, Siblings,
+use crate::child::{
+    ChildField, Day, East, Flags, LookedAfter, Name, North, Preferences, Present, Siblings,
 };
-use adm_types::{
-    Application, Child, ChildNo, Criterion, ImportRow, Point, School, SchoolCode, Seq, Text,
-};
+use adm_types::{Application, Child, ChildNo, ImportRow, Point, SchoolCode, Seq, Text};
 
-/// The fields of a child but its present school, and then others.
+/// The fields of a child that must be there, and then others.
 pub type HomeFields<Others> = (
     ChildField,
     (
@@ -19,55 +16,72 @@ pub type HomeFields<Others> = (
     ),
 );
 
+/// The fields of a child that may be left out. In a file they are the last.
+pub type OptionalFields = (Present, ());
+
 /// The day and the preferences of an application, and then others.
 pub type WishFields<Others> = (Day, (Preferences, Others));
 
-pub type SchoolFields = (SchoolField, (Name, (Pan, (East, (North, (Criteria, ()))))));
+/// The fields of a child in JSON.
+pub type ChildFields = HomeFields<OptionalFields>;
 
-pub type ChildFields = HomeFields<(Present, ())>;
-
+/// The fields of an application, in JSON and as columns of a table.
 pub type ApplicationFields = (ChildField, WishFields<()>);
 
-/// The fields of an imported row, as the columns of a file.
-pub type ImportFields = HomeFields<WishFields<(Present, ())>>;
+/// The fields of an imported row, as columns of a file.
+pub type ImportFields = HomeFields<WishFields<OptionalFields>>;
 
-pub type PanFields = (SchoolField, (Pan, ()));
+/// The fields of a child, as columns of a table. Present schools have a table of their own.
+pub type ChildColumns = HomeFields<()>;
 
-pub type PairFields = (ChildField, (SchoolField, ()));
+/// The fields of an imported row, as columns of a table.
+pub type ImportColumns = HomeFields<WishFields<()>>;
 
-pub type NoticeFields = (ChildField, (SchoolField, (Day, ())));
-
-pub type DrawFields = (Draw, (Day, (Lots, ())));
-
-pub type FillFields = (Draw, (SchoolField, (Day, (Lots, ()))));
-
-pub type WhatIfFields = (ChildField, (Lots, (Preferences, ())));
-
-/// The values of the fields of a child but its present school, and then others.
+/// The values of the fields of a child that must be there, and then others.
 pub type ChildValues<Others> = (
     ChildNo,
     (Text, (u32, (u32, (bool, (u16, (Seq<SchoolCode>, Others)))))),
 );
 
-pub fn school_of(
-    values: (
-        SchoolCode,
-        (Text, (u32, (u32, (u32, (Seq<Criterion>, ()))))),
+/// The values of the fields of a child that may be left out.
+pub type OptionalValues = (Option<SchoolCode>, ());
+
+/// References to the values of the fields of a child.
+pub type ChildRefs<'a> = (
+    &'a ChildNo,
+    (
+        &'a Text,
+        (
+            &'a u32,
+            (
+                &'a u32,
+                (
+                    &'a bool,
+                    (&'a u16, (&'a Seq<SchoolCode>, (&'a Option<SchoolCode>, ()))),
+                ),
+            ),
+        ),
     ),
-) -> School
-    ensures { result ≡ school_of values }
+);
+
+/// The values of the fields of a child, for what compares them without a copy.
+pub fn child_refs(child: &Child) -> ChildRefs<'_>
+    ensures { refs_are child.now result }
 {
-    let (code, (name, (pan, (east, (north, (criteria, ())))))) = values;
-    School {
-        code,
-        name,
-        pan,
-        at: Point { east, north },
-        criteria,
-    }
+    let home = (
+        &child.home.east,
+        (
+            &child.home.north,
+            (
+                &child.looked_after,
+                (&child.flags, (&child.siblings, (&child.present, ()))),
+            ),
+        ),
+    );
+    (&child.no, (&child.name, home))
 }
 
-pub fn child_of(values: ChildValues<(Option<SchoolCode>, ())>) -> Child
+pub fn child_of(values: ChildValues<OptionalValues>) -> Child
     ensures { result ≡ child_of values }
 {
     let (no, (name, (east, (north, (looked_after, (flags, (siblings, (present, ())))))))) = values;
@@ -82,6 +96,42 @@ pub fn child_of(values: ChildValues<(Option<SchoolCode>, ())>) -> Child
     }
 }
 
+/// A child without a present school, as its row in a table has it.
+pub fn home_of(values: ChildValues<()>) -> Child
+    ensures { result ≡ home_of values }
+{
+    let (no, (name, (east, (north, (looked_after, (flags, (siblings, ()))))))) = values;
+    child_of((
+        no,
+        (
+            name,
+            (
+                east,
+                (north, (looked_after, (flags, (siblings, (None, ()))))),
+            ),
+        ),
+    ))
+}
+
+/// An imported row without a present school, as its row in a table has it.
+pub fn bare_import_of(values: ChildValues<(adm_types::Day, (Seq<SchoolCode>, ()))>) -> ImportRow
+    ensures { result ≡ bare_import_of values }
+{
+    let (no, (name, (east, (north, (looked_after, (flags, (siblings, others))))))) = values;
+    let (day, (preferences, ())) = others;
+    ImportRow {
+        child: home_of((
+            no,
+            (
+                name,
+                (east, (north, (looked_after, (flags, (siblings, ()))))),
+            ),
+        )),
+        day,
+        preferences,
+    }
+}
+
 pub fn application_of(values: (ChildNo, (adm_types::Day, (Seq<SchoolCode>, ())))) -> Application
     ensures { result ≡ application_of values }
 {
@@ -90,7 +140,7 @@ pub fn application_of(values: (ChildNo, (adm_types::Day, (Seq<SchoolCode>, ())))
 }
 
 pub fn import_of(
-    values: ChildValues<(adm_types::Day, (Seq<SchoolCode>, (Option<SchoolCode>, ())))>,
+    values: ChildValues<(adm_types::Day, (Seq<SchoolCode>, OptionalValues))>,
 ) -> ImportRow
     ensures { result ≡ import_of values }
 {

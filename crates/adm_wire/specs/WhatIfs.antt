@@ -6,13 +6,13 @@ use Rattle.adm_wire.specs.Commands.{json_of}
 use Rattle.adm_wire.specs.declared.fault.WireFault.{WireFault}
 use Rattle.adm_wire.specs.declared.fault.WireFault.TheVariants.{NotJson, WrongKind}
 use Rattle.adm_wire.specs.declared.what_if.WhatIf.{WhatIf}
-use Rattle.adm_fields.specs.Lists.{what_if_fields}
-use Rattle.adm_wire.specs.Forms.{json, json_more, names, names_more, alone}
+use Rattle.adm_fields.specs.Lists.{child_and, preferences_and}
+use Rattle.adm_wire.specs.Forms.{json, no_fields, lots_and, alone}
 use Rattle.adm_wire.specs.Reading.{◌>>=◌, some_or}
 
 -- its fields, in the order in which they are tested, and no further key
 unfoldable pub what_if_form : Data → Result WhatIf WireFault
-what_if_form d = alone (what_if_fields names names_more) (what_if_fields json json_more) d >>= λ v. Ok (record { child = v.0; lots = v.1.0; preferences = v.1.1.0 })
+what_if_form d = alone (child_and json (lots_and (preferences_and json no_fields))) d >>= λ v. Ok (record { child = v.0; lots = v.1.0; preferences = v.1.1.0 })
 
 -- what JSON data ask
 unfoldable pub what_if_in : Data → Result WhatIf WireFault

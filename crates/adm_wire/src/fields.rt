@@ -1,40 +1,20 @@
 // The fields of an object, each read by its kind, and the keys of the object.
-ghost use Rattle.std.specs.Prelude.{◌≡◌, List, ℕ, [], ◌∷◌, Result, Ok, codes, None, string_bytes};
+ghost use Rattle.std.specs.Prelude.{◌≡◌, codes, string_bytes};
 ghost use Rattle.std.specs.List.{list_all};
 ghost use Rattle.std.specs.BTreeMap.{keys};
-ghost use Rattle.serde_json.specs.Data.{Data};
 ghost use Rattle.serde_json.specs.View.{view};
-ghost use Rattle.adm_wire.specs.declared.fault.WireFault.{WireFault as Fault};
 ghost use Rattle.adm_wire.specs.Kinds as kinds;
 ghost use Rattle.adm_wire.specs.Kinds.{only, is_one_of};
-ghost use Rattle.adm_wire.specs.Forms.{alone, of_command};
-ghost use Rattle.adm_wire.specs.Reading.{Gives, field_at, field_in, before};
+ghost use Rattle.adm_wire.specs.Forms.{ObjectFields, no_fields, field_and, alone, of_command};
+ghost use Rattle.adm_wire.specs.Reading.{Gives, field_at, field_in};
 
 use crate::WireFault;
+use crate::command_fields::Cmd;
 use crate::kinds::Kind;
 use adm_fields::{Field, Fields};
 use adm_types::Text;
 use serde_json::{Map, Value};
 use std::alloc::Global;
-
-/// The name of a command.
-struct Cmd;
-
-impl Field for Cmd {
-    type Value = Text;
-
-    ghost name = { codes "cmd" };
-
-    ghost otherwise = { None };
-
-    fn name() -> &'static str {
-        "cmd"
-    }
-
-    fn otherwise() -> Option<Text> {
-        None
-    }
-}
 
 /// The value of a field of an object.
 fn field<F: Field>(alloc: Global, object: &Value) -> Result<F::Value, WireFault>
@@ -48,25 +28,20 @@ where
     }
 }
 
-/// Fields of a JSON object.
+/// A list of fields of a JSON object.
 pub(crate) trait JsonFields: Fields {
-    // What JSON data say, in the order in which the fields are tested.
-    ghost form: { Data → Result Self.Values Fault };
-
-    ghost names: { List (List ℕ) };
+    ghost fields: { ObjectFields Self.Values };
 
     fn read(alloc: Global, object: &Value) -> Result<Self::Values, WireFault>
-        ensures { Gives result (form (view object.now)) };
+        ensures { Gives result (fields.form (view object.now)) };
 
     /// Whether one of the fields has this name.
     fn has(key: &str) -> bool
-        ensures { result ≡ is_one_of names key.now };
+        ensures { result ≡ is_one_of fields.names key.now };
 }
 
 impl JsonFields for () {
-    ghost form = { λ d. Ok tt };
-
-    ghost names = { [] };
+    ghost fields = { no_fields };
 
     fn read(_alloc: Global, _object: &Value) -> Result<(), WireFault> {
         Ok(())
@@ -81,9 +56,7 @@ impl<F: Field, Others: JsonFields> JsonFields for (F, Others)
 where
     F::Value: Kind,
 {
-    ghost form = { before (field_in F.otherwise F.Value.kind F.name) Others.form };
-
-    ghost names = { F.name ∷ Others.names };
+    ghost fields = { field_and F.name F.otherwise F.Value.kind Others.fields };
 
     fn read(alloc: Global, object: &Value) -> Result<(F::Value, Others::Values), WireFault> {
         let value = field::<F>(alloc, object)?;
@@ -97,14 +70,14 @@ where
 }
 
 fn are_known<L: JsonFields>(members: &Map<String, Value>) -> bool
-    ensures { result ≡ list_all (λ key. is_one_of L.names (string_bytes key)) (keys members.now) }
+    ensures { result ≡ list_all (λ key. is_one_of L.fields.names (string_bytes key)) (keys members.now) }
 {
     members.keys().all(|key| L::has(key.as_str()))
 }
 
-/// Refuses an object that has another key than these.
+/// Refuses an object that has a key beside these.
 fn only<L: JsonFields>(object: &Value) -> Result<(), WireFault>
-    ensures { Gives result (only L.names (view object.now) (tt {0})) }
+    ensures { Gives result (only L.fields.names (view object.now) (tt {0})) }
 {
     if let Some(members) = object.as_object() {
         if !are_known::<L>(members) {
@@ -116,7 +89,7 @@ fn only<L: JsonFields>(object: &Value) -> Result<(), WireFault>
 
 /// The values of these fields, of an object that has no other keys.
 pub(crate) fn alone<L: JsonFields>(alloc: Global, object: &Value) -> Result<L::Values, WireFault>
-    ensures { Gives result (alone L.names L.form (view object.now)) }
+    ensures { Gives result (alone L.fields (view object.now)) }
 {
     let values = L::read(alloc, object)?;
     only::<L>(object)?;
@@ -128,7 +101,7 @@ pub(crate) fn of_command<L: JsonFields>(
     alloc: Global,
     object: &Value,
 ) -> Result<L::Values, WireFault>
-    ensures { Gives result (of_command L.names L.form (view object.now)) }
+    ensures { Gives result (of_command L.fields (view object.now)) }
 {
     let values = L::read(alloc, object)?;
     only::<(Cmd, L)>(object)?;

@@ -2,6 +2,7 @@
 //! Commands and answers as JSON, and readers and writers that tell whether they failed.
 #![tactic(auto)]
 
+mod command_fields;
 mod fault;
 mod fields;
 mod kinds;

@@ -7,21 +7,43 @@ ghost use Rattle.adm_wire.specs.Reading.{Gives, GivesSeen, some_or};
 ghost use Rattle.adm_wire.specs.declared.fault.WireFault.TheVariants.{NotJson};
 
 use crate::WireFault;
+use crate::command_fields::{Criteria, Draw, Lots, Pan, SchoolField};
 use crate::fields::{command_name, of_command};
-use adm_fields::{
-    ApplicationFields, ChildFields, DrawFields, FillFields, NoticeFields, PairFields, PanFields,
-    SchoolFields, application_of, child_of, school_of,
-};
-use adm_types::{Application, Child, ChildNo, Command, Day, School, SchoolCode, Seq};
+use adm_fields::child::{ChildField, Day as DayField, East, Name as NameField, North};
+use adm_fields::{ApplicationFields, ChildFields, application_of, child_of};
+use adm_types::{Application, Child, ChildNo, Command, Day, Point, School, SchoolCode, Seq};
 use serde_json::Value;
 use std::alloc::Global;
+
+type SchoolFields = (
+    SchoolField,
+    (NameField, (Pan, (East, (North, (Criteria, ()))))),
+);
+
+type PanFields = (SchoolField, (Pan, ()));
+
+type PairFields = (ChildField, (SchoolField, ()));
+
+type NoticeFields = (ChildField, (SchoolField, (DayField, ())));
+
+type DrawFields = (Draw, (DayField, (Lots, ())));
+
+type FillFields = (Draw, (SchoolField, (DayField, (Lots, ()))));
 
 #[tactic(auto, unfolding(crate::specs::Forms::school_form))]
 fn school(alloc: Global, object: &Value) -> Result<School, WireFault>
     ensures { Gives result (school_form (view object.now)) }
 {
-    let values = of_command::<SchoolFields>(alloc, object)?;
-    Ok(school_of(values))
+    let (code, (name, (pan, (east, (north, (criteria, ())))))) = of_command::<SchoolFields>(
+        alloc, object,
+    )?;
+    Ok(School {
+        code,
+        name,
+        pan,
+        at: Point { east, north },
+        criteria,
+    })
 }
 
 #[tactic(auto, unfolding(crate::specs::Forms::child_form))]

@@ -4,9 +4,10 @@ ghost use Rattle.adm_wire.specs.WhatIfs.{what_if_form, what_if_in, what_if_of};
 ghost use Rattle.adm_wire.specs.Reading.{Gives};
 
 use crate::WireFault;
+use crate::command_fields::Lots;
 use crate::fields::alone;
 use crate::read::json;
-use adm_fields::WhatIfFields;
+use adm_fields::child::{ChildField, Preferences};
 use adm_types::{ChildNo, SchoolCode, Seq};
 use serde_json::Value;
 use std::alloc::Global;
@@ -19,6 +20,8 @@ pub struct WhatIf {
     pub lots: Seq<u32>,
     pub preferences: Seq<SchoolCode>,
 }
+
+type WhatIfFields = (ChildField, (Lots, (Preferences, ())));
 
 #[tactic(auto, unfolding(crate::specs::WhatIfs::what_if_form))]
 fn question(alloc: Global, object: &Value) -> Result<WhatIf, WireFault>
