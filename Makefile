@@ -5,6 +5,7 @@
 #   make demo     the examples, run and compared with what they must print
 #   make cases    the cases, the same way; they take seconds once the program is built
 #   make test     every proof, mutants, tests, examples and cases; its last line is 'N passed, M failed'
+#   make reference     the definitions, public functions, clauses, mutants and files, as linked pages and one text, at out/reference; needs python3-jinja2, graphviz
 #   make wrong-bodies  those that the gate leaves to the hand, each of which must be refused
 #   make sweep    each request of the built program for memory refused, in turn: what is answered and left then; some minutes
 #   make killed-opens  an open after a crash, and opens that are refused, killed at each of their calls to the system; a minute
@@ -20,7 +21,7 @@ EXAMPLES := first_path applications season
 
 LOOKED_AT := $(addprefix examples/applications/,schools.jsonl children.jsonl applications.jsonl)
 
-.PHONY: look build demo cases test wrong-bodies sweep killed-opens audits races bench bench-more deploy-check install needs-demo needs-cases needs-sweep
+.PHONY: look build demo cases test reference wrong-bodies sweep killed-opens audits races bench bench-more deploy-check install needs-demo needs-cases needs-sweep
 
 look:
 	@tools/needs look
@@ -42,6 +43,9 @@ needs-demo needs-cases needs-sweep:
 
 test:
 	@tools/test $(EXAMPLES)
+
+reference:
+	@tools/reference
 
 wrong-bodies:
 	tools/wrong-bodies
