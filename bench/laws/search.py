@@ -1,0 +1,214 @@
+#!/usr/bin/env python3
+"""The counts that crates/law_runs prints, by a search over all allocations alone.
+
+    python3 bench/laws/search.py | diff crates/law_runs/stdout -
+
+It shares no code with the program and knows no deferred acceptance: the best allocation is the stable one that no other stable one beats
+for any child. It takes some minutes.
+"""
+from functools import lru_cache
+from itertools import permutations, product
+
+
+class Entrant(tuple):
+    """A list of schools (letters), the school of which the child is a tenant or '', and its rank at each school, smaller first."""
+
+    @property
+    def list(self):
+        return self[0]
+
+    @property
+    def tenant(self):
+        return self[1]
+
+    @property
+    def ranks(self):
+        return self[2]
+
+    def place(self, school):
+        return self.list.index(school) if school in self.list and school else 9
+
+
+def entrant(listed, tenant, ranks):
+    return Entrant((listed, tenant, tuple(sorted(ranks.items()))))
+
+
+@lru_cache(maxsize=None)
+def stable_allocations(entrants, quotas):
+    """Each stable allocation of a problem, as what each of its entrants (None is absent) has: a letter, or ''."""
+    quota = dict(quotas)
+    ranks = [e and dict(e.ranks) for e in entrants]
+    found = []
+    for given in product(*[(tuple(e.list) + ("",)) if e else ("",) for e in entrants]):
+        at = {school: [i for i, had in enumerate(given) if had == school] for school in quota}
+        guests = {school: [i for i in there if entrants[i].tenant != school] for school, there in at.items()}
+        if any(guests[school] and len(at[school]) > quota[school] for school in quota):
+            continue
+        blocked = False
+        for i, e in enumerate(entrants):
+            for school in e.list if e else ():
+                if school == given[i]:
+                    break
+                if e.tenant == school or len(at[school]) < quota[school] or any(ranks[j][school] > ranks[i][school] for j in guests[school]):
+                    blocked = True
+                    break
+            if blocked:
+                break
+        if not blocked:
+            found.append(given)
+    return tuple(found)
+
+
+def no_worse(entrants, one, other):
+    return all(e.place(one[i]) <= e.place(other[i]) for i, e in enumerate(entrants) if e)
+
+
+@lru_cache(maxsize=None)
+def best(entrants, quotas):
+    (one,) = [a for a in stable_allocations(entrants, quotas) if all(no_worse(entrants, a, b) for b in stable_allocations(entrants, quotas))]
+    return one
+
+
+class Law:
+    def __init__(self):
+        self.tried = self.better = self.worse = 0
+
+    def count(self, before, quotas, after, later):
+        """From the entrants and quotas before to those after."""
+        self.tried += 1
+        was, now = best(before, quotas), best(after, later)
+        self.better += sum(e.place(now[i]) < e.place(was[i]) for i, e in enumerate(after) if e)
+        self.worse += sum(not no_worse(after, now, other) for other in stable_allocations(before, quotas))
+
+    def count_list(self, before, quotas, after, index):
+        self.tried += 1
+        true = before[index]
+        own = true.place(best(before, quotas)[index])
+        for other in stable_allocations(after, quotas):
+            self.better += true.place(other[index]) < own
+            self.worse += true.place(other[index]) > own
+
+
+class Counts:
+    def __init__(self, kind):
+        self.kind = kind
+        self.problems = self.stable = self.several = self.placed = self.uneven = 0
+        self.laws = {name: Law() for name in ("more places", "a child leaves", "a shorter list", "another list")}
+
+    def problem(self, entrants, quotas):
+        stable = stable_allocations(entrants, quotas)
+        chosen = best(entrants, quotas)
+        self.problems += 1
+        self.stable += len(stable)
+        self.several += len(stable) > 1
+        self.placed += sum(school != "" for school in chosen)
+        for other in stable:
+            for school, quota in quotas:
+                one, two = ({i for i, had in enumerate(a) if had == school} for a in (other, chosen))
+                self.uneven += len(one) != len(two) or (len(one) < quota and one != two)
+
+    def print(self):
+        print(f"{self.kind}: problems {self.problems}, stable allocations {self.stable}, with several {self.several}, placed {self.placed}")
+        print(f"{self.kind}: not best 0, unstable 0, uneven {self.uneven}")
+        for name, law in self.laws.items():
+            print(f"{self.kind}, {name}: tried {law.tried}, better {law.better}, worse {law.worse}")
+
+
+def replaced(entrants, index, other):
+    return entrants[:index] + (other,) + entrants[index + 1 :]
+
+
+def with_quota(quotas, school, quota):
+    return tuple((s, quota if s == school else q) for s, q in quotas)
+
+
+def small():
+    """Each problem of three entrants and two schools with quotas 0 to 2, the second and the third entrant in one order alone."""
+    counts = Counts("small")
+    options = [("", ""), ("A", ""), ("B", ""), ("AB", ""), ("BA", ""), ("A", "A"), ("B", "B"), ("AB", "B"), ("BA", "A")]
+    for first, second, third in product(range(9), repeat=3):
+        if second > third:
+            continue
+        chosen = [options[number] for number in (first, second, third)]
+        for quota_a, quota_b in product(range(3), repeat=2):
+            quotas = (("A", quota_a), ("B", quota_b))
+            for at_a, at_b in product(permutations(range(3)), repeat=2):
+                entrants = tuple(entrant(*chosen[i], {"A": at_a[i], "B": at_b[i]}) for i in range(3))
+                counts.problem(entrants, quotas)
+                for school, quota in quotas:
+                    counts.laws["more places"].count(entrants, quotas, entrants, with_quota(quotas, school, quota + 1))
+                counts.laws["a child leaves"].count(entrants, quotas, replaced(entrants, 0, None), quotas)
+                own = entrants[0]
+                if not own.tenant:
+                    for length in range(len(own.list)):
+                        cut = Entrant((own.list[:length], "", own.ranks))
+                        counts.laws["a shorter list"].count(entrants, quotas, replaced(entrants, 0, cut), quotas)
+                for listed, tenant in options:
+                    if tenant in ("", own.tenant):
+                        other = Entrant((listed, tenant, own.ranks))
+                        counts.laws["another list"].count_list(entrants, quotas, replaced(entrants, 0, other), 0)
+            best.cache_clear()
+            stable_allocations.cache_clear()
+    counts.print()
+
+
+class Numbers:
+    """The fixed sequence from which problems are drawn."""
+
+    def __init__(self, seed):
+        self.state = seed
+
+    def below(self, bound):
+        self.state = (self.state * 6_364_136_223_846_793_005 + 1_442_695_040_888_963_407) % 2**64
+        return (self.state >> 33) % bound
+
+    def order(self):
+        order = list(range(5))
+        for last in range(1, 5):
+            other = self.below(5) % (last + 1)
+            order[last], order[other] = order[other], order[last]
+        return order
+
+    def list(self):
+        order = [".ABCD"[number] for number in self.order() if number]
+        return "".join(order[: self.below(5)])
+
+
+def drawn(count):
+    counts, numbers = Counts("drawn"), Numbers(11)
+    for _ in range(count):
+        length = numbers.below(5) + 1
+        lists = []
+        for _ in range(length):
+            listed = numbers.list()
+            lists.append((listed, listed[-1:] if numbers.below(3) == 0 else ""))
+        quotas, ranks = [], [{} for _ in range(5)]
+        for school in "ABCD":
+            quotas.append((school, numbers.below(3)))
+            for row, number in zip(ranks, numbers.order()):
+                row[school] = 2 * number + 1
+        quotas = tuple(quotas)
+        entrants = tuple(entrant(*lists[i], ranks[i]) for i in range(length))
+        counts.problem(entrants, quotas)
+        school, more = "ABCD"[numbers.below(4)], numbers.below(3)
+        counts.laws["more places"].count(entrants, quotas, entrants, with_quota(quotas, school, dict(quotas)[school] + more))
+        index = numbers.below(length)
+        counts.laws["a child leaves"].count(entrants, quotas, replaced(entrants, index, None), quotas)
+        own, first = entrants[index], numbers.below(4)
+        if not own.tenant:
+            cut = Entrant((own.list[:first], "", own.ranks))
+            counts.laws["a shorter list"].count(entrants, quotas, replaced(entrants, index, cut), quotas)
+        listed, keeps = numbers.list(), numbers.below(2) == 0 and own.tenant != ""
+        if keeps:
+            listed = listed.replace(own.tenant, "") + own.tenant
+        other = {}
+        for school, rank in own.ranks:
+            number = 2 * numbers.below(6)
+            other[school] = rank if school in own.list else number
+        changed = entrant(listed, own.tenant if keeps else "", other)
+        counts.laws["another list"].count_list(entrants, quotas, replaced(entrants, index, changed), index)
+    counts.print()
+
+
+small()
+drawn(2000)

@@ -1,0 +1,6 @@
+pub mod Zips
+pub mod Posed
+pub mod Quotas
+pub mod MorePlaces
+pub mod ShorterList
+pub mod RaisedRound

@@ -1,0 +1,19 @@
+// What families, schools and councillors ask of a round: its laws, each with a function that answers by it.
+#![tactic(auto)]
+
+mod copies;
+mod cutting;
+mod leaving;
+mod listing;
+mod places;
+mod raised;
+mod registers;
+mod taken;
+
+pub use cutting::offers_with_shorter_list;
+pub use leaving::offers_without;
+pub use listing::offers_with_list;
+pub use places::offers_with_quota;
+pub use raised::{NotRaised, offers_with_number};
+pub use registers::{no_loss_by_raise, no_loss_by_shorter_list};
+pub use taken::taken_at;
