@@ -1,6 +1,6 @@
 -- An admission number raised before a round hurts no child in it.
-use Rattle.std.proofs.Common.{◌≡◌, ◌∙◌, ap, sym, subst, refl, cond, true, Bool, arith, ℕ, ◌≤◌, List, [], ◌∷◌, ◌++◌, length, map, Some, None}
-use Rattle.std.specs.Prelude.{◌&&◌, not, nat_le, nat_eq, Option, filter}
+use Rattle.std.proofs.Common.{◌≡◌, ◌∙◌, ap, sym, subst, refl, cond, true, arith, ℕ, ◌≤◌, List, [], ◌∷◌, ◌++◌, length, map, Some, None}
+use Rattle.std.specs.Prelude.{not, nat_le, nat_eq, Option, filter}
 use Rattle.std.specs.List.{AllZip}
 use Rattle.std.specs.Cmp.Lexicographic.{nat_list_cmp_total}
 use Rattle.std.specs.FinMap.{get, insert, entries, entries-insert, entries_sorted, get-entries, values}

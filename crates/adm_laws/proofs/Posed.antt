@@ -1,5 +1,5 @@
 -- What is given of a problem by the parts of which it was made.
-use Rattle.std.proofs.Common.{◌≡◌, ◌∙◌, ap, subst, List, Option, None}
+use Rattle.std.proofs.Common.{◌≡◌, ◌∙◌, subst, List, None}
 use Rattle.adm_match.specs.declared.problem.Seats.{Seats}
 use Rattle.adm_match.specs.Market.{Candidate, Market, market_of, first_fault}
 use Rattle.adm_match.specs.Stability.{Allocation, IsBest}

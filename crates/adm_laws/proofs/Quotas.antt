@@ -1,7 +1,7 @@
 -- The quotas of schools of which one has another.
-use Rattle.std.proofs.Common.{◌≡◌, ◌∙◌, ap, sym, subst, refl, cond, true, false, Bool, arith, ℕ, ◌≤◌, List, [], ◌∷◌, inl, inr}
-use Rattle.std.specs.Prelude.{◌⊎◌, ◌≢◌, find, option_map, unwrap_or, bytes_eq, Option, None, Some}
-use Rattle.std.proofs.lemmas.Bool.{cases_Bool, false≢true}
+use Rattle.std.proofs.Common.{◌≡◌, ◌∙◌, ap, sym, subst, refl, cond, true, false, arith, ℕ, ◌≤◌, List, [], ◌∷◌, inl, inr}
+use Rattle.std.specs.Prelude.{find, option_map, unwrap_or, bytes_eq, Some}
+use Rattle.std.proofs.lemmas.Bool.{cases_Bool}
 use Rattle.std.proofs.lemmas.Slice.Eq.{bytes_eq-Decides}
 use Rattle.adm_match.specs.declared.problem.Seats.{Seats}
 use Rattle.adm_match.specs.Market.{Code, quota_of}

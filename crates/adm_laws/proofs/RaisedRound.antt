@@ -1,8 +1,7 @@
 -- The round by a larger admission number: what it gives, and why it is not computed.
-use Rattle.std.proofs.Common.{◌≡◌, ◌∙◌, sym, subst, refl, ℕ, List, Option, Some, None, inl, inr}
+use Rattle.std.proofs.Common.{◌≡◌, ◌∙◌, sym, subst, refl, ℕ, List, Some, None, inl, inr}
 use Rattle.std.specs.Prelude.{◌⊎◌}
 use Rattle.adm_types.specs.declared.commands.Command.TheVariants.{RaisePan}
-use Rattle.adm_types.specs.declared.draws.Outcome.{Outcome}
 use Rattle.adm_match.specs.Market.{Market}
 use Rattle.adm_match.specs.Stability.{Allocation, IsBest}
 use Rattle.adm_round.specs.Outcomes.{outcomes_of}

@@ -1,6 +1,6 @@
 -- A list that ends earlier hurts no child in the round of its register.
 use Rattle.std.proofs.Common.{◌≡◌, ◌∙◌, ap, sym, subst, refl, cond, true, false, Bool, arith, ℕ, zero, suc, List, [], ◌∷◌, ◌++◌, length, map, take, Some, None, inl, inr, append-nil}
-use Rattle.std.specs.Prelude.{◌⊎◌, not, Option, option_map, filter, find, bytes_eq, ⊤, All, Any}
+use Rattle.std.specs.Prelude.{◌⊎◌, not, Option, option_map, filter, bytes_eq, ⊤, All}
 use Rattle.std.specs.List.{AllZip, AllByRecursion, filter_map, cons_option}
 use Rattle.std.specs.Option.{option_to_list}
 use Rattle.std.specs.Cmp.{nat_cmp_total}
@@ -10,9 +10,6 @@ use Rattle.std.proofs.lemmas.Slice.Eq.{bytes_eq-Decides}
 use Rattle.std.proofs.lemmas.List.Elements.{recursion_from_All, filter_map-append}
 use Rattle.adm_types.specs.declared.rows.Application.{Application}
 use Rattle.adm_types.specs.declared.rows.Child.{Child}
-use Rattle.adm_types.specs.declared.rows.PlaceRow.{PlaceRow}
-use Rattle.adm_types.specs.declared.draws.Outcome.{Outcome}
-use Rattle.adm_types.specs.declared.draws.Lot.{Lot}
 use Rattle.adm_match.specs.declared.problem.Wish.{Wish}
 use Rattle.adm_match.specs.Market.{Code, Candidate}
 use Rattle.adm_match.specs.Generous.{IsCutFrom, IsAsGenerous, NoLoss}

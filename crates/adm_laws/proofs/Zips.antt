@@ -1,5 +1,5 @@
 -- Lists side by side: what holds of their pairs.
-use Rattle.std.proofs.Common.{◌≡◌, ◌∙◌, ap, sym, subst, refl, Bool, true, false, ℕ, suc, zero, ◌+◌, List, [], ◌∷◌, length, map, cond, Option, Some, None, arith}
+use Rattle.std.proofs.Common.{◌≡◌, ◌∙◌, ap, sym, subst, refl, Bool, true, false, ℕ, suc, zero, ◌+◌, List, [], ◌∷◌, length, map, cond, Some, arith}
 use Rattle.std.specs.Prelude.{◌&&◌, is_some, T, All, Any}
 use Rattle.std.specs.List.{AllZip, AllByRecursion, slice_get}
 use Rattle.std.specs.declared.cmp.Ordering.{Ordering}
