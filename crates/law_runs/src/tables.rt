@@ -1,4 +1,5 @@
 // Small problems as tables of numbers: up to five entrants and four schools.
+ghost use Rattle.std.specs.Prelude.{◌<◌};
 
 /// What each of five entrants has. Schools are numbered from 1, and 0 is none.
 pub type Given = [u32; 5];
@@ -32,7 +33,9 @@ pub const ABSENT: Row = Row {
 };
 
 /// The index of a school among four.
-pub fn at(school: u32) -> usize {
+pub fn at(school: u32) -> usize
+    ensures { result < 4 }
+{
     (school.wrapping_sub(1) % 4) as usize
 }
 
