@@ -4,3 +4,5 @@ pub mod Quotas
 pub mod MorePlaces
 pub mod ShorterList
 pub mod RaisedRound
+pub mod Lost
+pub mod GroupGains

@@ -1,3 +1,4 @@
 pub mod Changed
 pub mod Registers
 pub mod Raised
+pub mod Groups
