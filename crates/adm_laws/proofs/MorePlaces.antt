@@ -24,12 +24,13 @@ use Rattle.adm_register.specs.State.{State}
 use Rattle.adm_register.specs.Change.{no_change, after}
 use Rattle.adm_register.specs.WellFormed.{WellFormed}
 use Rattle.adm_register.proofs.Fits.{after-keeps}
-use Rattle.adm_commands.specs.RaisePan.{tests, may_have, with_pan, change_of}
+use Rattle.adm_commands.specs.Commands.RaisePan.{tests, may_have, with_pan, change_of}
 use Rattle.adm_commands.specs.Tests.{first_failing}
 use Rattle.adm_commands.specs.Problem.{lots_fault, RoundIsPosed}
 use Rattle.adm_commands.specs.declared.problems.DrawFault.TheVariants.{LotCount, LotsRepeated}
-use Rattle.adm_commands.specs.Round.{sites, entrants, quota, round_lots, round_market, round_pairs, AreOutcomes}
-use Rattle.adm_commands.specs.Outcome.{without_row, Accepts}
+use Rattle.adm_commands.specs.Commands.Round.{sites, entrants, quota, round_lots, round_market, round_pairs, AreOutcomes}
+use Rattle.adm_commands.specs.Rules.{without_row}
+use Rattle.adm_commands.specs.Outcome.{Accepts}
 use Rattle.adm_commands.proofs.Keeps.{all_pass}
 use Rattle.adm_commands.proofs.RaiseFit.{raise_pan-fit}
 use Rattle.adm_laws.specs.Registers.{NoLossByRaise}

@@ -8,7 +8,7 @@ use Rattle.adm_round.specs.Outcomes.{outcomes_of}
 use Rattle.adm_register.specs.State.{State}
 use Rattle.adm_register.specs.WellFormed.{WellFormed}
 use Rattle.adm_commands.specs.Problem.{lots_fault}
-use Rattle.adm_commands.specs.Round.{entrants, round_market}
+use Rattle.adm_commands.specs.Commands.Round.{entrants, round_market}
 use Rattle.adm_commands.specs.Outcome.{Accepts}
 use Rattle.adm_commands.specs.declared.problems.DrawFault.{DrawFault}
 use Rattle.adm_commands.specs.declared.problems.DrawFault.TheVariants.{LotCount, LotsRepeated, Memory}

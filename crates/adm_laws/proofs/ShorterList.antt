@@ -20,7 +20,7 @@ use Rattle.adm_round.specs.Ranks.{site_of, lot_at, wish_at, wishes_for, candidat
 use Rattle.adm_round.specs.Outcomes.{PosedWithoutFault}
 use Rattle.adm_register.specs.State.{State}
 use Rattle.adm_register.specs.Wanted.{above, has_left, wanted_of, own_school}
-use Rattle.adm_commands.specs.Round.{takes_part, applicant_of, entrants, sites, round_lots, round_market}
+use Rattle.adm_commands.specs.Commands.Round.{takes_part, applicant_of, entrants, sites, round_lots, round_market}
 use Rattle.adm_commands.specs.Problem.{RoundIsPosed}
 use Rattle.adm_laws.specs.Registers.{first_listed, with_application, KeepsLots, NoLossByShorterList}
 use Rattle.adm_laws.proofs.Zips.{zip_map, zip_with, zip_any, put_zip}

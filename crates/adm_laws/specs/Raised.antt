@@ -6,8 +6,9 @@ use Rattle.adm_match.specs.Stability.{Allocation, IsBest}
 use Rattle.adm_match.specs.Generous.{IsNoWorse}
 use Rattle.adm_register.specs.State.{State}
 use Rattle.adm_commands.specs.Problem.{lots_fault}
-use Rattle.adm_commands.specs.Round.{round_market, AreOutcomes}
-use Rattle.adm_commands.specs.Outcome.{refused, Accepts}
+use Rattle.adm_commands.specs.Commands.Round.{round_market, AreOutcomes}
+use Rattle.adm_commands.specs.Commands.{refused}
+use Rattle.adm_commands.specs.Outcome.{Accepts}
 use Rattle.adm_commands.specs.declared.problems.DrawFault.{DrawFault}
 use Rattle.adm_commands.specs.declared.problems.DrawFault.TheVariants as draw
 use Rattle.adm_commands.specs.declared.not_done.NotDone.{NotDone}

@@ -11,7 +11,7 @@ use Rattle.adm_round.specs.Ranks.{lot_at}
 use Rattle.adm_register.specs.State.{State}
 use Rattle.adm_register.specs.WellFormed.{WellFormed}
 use Rattle.adm_commands.specs.Problem.{lots_fault}
-use Rattle.adm_commands.specs.Round.{entrants, round_lots, round_market, AreOutcomes}
+use Rattle.adm_commands.specs.Commands.Round.{entrants, round_lots, round_market, AreOutcomes}
 use Rattle.adm_commands.specs.Outcome.{Accepts}
 
 -- Raising an admission number before a round leaves no child worse off in it: where the command is accepted and the lots pose
