@@ -35,8 +35,8 @@ pub struct Found {
 pub enum Head {
     /// As a database does, or nothing is known of it.
     Database,
-    /// As a new database whose program was killed: `sqlite` writes its first byte last, and a zero
-    /// before. Nothing is in such a file.
+    /// As a new database whose program was killed: `sqlite` writes its first byte last, and before
+    /// that a zero alone, and then a page that begins with it. Nothing is in such a file.
     Unfinished,
     /// As no database does: an open could only refuse it.
     Foreign,
@@ -133,6 +133,7 @@ fn head_of(rt: &HostRuntime, file: &str) -> Head {
     };
     match read {
         Ok(0) | Err(_) => Head::Database,
+        Ok(1) if found[0] == 0 => Head::Unfinished,
         Ok(_) if found.as_slice() == b"SQLite format 3\0".as_slice() => Head::Database,
         Ok(_) if found.as_slice() == b"\0QLite format 3\0".as_slice() => Head::Unfinished,
         Ok(_) => Head::Foreign,

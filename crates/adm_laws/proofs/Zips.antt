@@ -7,7 +7,7 @@ use Rattle.std.specs.declared.cmp.Ordering.TheVariants.{Less, Equal, Greater}
 use Rattle.std.specs.Ordering.{is_eq}
 use Rattle.std.specs.Cmp.{IsTotalOrder}
 use Rattle.std.specs.FinMap.{find, put, is_sorted}
-use Rattle.core.specs.FinMap.Entries.{by_order, length-put}
+use Rattle.std.specs.FinMap.Entries.{by_order, length-put}
 use Rattle.std.proofs.lemmas.Option.{none-some, same_Some, slice_get_within, slice_get-get_or, get_or_from_slice_get}
 
 later : (a b : Bool) → T (a && b) → T b
