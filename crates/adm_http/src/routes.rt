@@ -98,6 +98,7 @@ pub(crate) fn media(resource: Resource) -> Media
 }
 
 /// The text that is asked for, if the register has such a child, school or round.
+#[tactic(auto, using(crate::proofs::ShowLemmas::given_shown))]
 pub(crate) fn show(alloc: Global, register: &Register, resource: &Resource) -> Shown
     ensures { IsShown (text_in register.now resource.now) result }
 {
