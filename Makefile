@@ -14,7 +14,7 @@
 #   make bench    what is aimed at for the costs, beside what they are, in one table; at most ten minutes once the program is built
 #   make bench-more  what commands cost in more tables, beside a baseline in the same run
 #   make deploy-check  what is deployed (site, desk in its own network, page), on this machine alone; needs nginx, openssl, curl, chromium and poppler-utils, no part of test
-#   make install  the program, the office's tools, the manual page and three documents (docs/OPERATIONS.md); PREFIX=/usr/local by default
+#   make install  the program, the office's scripts, the manual page and the office's pages (docs/DEPLOYMENT.md); PREFIX=/usr/local by default
 PREFIX ?= /usr/local
 PROGRAM ?= bin/admissions
 EXAMPLES := first_path applications season
@@ -91,5 +91,5 @@ install: build
 	install -m 644 tools/register_files.py $(DESTDIR)$(PREFIX)/share/admissions/register_files.py
 	install -D -m 644 docs/admissions.1 $(DESTDIR)$(PREFIX)/share/man/man1/admissions.1
 	install -d $(DESTDIR)$(PREFIX)/share/doc/admissions
-	for page in OPERATIONS ANSWERS KEEPING LOTS REPORTS SERVING FORMATS; do install -m 644 docs/$$page.md $(DESTDIR)$(PREFIX)/share/doc/admissions || exit 1; done
+	for page in HANDBOOK ERRORS DEPLOYMENT FORMATS; do install -m 644 docs/$$page.md $(DESTDIR)$(PREFIX)/share/doc/admissions || exit 1; done
 	install -m 644 docs/serving.png $(DESTDIR)$(PREFIX)/share/doc/admissions
