@@ -1,9 +1,9 @@
-// What the help of the program and of each word says after its usage: examples, and the exit statuses.
+// What the help of the program and of each subcommand prints after its usage: examples, and the exit statuses.
 //
-// Each text stands here as it is printed. `docs/admissions.1` is made of what is printed (`tools/manual`), and `cases/help` runs the
+// Each text is here as it is printed. `docs/admissions.1` is made of what is printed (`tools/manual`), and `cases/help` runs the
 // examples.
 
-/// The text of a word, the exit statuses of every word, and its further ones.
+/// The text of a subcommand, the exit statuses of every subcommand, and its further ones.
 macro_rules! with_statuses {
     ($text:literal $(, $further:literal)*) => {
         concat!(
@@ -12,20 +12,20 @@ macro_rules! with_statuses {
 
 Exit status:
   0  done
-  1  a fault; the standard error has its name, as in `fault: Disk`
-  2  the words ask for nothing, or for help"#
+  1  an error; the standard error has its name, as in `fault: Disk`
+  2  wrong arguments, or a request for help"#
             $(, $further)*
         )
     };
 }
 
-/// The same of a word that writes to a register.
+/// The same of a subcommand that writes to a register.
 macro_rules! with_store {
     ($text:literal $(, $further:literal)*) => {
         with_statuses!(
             $text
             $(, $further)*,
-            "\n  4  the register's file failed, as on a full disk (see ANSWERS.md)"
+            "\n  4  the register's file failed, as on a full disk (see ERRORS.md)"
         )
     };
 }
@@ -45,12 +45,12 @@ pub(crate) const PROGRAM: &str = with_store!(
     admissions do reg.db
   admissions letter reg.db 2
 
-The help of each word has an example, as in `admissions do --help`. Those of
-init, do, import, what-if, pairs, round-report, letter, list and serve make up
-one season, in this order. The manual page, `man admissions`, has all of this.
-How an office runs a season is told in OPERATIONS.md, in share/doc/admissions
-below where this was installed."#,
-    "\n  3  some line or row was refused, or met want of memory, or was no command"
+The help of each subcommand has an example, as in `admissions do --help`. Those
+of init, do, import, what-if, pairs, round-report, letter, list and serve make
+up one season, in this order. The manual page, `man admissions`, has all of
+this. HANDBOOK.md takes an office through a season; it is in
+share/doc/admissions below where this was installed."#,
+    "\n  3  some line or row was refused or unreadable, or ran out of memory"
 );
 
 pub(crate) const INIT: &str = with_statuses!(
@@ -67,7 +67,7 @@ Example, in a new register:
     '"east":0,"north":0,"criteria":["sibling","within:1000"]}'
   echo '{"cmd":"add_school","school":"ELM","name":"Elm School","pan":1,' \
     '"east":3000,"north":0,"criteria":[]}') | admissions do reg.db"#,
-    "\n  3  some line was refused, or was no command, or met want of memory"
+    "\n  3  some line was refused or unreadable, or ran out of memory"
 );
 
 pub(crate) const WHAT_IF: &str = with_statuses!(
@@ -77,7 +77,7 @@ pub(crate) const WHAT_IF: &str = with_statuses!(
 Example, before the first round, with the lots of its seven pairs:
   echo '{"child":1,"lots":[3,1,2,4,2,1,3],"preferences":["ELM","OAK"]}' |
     admissions what-if reg.db"#,
-    "\n  3  some line was refused, or was no question, or met want of memory"
+    "\n  3  some line was refused or unreadable, or ran out of memory"
 );
 
 pub(crate) const IMPORT: &str = with_store!(
@@ -106,12 +106,12 @@ Example, in a register with the schools OAK and ELM:
     '3,Cy,200,0,no,,,2024-10-22,OAK;ELM' \
     '4,Di,2500,0,no,,,2024-10-23,ELM;OAK' > applications.csv
   admissions import reg.db applications.csv"#,
-    "\n  3  a row was refused, or met want of memory; nothing was imported"
+    "\n  3  a row was refused, or ran out of memory; nothing was imported"
 );
 
 pub(crate) const SERVE: &str = with_store!(
     r#"The forms of requests and of their answers are in FORMATS.md, under 'Requests
-over HTTP', and how an office is served is told in SERVING.md, both in
+over HTTP'. DEPLOYMENT.md describes how to serve an office. Both are in
 share/doc/admissions below where this was installed.
 
 Example, which ends after two requests:
