@@ -1,0 +1,159 @@
+// A desk over disks in memory, from the season on. Each call is in a function of its own, of which no clause speaks.
+ghost use Rattle.std.specs.Prelude.{◌≡◌, false, IfOk};
+ghost use Rattle.sqlite.specs.Files.{file_state};
+ghost use Rattle.adm_rows.specs.StandsFor.{IsStarted};
+
+use crate::script::Script;
+use crate::trace::{Event, Trace};
+use adm_desk::{Answer, Desk, Run, RunFault};
+use adm_store::create;
+use adm_types::{Command, Phase, Season};
+use adm_wire::{Input, Output};
+use sqlite::{Connection, FileStore, Files, Options};
+use sqlite_disk::Memory;
+use std::alloc::{AllocError, Global};
+
+/// The number from which a log's salts are made.
+const SEED: u64 = 7;
+
+type FileConnection = Connection<FileStore<Memory>>;
+
+/// A desk over disks in memory.
+pub(crate) type MemoryDesk = Desk<FileStore<Memory>>;
+
+/// The desk that a run reached, or the disks where it reached none.
+pub(crate) type Reached = Result<MemoryDesk, Files<Memory>>;
+
+fn empty_disks(alloc: Global) -> Files<Memory> {
+    Files {
+        log: Memory::new(alloc),
+        db: Memory::new(alloc),
+    }
+}
+
+fn season_of(alloc: Global, script: &Script, trace: &mut Trace) -> Option<Season> {
+    match Season::new(alloc, Phase::Secondary, 2025, &script.holidays) {
+        Ok(season) => {
+            trace.add(Event::Season(None));
+            Some(season)
+        }
+        Err(fault) => {
+            trace.add(Event::Season(Some(fault)));
+            None
+        }
+    }
+}
+
+fn connected(
+    alloc: Global,
+    files: Files<Memory>,
+    trace: &mut Trace,
+) -> Result<FileConnection, Files<Memory>>
+    ensures ended { IfOk result (λ c. c.in_transaction ≡ false) }
+{
+    if !files.may_be_used() {
+        return Err(files);
+    }
+    match Connection::open_files(alloc, files, Options::new(SEED)) {
+        Ok(conn) => {
+            trace.add(Event::Database(None));
+            Ok(conn)
+        }
+        Err((error, left)) => {
+            trace.add(Event::Database(Some(error)));
+            Err(left.into_files())
+        }
+    }
+}
+
+fn closed(conn: FileConnection) -> Files<Memory> {
+    conn.into_store().close()
+}
+
+fn created(
+    alloc: Global,
+    mut conn: FileConnection,
+    season: &Season,
+    trace: &mut Trace,
+) -> Result<FileConnection, Files<Memory>>
+    requires { conn.in_transaction ≡ false }
+    ensures ended { IfOk result (λ c. c.in_transaction ≡ false) }
+    ensures started { IfOk result (λ c. IsStarted (file_state c)) }
+{
+    match create(alloc, &mut conn, season) {
+        Ok(()) => {
+            trace.add(Event::Create(None));
+            Ok(conn)
+        }
+        Err(fault) => {
+            trace.add(Event::Create(Some(fault)));
+            Err(closed(conn))
+        }
+    }
+}
+
+fn opened(alloc: Global, conn: FileConnection, trace: &mut Trace) -> Reached
+    requires ended { conn.in_transaction ≡ false }
+    requires started { IsStarted (file_state conn) }
+{
+    match Desk::open(alloc, conn) {
+        Ok(desk) => {
+            trace.add(Event::Open(None));
+            Ok(desk)
+        }
+        Err((fault, conn)) => {
+            trace.add(Event::Open(Some(fault)));
+            Err(closed(conn))
+        }
+    }
+}
+
+fn begun(alloc: Global, files: Files<Memory>, season: &Season, trace: &mut Trace) -> Reached {
+    let conn = match connected(alloc, files, trace) {
+        Ok(conn) => conn,
+        Err(files) => return Err(files),
+    };
+    match created(alloc, conn, season, trace) {
+        Ok(conn) => opened(alloc, conn, trace),
+        Err(files) => Err(files),
+    }
+}
+
+/// A desk over the new register of the script's season, on new disks.
+pub(crate) fn new_desk(alloc: Global, script: &Script, trace: &mut Trace) -> Reached {
+    let files = empty_disks(alloc);
+    match season_of(alloc, script, trace) {
+        Some(season) => begun(alloc, files, &season, trace),
+        None => Err(files),
+    }
+}
+
+/// The disks that the run left.
+pub(crate) fn disks_of(reached: Reached) -> Files<Memory> {
+    match reached {
+        Ok(desk) => closed(desk.into_connection()),
+        Err(files) => files,
+    }
+}
+
+/// The answer to a command.
+pub(crate) fn asked(desk: &mut MemoryDesk, command: &Command) -> Answer {
+    desk.handle(command)
+}
+
+/// The answers to commands.
+pub(crate) fn all_asked(
+    desk: &mut MemoryDesk,
+    commands: &[Command],
+) -> Result<Vec<Answer>, AllocError> {
+    desk.handle_all(commands)
+}
+
+/// The lines of a reader, answered to a writer.
+pub(crate) fn run_lines<R: Input, W: Output>(
+    desk: &mut MemoryDesk,
+    reader: &mut R,
+    writer: &mut W,
+) -> Result<Run, RunFault> {
+    desk.run_lines(reader, writer)
+}

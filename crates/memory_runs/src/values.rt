@@ -1,0 +1,163 @@
+// The calls that take no memory, while requests for it may be refused.
+use crate::desks::{MemoryDesk, asked};
+use crate::failed::failed;
+use crate::lists::print_code;
+use crate::problems::problems;
+use crate::rows::print_rows;
+use crate::runs::fresh_desk;
+use crate::script::Script;
+use crate::shared_values::{codes, days, primary_season, ranks, season};
+use crate::window::{ample, refuse};
+use adm_commands::propose;
+use adm_register::Register;
+use adm_store::{Changes, changes};
+use adm_types::{ChildNo, Command, SchoolCode};
+use run_disks::Disks;
+use std::alloc::Global;
+use std::io;
+
+/// Child 1, and the schools A and B.
+#[derive(Clone, Copy)]
+struct Names {
+    child: ChildNo,
+    a: SchoolCode,
+    b: SchoolCode,
+}
+
+fn named() -> Option<Names> {
+    Some(Names {
+        child: ChildNo::new(1)?,
+        a: SchoolCode::new("A")?,
+        b: SchoolCode::new("B")?,
+    })
+}
+
+/// A desk to which the script was done.
+fn desk_after(alloc: Global, script: &Script) -> io::Result<MemoryDesk> {
+    let mut desk = fresh_desk(alloc, script)?;
+    let commands = script.commands(alloc)?;
+    for command in &commands {
+        let _answer = asked(&mut desk, command);
+    }
+    Ok(desk)
+}
+
+/// What is asked of a register.
+fn register(rt: &impl Print, desk: &MemoryDesk, names: Names, refusal: &str) -> io::Result<()> {
+    let Names { child, a, b } = names;
+    refuse(rt, refusal)?;
+    let Some(register) = desk.register() else {
+        ample(rt)?;
+        return println!(rt; "  PROBLEM: no register");
+    };
+    let year = register.season().year();
+    let school = register.school(b);
+    let found = register.child(child);
+    let place = register.place(child);
+    let vacancies = (register.vacancies(a), register.vacancies(b));
+    let round = register.round(1);
+    let no_round = register.round(2);
+    ample(rt)?;
+    println!(rt;
+        "  year {year} vacancies {vacancies:?} second round {}",
+        no_round.is_some()
+    )?;
+    if let (Some(school), Some(child), Some(place)) = (school, found, place) {
+        println!(rt;
+            "  school {} child {}",
+            school.name.as_str(),
+            child.name.as_str()
+        )?;
+        println!(rt; "  place {} {:?}", place.school, place.state)?;
+    }
+    if let Some(round) = round {
+        print!(rt; "  round {} draw {} outcomes", round.round, round.number)?;
+        for outcome in round.outcomes.as_slice() {
+            print_code(rt, &outcome.school)?;
+        }
+        println!(rt)?;
+    }
+    Ok(())
+}
+
+/// The changes of an accepted command.
+fn changes_of(alloc: Global, register: &Register, command: &Command) -> io::Result<Changes> {
+    match propose(register, alloc, command) {
+        Ok(proposal) => Ok(changes(alloc, register, proposal.change)?),
+        Err(_) => Err(io::Error::other("not accepted")),
+    }
+}
+
+/// How many rows a command writes and deletes.
+fn counts(rt: &impl Print, changes: &Changes, refusal: &str) -> io::Result<()> {
+    refuse(rt, refusal)?;
+    let put = changes.put();
+    let cut = changes.cut();
+    ample(rt)?;
+    println!(rt; "  put {put} cut {cut}")
+}
+
+/// The register of a season.
+fn new_register(rt: &impl Print, alloc: Global, refusal: &str) -> io::Result<()> {
+    let season = primary_season(alloc)?;
+    refuse(rt, refusal)?;
+    let register = Register::new(season);
+    ample(rt)?;
+    print_rows(rt, alloc, &register)
+}
+
+/// The connection of a desk, and the disks that it gives.
+fn connection(
+    rt: &impl Print,
+    alloc: Global,
+    desk: MemoryDesk,
+    refusal: &str,
+) -> io::Result<Disks> {
+    refuse(rt, refusal)?;
+    let conn = desk.into_connection();
+    let is_at_rest = conn.is_autocommit();
+    ample(rt)?;
+    println!(rt; "  connection {is_at_rest}")?;
+    let files = conn.into_store().close();
+    Ok(Disks::holding(alloc, files.db.bytes(), files.log.bytes())?)
+}
+
+/// What is asked of the register to which the script was done, of the changes of a command to it, and of a desk that failed.
+fn script_values(
+    rt: &impl Print,
+    alloc: Global,
+    script: &Script,
+    names: Names,
+    refusal: &str,
+) -> io::Result<()> {
+    let desk = desk_after(alloc, script)?;
+    register(rt, &desk, names, refusal)?;
+    let decline = Command::Decline {
+        child: names.child,
+        school: names.b,
+    };
+    if let Some(register) = desk.register() {
+        counts(rt, &changes_of(alloc, register, &decline)?, refusal)?;
+    }
+    let disks = connection(rt, alloc, desk, refusal)?;
+    failed(rt, alloc, &disks, &decline, refusal)
+}
+
+/// Makes the calls that take no memory, and prints what they answer.
+pub(crate) fn values(
+    rt: &impl Print,
+    alloc: Global,
+    script: &Script,
+    refusal: &str,
+) -> io::Result<()> {
+    let Some(names) = named() else {
+        return println!(rt; "  PROBLEM: no names");
+    };
+    codes(rt, refusal)?;
+    days(rt, names.b, names.child, refusal)?;
+    season(rt, &primary_season(alloc)?, refusal)?;
+    ranks(rt, alloc, refusal)?;
+    problems(rt, alloc, refusal)?;
+    new_register(rt, alloc, refusal)?;
+    script_values(rt, alloc, script, names, refusal)
+}
