@@ -8,6 +8,7 @@
 #   make reference     the definitions, public functions, clauses, mutants and files, as linked pages and one text, at out/reference; needs python3-jinja2, graphviz
 #   make wrong-bodies  those that the gate leaves to the hand, each of which must be refused
 #   make sweep    each request of the built program for memory refused, in turn: what is answered and left then; some minutes
+#   make refusals  the same of a script over disks in memory, judged by rules that share no code with the program, and of the calls that take none
 #   make killed-opens  an open after a crash, and opens that are refused, killed at each of their calls to the system; a minute
 #   make audits   admissions-audit on the rounds of 200 random registers, on files that were changed by hand, and on all allocations of small ones
 #   make races    a restore beside which a program starts at 300 random moments; restore and backup with a program started before each operation, killed, failing; some minutes
@@ -21,7 +22,7 @@ EXAMPLES := first_path applications season
 
 LOOKED_AT := $(addprefix examples/applications/,schools.jsonl children.jsonl applications.jsonl)
 
-.PHONY: look build demo cases test reference wrong-bodies sweep killed-opens audits races bench bench-more deploy-check install needs-demo needs-cases needs-sweep
+.PHONY: look build demo cases test reference wrong-bodies sweep refusals killed-opens audits races bench bench-more deploy-check install needs-demo needs-cases needs-sweep needs-refusals
 
 look:
 	@tools/needs look
@@ -38,7 +39,7 @@ cases: needs-cases build
 	@tools/cases bin/admissions $(notdir $(wildcard cases/*))
 
 # Before a build that takes an hour: what the goal needs after it
-needs-demo needs-cases needs-sweep:
+needs-demo needs-cases needs-sweep needs-refusals:
 	@tools/needs $(@:needs-%=%)
 
 test:
@@ -52,6 +53,10 @@ wrong-bodies:
 
 sweep: needs-sweep build
 	tools/sweep bin/admissions
+
+refusals: needs-refusals
+	cd crates/memory_runs && rt run < stdin | cmp - stdout
+	tools/refusals crates/memory_runs/out/memory_runs
 
 killed-opens: build
 	tools/killed-opens bin/admissions

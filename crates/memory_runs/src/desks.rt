@@ -10,25 +10,75 @@ use adm_store::create;
 use adm_types::{Command, Phase, Season};
 use adm_wire::{Input, Output};
 use sqlite::{Connection, FileStore, Files, Options};
-use sqlite_disk::Memory;
+use sqlite_disk::{Disk, Memory};
 use std::alloc::{AllocError, Global};
+use std::io;
 
 /// The number from which a log's salts are made.
 const SEED: u64 = 7;
+
+/// How many pages an open makes room for: more than the database has, and few, since every run opens it three times.
+const PAGES: usize = 64;
 
 type FileConnection = Connection<FileStore<Memory>>;
 
 /// A desk over disks in memory.
 pub(crate) type MemoryDesk = Desk<FileStore<Memory>>;
 
-/// The desk that a run reached, or the disks where it reached none.
-pub(crate) type Reached = Result<MemoryDesk, Files<Memory>>;
+/// What a run reached: a desk, or no more than the disks.
+pub(crate) enum Reached {
+    Desk(MemoryDesk),
+    Disks(Files<Memory>),
+}
+
+// Written by hand, and not derived: what lets go of it then calls this, in place of going through the fields.
+impl Drop for Reached {
+    fn drop(self) {
+        match self {
+            Reached::Desk(_) => {}
+            Reached::Disks(_) => {}
+        }
+    }
+}
+
+impl Reached {
+    pub(crate) fn into_desk(self) -> Option<MemoryDesk> {
+        match self {
+            Reached::Desk(desk) => Some(desk),
+            Reached::Disks(_) => None,
+        }
+    }
+
+    pub(crate) fn into_disks(self) -> Files<Memory> {
+        match self {
+            Reached::Desk(desk) => left_by(desk),
+            Reached::Disks(files) => files,
+        }
+    }
+}
 
 fn empty_disks(alloc: Global) -> Files<Memory> {
     Files {
         log: Memory::new(alloc),
         db: Memory::new(alloc),
     }
+}
+
+fn copy_of_disk(alloc: Global, disk: &Memory) -> io::Result<Memory> {
+    let mut copy = Memory::new(alloc);
+    copy.write_at(0, disk.bytes())?;
+    if copy.may_be_used() {
+        copy.sync()?;
+    }
+    Ok(copy)
+}
+
+/// Disks that hold the same.
+pub(crate) fn copy_of(alloc: Global, files: &Files<Memory>) -> io::Result<Files<Memory>> {
+    Ok(Files {
+        log: copy_of_disk(alloc, &files.log)?,
+        db: copy_of_disk(alloc, &files.db)?,
+    })
 }
 
 fn season_of(alloc: Global, script: &Script, trace: &mut Trace) -> Option<Season> {
@@ -50,11 +100,16 @@ fn connected(
     trace: &mut Trace,
 ) -> Result<FileConnection, Files<Memory>>
     ensures ended { IfOk result (λ c. c.in_transaction ≡ false) }
+    ensures started { IfOk result (λ c. IsStarted (file_state c)) }
 {
     if !files.may_be_used() {
         return Err(files);
     }
-    match Connection::open_files(alloc, files, Options::new(SEED)) {
+    let options = Options {
+        cache_pages: PAGES,
+        ..Options::new(SEED)
+    };
+    match Connection::open_files(alloc, files, options) {
         Ok(conn) => {
             trace.add(Event::Database(None));
             Ok(conn)
@@ -99,23 +154,31 @@ fn opened(alloc: Global, conn: FileConnection, trace: &mut Trace) -> Reached
     match Desk::open(alloc, conn) {
         Ok(desk) => {
             trace.add(Event::Open(None));
-            Ok(desk)
+            Reached::Desk(desk)
         }
         Err((fault, conn)) => {
             trace.add(Event::Open(Some(fault)));
-            Err(closed(conn))
+            Reached::Disks(closed(conn))
         }
+    }
+}
+
+/// A desk over the register that disks hold.
+pub(crate) fn found(alloc: Global, files: Files<Memory>, trace: &mut Trace) -> Reached {
+    match connected(alloc, files, trace) {
+        Ok(conn) => opened(alloc, conn, trace),
+        Err(files) => Reached::Disks(files),
     }
 }
 
 fn begun(alloc: Global, files: Files<Memory>, season: &Season, trace: &mut Trace) -> Reached {
     let conn = match connected(alloc, files, trace) {
         Ok(conn) => conn,
-        Err(files) => return Err(files),
+        Err(files) => return Reached::Disks(files),
     };
     match created(alloc, conn, season, trace) {
         Ok(conn) => opened(alloc, conn, trace),
-        Err(files) => Err(files),
+        Err(files) => Reached::Disks(files),
     }
 }
 
@@ -124,16 +187,13 @@ pub(crate) fn new_desk(alloc: Global, script: &Script, trace: &mut Trace) -> Rea
     let files = empty_disks(alloc);
     match season_of(alloc, script, trace) {
         Some(season) => begun(alloc, files, &season, trace),
-        None => Err(files),
+        None => Reached::Disks(files),
     }
 }
 
-/// The disks that the run left.
-pub(crate) fn disks_of(reached: Reached) -> Files<Memory> {
-    match reached {
-        Ok(desk) => closed(desk.into_connection()),
-        Err(files) => files,
-    }
+/// The disks of a desk, which gives its connection back.
+pub(crate) fn left_by(desk: MemoryDesk) -> Files<Memory> {
+    closed(desk.into_connection())
 }
 
 /// The answer to a command.

@@ -21,7 +21,6 @@
 
 mod bench;
 mod desks;
-mod failed;
 mod left;
 mod lists;
 mod problems;

@@ -1,4 +1,5 @@
 // Calls on a problem of three entrants and two schools that take no memory.
+use crate::lists::print_code;
 use crate::window::{ample, refuse};
 use adm_match::{Entrant, Held, Offers, Problem, Seats, Wish, first_block, offers};
 use adm_rank::RankKey;
@@ -62,13 +63,6 @@ fn problem(alloc: Global, names: Names, quota: u32) -> io::Result<Problem> {
     }
 }
 
-fn print_school(rt: &impl Print, school: &Option<SchoolCode>) -> io::Result<()> {
-    match school {
-        Some(school) => print!(rt; " {school}"),
-        None => print!(rt; " -"),
-    }
-}
-
 fn print_block(rt: &impl Print, block: &Option<(ChildNo, SchoolCode)>) -> io::Result<()> {
     match block {
         Some((child, school)) => println!(rt; "  blocks {child} {school}"),
@@ -94,7 +88,7 @@ fn look(
     ample(rt)?;
     print!(rt; "  offers")?;
     for school in &schools {
-        print_school(rt, school)?;
+        print_code(rt, school)?;
     }
     println!(rt; " proposals {proposals}")?;
     print_block(rt, &block)?;

@@ -1,13 +1,13 @@
 // The runs of the script. Each prints what its calls answered, and what it left.
-use crate::desks::{MemoryDesk, all_asked, new_desk, run_lines};
+use crate::desks::{MemoryDesk, Reached, all_asked, new_desk, run_lines};
 use crate::left::print_what_is_left;
 use crate::script::Script;
 use crate::steps::steps;
 use crate::trace::{Trace, print_answer, print_text};
 use crate::window::{ample, refuse};
-use adm_desk::{Answer, LineAnswer};
+use adm_desk::{Answer, LineAnswer, Run, RunFault};
 use adm_wire::Watched;
-use std::alloc::Global;
+use std::alloc::{AllocError, Global};
 use std::{io, str};
 
 /// So many bytes of answers are written without a request for memory.
@@ -16,9 +16,9 @@ const ROOM: usize = 4096;
 /// A desk over the new register of the script's season, made with ample memory.
 pub(crate) fn fresh_desk(alloc: Global, script: &Script) -> io::Result<MemoryDesk> {
     let mut trace = Trace::new(alloc)?;
-    match new_desk(alloc, script, &mut trace) {
-        Ok(desk) => Ok(desk),
-        Err(_) => Err(io::Error::other("there is no desk")),
+    match new_desk(alloc, script, &mut trace).into_desk() {
+        Some(desk) => Ok(desk),
+        None => Err(io::Error::other("there is no desk")),
     }
 }
 
@@ -37,6 +37,14 @@ pub(crate) fn by_steps(
     print_what_is_left(rt, alloc, reached)
 }
 
+fn print_ran(rt: &impl Print, ran: Result<Run, RunFault>, answers: &[u8]) -> io::Result<()> {
+    match ran {
+        Ok(run) => println!(rt; "  lines {} {} {}", run.done, run.refused, run.failed)?,
+        Err(fault) => println!(rt; "  lines {fault:?}")?,
+    }
+    print_text(rt, str::from_utf8(answers).unwrap_or("PROBLEM: not UTF-8"))
+}
+
 /// Runs the commands of the script as lines, answered by one `run_lines`.
 pub(crate) fn by_lines(
     rt: &impl Print,
@@ -44,28 +52,30 @@ pub(crate) fn by_lines(
     script: &Script,
     refusal: &str,
 ) -> io::Result<()> {
-    let mut desk = fresh_desk(alloc, script)?;
     let mut reader = Watched::new(script.lines.as_slice());
     let mut writer = Watched::new(Vec::with_capacity(alloc, ROOM)?);
+    let mut desk = fresh_desk(alloc, script)?;
     refuse(rt, refusal)?;
     let ran = run_lines(&mut desk, &mut reader, &mut writer);
     ample(rt)?;
-    match ran {
-        Ok(run) => println!(rt; "  lines {} {} {}", run.done, run.refused, run.failed)?,
-        Err(fault) => println!(rt; "  lines {fault:?}")?,
-    }
-    print_text(
-        rt,
-        str::from_utf8(&writer.stream).unwrap_or("PROBLEM: not UTF-8"),
-    )?;
-    print_what_is_left(rt, alloc, Ok(desk))
+    print_ran(rt, ran, &writer.stream)?;
+    print_what_is_left(rt, alloc, Reached::Desk(desk))
 }
 
-fn print_answers(rt: &impl Print, alloc: Global, answers: &[Answer]) -> io::Result<()> {
-    for answer in answers {
-        print_answer(rt, alloc, LineAnswer::Handled(*answer))?;
+fn print_answers(
+    rt: &impl Print,
+    alloc: Global,
+    answered: &Result<Vec<Answer>, AllocError>,
+) -> io::Result<()> {
+    match answered {
+        Ok(answers) => {
+            for answer in answers {
+                print_answer(rt, alloc, LineAnswer::Handled(*answer))?;
+            }
+            Ok(())
+        }
+        Err(_) => println!(rt; "  commands Memory"),
     }
-    Ok(())
 }
 
 /// Runs the commands of the script and its import, answered by one `handle_all`.
@@ -75,16 +85,13 @@ pub(crate) fn by_commands(
     script: &Script,
     refusal: &str,
 ) -> io::Result<()> {
-    let mut desk = fresh_desk(alloc, script)?;
     let commands = script.commands(alloc)?;
+    let mut desk = fresh_desk(alloc, script)?;
     refuse(rt, refusal)?;
     let answered = all_asked(&mut desk, &commands);
     ample(rt)?;
-    match answered {
-        Ok(answers) => print_answers(rt, alloc, &answers)?,
-        Err(_) => println!(rt; "  commands Memory")?,
-    }
-    print_what_is_left(rt, alloc, Ok(desk))
+    print_answers(rt, alloc, &answered)?;
+    print_what_is_left(rt, alloc, Reached::Desk(desk))
 }
 
 /// Makes one request for memory.

@@ -1,4 +1,5 @@
 // Calls on codes, numbers, days, a season and ranks that take no memory.
+use crate::lists::print_days;
 use crate::window::{ample, refuse};
 use adm_rank::{RankKey, class, distance, key};
 use adm_types::limits::{is_child_in_range, is_school_in_range};
@@ -70,15 +71,6 @@ pub(crate) fn days(
     println!(rt; "  none {} {}", no_day.is_none(), early.is_none())
 }
 
-fn print_days(rt: &impl Print, word: &str, days: &[Day]) -> io::Result<()> {
-    print!(rt; "  {word}")?;
-    for day in days {
-        let text = day.text();
-        print!(rt; " {}", text.as_str())?;
-    }
-    println!(rt)
-}
-
 /// What is asked of a season.
 pub(crate) fn season(rt: &impl Print, season: &Season, refusal: &str) -> io::Result<()> {
     refuse(rt, refusal)?;
@@ -88,8 +80,10 @@ pub(crate) fn season(rt: &impl Print, season: &Season, refusal: &str) -> io::Res
     let days = [season.closing(), season.offer_day(), season.lists_end()];
     ample(rt)?;
     println!(rt; "  season {phase:?} {year}")?;
-    print_days(rt, "holidays", holidays)?;
-    print_days(rt, "closing, offer day, end of lists", &days)
+    print!(rt; "  holidays")?;
+    print_days(rt, holidays)?;
+    print!(rt; "  closing, offer day, end of lists")?;
+    print_days(rt, &days)
 }
 
 fn primary(alloc: Global, holidays: &[Day]) -> io::Result<Season> {

@@ -46,11 +46,9 @@ fn take_all(alloc: Global, script: &Script, desk: &mut MemoryDesk, trace: &mut T
 
 /// Runs the script, each call by itself, until one gives no desk.
 pub(crate) fn steps(alloc: Global, script: &Script, trace: &mut Trace) -> Reached {
-    match new_desk(alloc, script, trace) {
-        Ok(mut desk) => {
-            take_all(alloc, script, &mut desk, trace);
-            Ok(desk)
-        }
-        Err(files) => Err(files),
+    let mut reached = new_desk(alloc, script, trace);
+    if let Reached::Desk(desk) = &mut reached {
+        take_all(alloc, script, desk, trace);
     }
+    reached
 }

@@ -1,6 +1,6 @@
 // The calls that take no memory, while requests for it may be refused.
-use crate::desks::{MemoryDesk, asked};
-use crate::failed::failed;
+use crate::desks::{MemoryDesk, asked, left_by};
+use crate::left::print_disks;
 use crate::lists::print_code;
 use crate::problems::problems;
 use crate::rows::print_rows;
@@ -12,7 +12,6 @@ use adm_commands::propose;
 use adm_register::Register;
 use adm_store::{Changes, changes};
 use adm_types::{ChildNo, Command, SchoolCode};
-use run_disks::Disks;
 use std::alloc::Global;
 use std::io;
 
@@ -106,23 +105,15 @@ fn new_register(rt: &impl Print, alloc: Global, refusal: &str) -> io::Result<()>
     print_rows(rt, alloc, &register)
 }
 
-/// The connection of a desk, and the disks that it gives.
-fn connection(
-    rt: &impl Print,
-    alloc: Global,
-    desk: MemoryDesk,
-    refusal: &str,
-) -> io::Result<Disks> {
+/// What the connection that a desk gives back leaves.
+fn connection(rt: &impl Print, alloc: Global, desk: MemoryDesk, refusal: &str) -> io::Result<()> {
     refuse(rt, refusal)?;
-    let conn = desk.into_connection();
-    let is_at_rest = conn.is_autocommit();
+    let files = left_by(desk);
     ample(rt)?;
-    println!(rt; "  connection {is_at_rest}")?;
-    let files = conn.into_store().close();
-    Ok(Disks::holding(alloc, files.db.bytes(), files.log.bytes())?)
+    print_disks(rt, alloc, files)
 }
 
-/// What is asked of the register to which the script was done, of the changes of a command to it, and of a desk that failed.
+/// What is asked of the register to which the script was done, of the changes of a command to it, and of its desk.
 fn script_values(
     rt: &impl Print,
     alloc: Global,
@@ -131,16 +122,15 @@ fn script_values(
     refusal: &str,
 ) -> io::Result<()> {
     let desk = desk_after(alloc, script)?;
-    register(rt, &desk, names, refusal)?;
     let decline = Command::Decline {
         child: names.child,
         school: names.b,
     };
+    register(rt, &desk, names, refusal)?;
     if let Some(register) = desk.register() {
         counts(rt, &changes_of(alloc, register, &decline)?, refusal)?;
     }
-    let disks = connection(rt, alloc, desk, refusal)?;
-    failed(rt, alloc, &disks, &decline, refusal)
+    connection(rt, alloc, desk, refusal)
 }
 
 /// Makes the calls that take no memory, and prints what they answer.
