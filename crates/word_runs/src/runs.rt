@@ -1,5 +1,6 @@
 // A run with the lines that were given for it, and what it prints.
-use adm_program::{FileRows, run_words};
+use adm_files::FileRows;
+use adm_program::run_words;
 use adm_wire::Watched;
 use sqlite::Unknown;
 use std::alloc::Global;
