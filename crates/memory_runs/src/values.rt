@@ -11,7 +11,7 @@ use crate::window::{ample, refuse};
 use adm_commands::propose;
 use adm_register::Register;
 use adm_store::{Changes, changes};
-use adm_types::{ChildNo, Command, SchoolCode};
+use adm_types::{Child, ChildNo, Command, Draw, Place, School, SchoolCode};
 use std::alloc::Global;
 use std::io;
 
@@ -41,42 +41,82 @@ fn desk_after(alloc: Global, script: &Script) -> io::Result<MemoryDesk> {
     Ok(desk)
 }
 
-/// What is asked of a register.
-fn register(rt: &impl Print, desk: &MemoryDesk, names: Names, refusal: &str) -> io::Result<()> {
-    let Names { child, a, b } = names;
-    refuse(rt, refusal)?;
-    let Some(register) = desk.register() else {
-        ample(rt)?;
-        return println!(rt; "  PROBLEM: no register");
-    };
-    let year = register.season().year();
-    let school = register.school(b);
-    let found = register.child(child);
-    let place = register.place(child);
-    let vacancies = (register.vacancies(a), register.vacancies(b));
-    let round = register.round(1);
-    let no_round = register.round(2);
-    ample(rt)?;
-    println!(rt;
-        "  year {year} vacancies {vacancies:?} second round {}",
-        no_round.is_some()
-    )?;
-    if let (Some(school), Some(child), Some(place)) = (school, found, place) {
-        println!(rt;
+/// What is asked of a register, of the child, of the two schools and of rounds.
+#[derive(Clone, Copy)]
+struct Seen<'a> {
+    year: u32,
+    school: Option<&'a School>,
+    child: Option<&'a Child>,
+    place: Option<Place>,
+    vacancies: (Option<u32>, Option<u32>),
+    round: Option<&'a Draw>,
+    no_round: bool,
+}
+
+fn look_at<'a>(register: &'a Register, names: Names) -> Seen<'a> {
+    Seen {
+        year: register.season().year(),
+        school: register.school(names.b),
+        child: register.child(names.child),
+        place: register.place(names.child),
+        vacancies: (register.vacancies(names.a), register.vacancies(names.b)),
+        round: register.round(1),
+        no_round: register.round(2).is_none(),
+    }
+}
+
+fn print_names(rt: &impl Print, school: Option<&School>, child: Option<&Child>) -> io::Result<()> {
+    match (school, child) {
+        (Some(school), Some(child)) => println!(rt;
             "  school {} child {}",
             school.name.as_str(),
             child.name.as_str()
+        ),
+        _ => println!(rt; "  PROBLEM: no school or no child"),
+    }
+}
+
+fn print_place(rt: &impl Print, place: Option<Place>) -> io::Result<()> {
+    match place {
+        Some(place) => println!(rt; "  place {} {:?}", place.school, place.state),
+        None => println!(rt; "  PROBLEM: no place"),
+    }
+}
+
+fn print_draw(rt: &impl Print, draw: &Draw) -> io::Result<()> {
+    print!(rt; "  round {} draw {} outcomes", draw.round, draw.number)?;
+    for outcome in draw.outcomes.as_slice() {
+        print_code(rt, &outcome.school)?;
+    }
+    println!(rt)
+}
+
+impl<'a> Seen<'a> {
+    fn print(&self, rt: &impl Print) -> io::Result<()> {
+        println!(rt;
+            "  year {} vacancies {:?} no second round {}",
+            self.year, self.vacancies, self.no_round
         )?;
-        println!(rt; "  place {} {:?}", place.school, place.state)?;
-    }
-    if let Some(round) = round {
-        print!(rt; "  round {} draw {} outcomes", round.round, round.number)?;
-        for outcome in round.outcomes.as_slice() {
-            print_code(rt, &outcome.school)?;
+        print_names(rt, self.school, self.child)?;
+        print_place(rt, self.place)?;
+        match self.round {
+            Some(draw) => print_draw(rt, draw),
+            None => println!(rt; "  PROBLEM: no round"),
         }
-        println!(rt)?;
     }
-    Ok(())
+}
+
+/// What is asked of the register of a desk.
+fn register(rt: &impl Print, desk: &MemoryDesk, names: Names, refusal: &str) -> io::Result<()> {
+    refuse(rt, refusal)?;
+    match desk.register() {
+        Some(register) => {
+            let seen = look_at(register, names);
+            ample(rt)?;
+            seen.print(rt)
+        }
+        None => println!(rt; "  PROBLEM: no register"),
+    }
 }
 
 /// The changes of an accepted command.
