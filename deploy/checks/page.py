@@ -245,7 +245,7 @@ def other_site(page, see):
     page.call("Page.navigate", url="data:text/html,<form method=post enctype=text/plain action=" + f"https://{NAME}/command><input name='%7B%22cmd%22:%22decline%22,%22child%22:1,%22school%22:%22A%22%7D'></form>")
     page.wait("document.forms.length === 1")
     page.value("document.forms[0].submit()")
-    page.wait("!document.forms.length")
+    page.wait("!document.forms.length && document.body && document.body.innerText.trim()")
     see("a form of another site is refused", "403" in page.value("document.body.innerText") or "415" in page.value("document.body.innerText"))
     page.call("Page.navigate", url="data:text/html,<p>other")
     page.wait("document.querySelector('p')")
