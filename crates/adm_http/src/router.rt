@@ -17,7 +17,7 @@ pub struct Routes {
 }
 
 impl Routes {
-    /// The six routes. The `Err` is want of memory, and comes for nothing else.
+    /// The six routes. It fails only where memory runs out.
     pub fn new(alloc: Global) -> Result<Routes, AllocError> {
         let router = six(alloc)?;
         Ok(Routes { router })

@@ -1,4 +1,4 @@
--- What a line of words comes to, from the clauses of what it calls.
+-- How a command line ends, from the clauses of what it calls.
 use Rattle.std.proofs.Common.{◌≡◌, ℕ, List, Result, Ok, Err, inl, inr, ap}
 use Rattle.std.specs.Prelude.{IfOk, IfErr, OnErr, IsTrue}
 use Rattle.std.specs.Borrow.{Bor}

@@ -1,4 +1,4 @@
--- What a line of words comes to: what is done, what is told, and the exit status.
+-- How a command line ends: what is done, what is reported, and the exit status.
 use Rattle.std.specs.Prelude.{◌≡◌, ◌⊎◌, ℕ, List, map, IsTrue, Result, Ok, Err}
 use Rattle.std.specs.Borrow.{Bor}
 use Rattle.sqlite_disk.specs.declared.Disk as disk
