@@ -438,8 +438,9 @@ def main():
     season.places[child].update(kind="accepted", day=None)
     shortest = min(sorted(season.schools), key=lambda it: (len(season.waiting(it)) == 0, len(season.waiting(it))))
     write("asks", [
-        "# Each route of the desk at $at, by curl", "set -euo pipefail", *[f"curl -s $at/child/{it}; echo" for it in (child, unplaced)], *[f"curl -s -d '{compact(accept)}' $at/command; echo"] * 2,
-        f"curl -s $at/child/{child}/letter", f"curl -s $at/school/{shortest}/waiting", "curl -s $at/round/2 | tail -n 1",
+        "#!/usr/bin/env bash", "# Each route of the desk at $at, by curl", "set -euo pipefail", ': "${at:?}"',
+        *[f'curl -s "$at/child/{it}"; echo' for it in (child, unplaced)], *[f"curl -s -d '{compact(accept)}' \"$at/command\"; echo"] * 2,
+        f'curl -s "$at/child/{child}/letter"', f'curl -s "$at/school/{shortest}/waiting"', 'curl -s "$at/round/2" | tail -n 1',
     ])
     said_to = [*states, compact(done), compact({"name": "NotOffered", "refused": 15}), *season.letter(child), *season.list_lines(shortest), season.report(2)[-1]]
     show("serving reg.db 7 bash asks", said_to)
