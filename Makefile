@@ -6,7 +6,7 @@
 #   make cases    the cases, the same way; they take seconds once the program is built
 #   make test     every proof, mutants, tests, examples and cases; its last line is 'N passed, M failed'
 #   make reference     the definitions, public functions, clauses, mutants and files, as linked pages and one text, at out/reference; needs python3-jinja2, graphviz
-#   make wrong-bodies  those that the gate leaves to the hand, each of which must be refused
+#   make mutants  the planted bugs that the gate does not try, each of which the proof must reject
 #   make sweep    each request of the built program for memory refused, in turn: what is answered and left then; some minutes
 #   make refusals  the same of a script over disks in memory, judged by rules that share no code with the program, and of the calls that take none
 #   make killed-opens  an open after a crash, and opens that are refused, killed at each of their calls to the system; a minute
@@ -22,7 +22,7 @@ EXAMPLES := first_path applications season
 
 LOOKED_AT := $(addprefix examples/applications/,schools.jsonl children.jsonl applications.jsonl)
 
-.PHONY: look build demo cases test reference wrong-bodies sweep refusals killed-opens audits races bench bench-more deploy-check install needs-demo needs-cases needs-sweep needs-refusals
+.PHONY: look build demo cases test reference mutants sweep refusals killed-opens audits races bench bench-more deploy-check install needs-demo needs-cases needs-sweep needs-refusals
 
 look:
 	@tools/needs look
@@ -48,8 +48,8 @@ test:
 reference:
 	@tools/reference
 
-wrong-bodies:
-	tools/wrong-bodies
+mutants:
+	tools/mutants
 
 sweep: needs-sweep build
 	tools/sweep bin/admissions
