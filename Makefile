@@ -12,6 +12,7 @@
 #   make killed-opens  an open after a crash, and opens that are refused, killed at each of their calls to the system; a minute
 #   make audits   admissions-audit on the rounds of 200 random registers, on files that were changed by hand, and on all allocations of small ones
 #   make races    a restore beside which a program starts at 300 random moments; restore and backup with a program started before each operation, killed, failing; some minutes
+#   make costs    the CPU seconds of each crate's proof in the build here, beside a unit of this hour, and the longest chain of crates
 #   make bench    what is aimed at for the costs, beside what they are, in one table; at most ten minutes once the program is built
 #   make bench-more  what commands cost in more tables, beside a baseline in the same run
 #   make deploy-check  what is deployed (site, desk in its own network, page), on this machine alone; needs nginx, openssl, curl, chromium and poppler-utils, no part of test
@@ -22,7 +23,7 @@ EXAMPLES := first_path applications season
 
 LOOKED_AT := $(addprefix examples/applications/,schools.jsonl children.jsonl applications.jsonl)
 
-.PHONY: look build demo cases test reference mutants sweep refusals killed-opens audits races bench bench-more deploy-check install needs-demo needs-cases needs-sweep needs-refusals
+.PHONY: look build demo cases test reference mutants sweep refusals killed-opens audits races costs bench bench-more deploy-check install needs-demo needs-cases needs-sweep needs-refusals
 
 look:
 	@tools/needs look
@@ -67,6 +68,9 @@ audits: build
 races: build
 	tools/races bin/admissions tools/restore 300
 	for tool in restore backup; do for action in start kill fail; do tools/races bin/admissions tools/$$tool $$action || exit 1; done; done
+
+costs: build
+	tools/costs
 
 bench: build
 	bench/aims bin/admissions
