@@ -1,11 +1,14 @@
 -- The tests of rows tell whether they are equal.
 use Rattle.std.specs.Prelude.{◌≡◌, ◌↔◌, ◌&&◌, not, nat_eq, ℕ, Bool, true, false, List, Option, Some, None}
 use Rattle.std.proofs.Common.{refl, ap, sym, subst, true≢false}
+use mathlib.Core.Bool.{beq}
 use Rattle.std.specs.Option.{option_eq}
 use Rattle.std.specs.Cmp.{unsigned_Decides, booleans_Decides, first_so, second_so}
 use Rattle.std.specs.Cmp.Lexicographic.{pointwise, pointwise_decides, bytes_decides}
 use Rattle.std.proofs.lemmas.Option.{none-some, same_Some}
 use Rattle.std.proofs.lemmas.Bool.{and_parts}
+use Rattle.adm_fields.specs.Lists.{Format, child_fields}
+use Rattle.adm_fields.specs.Records.{child_of, child_values}
 use Rattle.adm_types.specs.declared.rows.Point.{Point}
 use Rattle.adm_types.specs.declared.rows.Criterion.{Criterion}
 use Rattle.adm_types.specs.declared.rows.Criterion.TheVariants.{Sibling, Within, Flag, Feeder}
@@ -134,32 +137,41 @@ same_school = decided is_same_school
     && ((same_point x.at x.at).1 refl i
     && (same_criteria x.criteria x.criteria).1 refl i))))
 
+-- a test that is true of two values just where they are equal
+record Decider (A : Type 0) : Type 0 where
+  test : A → A → Bool
+  told : (x y : A) → test x y ≡ true → x ≡ y
+  itself : (x : A) → test x x ≡ true
+
+abbrev decider : {A : Type 0} (test : A → A → Bool) → ((x y : A) → (test x y ≡ true) ↔ (x ≡ y)) → Decider A
+decider test decides = record { test = test; told = λ x y. (decides x y).0; itself = λ x. (decides x x).1 refl }
+
+both_true : (a b : Bool) → a ≡ true → b ≡ true → (a && b) ≡ true
+both_true a b p q = λ i. p i && q i
+
+-- two records are equal just where the values of each field are
+abbrev deciding : Format Decider Decider
+deciding = record {
+  field = λ name otherwise kind others. record {
+    test = λ x y. kind.test x.0 y.0 && others.test x.1 y.1;
+    told = λ x y e. let parts = and_parts _ _ e in λ i. (kind.told x.0 y.0 parts.0 i, others.told x.1 y.1 parts.1 i);
+    itself = λ x. both_true _ _ (kind.itself x.0) (others.itself x.1);
+  };
+  no_more = record { test = λ x y. true; told = λ x y e. refl; itself = λ x. refl };
+  a_child = decider nat_eq same_nat;
+  a_code_or_none = decider (option_eq (pointwise nat_eq)) same_choice;
+  a_text = decider (pointwise nat_eq) bytes_decides;
+  a_number = decider nat_eq same_nat;
+  a_truth = decider beq booleans_Decides;
+  a_day = decider nat_eq same_nat;
+  some_flags = decider nat_eq same_nat;
+  some_codes = decider (pointwise (pointwise nat_eq)) same_codes;
+}
+
 pub same_child : (x y : Child) → (is_same_child x y ≡ true) ↔ (x ≡ y)
-same_child = decided is_same_child
-    (λ x y e.
-    let number = and_parts _ _ e in
-    let name = and_parts _ _ number.1 in
-    let home = and_parts _ _ name.1 in
-    let looked = and_parts _ _ home.1 in
-    let flags = and_parts _ _ looked.1 in
-    let siblings = and_parts _ _ flags.1 in
-    λ i. record {
-      no = (same_nat x.no y.no).0 number.0 i;
-      name = (bytes_decides x.name y.name).0 name.0 i;
-      home = (same_point x.home y.home).0 home.0 i;
-      looked_after = (booleans_Decides x.looked_after y.looked_after).0 looked.0 i;
-      flags = (same_nat x.flags y.flags).0 flags.0 i;
-      siblings = (same_codes x.siblings y.siblings).0 siblings.0 i;
-      present = (same_choice x.present y.present).0 siblings.1 i;
-    })
-    (λ x i.
-    (same_nat x.no x.no).1 refl i
-    && ((bytes_decides x.name x.name).1 refl i
-    && ((same_point x.home x.home).1 refl i
-    && ((booleans_Decides x.looked_after x.looked_after).1 refl i
-    && ((same_nat x.flags x.flags).1 refl i
-    && ((same_codes x.siblings x.siblings).1 refl i
-    && (same_choice x.present x.present).1 refl i))))))
+same_child x y =
+    let d = child_fields deciding in
+    (λ e. ap child_of (d.told (child_values x) (child_values y) e), λ e. subst (λ z. is_same_child x z ≡ true) e (d.itself (child_values x)))
 
 pub same_application : (x y : Application) → (is_same_application x y ≡ true) ↔ (x ≡ y)
 same_application = decided is_same_application

@@ -3,6 +3,8 @@ use Rattle.std.specs.Prelude.{◌&&◌, not, nat_eq, Bool, true, Option, Some, N
 use mathlib.Core.Bool.{beq}
 use Rattle.std.specs.Option.{option_eq}
 use Rattle.std.specs.Cmp.Lexicographic.{pointwise}
+use Rattle.adm_fields.specs.Lists.{Format, child_fields}
+use Rattle.adm_fields.specs.Records.{child_values}
 use Rattle.adm_types.specs.declared.rows.School.{School}
 use Rattle.adm_types.specs.declared.rows.Child.{Child}
 use Rattle.adm_types.specs.declared.rows.Application.{Application}
@@ -19,9 +21,23 @@ abbrev pub is_same_school : School → School → Bool
 is_same_school x y =
     pointwise nat_eq x.code y.code && (pointwise nat_eq x.name y.name && (nat_eq x.pan y.pan && ((nat_eq x.at.east y.at.east && nat_eq x.at.north y.at.north) && pointwise criterion_eq.it x.criteria y.criteria)))
 
+-- two records are the same where the values of each field are
+abbrev pub equality : Format (λ A. A → A → Bool) (λ A. A → A → Bool)
+equality = record {
+  field = λ name otherwise kind others x y. kind x.0 y.0 && others x.1 y.1;
+  no_more = λ x y. true;
+  a_child = nat_eq;
+  a_code_or_none = option_eq (pointwise nat_eq);
+  a_text = pointwise nat_eq;
+  a_number = nat_eq;
+  a_truth = beq;
+  a_day = nat_eq;
+  some_flags = nat_eq;
+  some_codes = pointwise (pointwise nat_eq);
+}
+
 abbrev pub is_same_child : Child → Child → Bool
-is_same_child x y =
-    nat_eq x.no y.no && (pointwise nat_eq x.name y.name && ((nat_eq x.home.east y.home.east && nat_eq x.home.north y.home.north) && (beq x.looked_after y.looked_after && (nat_eq x.flags y.flags && (pointwise (pointwise nat_eq) x.siblings y.siblings && option_eq (pointwise nat_eq) x.present y.present)))))
+is_same_child x y = child_fields equality (child_values x) (child_values y)
 
 abbrev pub is_same_application : Application → Application → Bool
 is_same_application x y = nat_eq x.child y.child && (nat_eq x.day y.day && pointwise (pointwise nat_eq) x.list y.list)

@@ -2,6 +2,7 @@
 #![tactic(auto)]
 
 mod keyed;
+mod kinds;
 mod pieces;
 mod same;
 mod shared;

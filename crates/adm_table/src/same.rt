@@ -3,13 +3,14 @@ ghost use Rattle.std.specs.Prelude.{◌≡◌, Bool};
 ghost use Rattle.adm_table.specs.Same.{is_same_school, is_same_child, is_same_application, is_same_place, is_same_left, is_same_draw, is_same_import};
 
 use crate::Shared;
+use adm_fields::child_refs;
 use adm_types::{Application, Child, Draw, ImportRow, LeftPair, PlaceRow, School};
 
-/// A row that can be compared with another.
+/// A row, or a value in one, that can be compared with another.
 pub trait Same {
     ghost same: { Self → Self → Bool };
 
-    /// Whether the two rows are the same.
+    /// Whether the two are the same.
     fn is_same(&self, other: &Self) -> bool
         ensures { result ≡ same self.now other.now };
 }
@@ -30,13 +31,7 @@ impl Same for Child {
     ghost same = { is_same_child };
 
     fn is_same(&self, other: &Child) -> bool {
-        self.no == other.no
-            && self.name.as_str() == other.name.as_str()
-            && self.home == other.home
-            && self.looked_after == other.looked_after
-            && self.flags == other.flags
-            && self.siblings.as_slice() == other.siblings.as_slice()
-            && self.present == other.present
+        child_refs(self).is_same(&child_refs(other))
     }
 }
 
