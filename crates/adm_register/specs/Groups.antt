@@ -7,11 +7,8 @@ use Rattle.std.specs.Map.{keys_of, values_of}
 use Rattle.adm_draws.specs.Draws.{AreDrawRowsOf}
 use Rattle.adm_register.specs.declared.groups.Base.{Base}
 use Rattle.adm_register.specs.declared.groups.Course.{Course}
-use Rattle.adm_register.specs.declared.difference.Difference.{Difference}
 use Rattle.adm_register.specs.declared.register_rows.Rows.{Rows}
-use Rattle.adm_register.specs.declared.row_groups.BaseChange.{BaseChange}
 use Rattle.adm_register.specs.declared.row_groups.BaseRows.{BaseRows}
-use Rattle.adm_register.specs.declared.row_groups.CourseChange.{CourseChange}
 use Rattle.adm_register.specs.declared.row_groups.CourseRows.{CourseRows}
 use Rattle.adm_register.specs.declared.row_groups.DrawnRows.{DrawnRows}
 use Rattle.adm_register.specs.State.{State}
@@ -74,13 +71,3 @@ pub record AreCourseRowsOf (rows : CourseRows) (s : State) : Type 0 where
 -- a table has just these rows, each at its own key
 abbrev pub HasRowsByKey : {K V : Type 0} → (K → K → Ordering) → (V → K) → List V → List (K × V) → Type 0
 HasRowsByKey R key rows table = IsPermutation rows (values_of table) × (map key (values_of table) ≡ keys_of table) × IsStrictlySortedBy R (keys_of table)
-
--- ---- a change in the same two groups
-
--- what it puts and cuts of the first tables
-abbrev pub base_change : Difference → BaseChange
-base_change change = record { schools = change.schools; children = change.children; applications = change.applications; ended = change.ended }
-
--- and of the others
-abbrev pub course_change : Difference → CourseChange
-course_change change = record { places = change.places; left = change.left; draws = change.draws; imported = change.imported; vacated = change.vacated }

@@ -1,13 +1,10 @@
-// The rows after a change, and what of a change differs from the rows before.
+// The rows after a change.
 ghost use Rattle.std.specs.Prelude.{◌≡◌, IfOk};
 ghost use Rattle.adm_register.specs.Change.{after};
-ghost use Rattle.adm_register.specs.Difference.{differing};
-ghost use Rattle.adm_register.specs.Groups.{IsBaseOf, IsCourseOf, base_change, course_change};
-ghost use Rattle.adm_register.specs.declared.difference.Difference.{Difference as DifferenceValue};
+ghost use Rattle.adm_register.specs.Groups.{IsBaseOf, IsCourseOf};
 
 use crate::Difference;
 use crate::groups::{Base, Course};
-use crate::row_groups::{BaseChange, CourseChange};
 use crate::tables::Tables;
 use std::alloc::{AllocError, Global};
 
@@ -57,72 +54,6 @@ impl Tables {
             imported: course
                 .imported
                 .with_all(alloc, &[], change.imported.as_slice())?,
-        })
-    }
-
-    /// What of the change differs from these rows. What it costs grows with the change.
-    pub(crate) fn differing(
-        &self,
-        alloc: Global,
-        change: Difference,
-    ) -> Result<Difference, AllocError>
-        ensures { IfOk result (λ difference. difference ≡ differing self.now change) }
-    {
-        let (first, others) = change.into_groups();
-        let first = self.base_differing(alloc, first)?;
-        let others = self.course_differing(alloc, others)?;
-        Ok(Difference {
-            schools: first.schools,
-            children: first.children,
-            applications: first.applications,
-            places: others.places,
-            left: others.left,
-            draws: others.draws,
-            imported: others.imported,
-            ended: first.ended,
-            vacated: others.vacated,
-        })
-    }
-
-    /// What of a change of the first tables differs.
-    fn base_differing(&self, alloc: Global, change: BaseChange) -> Result<BaseChange, AllocError>
-        ensures { IfOk result (λ found. (whole : DifferenceValue) → base_change whole ≡ change → found ≡ base_change (differing self.now whole)) }
-    {
-        let BaseChange {
-            schools,
-            children,
-            applications,
-            ended,
-        } = change;
-        Ok(BaseChange {
-            schools: self.base.schools.lacked(alloc, schools)?,
-            children: self.base.children.lacked(alloc, children)?,
-            applications: self.base.applications.lacked(alloc, applications)?,
-            ended: self.base.applications.known(alloc, ended)?,
-        })
-    }
-
-    /// What of a change of the others differs.
-    fn course_differing(
-        &self,
-        alloc: Global,
-        change: CourseChange,
-    ) -> Result<CourseChange, AllocError>
-        ensures { IfOk result (λ found. (whole : DifferenceValue) → course_change whole ≡ change → found ≡ course_change (differing self.now whole)) }
-    {
-        let CourseChange {
-            places,
-            left,
-            draws,
-            imported,
-            vacated,
-        } = change;
-        Ok(CourseChange {
-            places: self.course.places.lacked(alloc, places)?,
-            left: self.course.left.lacked(alloc, left)?,
-            draws: self.course.draws.lacked(alloc, draws)?,
-            imported: self.course.imported.lacked(alloc, imported)?,
-            vacated: self.course.places.known(alloc, vacated)?,
         })
     }
 }

@@ -1,9 +1,9 @@
 // The rows by which one register differs from another.
 ghost use Rattle.std.specs.Prelude.{◌≡◌};
 ghost use Rattle.adm_register.specs.Change.{no_change};
-ghost use Rattle.adm_register.specs.Groups.{base_change, course_change};
+ghost use Rattle.adm_register.specs.Difference.{differing};
 
-use crate::row_groups::{BaseChange, CourseChange};
+use crate::tables::Tables;
 use adm_table::Shared;
 use adm_types::{Application, Child, ChildNo, Draw, ImportRow, LeftPair, PlaceRow, School, Seq};
 use std::alloc::Global;
@@ -60,9 +60,10 @@ impl Difference {
         }
     }
 
-    /// The change of the first tables, and that of the others.
-    pub(crate) fn into_groups(self) -> (BaseChange, CourseChange)
-        ensures { result ≡ (base_change self, course_change self) }
+    /// What of it differs from the rows of these tables. It takes no memory, and its cost grows with
+    /// the change.
+    pub(crate) fn differing_from(self, tables: &Tables) -> Difference
+        ensures { result ≡ differing tables.now self }
     {
         let Difference {
             schools,
@@ -75,19 +76,17 @@ impl Difference {
             ended,
             vacated,
         } = self;
-        let first = BaseChange {
-            schools,
-            children,
-            applications,
-            ended,
-        };
-        let others = CourseChange {
-            places,
-            left,
-            draws,
-            imported,
-            vacated,
-        };
-        (first, others)
+        let (base, course) = (&tables.base, &tables.course);
+        Difference {
+            schools: base.schools.lacked(schools),
+            children: base.children.lacked(children),
+            applications: base.applications.lacked(applications),
+            places: course.places.lacked(places),
+            left: course.left.lacked(left),
+            draws: course.draws.lacked(draws),
+            imported: course.imported.lacked(imported),
+            ended: base.applications.known(ended),
+            vacated: course.places.known(vacated),
+        }
     }
 }

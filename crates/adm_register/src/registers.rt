@@ -219,7 +219,7 @@ impl Register {
     {
         let tables = self.tables.after(alloc, &change)?;
         let so_far = self.so_far.with_draws(change.draws.as_slice());
-        let difference = self.tables.differing(alloc, change)?;
+        let difference = change.differing_from(&self.tables);
         Ok((Register { tables, so_far }, difference))
     }
 }

@@ -1,8 +1,7 @@
-// The rows of a register, and a change of them, in the groups of its tables.
-use adm_table::Shared;
+// The rows of a register in the groups of its tables.
 use adm_types::{
-    Application, Child, ChildNo, Draw, DrawRow, ImportRow, LeftPair, LotRow, OfferRow, PlaceRow,
-    School, Season, Seq,
+    Application, Child, DrawRow, ImportRow, LeftPair, LotRow, OfferRow, PlaceRow, School, Season,
+    Seq,
 };
 
 /// The rows of the first tables.
@@ -29,23 +28,4 @@ pub(crate) struct DrawnRows {
     pub(crate) draws: Seq<DrawRow>,
     pub(crate) offers: Seq<OfferRow>,
     pub(crate) lots: Seq<LotRow>,
-}
-
-/// A change of the first tables.
-#[derive(Drop)]
-pub(crate) struct BaseChange {
-    pub(crate) schools: Seq<Shared<School>>,
-    pub(crate) children: Seq<Shared<Child>>,
-    pub(crate) applications: Seq<Shared<Application>>,
-    pub(crate) ended: Seq<ChildNo>,
-}
-
-/// A change of the others.
-#[derive(Drop)]
-pub(crate) struct CourseChange {
-    pub(crate) places: Seq<PlaceRow>,
-    pub(crate) left: Seq<LeftPair>,
-    pub(crate) draws: Seq<Shared<Draw>>,
-    pub(crate) imported: Seq<Shared<ImportRow>>,
-    pub(crate) vacated: Seq<ChildNo>,
 }

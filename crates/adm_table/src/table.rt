@@ -199,32 +199,24 @@ impl<K: Ord + Drop, V: Keyed<K> + Same + Exact> Table<K, V> {
         }
     }
 
-    /// Those of these rows that the table has not.
-    pub fn lacked(&self, alloc: Global, rows: Seq<V>) -> Result<Seq<V>, AllocError>
-        ensures { IfOk result (λ lacked. lacked ≡ filter (λ row. is_other V.same (row_at K.cmp self.now (V.key row)) row) rows) }
+    /// Those of these rows that the table has not. It takes no memory.
+    pub fn lacked(&self, rows: Seq<V>) -> Seq<V>
+        ensures { result ≡ filter (λ row. is_other V.same (row_at K.cmp self.now (V.key row)) row) rows }
     {
-        let mut lacked = Vec::new(alloc);
-        for row in rows.into_vec() {
-            if self.lacks(&row) {
-                lacked.push(row)?;
-            }
-        }
-        Ok(Seq::from_vec(lacked))
+        let mut rows = rows.into_vec();
+        rows.retain(|row| self.lacks(row));
+        Seq::from_vec(rows)
     }
 }
 
 impl<K: Ord + Drop, V> Table<K, V> {
-    /// Those of these keys at which the table has a row.
-    pub fn known(&self, alloc: Global, keys: Seq<K>) -> Result<Seq<K>, AllocError>
-        ensures { IfOk result (λ known. known ≡ filter (λ key. is_some (row_at K.cmp self.now key)) keys) }
+    /// Those of these keys at which the table has a row. It takes no memory.
+    pub fn known(&self, keys: Seq<K>) -> Seq<K>
+        ensures { result ≡ filter (λ key. is_some (row_at K.cmp self.now key)) keys }
     {
-        let mut known = Vec::new(alloc);
-        for key in keys.into_vec() {
-            if self.get(&key).is_some() {
-                known.push(key)?;
-            }
-        }
-        Ok(Seq::from_vec(known))
+        let mut keys = keys.into_vec();
+        keys.retain(|key| self.get(key).is_some());
+        Seq::from_vec(keys)
     }
 }
 

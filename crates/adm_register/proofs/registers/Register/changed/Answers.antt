@@ -49,7 +49,8 @@ pub returns-clause-difference : goal.returns-clause-difference
 returns-clause-difference c =
     let old = c.self.inside.tables in
     let change = c.args.change in
-    let found = c.in_ok-difference.difference in
+    let found = c.differing_from-difference.result in
+    let found_is = c.differing_from-difference.ensures in
     let fit = subst (λ s. Fit s change) (sym c.self.view_is) c.requires in
     subst (λ s. IsDifference s c.in_ok-tables.tables found) c.self.view_is
-    (subst (λ n. IsDifference old n found) (sym c.in_ok-tables.ensures) (subst (IsDifference old (after old change)) (sym c.in_ok-difference.ensures) (differing_is old change c.self.invariant.0 fit.tidy)))
+    (subst (λ n. IsDifference old n found) (sym c.in_ok-tables.ensures) (subst (IsDifference old (after old change)) (sym found_is) (differing_is old change c.self.invariant.0 fit.tidy)))
