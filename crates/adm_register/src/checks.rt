@@ -33,6 +33,7 @@ pub(crate) trait Checked<K> {
 pub(crate) fn is_well_formed(alloc: Global, tables: &Tables) -> Result<bool, AllocError>
     ensures { IfOk result (λ fits. IsTrue fits ↔ WellFormed tables.now) }
 {
+    // read only so that the check sees that the season is one
     let _year = tables.season().year();
     let draws = tables.course.draws.to_vec(alloc)?;
     Ok(all_hold(&[
@@ -120,6 +121,7 @@ impl Checked<SchoolCode> for School {
 fn is_school(school: &School) -> bool
     ensures { result ≡ is_school school.now }
 {
+    // read only so that the check sees what their types keep
     let _code = school.code.as_str();
     let _text = school.name.as_str();
     is_name(&school.name) && is_school_in_range(school)
@@ -150,10 +152,12 @@ fn has_days_in_order(state: &PlaceState) -> bool
     match state {
         PlaceState::Offered { day, reminded } => match reminded {
             None => {
+                // read only so that the check sees that it is one
                 let _day = day.number();
                 true
             }
             Some(reminded) => {
+                // read only so that the check sees that it is one
                 let _day = reminded.number();
                 day.number() + 14 <= reminded.number()
             }
@@ -207,6 +211,7 @@ impl Checked<u32> for Draw {
 fn is_known_draw(tables: &Tables, draw: &Draw) -> bool
     ensures { result ≡ is_known_draw tables.now.schools tables.now.children draw.now }
 {
+    // read only so that the check sees that it is one
     let _day = draw.day.number();
     is_choice(tables, draw.school)
         && are_known_outcomes(tables, draw.outcomes.as_slice())
@@ -240,6 +245,7 @@ fn are_known_outcomes(tables: &Tables, outcomes: &[Outcome]) -> bool
 fn is_known_lot(tables: &Tables, lot: &Lot) -> bool
     ensures { result ≡ is_known_lot tables.now.schools tables.now.children lot.now }
 {
+    // read only so that the check sees that it is less than 2^32
     let _lot = lot.lot;
     tables.has_school(lot.school) && tables.has_child(lot.child)
 }

@@ -1,5 +1,6 @@
 // Whether children, their applications and imported rows are a register's.
-ghost use Rattle.std.specs.Prelude.{◌≡◌};
+ghost use Rattle.std.specs.Prelude.{◌≡◌, ◌&&◌, length};
+ghost use Rattle.adm_types.specs.Limits.{is_from, is_without_repeat, most_preferences};
 ghost use Rattle.adm_types.specs.Seasons.{lists_end};
 ghost use Rattle.adm_register.specs.WellFormed.{fits_child, is_child, fits_application, is_application, fits_import};
 
@@ -20,6 +21,7 @@ impl Checked<ChildNo> for Child {
 fn is_child(tables: &Tables, child: &Child) -> bool
     ensures { result ≡ is_child tables.now.schools child.now }
 {
+    // read only so that the check sees what their types keep
     let _number = child.no.get();
     let _text = child.name.as_str();
     let _flags = child.flags;
@@ -41,13 +43,20 @@ impl Checked<ChildNo> for Application {
 fn is_application(tables: &Tables, child: ChildNo, day: Day, list: &[SchoolCode]) -> bool
     ensures { result ≡ is_application (lists_end tables.now.season) tables.now.schools tables.now.children (record { child = child; day = day; list = list.now }) }
 {
+    // read only so that the check sees that it is one
     let _day = day.number();
-    let count = 1 <= list.len() && list.len() <= MOST_PREFERENCES;
     tables.has_child(child)
         && day <= tables.season().lists_end()
-        && count
-        && is_without_repeat(list)
+        && is_preference_list(list)
         && tables.are_schools(list)
+}
+
+/// Whether there are 1 to 10 schools, none twice.
+fn is_preference_list(list: &[SchoolCode]) -> bool
+    ensures { result ≡ (is_from 1 most_preferences (length list.now) && is_without_repeat list.now) }
+{
+    let count = 1 <= list.len() && list.len() <= MOST_PREFERENCES;
+    count && is_without_repeat(list)
 }
 
 impl Checked<ChildNo> for ImportRow {

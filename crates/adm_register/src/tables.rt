@@ -138,10 +138,7 @@ impl Tables {
     {
         match self.place_row(child) {
             None => false,
-            Some(row) => match row.place.state {
-                PlaceState::Offered { .. } | PlaceState::Accepted => false,
-                PlaceState::Plan => true,
-            },
+            Some(row) => is_plan(&row.place.state),
         }
     }
 
@@ -180,6 +177,7 @@ impl Tables {
     fn places_at(&self, code: SchoolCode) -> usize
         ensures { result ≡ places_at self.now code }
     {
+        // read only so that the check sees that the rows are in the order of their keys
         let _all = self.course.places.len();
         let mut count = 0;
         for piece in self.course.places.pieces() {
@@ -192,6 +190,7 @@ impl Tables {
     pub(crate) fn places_outside_plans(&self, code: SchoolCode) -> usize
         ensures { result ≡ places_outside_plans self.now.places code }
     {
+        // read only so that the check sees that the rows are in the order of their keys
         let _all = self.course.places.len();
         let mut count = 0;
         for piece in self.course.places.pieces() {
