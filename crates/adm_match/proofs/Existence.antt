@@ -1,6 +1,6 @@
 -- There is a best allocation: the turns end.
 use Rattle.std.proofs.Common.{◌≡◌, ◌⊎◌, ℕ, zero, suc, ◌+◌, ◌<◌, ◌≤◌, List, [], ◌∷◌, length, map, set, Option, None, Some, not, ◌&&◌, inl, inr, refl, sym, ap, ◌∙◌, arith, add-one}
-use Rattle.std.specs.Prelude.{All}
+use Rattle.std.specs.Prelude.{⊤, All, slice_get}
 use Rattle.std.proofs.lemmas.Bool.{cases_Bool, cases_lt}
 use Rattle.std.proofs.lemmas.Option.{none-some, same_Some, slice_get_within}
 use Rattle.adm_types.specs.Code.{has}
@@ -69,42 +69,56 @@ last_or_none es rows s same ranked = elim (last_below es rows s same ranked (len
   | inr none ↦ inr (λ k e g. none k e (slice_get_within es k e g.0) g)
 ]
 
-turn : (m : Market) (rows : List Progress) (i : ℕ) → Distinct m → Sound m rows → IsFree m.entrants rows i → (now : List Progress) × Sound m now × (turns_left m.entrants now < turns_left m.entrants rows)
-turn m rows i h sound free =
-    let w = element_at free.0.list free.1.rejections free.5 in
-    let s = w.0.school in
-    let mid = set rows i (held_by free.1 s) in
-    let here = came m rows mid i w.0 free sound w.1 refl in
-    elim (cases_lt (quota_of m.seats s) (held_at mid s)) [
-      | inr room ↦ (mid, stay m mid i s here.0 (inl room), omega (arith, here.1))
-      | inl over ↦ elim (last_or_none m.entrants mid s here.0.shaped.same (ranked_of m mid s h here.0.shaped)) [
-        | inr none ↦ (mid, stay m mid i s here.0 (inr none), omega (arith, here.1))
-        | inl last ↦
-            let g = last.1.1 in (
-              set mid last.0 (with_rejection g.1.0),
-              leave m mid i s last.0 last.1.0 g.1.0 h.well here.0 g.0 g.1.1 g.1.2 g.2 over last.1.2,
-              omega (arith, here.1, turns_left_leave m mid last.0 g.1.0 s g.1.1 g.1.2),
-            )
-      ]
-    ]
+-- What each turn keeps: where an entrant comes to a school, which holds it, and where a school rejects one that it holds.
+pub record IsInvariant (m : Market) (keeps : List Progress → Type 0) : Type 0 where
+  pub arrival : (rows : List Progress) (i : ℕ) (e : Candidate) (r : Progress) (s : Code) → slice_get m.entrants i ≡ Some e → slice_get rows i ≡ Some r → keeps rows → keeps (set rows i (held_by r s))
+  pub departure : (rows : List Progress) (k : ℕ) (e : Candidate) (r : Progress) → slice_get m.entrants k ≡ Some e → slice_get rows k ≡ Some r → Sound m (set rows k (with_rejection r)) → keeps rows → keeps (set rows k (with_rejection r))
 
-ends : (m : Market) → Distinct m → (n : ℕ) (rows : List Progress) → turns_left m.entrants rows < n → Sound m rows → (now : List Progress) × Sound m now × AllDone m.entrants now
-ends m h zero rows l sound = absurd (omega arith)
-ends m h (suc n) rows l sound = elim (free_or_done m.entrants rows) [
-  | inr done ↦ (rows, sound, done)
-  | inl free ↦
-      let next = turn m rows free.0 h sound free.1 in
-      ends m h n next.0 (omega (arith, next.2)) next.1
-]
+module _ (m : Market) (d : Distinct m) (keeps : List Progress → Type 0) (kept : IsInvariant m keeps) where
+  turn : (rows : List Progress) (i : ℕ) → Sound m rows → keeps rows → IsFree m.entrants rows i → (now : List Progress) × Sound m now × keeps now × (turns_left m.entrants now < turns_left m.entrants rows)
+  turn rows i sound before free =
+      let w = element_at free.0.list free.1.rejections free.5 in
+      let s = w.0.school in
+      let mid = set rows i (held_by free.1 s) in
+      let here = came m rows mid i w.0 free sound w.1 refl in
+      let still = kept.arrival rows i free.0 free.1 s free.2 free.3 before in
+      elim (cases_lt (quota_of m.seats s) (held_at mid s)) [
+        | inr room ↦ (mid, stay m mid i s here.0 (inl room), still, omega (arith, here.1))
+        | inl over ↦ elim (last_or_none m.entrants mid s here.0.shaped.same (ranked_of m mid s d here.0.shaped)) [
+          | inr none ↦ (mid, stay m mid i s here.0 (inr none), still, omega (arith, here.1))
+          | inl last ↦
+              let g = last.1.1 in
+              let sound' = leave m mid i s last.0 last.1.0 g.1.0 d.well here.0 g.0 g.1.1 g.1.2 g.2 over last.1.2 in (
+                set mid last.0 (with_rejection g.1.0),
+                sound',
+                kept.departure mid last.0 last.1.0 g.1.0 g.0 g.1.1 sound' still,
+                omega (arith, here.1, turns_left_leave m mid last.0 g.1.0 s g.1.1 g.1.2),
+              )
+        ]
+      ]
+
+  ends : (n : ℕ) (rows : List Progress) → turns_left m.entrants rows < n → Sound m rows → keeps rows → (now : List Progress) × Sound m now × keeps now × AllDone m.entrants now
+  ends zero rows l sound before = absurd (omega arith)
+  ends (suc n) rows l sound before = elim (free_or_done m.entrants rows) [
+    | inr done ↦ (rows, sound, before, done)
+    | inl free ↦
+        let next = turn rows free.0 sound before free.1 in
+        ends n next.0 (omega (arith, next.3)) next.1 next.2
+  ]
+
+  -- the turns end, and what each of them keeps holds at the end where it holds at the start
+  pub end_keeps : keeps (map start_of m.entrants) → (now : List Progress) × Sound m now × keeps now × AllDone m.entrants now
+  end_keeps before =
+      let rows = map start_of m.entrants in
+      ends (turns_left m.entrants rows + 1) rows (omega arith) (starts m) before
 
 -- a best allocation, which is no worse for an entrant than any stable allocation of a problem that includes this one
 pub best_ahead : (m : Market) → Distinct m → (b : Allocation) × IsBest m b × ((o : Market) → IsWithin m o → (a : Allocation) → IsStable o a → All (λ e. assigned_rank e.list (b e.child) ≤ assigned_rank e.list (a e.child)) m.entrants)
 best_ahead m h =
-    let rows = map start_of m.entrants in
-    let end = ends m h (turns_left m.entrants rows + 1) rows (omega arith) (starts m) in
+    let end = end_keeps m h (λ _. ⊤) (record { arrival = λ rows i e r s ek rk _. tt; departure = λ rows k e r ek rk sound _. tt }) tt in
     let b : Allocation = found_in end.0 in
     let gives = gives_by m end.0 h.children end.1.shaped in
-    (b, ends_best m end.0 b h.well end.1 end.2 gives, ends_ahead m end.0 b h.well end.1 end.2 gives)
+    (b, ends_best m end.0 b h.well end.1 end.3 gives, ends_ahead m end.0 b h.well end.1 end.3 gives)
 
 pub best_exists : (m : Market) → Distinct m → (b : Allocation) × IsBest m b
 best_exists m h = let best = best_ahead m h in (best.0, best.1)

@@ -40,12 +40,12 @@ differs_on m m' n k e e' d h g = record {
   child = g.child ∙ sym h.child;
 }
 
-set_here : {X : Type 0} (xs : List X) (k : ℕ) (v : X) → k < length xs → slice_get (set xs k v) k ≡ Some v
+pub set_here : {X : Type 0} (xs : List X) (k : ℕ) (v : X) → k < length xs → slice_get (set xs k v) k ≡ Some v
 set_here [] k v l = absurd (omega arith)
 set_here (x ∷ xs) zero v l = refl
 set_here (x ∷ xs) (suc k) v l = set_here xs k v (omega arith)
 
-set_there : {X : Type 0} (xs : List X) (k j : ℕ) (v : X) → j ≢ k → slice_get (set xs k v) j ≡ slice_get xs j
+pub set_there : {X : Type 0} (xs : List X) (k j : ℕ) (v : X) → j ≢ k → slice_get (set xs k v) j ≡ slice_get xs j
 set_there [] k j v n = refl
 set_there (x ∷ xs) zero zero v n = absurd (n refl)
 set_there (x ∷ xs) zero (suc j) v n = refl
