@@ -1,12 +1,8 @@
--- The written forms of records and commands: their fields in the order in which they are tested, and no further key.
+-- Records and commands as JSON objects: their fields in the order in which they are tested, and no further key.
 use Rattle.std.specs.Prelude.{ℕ, List, [], ◌∷◌, codes, Option, None, Result, Ok}
 use Rattle.serde_json.specs.Data.{Data}
-use Rattle.adm_types.specs.declared.rows.Application.{Application}
-use Rattle.adm_types.specs.declared.rows.Child.{Child}
 use Rattle.adm_types.specs.declared.rows.Criterion.{Criterion}
-use Rattle.adm_types.specs.declared.rows.School.{School}
-use Rattle.adm_fields.specs.Lists.{Format, must, child_and, name_and, point_and, day_and, child_fields, application_fields}
-use Rattle.adm_fields.specs.Records.{child_of, application_of}
+use Rattle.adm_fields.specs.Lists.{Format, must}
 use Rattle.adm_wire.specs.declared.fault.WireFault.{WireFault}
 use Rattle.adm_wire.specs.Kinds.{a_text, a_number, a_truth, a_child, a_code, a_code_or_none, a_day, a_criterion, a_list, some_flags, only}
 use Rattle.adm_wire.specs.Reading.{◌>>=◌, field_in, before}
@@ -63,39 +59,3 @@ draw_and others = must json (codes "draw") a_number others
 
 abbrev pub lots_and : {Others : Type 0} → ObjectFields Others → ObjectFields (List ℕ × Others)
 lots_and others = must json (codes "lots") (a_list a_number) others
-
--- ---- records
-
-abbrev pub school_of : List ℕ × (List ℕ × (ℕ × (ℕ × (ℕ × (List Criterion × Unit {0}))))) → School
-school_of v = record { code = v.0; name = v.1.0; pan = v.1.1.0; at = record { east = v.1.1.1.0; north = v.1.1.1.1.0 }; criteria = v.1.1.1.1.1.0 }
-
-unfoldable pub school_form : Data → Result School WireFault
-school_form d = of_command (school_and (name_and json (pan_and (point_and json (criteria_and no_fields))))) d >>= λ v. Ok (school_of v)
-
-unfoldable pub child_form : Data → Result Child WireFault
-child_form d = of_command (child_fields json) d >>= λ v. Ok (child_of v)
-
-unfoldable pub application_form : Data → Result Application WireFault
-application_form d = of_command (application_fields json) d >>= λ v. Ok (application_of v)
-
--- ---- commands that are no records
-
--- a school and its admission number
-unfoldable pub pan_form : Data → Result (List ℕ × (ℕ × Unit {0})) WireFault
-pan_form d = of_command (school_and (pan_and no_fields)) d
-
--- a child and a school
-unfoldable pub pair_form : Data → Result (ℕ × (List ℕ × Unit {0})) WireFault
-pair_form d = of_command (child_and json (school_and no_fields)) d
-
--- a notice of an offer: its child, its school and the day of the notice
-unfoldable pub notice_form : Data → Result (ℕ × (List ℕ × (ℕ × Unit {0}))) WireFault
-notice_form d = of_command (child_and json (school_and (day_and json no_fields))) d
-
--- a draw of lots: its number, its day and its lots
-unfoldable pub draw_form : Data → Result (ℕ × (ℕ × (List ℕ × Unit {0}))) WireFault
-draw_form d = of_command (draw_and (day_and json (lots_and no_fields))) d
-
--- a draw of lots for a vacancy of a school: its number, its school, its day and its lots
-unfoldable pub fill_form : Data → Result (ℕ × (List ℕ × (ℕ × (List ℕ × Unit {0})))) WireFault
-fill_form d = of_command (draw_and (school_and (day_and json (lots_and no_fields)))) d
