@@ -1,6 +1,5 @@
 -- The texts of answers: JSON without spaces, the keys in the order of the alphabet.
-use Rattle.std.specs.Prelude.{ℕ, ◌==◌, List, ◌++◌, codes, decimal, true, if◌then◌else◌}
-use Rattle.serde_json.specs.Data.{Data, object, member, no_members, boolean, number, unsigned}
+use Rattle.std.specs.Prelude.{ℕ, ◌==◌, List, ◌++◌, codes, decimal, if◌then◌else◌}
 use Rattle.adm_wire.specs.declared.fault.WireFault.{WireFault}
 use Rattle.adm_wire.specs.declared.fault.WireFault.TheVariants as f
 use Rattle.adm_types.specs.declared.commands.Reply.{Reply}
@@ -12,11 +11,6 @@ use Rattle.adm_types.specs.declared.commands.Refusal.TheVariants as r
 abbrev pub round_text : ℕ → ℕ → ℕ → ℕ → List ℕ
 round_text round offers kept unplaced =
     codes "{\"done\":true,\"kept\":" ++ (decimal kept ++ (codes ",\"offers\":" ++ (decimal offers ++ (codes ",\"round\":" ++ (decimal round ++ (codes ",\"unplaced\":" ++ (decimal unplaced ++ codes "}")))))))
-
--- the same as JSON data, for a private clause
-abbrev pub round_data : ℕ → ℕ → ℕ → ℕ → Data
-round_data round offers kept unplaced =
-    object (member (codes "done") (boolean true) (member (codes "kept") (number (unsigned kept)) (member (codes "offers") (number (unsigned offers)) (member (codes "round") (number (unsigned round)) (member (codes "unplaced") (number (unsigned unplaced)) no_members)))))
 
 -- the child to which a fill offered the vacancy
 abbrev pub filled_text : ℕ → List ℕ

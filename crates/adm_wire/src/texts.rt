@@ -1,11 +1,9 @@
 // The texts of answers: compact JSON, to the byte.
 ghost use Rattle.std.specs.Prelude.{◌≡◌, IfOk, string_bytes};
-ghost use Rattle.serde_json.specs.View.{view};
-ghost use Rattle.adm_wire.specs.Texts.{reply_text, round_data, round_text, filled_text, imported_text, named_text, row_text, refusal_text, fault_text, memory_text, failed_text, name_of_refusal};
+ghost use Rattle.adm_wire.specs.Texts.{reply_text, round_text, filled_text, imported_text, named_text, row_text, refusal_text, fault_text, memory_text, failed_text, name_of_refusal};
 
 use crate::WireFault;
 use adm_types::{ChildNo, Refusal, Reply};
-use serde_json::{Value, json};
 use std::alloc::{AllocError, Global};
 
 /// The text of a reply, without LF. The `Err` is want of memory.
@@ -34,26 +32,9 @@ fn round_text(
 ) -> Result<String, AllocError>
     ensures { IfOk result (λ s. string_bytes s ≡ round_text round offers kept unplaced) }
 {
-    let reply = round_value(alloc, round, offers, kept, unplaced)?;
-    reply.to_string(alloc)
-}
-
-fn round_value(
-    alloc: Global,
-    round: u32,
-    offers: u32,
-    kept: u32,
-    unplaced: u32,
-) -> Result<Value, AllocError>
-    ensures { IfOk result (λ v. view v ≡ round_data round offers kept unplaced) }
-{
-    json!(in alloc; {
-        "done": true,
-        "kept": kept,
-        "offers": offers,
-        "round": round,
-        "unplaced": unplaced
-    })
+    format!(in alloc;
+        "{{\"done\":true,\"kept\":{kept},\"offers\":{offers},\"round\":{round},\"unplaced\":{unplaced}}}"
+    )
 }
 
 fn filled_text(alloc: Global, child: ChildNo) -> Result<String, AllocError>
