@@ -1,5 +1,5 @@
 -- Which rows are those of no child, no application, no imported row, no place and no left pair.
-use Rattle.std.proofs.Common.{◌≡◌, ℕ, zero, suc, List, ◌<◌, ◌+◌, ◌^◌, Bool, Option, true, false, [], ◌∷◌, length, Some, None, pos, nat_le, refl, sym, ap, ◌∙◌, drop, arith}
+use Rattle.std.proofs.Common.{◌≡◌, ℕ, zero, suc, List, ◌<◌, ◌+◌, ◌^◌, Option, true, [], ◌∷◌, length, Some, None, pos, nat_le, refl, sym, ap, ◌∙◌, drop, arith}
 use Rattle.std.specs.Prelude.{◌&&◌, nat_lt, nat_eq}
 use Rattle.std.specs.Option.{unwrap_or}
 use Rattle.std.proofs.lemmas.Bool.{and_parts}
@@ -7,9 +7,12 @@ use Rattle.std.proofs.lemmas.Bool.Decides.{nat_tests}
 use Rattle.sqlite.specs.declared.types.Value.{Value}
 use Rattle.sqlite.specs.declared.types.Value.TheVariants.{Int, Text}
 use Rattle.sqlite.specs.Order.{Row, column}
+use Rattle.std.specs.List.{list_all}
+use Rattle.std.specs.Str.{is_utf8}
+use Rattle.adm_types.specs.Code.{is_code}
 use Rattle.adm_types.specs.Joined.{codes_of}
 use Rattle.adm_types.specs.Children.{bare_child, bare_import}
-use Rattle.adm_types.specs.Limits.{is_on_map, is_without_repeat, is_code_or_none}
+use Rattle.adm_types.specs.Limits.{is_child_number, is_on_map, is_without_repeat, is_code_or_none}
 use Rattle.adm_types.specs.declared.rows.Child.{Child}
 use Rattle.adm_types.specs.declared.rows.Application.{Application}
 use Rattle.adm_types.specs.declared.rows.ImportRow.{ImportRow}
@@ -19,10 +22,13 @@ use Rattle.adm_types.specs.declared.rows.PlaceState.{PlaceState}
 use Rattle.adm_types.specs.declared.rows.PlaceState.TheVariants.{Offered, Accepted, Plan}
 use Rattle.adm_types.specs.Numbers.{is_from, first_day, last_day}
 use Rattle.adm_register.specs.WellFormed.{has_days_in_order}
-use Rattle.adm_rows.specs.Forms.{truth_code, day_value, state_columns, child_row, application_row, imported_row, place_row, left_row}
+use Rattle.adm_fields.specs.Lists.{Format, child_columns, application_fields, import_columns}
+use Rattle.adm_fields.specs.Records.{home_of, home_values, application_of, application_values, bare_import_of, import_values}
+use Rattle.adm_rows.specs.Forms.{truth_code, school_value, codes_text, day_value, state_columns, child_row, application_row, imported_row, place_row, left_row}
 use Rattle.adm_rows.specs.Faults.{IsChild, IsImportRow, IsImportReadAgain, AreReadAgain, IsPlaceRow, HasPlaceColumns, is_day, is_day_or_none, has_days_in_range}
 use Rattle.adm_rows.proofs.RowLemmas.{number_in, text_in}
 use Rattle.adm_rows.proofs.CodeLemmas.{codes_again}
+use Rattle.adm_rows.proofs.DrawRows.{school_from, school_back, truth_back}
 
 -- ---- children
 
@@ -41,45 +47,80 @@ home_fits child fits =
 pub flags_fit : (flags : ℕ) → nat_lt flags 65536 ≡ true → flags < 65536
 flags_fit flags h = grind (arith, nat_tests)
 
-truth_back : (truth : Bool) → nat_eq (truth_code truth) 1 ≡ truth
-truth_back true = refl
-truth_back false = refl
+-- what each field of a child keeps, and then what others keep
+pub home_fit : {Others : Type 0} (child : Child) → IsChild child → Others → (is_child_number child.no ≡ true) × ((is_utf8 child.name ≡ true) × ((child.home.east < 2 ^ 32) × ((child.home.north < 2 ^ 32)
+    × (Unit {0} × ((child.flags < 65536) × ((list_all is_code child.siblings ≡ true) × Others))))))
+home_fit child fits others =
+    let home = home_fits child fits in
+    (fits.number_form, (fits.text, (home.0, (home.1, (tt, (flags_fit child.flags fits.flags, (fits.codes, others)))))))
+
+-- ---- fields from their columns
+
+-- how a value is written in a column and read from it, and what was written when it is read again
+record ReadBack (A : Type 0) : Type 0 where
+  value : A → Value
+  from : Value → A
+  again : A → A
+  back : (x : A) → from (value x) ≡ again x
+
+-- the same of a record
+record RowBack (A : Type 0) : Type 0 where
+  row : A → Row
+  from : Row → A
+  again : A → A
+  back : (x : A) → from (row x) ≡ again x
+
+abbrev itself : {A : Type 0} (value : A → Value) (from : Value → A) → ((x : A) → from (value x) ≡ x) → ReadBack A
+itself value from back = record { value = value; from = from; again = λ x. x; back = back }
+
+abbrev a_number : ReadBack ℕ
+a_number = itself (λ n. Int (pos n)) number_in (λ n. refl)
+
+-- codes are read again as what their text is read as
+abbrev read_back : Format ReadBack RowBack
+read_back = record {
+  field = λ name otherwise kind others. record {
+    row = λ v. kind.value v.0 ∷ others.row v.1;
+    from = λ cells. (kind.from (column cells 0), others.from (drop 1 cells));
+    again = λ v. (kind.again v.0, others.again v.1);
+    back = λ v k. (kind.back v.0 k, others.back v.1 k);
+  };
+  no_more = record { row = λ v. []; from = λ cells. tt; again = λ v. tt; back = λ v. refl };
+  a_child = a_number;
+  a_code_or_none = itself school_value school_from school_back;
+  a_text = itself Text text_in (λ text. refl);
+  a_number = a_number;
+  a_truth = itself (λ truth. Int (pos (truth_code truth))) (λ v. nat_eq (number_in v) 1) truth_back;
+  a_day = a_number;
+  some_flags = a_number;
+  some_codes = record { value = λ codes. Text (codes_text codes); from = λ v. unwrap_or (codes_of (text_in v)) []; again = λ codes. unwrap_or (codes_of (codes_text codes)) []; back = λ codes. refl };
+}
 
 -- a child from its row, which does not say its present school
 abbrev pub child_from : Row → Child
-child_from cells = record {
-  no = number_in (column cells 0);
-  name = text_in (column cells 1);
-  home = record { east = number_in (column cells 2); north = number_in (column cells 3) };
-  looked_after = nat_eq (number_in (column cells 4)) 1;
-  flags = number_in (column cells 5);
-  siblings = unwrap_or (codes_of (text_in (column cells 6))) [];
-  present = None;
-}
+child_from cells = home_of ((child_columns read_back).from cells)
 
 pub child_back : (c : Child) → AreReadAgain c.siblings → child_from (child_row c) ≡ bare_child c
-child_back c again = λ k. record { no = c.no; name = c.name; home = c.home; looked_after = truth_back c.looked_after k; flags = c.flags; siblings = unwrap_or (again k) []; present = None }
+child_back c again = ap home_of ((child_columns read_back).back (home_values c)) ∙ (λ k. record (bare_child c) { siblings = unwrap_or (again k) [] })
 
 -- ---- applications
 
 abbrev pub application_from : Row → Application
-application_from cells = record {
-  child = number_in (column cells 0);
-  day = number_in (column cells 1);
-  list = unwrap_or (codes_of (text_in (column cells 2))) [];
-}
+application_from cells = application_of ((application_fields read_back).from cells)
 
 pub application_back : (a : Application) → AreReadAgain a.list → application_from (application_row a) ≡ a
-application_back a again = λ k. record { child = a.child; day = a.day; list = unwrap_or (again k) [] }
+application_back a again = ap application_of ((application_fields read_back).back (application_values a)) ∙ (λ k. record a { list = unwrap_or (again k) [] })
 
 -- ---- imported rows
 
 -- an imported row from its row
 abbrev pub imported_from : Row → ImportRow
-imported_from cells = record { child = child_from cells; day = number_in (column cells 7); preferences = unwrap_or (codes_of (text_in (column cells 8))) [] }
+imported_from cells = bare_import_of ((import_columns read_back).from cells)
 
 pub imported_back : (r : ImportRow) → IsImportReadAgain r → imported_from (imported_row r) ≡ bare_import r
-imported_back r again = λ k. record { child = child_back r.child again.0 k; day = r.day; preferences = unwrap_or (again.1 k) [] }
+imported_back r again =
+    ap bare_import_of ((import_columns read_back).back (import_values r))
+    ∙ (λ k. record { child = record (bare_child r.child) { siblings = unwrap_or (again.0 k) [] }; day = r.day; preferences = unwrap_or (again.1 k) [] })
 
 pub import_again : (last : ℕ) (r : ImportRow) → IsImportRow last r → IsImportReadAgain r
 import_again last r fits = (codes_again r.child.siblings fits.child.codes, codes_again r.preferences fits.application.codes)

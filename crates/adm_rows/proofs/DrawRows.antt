@@ -8,8 +8,8 @@ use Rattle.sqlite.specs.Order.{Row, column}
 use Rattle.adm_types.specs.declared.draws.DrawRow.{DrawRow}
 use Rattle.adm_types.specs.declared.draws.OfferRow.{OfferRow}
 use Rattle.adm_types.specs.declared.draws.LotRow.{LotRow}
-use Rattle.adm_rows.specs.Forms.{truth_code}
-use Rattle.adm_rows.specs.DrawForms.{school_value, draw_row, offer_row, lot_row}
+use Rattle.adm_rows.specs.Forms.{truth_code, school_value}
+use Rattle.adm_rows.specs.DrawForms.{draw_row, offer_row, lot_row}
 use Rattle.adm_types.specs.Limits.{is_code_or_none}
 use Rattle.adm_rows.proofs.CodeLemmas.{code_utf8}
 use Rattle.adm_rows.proofs.RowLemmas.{number_in, text_in}
@@ -41,7 +41,7 @@ draw_back r = λ k. record { draw = r.draw; round = r.round; school = school_bac
 
 -- ---- outcomes
 
-truth_back : (truth : Bool) → nat_eq (truth_code truth) 1 ≡ truth
+pub truth_back : (truth : Bool) → nat_eq (truth_code truth) 1 ≡ truth
 truth_back true = refl
 truth_back false = refl
 

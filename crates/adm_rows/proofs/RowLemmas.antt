@@ -1,5 +1,5 @@
 -- Rows as lists of columns, and lists of values as their rows.
-use Rattle.std.proofs.Common.{◌≡◌, ◌∙◌, ℕ, suc, ◌+◌, ◌<◌, List, [], ◌∷◌, ◌++◌, map, take, length, get_or, ◌⊎◌, inl, inr, refl, sym, ap, subst, subst₂, arith, pos}
+use Rattle.std.proofs.Common.{◌≡◌, ◌∙◌, ℕ, suc, ◌+◌, ◌<◌, List, [], ◌∷◌, ◌++◌, map, take, length, get_or, ◌⊎◌, inl, inr, Result, Ok, Err, IfOk, IfErr, refl, sym, ap, subst, subst₂, arith, pos}
 use Rattle.std.specs.List.{AllByRecursion}
 use Rattle.std.specs.List.Sorted.{IsPermutation}
 use Rattle.std.proofs.lemmas.List.{take_more, map-append}
@@ -27,6 +27,25 @@ columns_are [] [] len has = refl
 columns_are [] (value ∷ values) len has = absurd (omega (arith, len))
 columns_are (x ∷ row) [] len has = absurd (omega (arith, len))
 columns_are (x ∷ row) (value ∷ values) len has = λ k. has.0 k ∷ columns_are row values (omega (arith, len)) (one_less x row 0 values has.1) k
+
+one_more : (x : Value) (row : Row) (i : ℕ) (values : List Value) → HasFrom row i values → HasFrom (x ∷ row) (suc i) values
+one_more x row i [] has = tt
+one_more x row i (value ∷ values) has = (has.0, one_more x row (suc i) values has.1)
+
+own_columns : (row : Row) → HasFrom row 0 row
+own_columns [] = tt
+own_columns (x ∷ row) = (refl, one_more x row 0 row (own_columns row))
+
+-- what was read of a row from its first column, or why nothing was
+module _ {X : Type 0} (row_of : X → Row) (row : Row) where
+  pub whole_read : (r : Result X OpenFault) → ((xs : X) → length row ≡ length (row_of xs)) → IfOk r (λ xs. HasFrom row 0 (row_of xs)) → IfOk r (λ xs. row ≡ row_of xs)
+  whole_read (Ok xs) long has = columns_are row (row_of xs) (long xs) has
+  whole_read (Err e) long has = tt
+
+  pub whole_refused : (Fit : X → Type 0) (r : Result X OpenFault) → IfErr r (λ e. IsNoRegister e → (xs : X) → Fit xs → HasFrom row 0 (row_of xs) → ⊥)
+      → IfErr r (λ e. IsNoRegister e → (xs : X) → Fit xs → row ≡ row_of xs → ⊥)
+  whole_refused Fit (Ok xs) bad = tt
+  whole_refused Fit (Err e) bad = λ structural xs fit is. bad structural xs fit (subst (HasFrom row 0) is (own_columns row))
 
 -- the number or the text of a value
 abbrev pub number_in : Value → ℕ

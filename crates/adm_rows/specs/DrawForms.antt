@@ -1,19 +1,13 @@
 -- How draws, their outcomes and their lots are written in their tables, and which of them may be a register's.
-use Rattle.std.specs.Prelude.{ℕ, pos, Bool, nat_lt, List, [], ◌∷◌, Option, Some, None, IsTrue}
+use Rattle.std.specs.Prelude.{ℕ, pos, Bool, nat_lt, [], ◌∷◌, IsTrue}
 use Rattle.adm_types.specs.Code.{is_code}
 use Rattle.adm_types.specs.Limits.{is_from, is_child_number, is_code_or_none, first_day}
 use Rattle.adm_types.specs.declared.draws.DrawRow.{DrawRow}
 use Rattle.adm_types.specs.declared.draws.OfferRow.{OfferRow}
 use Rattle.adm_types.specs.declared.draws.LotRow.{LotRow}
-use Rattle.sqlite.specs.declared.types.Value.{Value}
-use Rattle.sqlite.specs.declared.types.Value.TheVariants.{Null, Int, Text}
+use Rattle.sqlite.specs.declared.types.Value.TheVariants.{Int, Text}
 use Rattle.sqlite.specs.Order.{Row}
-use Rattle.adm_rows.specs.Forms.{truth_code}
-
--- the code of a school, or NULL where there is none
-abbrev pub school_value : Option (List ℕ) → Value
-school_value None = Null
-school_value (Some code) = Text code
+use Rattle.adm_rows.specs.Forms.{truth_code, school_value}
 
 abbrev pub draw_row : DrawRow → Row
 draw_row r = Int (pos r.draw) ∷ Int (pos r.round) ∷ school_value r.school ∷ Int (pos r.day) ∷ []

@@ -1,5 +1,5 @@
 -- How a register's rows are written in its tables.
-use Rattle.std.specs.Prelude.{ℕ, pos, Bool, true, false, List, [], ◌∷◌, ◌++◌, map, Option, Some, None, option_and_then, if◌then◌else◌}
+use Rattle.std.specs.Prelude.{ℕ, pos, Bool, true, false, List, [], ◌∷◌, map, Option, Some, None, option_and_then, if◌then◌else◌}
 use Rattle.std.specs.Fmt.{decimal}
 use Rattle.adm_types.specs.Seasons.{SeasonFacts}
 use Rattle.adm_types.specs.Fields.{plain_of, criterion_of, criterion_text}
@@ -16,6 +16,8 @@ use Rattle.adm_types.specs.declared.rows.PlaceRow.{PlaceRow}
 use Rattle.adm_types.specs.declared.rows.LeftPair.{LeftPair}
 use Rattle.adm_types.specs.declared.rows.PlaceState.{PlaceState}
 use Rattle.adm_types.specs.declared.rows.PlaceState.TheVariants.{Offered, Accepted, Plan}
+use Rattle.adm_fields.specs.Lists.{Format, child_columns, application_fields, import_columns}
+use Rattle.adm_fields.specs.Records.{home_values, application_values, import_values}
 use Rattle.adm_schema.specs.declared.version.Version.{Version}
 use Rattle.adm_schema.specs.declared.version.Version.TheVariants.{First, Second}
 use Rattle.sqlite.specs.declared.types.Value.{Value}
@@ -53,16 +55,35 @@ truth_code false = 0
 abbrev pub codes_text : List (List ℕ) → List ℕ
 codes_text = joined
 
+-- the code of a school, or NULL where there is none
+abbrev pub school_value : Option (List ℕ) → Value
+school_value None = Null
+school_value (Some code) = Text code
+
+-- a record is written field by field, each as its kind is
+abbrev pub written : Format (λ A. A → Value) (λ A. A → Row)
+written = record {
+  field = λ name otherwise kind others values. kind values.0 ∷ others values.1;
+  no_more = λ values. [];
+  a_child = λ n. Int (pos n);
+  a_code_or_none = school_value;
+  a_text = Text;
+  a_number = λ n. Int (pos n);
+  a_truth = λ truth. Int (pos (truth_code truth));
+  a_day = λ day. Int (pos day);
+  some_flags = λ flags. Int (pos flags);
+  some_codes = λ codes. Text (codes_text codes);
+}
+
 abbrev pub child_row : Child → Row
-child_row c =
-    Int (pos c.no) ∷ Text c.name ∷ Int (pos c.home.east) ∷ Int (pos c.home.north) ∷ Int (pos (truth_code c.looked_after)) ∷ Int (pos c.flags) ∷ Text (codes_text c.siblings) ∷ []
+child_row c = child_columns written (home_values c)
 
 abbrev pub application_row : Application → Row
-application_row a = Int (pos a.child) ∷ Int (pos a.day) ∷ Text (codes_text a.list) ∷ []
+application_row a = application_fields written (application_values a)
 
 -- the columns of its child, and the day and the preferences of its application
 abbrev pub imported_row : ImportRow → Row
-imported_row r = child_row r.child ++ Int (pos r.day) ∷ Text (codes_text r.preferences) ∷ []
+imported_row r = import_columns written (import_values r)
 
 -- a day, or NULL where there is none
 abbrev pub day_value : Option ℕ → Value

@@ -18,6 +18,7 @@ mod children;
 mod codes;
 mod columns;
 mod draws;
+mod fields;
 mod imported;
 mod joined;
 mod left_list;
@@ -78,7 +79,7 @@ fn first_tables<S: Alter>(
     let readers = (OfferReader, (LotReader, (ImportedReader { last }, ())));
     let readers = (LeftReader, (DrawReader { last }, readers));
     let readers = (ApplicationReader { last }, (PlaceReader, readers));
-    let readers = (SchoolReader, (ChildReader, readers));
+    let readers = (SchoolReader, (ChildReader { last }, readers));
     let (schools, (children, (applications, (places, (left, more))))) = readers.read_all(
         alloc, tx,
     )?;

@@ -1,6 +1,6 @@
 -- What each text that writes, adds or takes out one row means under the register's schema.
 use Rattle.std.proofs.Common.{◌≡◌, refl, ℕ, List, false}
-use Rattle.std.specs.Prelude.{[], ◌∷◌}
+use Rattle.std.specs.Prelude.{[], ◌∷◌, suc, length}
 use Rattle.sqlite.specs.Term.{col}
 use Rattle.sqlite.specs.Command.TheVariants.{Select, Insert, InsertOr, Delete}
 use Rattle.sqlite_schema.specs.declared.command.Conflict.TheVariants.{Replace}
@@ -8,15 +8,16 @@ use Rattle.sqlite.specs.Source.TheVariants.{Values}
 use Rattle.sqlite.specs.Listing.{understood, reads_listing}
 use Rattle.sqlite.proofs.Callers.{IsPlain, command_of}
 use Rattle.sqlite_tied.specs.Compute.{everything}
+use Rattle.adm_schema.specs.Columns.{child_columns, application_columns, given_terms}
 use Rattle.adm_schema.specs.Queries.{query_of, program_of}
 use Rattle.adm_schema.specs.Schema.{register_schema}
 use Rattle.adm_schema.specs.RowTexts as text
 
-pub puts_child : (command_of (understood register_schema text.put_child) ≡ InsertOr 2 Replace (Values text.child_terms 8) []) × IsPlain (understood register_schema text.put_child)
+pub puts_child : (command_of (understood register_schema text.put_child) ≡ InsertOr 2 Replace (Values (given_terms child_columns) (suc (length child_columns))) []) × IsPlain (understood register_schema text.put_child)
 unfolding understood everything
 puts_child = (refl, (refl, refl))
 
-pub puts_application : (command_of (understood register_schema text.put_application) ≡ InsertOr 3 Replace (Values text.application_terms 4) []) × IsPlain (understood register_schema text.put_application)
+pub puts_application : (command_of (understood register_schema text.put_application) ≡ InsertOr 3 Replace (Values (given_terms application_columns) (suc (length application_columns))) []) × IsPlain (understood register_schema text.put_application)
 unfolding understood everything
 puts_application = (refl, (refl, refl))
 

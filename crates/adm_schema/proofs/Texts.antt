@@ -1,11 +1,12 @@
 -- What each fixed text means: one that asks, under the schema of each version, and one that writes, under that which is written.
 use Rattle.std.proofs.Common.{◌≡◌, refl, arith}
-use Rattle.std.specs.Prelude.{[]}
+use Rattle.std.specs.Prelude.{[], suc, length}
 use Rattle.sqlite.specs.Command.TheVariants.{Insert, Update}
 use Rattle.sqlite.specs.Source.TheVariants.{Values}
 use Rattle.sqlite.specs.Listing.{understood}
 use Rattle.sqlite.proofs.Callers.{IsPlain, command_of}
 use Rattle.sqlite_tied.specs.Compute.{everything}
+use Rattle.adm_schema.specs.Columns.{child_columns, application_columns, imported_columns, given_terms, shown_terms}
 use Rattle.adm_schema.specs.Queries.{Asks, query_of, program_of}
 use Rattle.adm_schema.specs.declared.version.Version.{Version}
 use Rattle.adm_schema.specs.Schema.{schema_of, register_schema}
@@ -32,13 +33,13 @@ pub asks_schools : (v : Version) → Asks (schema_of v) text.select_schools 1 te
 unfolding understood everything
 asks_schools v = record { names = _; command = refl; unlisted = refl; plain = (refl, refl); whole = (omega arith, refl); answered = λ db e. answered _ db e 1 text.school_columns text.by_code (λ h. absurd (let wrong = h.1 in cc)) }
 
-pub asks_children : (v : Version) → Asks (schema_of v) text.select_children 3 text.child_columns text.by_child
+pub asks_children : (v : Version) → Asks (schema_of v) text.select_children 3 (shown_terms child_columns) text.by_child
 unfolding understood everything
-asks_children v = record { names = _; command = refl; unlisted = refl; plain = (refl, refl); whole = (omega arith, refl); answered = λ db e. answered _ db e 3 text.child_columns text.by_child (λ h. absurd (let wrong = h.1 in cc)) }
+asks_children v = record { names = _; command = refl; unlisted = refl; plain = (refl, refl); whole = (omega arith, refl); answered = λ db e. answered _ db e 3 (shown_terms child_columns) text.by_child (λ h. absurd (let wrong = h.1 in cc)) }
 
-pub asks_applications : (v : Version) → Asks (schema_of v) text.select_applications 4 text.application_columns text.by_child
+pub asks_applications : (v : Version) → Asks (schema_of v) text.select_applications 4 (shown_terms application_columns) text.by_child
 unfolding understood everything
-asks_applications v = record { names = _; command = refl; unlisted = refl; plain = (refl, refl); whole = (omega arith, refl); answered = λ db e. answered _ db e 4 text.application_columns text.by_child (λ h. absurd (let wrong = h.1 in cc)) }
+asks_applications v = record { names = _; command = refl; unlisted = refl; plain = (refl, refl); whole = (omega arith, refl); answered = λ db e. answered _ db e 4 (shown_terms application_columns) text.by_child (λ h. absurd (let wrong = h.1 in cc)) }
 
 pub asks_places : (v : Version) → Asks (schema_of v) text.select_places 5 text.place_columns text.by_child
 unfolding understood everything
@@ -68,13 +69,13 @@ pub asks_lots : (v : Version) → Asks (schema_of v) text.select_lots 11 text.lo
 unfolding understood everything
 asks_lots v = record { names = _; command = refl; unlisted = refl; plain = (refl, refl); whole = (omega arith, refl); answered = λ db e. answered _ db e 11 text.lot_columns [] (λ h. absurd (let wrong = h.1 in cc)) }
 
-pub inserts_imported : (command_of (understood register_schema text.insert_imported) ≡ Insert 9 (Values text.imported_terms 10)) × IsPlain (understood register_schema text.insert_imported)
+pub inserts_imported : (command_of (understood register_schema text.insert_imported) ≡ Insert 9 (Values (given_terms imported_columns) (suc (length imported_columns)))) × IsPlain (understood register_schema text.insert_imported)
 unfolding understood everything
 inserts_imported = (refl, (refl, refl))
 
-pub asks_imported : (v : Version) → Asks (schema_of v) text.select_imported 14 text.imported_columns []
+pub asks_imported : (v : Version) → Asks (schema_of v) text.select_imported 14 (shown_terms imported_columns) []
 unfolding understood everything
-asks_imported v = record { names = _; command = refl; unlisted = refl; plain = (refl, refl); whole = (omega arith, refl); answered = λ db e. answered _ db e 14 text.imported_columns [] (λ h. absurd (let wrong = h.1 in cc)) }
+asks_imported v = record { names = _; command = refl; unlisted = refl; plain = (refl, refl); whole = (omega arith, refl); answered = λ db e. answered _ db e 14 (shown_terms imported_columns) [] (λ h. absurd (let wrong = h.1 in cc)) }
 
 pub asks_present : Asks register_schema text.select_present 15 text.present_column_terms []
 unfolding understood everything

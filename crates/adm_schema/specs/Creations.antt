@@ -9,6 +9,7 @@ use Rattle.sqlite.specs.Schema.{Schema}
 use Rattle.sqlite.specs.Table.{Table}
 use Rattle.sqlite.proofs.Callers.{IsPlain, command_of, statement_of}
 use Rattle.adm_schema.specs.declared.version.Version.TheVariants.{First}
+use Rattle.adm_schema.specs.Columns.{child_columns, application_columns, imported_columns, create_text}
 use Rattle.adm_schema.specs.Schema.{no_schema, with_meta, with_school, with_child, with_application, with_place, with_left_list, with_draw, with_offer, with_lot, schema_of, register_schema}
 
 -- the text makes the second schema of the first, by this table
@@ -27,10 +28,10 @@ abbrev pub create_school : List ℕ
 create_school = codes "CREATE TABLE school (code TEXT PRIMARY KEY NOT NULL, name TEXT NOT NULL, pan INTEGER NOT NULL, east INTEGER NOT NULL, north INTEGER NOT NULL, criteria TEXT NOT NULL) STRICT"
 
 abbrev pub create_child : List ℕ
-create_child = codes "CREATE TABLE child (child INTEGER PRIMARY KEY, name TEXT NOT NULL, east INTEGER NOT NULL, north INTEGER NOT NULL, looked_after INTEGER NOT NULL, flags INTEGER NOT NULL, siblings TEXT NOT NULL) STRICT"
+create_child = create_text (codes "child") child_columns
 
 abbrev pub create_application : List ℕ
-create_application = codes "CREATE TABLE application (child INTEGER PRIMARY KEY, day INTEGER NOT NULL, preferences TEXT NOT NULL) STRICT"
+create_application = create_text (codes "application") application_columns
 
 abbrev pub create_place : List ℕ
 create_place = codes "CREATE TABLE place (child INTEGER PRIMARY KEY, school TEXT NOT NULL, kind INTEGER NOT NULL, day INTEGER, reminded INTEGER) STRICT"
@@ -48,7 +49,7 @@ abbrev pub create_lot : List ℕ
 create_lot = codes "CREATE TABLE lot (draw INTEGER NOT NULL, school TEXT NOT NULL, child INTEGER NOT NULL, lot INTEGER NOT NULL, PRIMARY KEY (draw, school, child), UNIQUE (draw, school, lot)) STRICT"
 
 abbrev pub create_imported : List ℕ
-create_imported = codes "CREATE TABLE imported (child INTEGER PRIMARY KEY, name TEXT NOT NULL, east INTEGER NOT NULL, north INTEGER NOT NULL, looked_after INTEGER NOT NULL, flags INTEGER NOT NULL, siblings TEXT NOT NULL, day INTEGER NOT NULL, preferences TEXT NOT NULL) STRICT"
+create_imported = create_text (codes "imported") imported_columns
 
 abbrev pub create_present : List ℕ
 create_present = codes "CREATE TABLE present (child INTEGER NOT NULL, imported INTEGER NOT NULL, school TEXT NOT NULL, PRIMARY KEY (child, imported)) STRICT"

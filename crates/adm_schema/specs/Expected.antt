@@ -16,7 +16,8 @@ use Rattle.adm_schema.specs.declared.expected.KeysAre.{KeysAre}
 use Rattle.adm_schema.specs.declared.expected.KeysAre.TheVariants.{Rowid, One, Unique}
 use Rattle.adm_schema.specs.declared.expected.TableIs.{TableIs}
 use Rattle.adm_schema.specs.declared.expected.IndexIs.{IndexIs}
-use Rattle.adm_schema.specs.Schema.{column_of, table_of, index_of}
+use Rattle.adm_schema.specs.Columns.{column_of}
+use Rattle.adm_schema.specs.Schema.{table_of, index_of}
 
 -- the columns of a STRICT table, by name, type and NOT NULL
 abbrev pub strict_columns : List (Bor (List ℕ) × Kind × Bool) → List Column

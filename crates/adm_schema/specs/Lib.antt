@@ -1,6 +1,7 @@
 pub mod Rows
 pub mod Queries
 pub mod Effects
+pub mod Columns
 pub mod Schema
 pub mod Creations
 pub mod Texts

@@ -5,23 +5,18 @@ use Rattle.sqlite.specs.Collation.TheVariants.{Binary}
 use Rattle.sqlite.specs.Term.{Term, op2, col, lit}
 use Rattle.sqlite_sql.specs.declared.ops.BinaryOp.TheVariants.{Compare}
 use Rattle.sqlite_sql.specs.declared.ops.CompareOp.TheVariants.{Eq}
+use Rattle.adm_schema.specs.Columns.{child_columns, application_columns, values_text}
 
 abbrev pub put_child : List ℕ
-put_child = codes "INSERT OR REPLACE INTO child (child, name, east, north, looked_after, flags, siblings) VALUES (?1, ?2, ?3, ?4, ?5, ?6, ?7)"
-
--- the key goes to the rowid's place, and its own column is NULL
-abbrev pub child_terms : List Term
-child_terms = col 0 0 ∷ lit Null ∷ col 0 1 ∷ col 0 2 ∷ col 0 3 ∷ col 0 4 ∷ col 0 5 ∷ col 0 6 ∷ []
+put_child = values_text (codes "INSERT OR REPLACE INTO ") (codes "child") child_columns
 
 abbrev pub put_application : List ℕ
-put_application = codes "INSERT OR REPLACE INTO application (child, day, preferences) VALUES (?1, ?2, ?3)"
-
-abbrev pub application_terms : List Term
-application_terms = col 0 0 ∷ lit Null ∷ col 0 1 ∷ col 0 2 ∷ []
+put_application = values_text (codes "INSERT OR REPLACE INTO ") (codes "application") application_columns
 
 abbrev pub put_place : List ℕ
 put_place = codes "INSERT OR REPLACE INTO place (child, school, kind, day, reminded) VALUES (?1, ?2, ?3, ?4, ?5)"
 
+-- the key goes to the rowid's place, and its own column is NULL
 abbrev pub place_terms : List Term
 place_terms = col 0 0 ∷ lit Null ∷ col 0 1 ∷ col 0 2 ∷ col 0 3 ∷ col 0 4 ∷ []
 

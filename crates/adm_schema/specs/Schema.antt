@@ -1,22 +1,18 @@
 -- The tables of a register's file in its two versions, and the schemas as the tables are made one after another.
-use Rattle.std.specs.Prelude.{true, false, Bool, [], ◌∷◌, Some, None, codes, List, ℕ, pos}
+use Rattle.std.specs.Prelude.{true, false, [], ◌∷◌, Some, None, codes, List, ℕ, pos}
 use Rattle.sqlite.specs.Collation.TheVariants.{Binary}
-use Rattle.sqlite.specs.declared.types.Value.TheVariants.{Null, Int}
+use Rattle.sqlite.specs.declared.types.Value.TheVariants.{Int}
 use Rattle.sqlite.specs.Table.{Table}
 use Rattle.sqlite.specs.Schema.{Schema}
-use Rattle.sqlite.specs.Kind.{Kind}
 use Rattle.sqlite.specs.Kind.TheVariants.{Integer, Text}
 use Rattle.sqlite.specs.Term.{op2, col, lit}
 use Rattle.sqlite_sql.specs.declared.ops.BinaryOp.TheVariants.{Compare}
 use Rattle.sqlite_sql.specs.declared.ops.CompareOp.TheVariants.{Eq}
 use Rattle.sqlite_schema.specs.declared.schema.Column.{Column}
 use Rattle.sqlite_schema.specs.declared.schema.Index.{Index}
+use Rattle.adm_schema.specs.Columns.{column_of, child_columns, application_columns, imported_columns}
 use Rattle.adm_schema.specs.declared.version.Version.{Version}
 use Rattle.adm_schema.specs.declared.version.Version.TheVariants.{First, Second}
-
--- a column of a STRICT table, and whether it is NOT NULL
-abbrev pub column_of : List ℕ → Kind → Bool → Column
-column_of name kind not_null = record { name = name; kind = kind; is_strict = true; not_null = not_null; default = Null; collation = Binary }
 
 -- a table with no key
 abbrev pub table_of : List ℕ → List Column → Table
@@ -49,11 +45,11 @@ new_school = record (table_of (codes "school") (column_of (codes "code") Text tr
 
 -- children by their numbers, as its text defines it, before it has a tree
 abbrev pub new_child : Table
-new_child = record (table_of (codes "child") (column_of (codes "child") Integer false ∷ column_of (codes "name") Text true ∷ column_of (codes "east") Integer true ∷ column_of (codes "north") Integer true ∷ column_of (codes "looked_after") Integer true ∷ column_of (codes "flags") Integer true ∷ column_of (codes "siblings") Text true ∷ [])) { key = Some 0; primary = 0 ∷ [] }
+new_child = record (table_of (codes "child") child_columns) { key = Some 0; primary = 0 ∷ [] }
 
 -- applications by the child, as its text defines it, before it has a tree
 abbrev pub new_application : Table
-new_application = record (table_of (codes "application") (column_of (codes "child") Integer false ∷ column_of (codes "day") Integer true ∷ column_of (codes "preferences") Text true ∷ [])) { key = Some 0; primary = 0 ∷ [] }
+new_application = record (table_of (codes "application") application_columns) { key = Some 0; primary = 0 ∷ [] }
 
 -- places by the child, as its text defines it, before it has a tree
 abbrev pub new_place : Table
@@ -77,7 +73,7 @@ new_lot = record (table_of (codes "lot") (column_of (codes "draw") Integer true 
 
 -- rows that came by an import, as its text defines it, before it has a tree
 abbrev pub new_imported : Table
-new_imported = record (table_of (codes "imported") (column_of (codes "child") Integer false ∷ column_of (codes "name") Text true ∷ column_of (codes "east") Integer true ∷ column_of (codes "north") Integer true ∷ column_of (codes "looked_after") Integer true ∷ column_of (codes "flags") Integer true ∷ column_of (codes "siblings") Text true ∷ column_of (codes "day") Integer true ∷ column_of (codes "preferences") Text true ∷ [])) { key = Some 0; primary = 0 ∷ [] }
+new_imported = record (table_of (codes "imported") imported_columns) { key = Some 0; primary = 0 ∷ [] }
 
 -- the present schools of children and of imported rows, as its text defines it, before it has a tree
 abbrev pub new_present : Table

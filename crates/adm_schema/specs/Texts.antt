@@ -1,9 +1,10 @@
 -- The fixed texts that write and read the register's tables.
-use Rattle.std.specs.Prelude.{ℕ, pos, false, List, [], ◌∷◌, codes}
+use Rattle.std.specs.Prelude.{ℕ, pos, false, List, [], ◌∷◌, ◌++◌, codes}
 use Rattle.sqlite.specs.declared.types.Value.TheVariants.{Null, Int}
 use Rattle.sqlite.specs.Collation.TheVariants.{Binary}
 use Rattle.sqlite.specs.Term.{Term, lit, col}
 use Rattle.sqlite_value.specs.declared.keys.Key.{Key}
+use Rattle.adm_schema.specs.Columns.{child_columns, application_columns, imported_columns, select_text, values_text}
 
 abbrev pub insert_meta : List ℕ
 insert_meta = codes "INSERT INTO meta (one, version, phase, year, holidays, draws) VALUES (1, 2, ?1, ?2, ?3, 0)"
@@ -41,16 +42,10 @@ abbrev pub by_code : List (Term × Key)
 by_code = (col 1 1, record { collation = Binary; descending = false }) ∷ []
 
 abbrev pub select_children : List ℕ
-select_children = codes "SELECT child, name, east, north, looked_after, flags, siblings FROM child ORDER BY child"
-
-abbrev pub child_columns : List Term
-child_columns = col 1 0 ∷ col 1 2 ∷ col 1 3 ∷ col 1 4 ∷ col 1 5 ∷ col 1 6 ∷ col 1 7 ∷ []
+select_children = select_text (codes "child") child_columns ++ codes " ORDER BY child"
 
 abbrev pub select_applications : List ℕ
-select_applications = codes "SELECT child, day, preferences FROM application ORDER BY child"
-
-abbrev pub application_columns : List Term
-application_columns = col 1 0 ∷ col 1 2 ∷ col 1 3 ∷ []
+select_applications = select_text (codes "application") application_columns ++ codes " ORDER BY child"
 
 abbrev pub select_places : List ℕ
 select_places = codes "SELECT child, school, kind, day, reminded FROM place ORDER BY child"
@@ -102,16 +97,10 @@ abbrev pub lot_columns : List Term
 lot_columns = col 1 1 ∷ col 1 2 ∷ col 1 3 ∷ col 1 4 ∷ []
 
 abbrev pub insert_imported : List ℕ
-insert_imported = codes "INSERT INTO imported (child, name, east, north, looked_after, flags, siblings, day, preferences) VALUES (?1, ?2, ?3, ?4, ?5, ?6, ?7, ?8, ?9)"
-
-abbrev pub imported_terms : List Term
-imported_terms = col 0 0 ∷ lit Null ∷ col 0 1 ∷ col 0 2 ∷ col 0 3 ∷ col 0 4 ∷ col 0 5 ∷ col 0 6 ∷ col 0 7 ∷ col 0 8 ∷ []
+insert_imported = values_text (codes "INSERT INTO ") (codes "imported") imported_columns
 
 abbrev pub select_imported : List ℕ
-select_imported = codes "SELECT child, name, east, north, looked_after, flags, siblings, day, preferences FROM imported"
-
-abbrev pub imported_columns : List Term
-imported_columns = col 1 0 ∷ col 1 2 ∷ col 1 3 ∷ col 1 4 ∷ col 1 5 ∷ col 1 6 ∷ col 1 7 ∷ col 1 8 ∷ col 1 9 ∷ []
+select_imported = select_text (codes "imported") imported_columns
 
 abbrev pub select_present : List ℕ
 select_present = codes "SELECT child, imported, school FROM present"

@@ -1,12 +1,14 @@
 // Whether a schema is the register's: its tables and indexes compared with those that are expected, one by one.
 ghost use Rattle.std.specs.Prelude.{◌≡◌, ◌↔◌, [], ◌∷◌, Some, None, map, false, IsTrue, IfSome};
 ghost use Rattle.sqlite.specs.declared.types.Value.TheVariants.{Null};
-ghost use Rattle.adm_schema.specs.Schema.{column_of, schema_of};
+ghost use Rattle.adm_schema.specs.Columns.{column_of};
+ghost use Rattle.adm_schema.specs.Schema.{schema_of};
 ghost use Rattle.adm_schema.specs.Expected.{strict_columns, places_of, ascending, no_stamps, rowid_table, one_row_table, keyed_table, table_is, index_is};
 
 use crate::Version;
-use crate::expected::{ColumnIs, INDEXES, IndexIs, KeysAre, TABLES, TableIs};
+use crate::expected::{ColumnIs, IndexIs, KeysAre, TableIs};
 use crate::one_test::is_one_test;
+use crate::tables::{INDEXES, TABLES};
 use sqlite_items::Items;
 use sqlite_schema::code::Terms;
 use sqlite_schema::schema::{Column, Index, Kind, Schema, Stamps, Table};

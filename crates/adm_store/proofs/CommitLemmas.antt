@@ -12,13 +12,11 @@ use Rattle.adm_register.specs.Draws.{no_draws, are_in_order}
 use Rattle.adm_register.specs.WellFormed.{WellFormed}
 use Rattle.std.specs.List.Sorted.{IsPermutation}
 use Rattle.std.proofs.lemmas.List.Sorted.{IsPermutation-refl}
-use Rattle.std.specs.Cmp.Lexicographic.{nat_list_cmp_total}
 use Rattle.adm_types.specs.declared.rows.Child.{Child}
 use Rattle.adm_types.specs.declared.rows.Application.{Application}
 use Rattle.adm_types.specs.declared.rows.ImportRow.{ImportRow}
 use Rattle.adm_types.specs.declared.rows.PlaceRow.{PlaceRow}
 use Rattle.adm_types.specs.declared.rows.LeftPair.{LeftPair}
-use Rattle.adm_types.specs.declared.rows.School.{School}
 use Rattle.adm_types.specs.contracts.rows.Child.{the_row as child_code}
 use Rattle.adm_types.specs.contracts.rows.Application.{the_row as application_code}
 use Rattle.adm_types.specs.contracts.rows.PlaceRow.{the_row as place_code}
@@ -45,7 +43,7 @@ use Rattle.adm_schema.specs.Rows.{rows_of}
 use Rattle.std.specs.Prelude.{fold}
 use Rattle.adm_schema.specs.Effects.{drop_of}
 use Rattle.adm_schema.specs.Schema.{draw, present, school, register_schema}
-use Rattle.adm_rows.specs.Forms.{season_row, school_row, child_row, application_row, place_row, left_row, imported_row}
+use Rattle.adm_rows.specs.Forms.{season_row, child_row, application_row, place_row, left_row, imported_row}
 use Rattle.adm_rows.specs.DrawForms.{draw_row, offer_row, lot_row}
 use Rattle.adm_rows.specs.Present.{present_columns, moved_key}
 use Rattle.adm_store.specs.Schools.{code_row}
@@ -54,7 +52,7 @@ use Rattle.adm_store.specs.Changes.{IsStep, written_school, written_child, writt
 use Rattle.adm_store.specs.Writes.{Write, Sets, Leaves, Writes, changed, after_writes, are_keyed, count_of, key_row, writes_of}
 use Rattle.adm_store.specs.declared.rows.Changes.{Changes}
 use Rattle.adm_store.proofs.LogLemmas.{after_none}
-use Rattle.adm_rows.proofs.RegisterRows.{each_table, same_code, left_total, left_same}
+use Rattle.adm_rows.proofs.RegisterRows.{each_table, left_total, left_same}
 use Rattle.adm_store.proofs.MapLemmas.{coded_stable, keyed_moved, rows_keyed}
 use Rattle.adm_store.proofs.AddedRows.{added_rows, keys_kept}
 use Rattle.adm_store.proofs.AddedParts.{added_parts}

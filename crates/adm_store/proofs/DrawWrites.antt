@@ -22,7 +22,8 @@ use Rattle.adm_schema.proofs.RowTexts.{inserts_offer, inserts_lot}
 use Rattle.adm_schema.specs.Texts.{insert_draw, draw_terms}
 use Rattle.adm_schema.proofs.Texts.{inserts_draw}
 use Rattle.adm_rows.specs.Forms.{truth_code}
-use Rattle.adm_rows.specs.DrawForms.{school_value, draw_row, offer_row, lot_row}
+use Rattle.adm_rows.specs.Forms.{school_value}
+use Rattle.adm_rows.specs.DrawForms.{draw_row, offer_row, lot_row}
 use Rattle.adm_store.specs.Writes.{Adds, Writes, write_of}
 use Rattle.adm_store.proofs.LogLemmas.{add_one, add_keyed}
 

@@ -1,7 +1,6 @@
 -- The rows of present schools after a commit drops some of them and adds others.
 use Rattle.std.proofs.Common.{◌≡◌, ◌∙◌, inl, inr, pos, Bool, true, false, not, cond, ◌&&◌, List, [], ◌∷◌, ◌++◌, map, filter, fold, flat_map, ℕ, Some, None, Option, option_and_then, refl, sym, ap, ap₂, subst, append-nil, arith}
 use Rattle.std.specs.Prelude.{if◌then◌else◌}
-use Rattle.std.specs.List.{list_all}
 use Rattle.std.specs.List.Sorted.{IsPermutation}
 use Rattle.std.specs.Ordering.{is_eq, eq_by_cmp, nat_cmp}
 use Rattle.std.specs.Cmp.{nat_cmp_total, tied_itself}
@@ -18,7 +17,7 @@ use Rattle.std.proofs.lemmas.List.Sorted.{IsPermutation-trans, IsPermutation-map
 use Rattle.sqlite_value.proofs.OrderLemmas.{value_cmp-Int}
 use Rattle.sqlite_rules.specs.Lists.{Has}
 use Rattle.sqlite_rules.proofs.ListLemmas.{test_from, fails_from}
-use Rattle.sqlite_trees.proofs.ListLemmas.{filter-map, flat_map_same_on, IsPermutation-filter, IsPermutation-flat_map}
+use Rattle.sqlite_trees.proofs.ListLemmas.{flat_map_same_on, IsPermutation-flat_map}
 use Rattle.sqlite.specs.Order.{Row, value_cmp}
 use Rattle.sqlite.specs.declared.types.Value.TheVariants.{Int}
 use Rattle.adm_lists.proofs.Orders.{same_key}
@@ -33,7 +32,7 @@ use Rattle.adm_rows.specs.Present.{present_columns, moved_key, was_present, is_s
 use Rattle.adm_rows.proofs.Entries.{value_at}
 use Rattle.adm_store.proofs.AddedRows.{old_and_new}
 use Rattle.adm_store.proofs.DroppedRows.{left_by, drop_each, drops, drops_moved}
-use Rattle.adm_rows.proofs.PresentLists.{flat_map_at, flat_map_where, filter-flat_map, from_given, is_given, middle_turned, flat_map_both, filter_twice, filter_true, given, given_then}
+use Rattle.adm_rows.proofs.PresentLists.{flat_map_at, flat_map_where, filter-flat_map, from_given, is_given, middle_turned, flat_map_both, given, given_then}
 
 -- ---- what a key drops
 

@@ -1,5 +1,5 @@
 -- What the statements do on the tables whose rows are written by their keys.
-use Rattle.std.proofs.Common.{◌≡◌, ℕ, pos, Bool, true, false, List, ◌∷◌, [], Ok, refl, ap, ◌∙◌, ◌≤◌, arith}
+use Rattle.std.proofs.Common.{◌≡◌, ℕ, suc, length, pos, Bool, true, false, List, ◌∷◌, [], Ok, refl, ap, ◌∙◌, ◌≤◌, arith}
 use Rattle.std.specs.Prelude.{Option, Some, None, if◌then◌else◌}
 use Rattle.sqlite.specs.declared.types.Value.TheVariants.{Null, Int, Text}
 use Rattle.sqlite.specs.Cast.{cast_row}
@@ -10,6 +10,7 @@ use Rattle.sqlite.specs.Rowids.TheVariants.{Chosen}
 use Rattle.sqlite.specs.Values.{bound_value, or_null}
 use Rattle.sqlite.specs.Effect.{value_rows}
 use Rattle.sqlite_schema.specs.declared.command.Conflict.TheVariants.{Replace}
+use Rattle.adm_schema.specs.Columns.{child_columns, application_columns, imported_columns, given_terms}
 use Rattle.adm_schema.specs.Rows.{columns_of}
 use Rattle.sqlite.specs.State.{State, HasCleanDisk, ExecutesInside}
 use Rattle.adm_types.specs.declared.rows.PlaceRow.{PlaceRow}
@@ -19,7 +20,7 @@ use Rattle.adm_types.specs.declared.rows.PlaceState.TheVariants.{Offered, Accept
 use Rattle.sqlite_trees.specs.View.{doubt}
 use Rattle.adm_schema.specs.Schema.{child, application, place, left_list, imported, register_schema}
 use Rattle.adm_schema.specs.RowTexts as text
-use Rattle.adm_schema.specs.Texts.{insert_left_list, left_list_terms, insert_imported, imported_terms}
+use Rattle.adm_schema.specs.Texts.{insert_left_list, left_list_terms, insert_imported}
 use Rattle.adm_schema.proofs.Listed.{has_child, has_application, has_place, has_left_list, has_imported}
 use Rattle.adm_schema.proofs.Casts.{cast_null, cast_int}
 use Rattle.adm_schema.proofs.OneRow.{puts_row, cuts_row}
@@ -31,7 +32,7 @@ use Rattle.adm_store.specs.declared.rows.ApplicationRow.{ApplicationRow}
 use Rattle.adm_store.specs.declared.rows.ImportedRow.{ImportedRow}
 use Rattle.adm_store.specs.Changes.{written_child, written_application, written_imported}
 use Rattle.adm_rows.specs.Forms.{place_row, left_row, state_columns, truth_code}
-use Rattle.adm_store.specs.Writes.{Adds, Puts, Cuts, Writes, write_of, key_row}
+use Rattle.adm_store.specs.Writes.{RunsText, Adds, Puts, Cuts, Writes, write_of, key_row}
 use Rattle.adm_store.proofs.LogLemmas.{add_one, add_keyed, put_one, cut_one}
 
 -- a truth value as SQL has it
@@ -50,23 +51,23 @@ stored [] = []
 stored (key ∷ row) = key ∷ Null ∷ row
 
 stored_child : (it : ChildRow) → cast_row child (stored (written_child it)) ≡ stored (written_child it)
-stored_child it = rw (cast_null, cast_int (pos it.child), cast_int (pos it.east), cast_int (pos it.north), cast_int (pos (truth_code it.looked_after)), cast_int (pos it.flags))
+stored_child it = simp (cast_null, cast_int) refl
 
-pub writes_child : (old new : State) (count : ℕ) (it : ChildRow) → doubt old.is_clean ≤ doubt new.is_clean → (HasCleanDisk new → ExecutesInside 0 text.put_child (written_child it) old new (Ok count)) → Writes (write_of Puts child written_child (it ∷ []) ∷ []) old new
-writes_child old new count it later ran = put_one child has_child old new later refl (written_child it) (λ clean sees.
+pub writes_child : (old new : State) (it : ChildRow) → doubt old.is_clean ≤ doubt new.is_clean → RunsText text.put_child (written_child it) old new → Writes (write_of Puts child written_child (it ∷ []) ∷ []) old new
+writes_child old new it later ran = put_one child has_child old new later refl (written_child it) (λ clean sees.
     let early : HasCleanDisk old = omega (arith, later, clean) in
-    let h = ran clean in
-    puts_row register_schema child 2 refl refl refl (λ _ _. refl) (λ _. refl) text.child_terms 8 text.put_child (written_child it) (stored (written_child it)) (written_child it) (pos it.child) old new count (λ _ _. refl)
+    let h = (ran clean).1 in
+    puts_row register_schema child 2 refl refl refl (λ _ _. refl) (λ _. refl) (given_terms child_columns) (suc (length child_columns)) text.put_child (written_child it) (stored (written_child it)) (written_child it) (pos it.columns.0) old new (ran clean).0 (λ _ _. refl)
     puts_child.0 puts_child.1 refl (stored_child it) (stored_child it) refl refl (sees early h.1.was_open) h)
 
 stored_application : (it : ApplicationRow) → cast_row application (stored (written_application it)) ≡ stored (written_application it)
-stored_application it = rw (cast_null, cast_int (pos it.child), cast_int (pos it.day))
+stored_application it = simp (cast_null, cast_int) refl
 
-pub writes_application : (old new : State) (count : ℕ) (it : ApplicationRow) → doubt old.is_clean ≤ doubt new.is_clean → (HasCleanDisk new → ExecutesInside 0 text.put_application (written_application it) old new (Ok count)) → Writes (write_of Puts application written_application (it ∷ []) ∷ []) old new
-writes_application old new count it later ran = put_one application has_application old new later refl (written_application it) (λ clean sees.
+pub writes_application : (old new : State) (it : ApplicationRow) → doubt old.is_clean ≤ doubt new.is_clean → RunsText text.put_application (written_application it) old new → Writes (write_of Puts application written_application (it ∷ []) ∷ []) old new
+writes_application old new it later ran = put_one application has_application old new later refl (written_application it) (λ clean sees.
     let early : HasCleanDisk old = omega (arith, later, clean) in
-    let h = ran clean in
-    puts_row register_schema application 3 refl refl refl (λ _ _. refl) (λ _. refl) text.application_terms 4 text.put_application (written_application it) (stored (written_application it)) (written_application it) (pos it.child) old new count (λ _ _. refl)
+    let h = (ran clean).1 in
+    puts_row register_schema application 3 refl refl refl (λ _ _. refl) (λ _. refl) (given_terms application_columns) (suc (length application_columns)) text.put_application (written_application it) (stored (written_application it)) (written_application it) (pos it.columns.0) old new (ran clean).0 (λ _ _. refl)
     puts_application.0 puts_application.1 refl (stored_application it) (stored_application it) refl refl (sees early h.1.was_open) h)
 
 pub cuts_application_out : (old new : State) (count : ℕ) (number : ℕ) → doubt old.is_clean ≤ doubt new.is_clean → (HasCleanDisk new → ExecutesInside 0 text.cut_application (key_row number) old new (Ok count)) → Writes (write_of Cuts application key_row (number ∷ []) ∷ []) old new
@@ -135,12 +136,12 @@ adds_left old new count it later ran = add_one left_list has_left_list old new l
     (inserted register_schema left_list 5 refl refl refl (λ _ _. refl) left_list_terms 3 insert_left_list (left_row it) (Null ∷ left_row it) old new count inserts_left_list.0 inserts_left_list.1 refl (sees early h.1.was_open) h))
 
 given_imported : (it : ImportedRow) (rows : List Row) → with_rowid Chosen rows (cast_row imported (stored (written_imported it))) ≡ stored (written_imported it)
-given_imported it rows = rw (cast_null, cast_int (pos it.child.child), cast_int (pos it.child.east), cast_int (pos it.child.north), cast_int (pos (truth_code it.child.looked_after)), cast_int (pos it.child.flags), cast_int (pos it.day))
+given_imported it rows = simp (cast_null, cast_int) refl
 
-pub adds_imported : (old new : State) (count : ℕ) (it : ImportedRow) → doubt old.is_clean ≤ doubt new.is_clean → (HasCleanDisk new → ExecutesInside 0 insert_imported (written_imported it) old new (Ok count))
+pub adds_imported : (old new : State) (it : ImportedRow) → doubt old.is_clean ≤ doubt new.is_clean → RunsText insert_imported (written_imported it) old new
     → Writes (write_of Adds imported written_imported (it ∷ []) ∷ []) old new
-adds_imported old new count it later ran = add_keyed imported has_imported old new later refl (written_imported it) refl (λ clean sees.
+adds_imported old new it later ran = add_keyed imported has_imported old new later refl (written_imported it) refl (λ clean sees.
     let early : HasCleanDisk old = omega (arith, later, clean) in
-    let h = ran clean in
+    let h = (ran clean).1 in
     adds register_schema imported 9 refl refl refl (λ _ _. refl) old new (stored (written_imported it)) (written_imported it) (λ rows. ap (columns_of imported) (given_imported it rows))
-    (inserted register_schema imported 9 refl refl refl (λ _ _. refl) imported_terms 10 insert_imported (written_imported it) (stored (written_imported it)) old new count inserts_imported.0 inserts_imported.1 refl (sees early h.1.was_open) h))
+    (inserted register_schema imported 9 refl refl refl (λ _ _. refl) (given_terms imported_columns) (suc (length imported_columns)) insert_imported (written_imported it) (stored (written_imported it)) old new (ran clean).0 inserts_imported.0 inserts_imported.1 refl (sees early h.1.was_open) h))

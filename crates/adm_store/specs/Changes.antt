@@ -1,5 +1,5 @@
 -- The rows by which one register differs from another, as they are written.
-use Rattle.std.specs.Prelude.{◌≡◌, ℕ, ◌+◌, ◌-◌, pos, List, [], ◌∷◌, ◌++◌, length, drop, map}
+use Rattle.std.specs.Prelude.{◌≡◌, ℕ, ◌+◌, ◌-◌, pos, Bool, List, [], ◌∷◌, length, drop, map}
 use Rattle.std.specs.List.{flat_map}
 use Rattle.adm_types.specs.Seasons.{SeasonFacts, IsSeason}
 use Rattle.adm_types.specs.declared.draws.DrawRow.{DrawRow}
@@ -33,14 +33,29 @@ written_season r = Int (pos 1) ∷ Int (pos 2) ∷ Int (pos (phase_code r.phase)
 abbrev pub written_school : SchoolRow → Row
 written_school r = Text r.code ∷ Text r.name ∷ Int (pos r.pan) ∷ Int (pos r.east) ∷ Int (pos r.north) ∷ Text r.criteria ∷ []
 
+-- the columns of a child, and then others
+abbrev pub HomeRow : Type 0 → Type 0
+HomeRow Others = ℕ × (List ℕ × (ℕ × (ℕ × (Bool × (ℕ × (List ℕ × Others))))))
+
+abbrev pub home_row : {Others : Type 0} → (Others → Row) → HomeRow Others → Row
+home_row others r =
+    Int (pos r.0) ∷ Text r.1.0 ∷ Int (pos r.1.1.0) ∷ Int (pos r.1.1.1.0) ∷ Int (pos (truth_code r.1.1.1.1.0)) ∷ Int (pos r.1.1.1.1.1.0) ∷ Text r.1.1.1.1.1.1.0 ∷ others r.1.1.1.1.1.1.1
+
+-- the day and the preferences of an application
+abbrev pub WishRow : Type 0
+WishRow = ℕ × (List ℕ × Unit {0})
+
+abbrev pub wish_row : WishRow → Row
+wish_row r = Int (pos r.0) ∷ Text r.1.0 ∷ []
+
 abbrev pub written_child : ChildRow → Row
-written_child r = Int (pos r.child) ∷ Text r.name ∷ Int (pos r.east) ∷ Int (pos r.north) ∷ Int (pos (truth_code r.looked_after)) ∷ Int (pos r.flags) ∷ Text r.siblings ∷ []
+written_child r = home_row (λ _. []) r.columns
 
 abbrev pub written_application : ApplicationRow → Row
-written_application r = Int (pos r.child) ∷ Int (pos r.day) ∷ Text r.preferences ∷ []
+written_application r = Int (pos r.columns.0) ∷ wish_row r.columns.1
 
 abbrev pub written_imported : ImportedRow → Row
-written_imported r = written_child r.child ++ Int (pos r.day) ∷ Text r.preferences ∷ []
+written_imported r = home_row wish_row r.columns
 
 -- the number of a draw, as the row of `meta` has it
 abbrev pub written_count : DrawRow → Row

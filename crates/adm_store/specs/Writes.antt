@@ -1,10 +1,10 @@
 -- What statements write, one after another, and what they leave before it is committed.
-use Rattle.std.specs.Prelude.{◌≡◌, ◌==◌, ℕ, Bool, true, pos, List, [], ◌∷◌, map, ◌++◌, length, fold, sum_by, is_some, if◌then◌else◌, IsTrue, IsPermutation}
+use Rattle.std.specs.Prelude.{◌≡◌, ◌==◌, ℕ, Bool, true, pos, List, [], ◌∷◌, map, ◌++◌, length, fold, sum_by, is_some, Ok, if◌then◌else◌, IsTrue, IsPermutation}
 use Rattle.sqlite.specs.Order.{Row}
 use Rattle.sqlite.specs.Table.{Table}
 use Rattle.sqlite.specs.Edit.{have_rowids, without_all}
 use Rattle.sqlite.specs.Effect.{IsDatabase}
-use Rattle.sqlite.specs.State.{State, HasCleanDisk}
+use Rattle.sqlite.specs.State.{State, HasCleanDisk, ExecutesInside}
 use Rattle.sqlite.specs.declared.types.Value.TheVariants.{Int}
 use Rattle.sqlite_rules.specs.Lists.{Has}
 use Rattle.adm_schema.specs.Rows.{rows_of}
@@ -24,6 +24,10 @@ pub data Kind : Type 0 where
   Cuts : Kind
   Drops : Kind
   Sets : Kind
+
+-- the text ran with these values as its parameters
+abbrev pub RunsText : List ℕ → Row → State → State → Type 0
+RunsText text row old new = HasCleanDisk new → (count : ℕ) × ExecutesInside 0 text row old new (Ok count)
 
 -- what statements of one kind write in one table, one after another
 pub record Write : Type 0 where

@@ -3,8 +3,10 @@ ghost use Rattle.adm_schema.specs.Schema.{application};
 ghost use Rattle.adm_store.specs.Changes.{written_application};
 ghost use Rattle.adm_store.specs.Writes.{Puts, Cuts, key_row};
 
-use crate::rows::{ApplicationRow, number_of};
+use crate::rows::ApplicationRow;
 use crate::statement::Statement;
+use crate::written::run_row;
+use adm_schema::tables::applications::{cut_application, put_application};
 use adm_types::ChildNo;
 use sqlite::{Alter, Error, Transaction, params};
 
@@ -20,14 +22,7 @@ impl Statement for PutApplication {
     ghost row_of = { written_application };
 
     fn run<S: Alter>(tx: &mut Transaction<'_, S>, row: &ApplicationRow) -> Result<(), Error> {
-        let child = row.child.get();
-        let day = number_of(row.day);
-        let preferences = row.preferences.as_str();
-        tx.execute(
-            "INSERT OR REPLACE INTO application (child, day, preferences) VALUES (?1, ?2, ?3)",
-            params![child, day, preferences],
-        )?;
-        Ok(())
+        run_row(tx, put_application(), &row.columns)
     }
 }
 
@@ -44,7 +39,7 @@ impl Statement for CutApplication {
 
     fn run<S: Alter>(tx: &mut Transaction<'_, S>, child: &ChildNo) -> Result<(), Error> {
         let number = child.get();
-        tx.execute("DELETE FROM application WHERE child = ?1", params![number])?;
+        tx.execute(cut_application(), params![number])?;
         Ok(())
     }
 }

@@ -5,7 +5,9 @@ ghost use Rattle.adm_store.specs.Writes.{Puts};
 
 use crate::rows::ChildRow;
 use crate::statement::Statement;
-use sqlite::{Alter, Error, Transaction, params};
+use crate::written::run_row;
+use adm_schema::tables::children::put_child;
+use sqlite::{Alter, Error, Transaction};
 
 pub(crate) struct PutChild;
 
@@ -19,22 +21,6 @@ impl Statement for PutChild {
     ghost row_of = { written_child };
 
     fn run<S: Alter>(tx: &mut Transaction<'_, S>, row: &ChildRow) -> Result<(), Error> {
-        let number = row.child.get();
-        let name = row.name.as_str();
-        let flags = u32::from(row.flags);
-        let siblings = row.siblings.as_str();
-        tx.execute(
-            "INSERT OR REPLACE INTO child (child, name, east, north, looked_after, flags, siblings) VALUES (?1, ?2, ?3, ?4, ?5, ?6, ?7)",
-            params![
-                number,
-                name,
-                row.east,
-                row.north,
-                row.looked_after,
-                flags,
-                siblings
-            ],
-        )?;
-        Ok(())
+        run_row(tx, put_child(), &row.columns)
     }
 }

@@ -11,6 +11,14 @@ ghost use Rattle.adm_store.specs.Creating.{MakesATable};
 use crate::rows::SeasonRow;
 use crate::season::AddSeason;
 use crate::statement::Statement;
+use adm_schema::tables::applications::create_application;
+use adm_schema::tables::children::{create_child, create_imported};
+use adm_schema::tables::draws::{create_draw, create_lot, create_offer};
+use adm_schema::tables::left_list::create_left_list;
+use adm_schema::tables::meta::create_meta;
+use adm_schema::tables::places::create_place;
+use adm_schema::tables::present::create_present;
+use adm_schema::tables::schools::create_school;
 use sqlite::{Alter, Connection, Error, Transaction};
 use sqlite_schema::schema::Schema;
 
@@ -29,28 +37,17 @@ fn creation(at: usize) -> &'static str
     ensures { slice_get creations at ≡ Some result.now }
 {
     match at {
-        0 =>
-            "CREATE TABLE meta (one INTEGER PRIMARY KEY CHECK (one = 1), version INTEGER NOT NULL, phase INTEGER NOT NULL, year INTEGER NOT NULL, holidays TEXT NOT NULL, draws INTEGER NOT NULL) STRICT",
-        1 =>
-            "CREATE TABLE school (code TEXT PRIMARY KEY NOT NULL, name TEXT NOT NULL, pan INTEGER NOT NULL, east INTEGER NOT NULL, north INTEGER NOT NULL, criteria TEXT NOT NULL) STRICT",
-        2 =>
-            "CREATE TABLE child (child INTEGER PRIMARY KEY, name TEXT NOT NULL, east INTEGER NOT NULL, north INTEGER NOT NULL, looked_after INTEGER NOT NULL, flags INTEGER NOT NULL, siblings TEXT NOT NULL) STRICT",
-        3 =>
-            "CREATE TABLE application (child INTEGER PRIMARY KEY, day INTEGER NOT NULL, preferences TEXT NOT NULL) STRICT",
-        4 =>
-            "CREATE TABLE place (child INTEGER PRIMARY KEY, school TEXT NOT NULL, kind INTEGER NOT NULL, day INTEGER, reminded INTEGER) STRICT",
-        5 =>
-            "CREATE TABLE left_list (child INTEGER NOT NULL, school TEXT NOT NULL, PRIMARY KEY (child, school)) STRICT",
-        6 =>
-            "CREATE TABLE draw (draw INTEGER PRIMARY KEY, round INTEGER NOT NULL, school TEXT, day INTEGER NOT NULL) STRICT",
-        7 =>
-            "CREATE TABLE offer (draw INTEGER NOT NULL, child INTEGER NOT NULL, school TEXT, fresh INTEGER NOT NULL, PRIMARY KEY (draw, child)) STRICT",
-        8 =>
-            "CREATE TABLE lot (draw INTEGER NOT NULL, school TEXT NOT NULL, child INTEGER NOT NULL, lot INTEGER NOT NULL, PRIMARY KEY (draw, school, child), UNIQUE (draw, school, lot)) STRICT",
-        9 =>
-            "CREATE TABLE imported (child INTEGER PRIMARY KEY, name TEXT NOT NULL, east INTEGER NOT NULL, north INTEGER NOT NULL, looked_after INTEGER NOT NULL, flags INTEGER NOT NULL, siblings TEXT NOT NULL, day INTEGER NOT NULL, preferences TEXT NOT NULL) STRICT",
-        _ =>
-            "CREATE TABLE present (child INTEGER NOT NULL, imported INTEGER NOT NULL, school TEXT NOT NULL, PRIMARY KEY (child, imported)) STRICT",
+        0 => create_meta(),
+        1 => create_school(),
+        2 => create_child(),
+        3 => create_application(),
+        4 => create_place(),
+        5 => create_left_list(),
+        6 => create_draw(),
+        7 => create_offer(),
+        8 => create_lot(),
+        9 => create_imported(),
+        _ => create_present(),
     }
 }
 

@@ -6,6 +6,7 @@ ghost use Rattle.adm_store.specs.Writes.{Adds};
 use crate::offers::code_in;
 use crate::rows::number_of;
 use crate::statement::Statement;
+use adm_schema::tables::draws::insert_draw;
 use adm_types::DrawRow;
 use sqlite::{Alter, Error, Transaction, params};
 
@@ -23,10 +24,7 @@ impl Statement for AddDraw {
     fn run<S: Alter>(tx: &mut Transaction<'_, S>, row: &DrawRow) -> Result<(), Error> {
         let school = code_in(&row.school);
         let day = number_of(row.day);
-        tx.execute(
-            "INSERT INTO draw (draw, round, school, day) VALUES (?1, ?2, ?3, ?4)",
-            params![row.draw, row.round, school, day],
-        )?;
+        tx.execute(insert_draw(), params![row.draw, row.round, school, day])?;
         Ok(())
     }
 }

@@ -4,6 +4,7 @@ ghost use Rattle.adm_rows.specs.Forms.{left_row};
 ghost use Rattle.adm_store.specs.Writes.{Adds};
 
 use crate::statement::Statement;
+use adm_schema::tables::left_list::insert_left_list;
 use adm_types::LeftPair;
 use sqlite::{Alter, Error, Transaction, params};
 
@@ -21,10 +22,7 @@ impl Statement for AddLeft {
     fn run<S: Alter>(tx: &mut Transaction<'_, S>, pair: &LeftPair) -> Result<(), Error> {
         let child = pair.child.get();
         let school = pair.school.as_str();
-        tx.execute(
-            "INSERT INTO left_list (child, school) VALUES (?1, ?2)",
-            params![child, school],
-        )?;
+        tx.execute(insert_left_list(), params![child, school])?;
         Ok(())
     }
 }

@@ -21,8 +21,10 @@ mod season;
 mod statement;
 mod store;
 mod to_rows;
+mod written;
 
 pub use difference::changes;
 pub use fault::{CreateFault, Failed};
 pub use rows::{ApplicationRow, Changes, ChildRow, ImportedRow, SchoolRow};
 pub use store::{Store, create, open};
+pub use to_rows::HomeRow;

@@ -4,6 +4,7 @@ ghost use Rattle.adm_rows.specs.DrawForms.{lot_row};
 ghost use Rattle.adm_store.specs.Writes.{Adds};
 
 use crate::statement::Statement;
+use adm_schema::tables::draws::insert_lot;
 use adm_types::LotRow;
 use sqlite::{Alter, Error, Transaction, params};
 
@@ -21,10 +22,7 @@ impl Statement for AddLot {
     fn run<S: Alter>(tx: &mut Transaction<'_, S>, row: &LotRow) -> Result<(), Error> {
         let school = row.lot.school.as_str();
         let child = row.lot.child.get();
-        tx.execute(
-            "INSERT INTO lot (draw, school, child, lot) VALUES (?1, ?2, ?3, ?4)",
-            params![row.draw, school, child, row.lot.lot],
-        )?;
+        tx.execute(insert_lot(), params![row.draw, school, child, row.lot.lot])?;
         Ok(())
     }
 }

@@ -7,6 +7,8 @@ ghost use Rattle.adm_schema.specs.declared.version.Version.TheVariants.{First, S
 ghost use Rattle.adm_store.specs.Migration.{MakesPresent, MakesSecond, Migrates};
 ghost use Rattle.adm_rows.specs.StandsFor.{StandsAs, LeavesAll};
 
+use adm_schema::tables::meta::mark_version;
+use adm_schema::tables::present::create_present;
 use sqlite::{Alter, Connection, Error, Transaction};
 
 /// Makes the table of the present schools.
@@ -15,10 +17,7 @@ fn add_present<S: Alter>(tx: &mut Transaction<'_, S>) -> Result<(), Error>
     ensures made { HasCleanDisk (state S.Store tx.new.conn.now) → OnOk result (MakesPresent (state S.Store tx.old.conn.now) (state S.Store tx.new.conn.now)) }
     ensures survives { Survives (state S.Store tx.old.conn.now) (state S.Store tx.new.conn.now) (λ _. ⊥) }
 {
-    tx.execute(
-        "CREATE TABLE present (child INTEGER NOT NULL, imported INTEGER NOT NULL, school TEXT NOT NULL, PRIMARY KEY (child, imported)) STRICT",
-        &[],
-    )?;
+    tx.execute(create_present(), &[])?;
     Ok(())
 }
 
@@ -28,7 +27,7 @@ fn mark_second<S: Alter>(tx: &mut Transaction<'_, S>) -> Result<(), Error>
     ensures marked { HasCleanDisk (state S.Store tx.new.conn.now) → OnOk result (MakesSecond (state S.Store tx.old.conn.now) (state S.Store tx.new.conn.now)) }
     ensures survives { Survives (state S.Store tx.old.conn.now) (state S.Store tx.new.conn.now) (λ _. ⊥) }
 {
-    tx.execute("UPDATE meta SET version = 2", &[])?;
+    tx.execute(mark_version(), &[])?;
     Ok(())
 }
 

@@ -3,10 +3,12 @@ ghost use Rattle.std.specs.Prelude.{◌≡◌};
 ghost use Rattle.sqlite.specs.declared.types.Value.TheVariants.{Text};
 ghost use Rattle.sqlite.specs.Values.{or_null};
 ghost use Rattle.adm_schema.specs.Schema.{offer};
-ghost use Rattle.adm_rows.specs.DrawForms.{offer_row, school_value};
+ghost use Rattle.adm_rows.specs.Forms.{school_value};
+ghost use Rattle.adm_rows.specs.DrawForms.{offer_row};
 ghost use Rattle.adm_store.specs.Writes.{Adds};
 
 use crate::statement::Statement;
+use adm_schema::tables::draws::insert_offer;
 use adm_types::{OfferRow, SchoolCode};
 use sqlite::{Alter, Error, Transaction, params};
 
@@ -35,7 +37,7 @@ impl Statement for AddOffer {
         let child = row.outcome.child.get();
         let school = code_in(&row.outcome.school);
         tx.execute(
-            "INSERT INTO offer (draw, child, school, fresh) VALUES (?1, ?2, ?3, ?4)",
+            insert_offer(),
             params![row.draw, child, school, row.outcome.fresh],
         )?;
         Ok(())

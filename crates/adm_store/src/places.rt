@@ -8,6 +8,7 @@ ghost use Rattle.adm_store.specs.Writes.{Puts, Cuts, key_row};
 
 use crate::rows::number_of;
 use crate::statement::Statement;
+use adm_schema::tables::places::{cut_place, put_place};
 use adm_types::{ChildNo, Day, PlaceRow, PlaceState};
 use sqlite::{Alter, Error, Transaction, params};
 
@@ -46,10 +47,7 @@ impl Statement for PutPlace {
         let child = row.child.get();
         let school = row.place.school.as_str();
         let (kind, day, reminded) = columns_of(&row.place.state);
-        tx.execute(
-            "INSERT OR REPLACE INTO place (child, school, kind, day, reminded) VALUES (?1, ?2, ?3, ?4, ?5)",
-            params![child, school, kind, day, reminded],
-        )?;
+        tx.execute(put_place(), params![child, school, kind, day, reminded])?;
         Ok(())
     }
 }
@@ -67,7 +65,7 @@ impl Statement for CutPlace {
 
     fn run<S: Alter>(tx: &mut Transaction<'_, S>, child: &ChildNo) -> Result<(), Error> {
         let number = child.get();
-        tx.execute("DELETE FROM place WHERE child = ?1", params![number])?;
+        tx.execute(cut_place(), params![number])?;
         Ok(())
     }
 }

@@ -9,6 +9,7 @@ ghost use Rattle.adm_store.specs.Writes.{Adds, Drops};
 
 use crate::found::cut_found;
 use crate::statement::Statement;
+use adm_schema::tables::present::{cut_present, find_present, insert_present};
 use adm_types::{ChildNo, PresentRow};
 use sqlite::{Alter, Error, Row, Transaction, params};
 
@@ -19,10 +20,7 @@ fn found<S: Alter>(tx: &mut Transaction<'_, S>, child: ChildNo) -> Result<Vec<Ro
     ensures survives { Survives (state S.Store tx.old.conn.now) (state S.Store tx.new.conn.now) (λ _. ⊥) }
 {
     let number = child.get();
-    let rows = tx.query_all(
-        "SELECT rowid FROM present WHERE child = ?1 AND imported = ?2",
-        params![number, 0],
-    )?;
+    let rows = tx.query_all(find_present(), params![number, 0])?;
     Ok(rows)
 }
 
@@ -41,11 +39,7 @@ impl Statement for CutPresent {
         let rows = found(tx, *child)?;
         match rows.as_slice().split_first() {
             None => Ok(()),
-            Some((row, others)) if others.is_empty() => cut_found(
-                tx,
-                "DELETE FROM present WHERE rowid = ?1",
-                row,
-            ),
+            Some((row, others)) if others.is_empty() => cut_found(tx, cut_present(), row),
             Some(_) => Err(Error::QueryReturnedNoRows),
         }
     }
@@ -65,10 +59,7 @@ impl Statement for AddPresent {
     fn run<S: Alter>(tx: &mut Transaction<'_, S>, row: &PresentRow) -> Result<(), Error> {
         let child = row.child.get();
         let school = row.school.as_str();
-        tx.execute(
-            "INSERT INTO present (child, imported, school) VALUES (?1, ?2, ?3)",
-            params![child, row.is_imported, school],
-        )?;
+        tx.execute(insert_present(), params![child, row.is_imported, school])?;
         Ok(())
     }
 }

@@ -2,6 +2,7 @@
 ghost use Rattle.std.specs.Prelude.{◌≡◌, ◌+◌, length};
 ghost use Rattle.adm_store.specs.Changes.{last_draw, draw_count};
 
+use crate::to_rows::HomeRow;
 use adm_types::{
     ChildNo, Day, DrawRow, LeftPair, LotRow, OfferRow, Phase, PlaceRow, PresentRow, SchoolCode,
     Seq, Text,
@@ -41,35 +42,19 @@ pub struct SchoolRow {
 /// A row of the table `child`, as it is written.
 #[derive(Drop)]
 pub struct ChildRow {
-    pub child: ChildNo,
-    pub name: Text,
-    /// Metres.
-    pub east: u32,
-    /// Metres.
-    pub north: u32,
-    pub looked_after: bool,
-    /// Bit `f` is flag `f`.
-    pub flags: u16,
-    /// The codes of schools, joined by `;`.
-    pub siblings: Text,
+    pub columns: HomeRow<()>,
 }
 
-/// A row of the table `application`, as it is written.
+/// A row of the table `application`, as it is written. The codes of schools are joined by `;`.
 #[derive(Drop)]
 pub struct ApplicationRow {
-    pub child: ChildNo,
-    pub day: Day,
-    /// The codes of schools, joined by `;`.
-    pub preferences: Text,
+    pub columns: (ChildNo, (Day, (Text, ()))),
 }
 
 /// A row of the table `imported`, as it is written.
 #[derive(Drop)]
 pub struct ImportedRow {
-    pub child: ChildRow,
-    pub day: Day,
-    /// The codes of schools, joined by `;`.
-    pub preferences: Text,
+    pub columns: HomeRow<(Day, (Text, ()))>,
 }
 
 /// The rows of a new register that the old one has not, table by table, and the keys of the old

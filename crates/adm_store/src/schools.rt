@@ -11,6 +11,7 @@ ghost use Rattle.adm_store.specs.Writes.{Adds, Drops};
 use crate::found::cut_found;
 use crate::rows::SchoolRow;
 use crate::statement::Statement;
+use adm_schema::tables::schools::{cut_school, find_school, insert_school};
 use adm_types::SchoolCode;
 use sqlite::{Alter, Error, Row, Transaction, params};
 
@@ -21,7 +22,7 @@ fn found<S: Alter>(tx: &mut Transaction<'_, S>, school: SchoolCode) -> Result<Ve
     ensures survives { Survives (state S.Store tx.old.conn.now) (state S.Store tx.new.conn.now) (λ _. ⊥) }
 {
     let code = school.as_str();
-    let rows = tx.query_all("SELECT rowid FROM school WHERE code = ?1", params![code])?;
+    let rows = tx.query_all(find_school(), params![code])?;
     Ok(rows)
 }
 
@@ -39,9 +40,7 @@ impl Statement for CutSchool {
     fn run<S: Alter>(tx: &mut Transaction<'_, S>, code: &SchoolCode) -> Result<(), Error> {
         let rows = found(tx, *code)?;
         match rows.as_slice().split_first() {
-            Some((row, others)) if others.is_empty() => {
-                cut_found(tx, "DELETE FROM school WHERE rowid = ?1", row)
-            }
+            Some((row, others)) if others.is_empty() => { cut_found(tx, cut_school(), row) }
             _ => Err(Error::QueryReturnedNoRows),
         }
     }
@@ -63,7 +62,7 @@ impl Statement for AddSchool {
         let name = row.name.as_str();
         let criteria = row.criteria.as_str();
         tx.execute(
-            "INSERT INTO school (code, name, pan, east, north, criteria) VALUES (?1, ?2, ?3, ?4, ?5, ?6)",
+            insert_school(),
             params![code, name, row.pan, row.east, row.north, criteria],
         )?;
         Ok(())

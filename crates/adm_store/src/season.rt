@@ -7,6 +7,7 @@ ghost use Rattle.adm_store.specs.Writes.{Adds, Sets};
 
 use crate::rows::SeasonRow;
 use crate::statement::Statement;
+use adm_schema::tables::meta::{insert_meta, update_meta};
 use adm_types::{DrawRow, Phase};
 use sqlite::{Alter, Error, Transaction, params};
 
@@ -33,10 +34,7 @@ impl Statement for AddSeason {
     fn run<S: Alter>(tx: &mut Transaction<'_, S>, row: &SeasonRow) -> Result<(), Error> {
         let phase = number_of(row.phase);
         let holidays = row.holidays.as_str();
-        tx.execute(
-            "INSERT INTO meta (one, version, phase, year, holidays, draws) VALUES (1, 2, ?1, ?2, ?3, 0)",
-            params![phase, row.year, holidays],
-        )?;
+        tx.execute(insert_meta(), params![phase, row.year, holidays])?;
         Ok(())
     }
 }
@@ -54,7 +52,7 @@ impl Statement for SetDraws {
     ghost row_of = { written_count };
 
     fn run<S: Alter>(tx: &mut Transaction<'_, S>, draw: &DrawRow) -> Result<(), Error> {
-        tx.execute("UPDATE meta SET draws = ?1", params![draw.draw])?;
+        tx.execute(update_meta(), params![draw.draw])?;
         Ok(())
     }
 }

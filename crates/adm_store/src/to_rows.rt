@@ -1,13 +1,14 @@
 // The values of a register as rows of the tables, as statements take them.
-ghost use Rattle.std.specs.Prelude.{◌≡◌, map, IfOk};
+ghost use Rattle.std.specs.Prelude.{◌≡◌, ◌++◌, map, IfOk};
 ghost use Rattle.adm_schema.specs.declared.version.Version.TheVariants.{Second};
-ghost use Rattle.adm_store.specs.Changes.{written_season, written_school, written_child, written_application, written_imported};
+ghost use Rattle.adm_store.specs.Changes.{home_row, written_season, written_school, written_child, written_application, written_imported};
 ghost use Rattle.adm_rows.specs.Forms.{season_row, school_row, child_row, application_row, imported_row};
+ghost use Rattle.sqlite.specs.Order.{Row as Columns};
 
 use crate::rows::{ApplicationRow, ChildRow, ImportedRow, SchoolRow, SeasonRow};
 use adm_rows::lists;
 use adm_table::Shared;
-use adm_types::{Application, Child, ImportRow, School, Season, Text};
+use adm_types::{Application, Child, ChildNo, ImportRow, School, Season, Text};
 use std::alloc::{AllocError, Global};
 
 /// A value of a register, which is written as a row of a table.
@@ -63,6 +64,27 @@ impl ToRow for School {
     }
 }
 
+/// The columns of a child's row, as they are written, and then others: metres from the west and the south, flag `f` as bit `f`, and codes of
+/// schools joined by `;`.
+pub type HomeRow<Others> = (ChildNo, (Text, (u32, (u32, (bool, (u16, (Text, Others)))))));
+
+/// The columns of a child, and then others.
+fn home_row<Others: Drop>(
+    alloc: Global,
+    child: &Child,
+    others: Others,
+) -> Result<HomeRow<Others>, AllocError>
+    ensures { IfOk result (λ row. (others_of : Others → Columns) → (home_row others_of row ≡ child_row child.now ++ others_of others)) }
+{
+    let siblings = Text::from_string(lists::codes_text(alloc, child.siblings.as_slice())?);
+    let name = child.name.clone()?;
+    let last = (child.looked_after, (child.flags, (siblings, others)));
+    Ok((
+        child.no,
+        (name, (child.home.east, (child.home.north, last))),
+    ))
+}
+
 impl ToRow for Child {
     type Row = ChildRow;
 
@@ -71,16 +93,8 @@ impl ToRow for Child {
     ghost row_of = { child_row };
 
     fn to_row(&self, alloc: Global) -> Result<ChildRow, AllocError> {
-        let siblings = lists::codes_text(alloc, self.siblings.as_slice())?;
-        Ok(ChildRow {
-            child: self.no,
-            name: self.name.clone()?,
-            east: self.home.east,
-            north: self.home.north,
-            looked_after: self.looked_after,
-            flags: self.flags,
-            siblings: Text::from_string(siblings),
-        })
+        let columns = home_row(alloc, self, ())?;
+        Ok(ChildRow { columns })
     }
 }
 
@@ -93,11 +107,8 @@ impl ToRow for Application {
 
     fn to_row(&self, alloc: Global) -> Result<ApplicationRow, AllocError> {
         let preferences = lists::codes_text(alloc, self.list.as_slice())?;
-        Ok(ApplicationRow {
-            child: self.child,
-            day: self.day,
-            preferences: Text::from_string(preferences),
-        })
+        let columns = (self.child, (self.day, (Text::from_string(preferences), ())));
+        Ok(ApplicationRow { columns })
     }
 }
 
@@ -109,13 +120,10 @@ impl ToRow for ImportRow {
     ghost row_of = { imported_row };
 
     fn to_row(&self, alloc: Global) -> Result<ImportedRow, AllocError> {
-        let child = self.child.to_row(alloc)?;
         let preferences = lists::codes_text(alloc, self.preferences.as_slice())?;
-        Ok(ImportedRow {
-            child,
-            day: self.day,
-            preferences: Text::from_string(preferences),
-        })
+        let wishes = (self.day, (Text::from_string(preferences), ()));
+        let columns = home_row(alloc, &self.child, wishes)?;
+        Ok(ImportedRow { columns })
     }
 }
 

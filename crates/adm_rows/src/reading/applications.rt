@@ -4,9 +4,10 @@ ghost use Rattle.adm_rows.specs.Forms.{application_row};
 ghost use Rattle.adm_rows.specs.Faults.{IsApplication, AreReadAgain};
 
 use crate::OpenFault;
-use crate::reading::codes::codes_at;
-use crate::reading::columns::{child_at, day_at};
+use crate::reading::fields::values_in;
 use crate::reading::reader::Reader;
+use adm_fields::{ApplicationFields, application_of};
+use adm_schema::tables::applications::select_applications;
 use adm_types::{Application, Day};
 use sqlite::Row;
 use std::alloc::Global;
@@ -29,16 +30,11 @@ impl Reader for ApplicationReader {
     ghost IsRead = { λ x. AreReadAgain x.list };
 
     fn select(&self) -> &'static str {
-        "SELECT child, day, preferences FROM application ORDER BY child"
+        select_applications()
     }
 
     fn read(&self, alloc: Global, row: &Row) -> Result<Application, OpenFault> {
-        if row.column_count() != 3 {
-            return Err(OpenFault::BadRow);
-        }
-        let child = child_at(row, 0)?;
-        let day = day_at(row, 1, self.last)?;
-        let list = codes_at(alloc, row, 2)?;
-        Ok(Application { child, day, list })
+        let values = values_in::<ApplicationFields>(alloc, row, self.last)?;
+        Ok(application_of(values))
     }
 }

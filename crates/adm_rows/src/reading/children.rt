@@ -1,47 +1,22 @@
 // The rows of `child` as children.
-ghost use Rattle.std.specs.Prelude.{◌≡◌, ◌<◌, length, IfOk, IfErr};
-ghost use Rattle.adm_types.specs.declared.rows.Child.{Child as Facts};
 ghost use Rattle.adm_schema.specs.Schema.{child};
 ghost use Rattle.adm_rows.specs.Forms.{child_row};
-ghost use Rattle.adm_rows.specs.Faults.{HasFrom, IsNoRegister, IsChild, AreReadAgain};
+ghost use Rattle.adm_rows.specs.Faults.{IsChild, AreReadAgain};
 
 use crate::OpenFault;
-use crate::reading::codes::codes_at;
-use crate::reading::columns::{child_at, flags_at, number_at, text_at, truth_at};
+use crate::reading::fields::values_in;
 use crate::reading::reader::Reader;
-use adm_types::{Child, Point};
+use adm_fields::{ChildColumns, home_of};
+use adm_schema::tables::children::select_children;
+use adm_types::{Child, Day};
 use sqlite::Row;
 use std::alloc::Global;
 
-/// The child of a row whose first seven columns are a child's, without its present school.
-pub(super) fn child_in(alloc: Global, row: &Row) -> Result<Child, OpenFault>
-    requires { 6 < length row.now }
-    ensures ok { IfOk result (λ child. HasFrom row.now 0 (child_row child)) }
-    ensures again { IfOk result (λ child. AreReadAgain child.siblings) }
-    ensures bad { IfErr result (λ e. IsNoRegister e → (child : Facts) → IsChild child → HasFrom row.now 0 (child_row child) → ⊥) }
-    ensures first { IfErr result (λ e. IsNoRegister e → e ≡ OpenFault.BadRow) }
-    ensures disk { IfErr result (λ e. e ≡ OpenFault.Disk → ⊥) }
-{
-    let no = child_at(row, 0)?;
-    let name = text_at(row, 1)?;
-    let east = number_at(row, 2)?;
-    let north = number_at(row, 3)?;
-    let looked_after = truth_at(row, 4)?;
-    let flags = flags_at(row, 5)?;
-    let siblings = codes_at(alloc, row, 6)?;
-    Ok(Child {
-        no,
-        name,
-        home: Point { east, north },
-        looked_after,
-        flags,
-        siblings,
-        present: None,
-    })
-}
-
+/// What reads the children of a season whose lists are kept up to `last`.
 #[derive(Drop)]
-pub(super) struct ChildReader;
+pub(super) struct ChildReader {
+    pub(super) last: Day,
+}
 
 impl Reader for ChildReader {
     type Item = Child;
@@ -55,13 +30,11 @@ impl Reader for ChildReader {
     ghost IsRead = { λ x. AreReadAgain x.siblings };
 
     fn select(&self) -> &'static str {
-        "SELECT child, name, east, north, looked_after, flags, siblings FROM child ORDER BY child"
+        select_children()
     }
 
     fn read(&self, alloc: Global, row: &Row) -> Result<Child, OpenFault> {
-        if row.column_count() != 7 {
-            return Err(OpenFault::BadRow);
-        }
-        child_in(alloc, row)
+        let values = values_in::<ChildColumns>(alloc, row, self.last)?;
+        Ok(home_of(values))
     }
 }

@@ -7,7 +7,7 @@ ghost use Rattle.adm_types.specs.Code.{is_code};
 ghost use Rattle.adm_types.specs.Joined.{codes_of};
 ghost use Rattle.adm_rows.specs.Forms.{codes_text};
 ghost use Rattle.adm_types.specs.Limits.{is_code_or_none};
-ghost use Rattle.adm_rows.specs.DrawForms.{school_value};
+ghost use Rattle.adm_rows.specs.Forms.{school_value};
 ghost use Rattle.adm_rows.specs.Faults.{IsNoRegister, AreReadAgain};
 
 use crate::reading::columns::value_at;

@@ -6,6 +6,7 @@ use crate::OpenFault;
 use crate::reading::codes::code_or_null_at;
 use crate::reading::columns::{day_at, number_at};
 use crate::reading::reader::Reader;
+use adm_schema::tables::draws::select_draws;
 use adm_types::{Day, DrawRow};
 use sqlite::Row;
 use std::alloc::Global;
@@ -28,7 +29,7 @@ impl Reader for DrawReader {
     ghost IsRead = { λ _. Unit {0} };
 
     fn select(&self) -> &'static str {
-        "SELECT draw, round, school, day FROM draw"
+        select_draws()
     }
 
     fn read(&self, _alloc: Global, row: &Row) -> Result<DrawRow, OpenFault> {

@@ -4,10 +4,10 @@ ghost use Rattle.adm_rows.specs.Forms.{imported_row};
 ghost use Rattle.adm_rows.specs.Faults.{IsImportRow, IsImportReadAgain};
 
 use crate::OpenFault;
-use crate::reading::children::child_in;
-use crate::reading::codes::codes_at;
-use crate::reading::columns::day_at;
+use crate::reading::fields::values_in;
 use crate::reading::reader::Reader;
+use adm_fields::{ImportColumns, bare_import_of};
+use adm_schema::tables::children::select_imported;
 use adm_types::{Day, ImportRow};
 use sqlite::Row;
 use std::alloc::Global;
@@ -30,20 +30,11 @@ impl Reader for ImportedReader {
     ghost IsRead = { IsImportReadAgain };
 
     fn select(&self) -> &'static str {
-        "SELECT child, name, east, north, looked_after, flags, siblings, day, preferences FROM imported"
+        select_imported()
     }
 
     fn read(&self, alloc: Global, row: &Row) -> Result<ImportRow, OpenFault> {
-        if row.column_count() != 9 {
-            return Err(OpenFault::BadRow);
-        }
-        let child = child_in(alloc, row)?;
-        let day = day_at(row, 7, self.last)?;
-        let preferences = codes_at(alloc, row, 8)?;
-        Ok(ImportRow {
-            child,
-            day,
-            preferences,
-        })
+        let values = values_in::<ImportColumns>(alloc, row, self.last)?;
+        Ok(bare_import_of(values))
     }
 }

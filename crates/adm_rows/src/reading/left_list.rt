@@ -7,6 +7,7 @@ use crate::OpenFault;
 use crate::reading::codes::code_at;
 use crate::reading::columns::child_at;
 use crate::reading::reader::Reader;
+use adm_schema::tables::left_list::select_left_list;
 use adm_types::LeftPair;
 use sqlite::Row;
 use std::alloc::Global;
@@ -26,7 +27,7 @@ impl Reader for LeftReader {
     ghost IsRead = { λ _. Unit {0} };
 
     fn select(&self) -> &'static str {
-        "SELECT child, school FROM left_list"
+        select_left_list()
     }
 
     fn read(&self, _alloc: Global, row: &Row) -> Result<LeftPair, OpenFault> {

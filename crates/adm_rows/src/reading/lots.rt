@@ -6,6 +6,7 @@ use crate::OpenFault;
 use crate::reading::codes::code_at;
 use crate::reading::columns::{child_at, number_at};
 use crate::reading::reader::Reader;
+use adm_schema::tables::draws::select_lots;
 use adm_types::{Lot, LotRow};
 use sqlite::Row;
 use std::alloc::Global;
@@ -25,7 +26,7 @@ impl Reader for LotReader {
     ghost IsRead = { λ _. Unit {0} };
 
     fn select(&self) -> &'static str {
-        "SELECT draw, school, child, lot FROM lot"
+        select_lots()
     }
 
     fn read(&self, _alloc: Global, row: &Row) -> Result<LotRow, OpenFault> {

@@ -6,6 +6,7 @@ use crate::OpenFault;
 use crate::reading::codes::code_or_null_at;
 use crate::reading::columns::{child_at, number_at, truth_at};
 use crate::reading::reader::Reader;
+use adm_schema::tables::draws::select_offers;
 use adm_types::{OfferRow, Outcome};
 use sqlite::Row;
 use std::alloc::Global;
@@ -25,7 +26,7 @@ impl Reader for OfferReader {
     ghost IsRead = { λ _. Unit {0} };
 
     fn select(&self) -> &'static str {
-        "SELECT draw, child, school, fresh FROM offer"
+        select_offers()
     }
 
     fn read(&self, _alloc: Global, row: &Row) -> Result<OfferRow, OpenFault> {

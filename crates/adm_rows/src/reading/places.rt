@@ -10,6 +10,7 @@ use crate::OpenFault;
 use crate::reading::codes::code_at;
 use crate::reading::columns::{child_at, day_or_null_at, number_at};
 use crate::reading::reader::Reader;
+use adm_schema::tables::places::select_places;
 use adm_types::{ChildNo, Day, Place, PlaceRow, PlaceState, SchoolCode};
 use sqlite::Row;
 use std::alloc::Global;
@@ -87,7 +88,7 @@ impl Reader for PlaceReader {
     ghost IsRead = { λ _. Unit {0} };
 
     fn select(&self) -> &'static str {
-        "SELECT child, school, kind, day, reminded FROM place ORDER BY child"
+        select_places()
     }
 
     fn read(&self, _alloc: Global, row: &Row) -> Result<PlaceRow, OpenFault> {

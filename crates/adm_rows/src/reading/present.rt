@@ -16,6 +16,7 @@ use crate::reading::codes::code_at;
 use crate::reading::columns::{child_at, truth_at};
 use crate::reading::queries::query;
 use adm_schema::Version;
+use adm_schema::tables::present::select_present;
 use adm_types::PresentRow;
 use sqlite::{Alter, Row, Transaction};
 use std::alloc::Global;
@@ -68,8 +69,7 @@ fn read_present<S: Alter>(
     ensures disk { IfErr result (λ e. e ≡ OpenFault.Disk → DiskFailedIn Second (state S.Store tx.old.conn.now) (state S.Store tx.new.conn.now)) }
     ensures survives { Survives (state S.Store tx.old.conn.now) (state S.Store tx.new.conn.now) (λ _. ⊥) }
 {
-    let text = "SELECT child, imported, school FROM present";
-    let rows = query(tx, text, OpenFault::BadRow)?;
+    let rows = query(tx, select_present(), OpenFault::BadRow)?;
     let all = all_in(alloc, rows.as_slice())?;
     Ok(all)
 }

@@ -12,6 +12,7 @@ ghost use Rattle.adm_rows.specs.Faults.{IsNoRegister, IsSchool, IsReadAgain, Has
 use crate::reading::columns::value_at;
 use crate::reading::reader::Reader;
 use crate::{OpenFault, lists};
+use adm_schema::tables::schools::select_schools;
 use adm_types::{Criterion, Point, School, SchoolCode, Seq, Text};
 use sqlite::Row;
 use std::alloc::Global;
@@ -117,7 +118,7 @@ impl Reader for SchoolReader {
     ghost IsRead = { IsReadAgain };
 
     fn select(&self) -> &'static str {
-        "SELECT code, name, pan, east, north, criteria FROM school ORDER BY code"
+        select_schools()
     }
 
     fn read(&self, alloc: Global, row: &Row) -> Result<School, OpenFault> {

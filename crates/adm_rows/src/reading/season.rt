@@ -19,6 +19,7 @@ use crate::reading::columns::value_at;
 use crate::reading::queries::query;
 use crate::{OpenFault, lists};
 use adm_schema::Version;
+use adm_schema::tables::meta::select_meta;
 use adm_types::{Day, Phase, Season, SeasonFault};
 use sqlite::{Alter, Row, Transaction};
 use std::alloc::Global;
@@ -240,8 +241,7 @@ pub(super) fn read_season<S: Alter>(
     ensures unanswered { IfErr result (λ e. e ≡ OpenFault.Disk → DiskFailedOr select_meta (state S.Store tx.old.conn.now) (state S.Store tx.new.conn.now)) }
     ensures survives { Survives (state S.Store tx.old.conn.now) (state S.Store tx.new.conn.now) (λ _. ⊥) }
 {
-    let text = "SELECT one, version, phase, year, holidays, draws FROM meta";
-    let rows = query(tx, text, OpenFault::NotOurs)?;
+    let rows = query(tx, select_meta(), OpenFault::NotOurs)?;
     let meta_row = season_of(alloc, rows.as_slice())?;
     Ok(meta_row)
 }

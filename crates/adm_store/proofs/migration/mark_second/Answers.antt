@@ -7,6 +7,6 @@ pub returns-clause-marked : goal.returns-clause-marked
 returns-clause-marked g c clean has =
     let old = state g.S.Store c.args.tx.now.conn.now in
     let new = state g.S.Store c.execute.new.self.conn.now in
-    let ran = c.in_ok-execute.ensures.runs clean (is_inside _ _ _ _ c.in_ok-execute.ensures.ended) in
+    let ran = rw (c.mark_version.ensures) at c.in_ok-execute.ensures.runs clean (is_inside _ _ _ _ c.in_ok-execute.ensures.ended) in
     let seen = has ran.1.was_open in
     marks_second old new c.in_ok-execute.field-0 seen.0 seen.1 ran

@@ -1,9 +1,8 @@
+use Rattle.std.proofs.lemmas.Result.{on_ok_weaker}
 use Rattle.sqlite.specs.Held.{state}
-use Rattle.adm_schema.proofs.Inside.{is_inside}
 use Rattle.adm_store.proofs.WriteLemmas.{writes_application}
 use Rattle.adm_store.proofs.applications.PutApplicationStatement.run.Goals as goal
 
 pub returns-clause-writes : goal.returns-clause-writes
 returns-clause-writes g c =
-    writes_application (state g.S.Store c.args.tx.now.conn.now) (state g.S.Store c.execute.new.self.conn.now) c.in_ok-execute.field-0 c.args.row.now c.execute.ensures.survives.clean
-    (λ clean. rw (c.params-to_sql.ensures, c.params-to_sql-2.ensures, c.params-to_sql-3.ensures, c.get-child.ensures.value, c.number_of-day.ensures, c.as_str-preferences.ensures.value) at c.in_ok-execute.ensures.runs clean (is_inside _ _ _ _ c.in_ok-execute.ensures.ended))
+    on_ok_weaker c.run_row.result (writes_application (state g.S.Store c.args.tx.now.conn.now) (state g.S.Store c.run_row.new.tx.conn.now) c.args.row.now c.run_row.ensures.survives.clean) (rw (c.put_application.ensures) at c.run_row.ensures.runs)

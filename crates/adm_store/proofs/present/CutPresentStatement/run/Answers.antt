@@ -24,6 +24,6 @@ returns-in-Some-clause-writes g c =
     let row = c.in-Some.row.now in
     let others : c.in-Some.others.now ≡ [] = nil_from_length c.in-Some.others.now (eqb-true (length c.in-Some.others.now) 0 (sym c.is_empty.ensures ∙ c.if-is_empty.true)) in
     let one : c.in_ok-rows.rows.items ≡ row ∷ [] = sym c.as_slice.ensures.value ∙ c.in-Some.ensures.cases.0 ∙ ap (λ more. row ∷ more) others in
-    later_ok c.cut_found.result _ _ _ c.cut_found.ensures.runs (λ cuts.
+    later_ok c.cut_found.result _ _ _ (rw (c.cut_present.ensures) at c.cut_found.ensures.runs) (λ cuts.
     drops_child old mid (state g.S.Store c.cut_found.new.tx.conn.now) c.args.child.now row c.found.ensures.survives.clean c.cut_found.ensures.survives.clean
     (λ clean. subst (λ (rows : List Row). Shown find_present (moved_key c.args.child.now) old mid rows) one (c.in_ok-rows.ensures.shown clean)) cuts)

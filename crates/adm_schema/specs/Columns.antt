@@ -1,0 +1,90 @@
+-- The columns of tables, by the list of the fields that they hold, and the texts of SQL and the terms that follow from columns.
+use Rattle.std.specs.Prelude.{ℕ, suc, Bool, true, false, List, [], ◌∷◌, ◌++◌, map, codes}
+use Rattle.std.specs.Fmt.{digits_onto}
+use Rattle.sqlite.specs.declared.types.Value.TheVariants.{Null}
+use Rattle.sqlite.specs.Collation.TheVariants.{Binary}
+use Rattle.sqlite.specs.Kind.{Kind}
+use Rattle.sqlite.specs.Kind.TheVariants.{Integer, Text}
+use Rattle.sqlite.specs.Term.{Term, col, lit}
+use Rattle.sqlite_schema.specs.declared.schema.Column.{Column}
+use Rattle.adm_fields.specs.Lists.{Format, application_fields}
+use Rattle.adm_fields.specs.Lists as fields
+
+-- a column of a STRICT table, and whether it is NOT NULL
+abbrev pub column_of : List ℕ → Kind → Bool → Column
+column_of name kind not_null = record { name = name; kind = kind; is_strict = true; not_null = not_null; default = Null; collation = Binary }
+
+-- A field is a column of its name: a number or a truth value is an integer, and all else a text. The number of a child is the key, which SQLite keeps from being NULL.
+abbrev pub columns : Format (λ _. Kind × Bool) (λ _. List Column)
+columns = record {
+  field = λ name otherwise kind others. column_of name kind.0 kind.1 ∷ others;
+  no_more = [];
+  a_child = (Integer, false);
+  a_code_or_none = (Text, false);
+  a_text = (Text, true);
+  a_number = (Integer, true);
+  a_truth = (Integer, true);
+  a_day = (Integer, true);
+  some_flags = (Integer, true);
+  some_codes = (Text, true);
+}
+
+abbrev pub child_columns : List Column
+child_columns = fields.child_columns columns
+
+abbrev pub application_columns : List Column
+application_columns = application_fields columns
+
+abbrev pub imported_columns : List Column
+imported_columns = fields.import_columns columns
+
+-- ---- the texts of SQL, over any columns of which the first is the key
+
+-- with a comma and a space between each two
+abbrev pub listed : List (List ℕ) → List ℕ
+listed [] = []
+listed (item ∷ []) = item
+listed (item ∷ next ∷ items) = item ++ codes ", " ++ listed (next ∷ items)
+
+abbrev pub names : List Column → List ℕ
+names columns = listed (map (λ c. c.name) columns)
+
+abbrev pub type_name : Kind → List ℕ
+type_name Text = codes "TEXT"
+type_name other = codes "INTEGER"
+
+abbrev pub defined : List Column → List (List ℕ)
+defined [] = []
+defined (key ∷ columns) = (key.name ++ codes " INTEGER PRIMARY KEY") ∷ map (λ c. c.name ++ codes " " ++ type_name c.kind ++ codes " NOT NULL") columns
+
+abbrev pub create_text : List ℕ → List Column → List ℕ
+create_text table columns = codes "CREATE TABLE " ++ table ++ codes " (" ++ listed (defined columns) ++ codes ") STRICT"
+
+-- the places of columns, or of parameters, counted on from this one
+abbrev pub places_from : ℕ → List Column → List ℕ
+places_from at [] = []
+places_from at (column ∷ columns) = at ∷ places_from (suc at) columns
+
+-- a number in decimal, as a text that computes
+abbrev pub number_text : ℕ → List ℕ
+number_text n = digits_onto 64 10 false n []
+
+-- what writes a row whose columns are the parameters, after the words that say how
+abbrev pub values_text : List ℕ → List ℕ → List Column → List ℕ
+values_text how table columns =
+    how ++ table ++ codes " (" ++ names columns ++ codes ") VALUES (" ++ listed (map (λ n. codes "?" ++ number_text n) (places_from 1 columns)) ++ codes ")"
+
+abbrev pub select_text : List ℕ → List Column → List ℕ
+select_text table columns = codes "SELECT " ++ names columns ++ codes " FROM " ++ table
+
+-- ---- what they mean
+
+-- the parameters as a row is given to the table: the key goes to the rowid's place, and its own column is NULL
+abbrev pub given_terms : List Column → List Term
+given_terms [] = []
+given_terms (key ∷ columns) = col 0 0 ∷ lit Null ∷ map (λ n. col 0 n) (places_from 1 columns)
+
+-- the rowid, which is the key, and then each column
+abbrev pub shown_terms : List Column → List Term
+shown_terms [] = []
+shown_terms (key ∷ columns) = col 1 0 ∷ map (λ n. col 1 n) (places_from 2 columns)

@@ -1,0 +1,47 @@
+// The table `application`: its columns and keys, and the texts of SQL that make, write and read it.
+ghost use Rattle.std.specs.Prelude.{◌≡◌};
+ghost use Rattle.adm_schema.specs.Creations.{create_application};
+ghost use Rattle.adm_schema.specs.Texts.{select_applications};
+ghost use Rattle.adm_schema.specs.RowTexts.{put_application, cut_application};
+
+use crate::expected::{KeysAre, TableIs};
+use sqlite_schema::schema::Kind;
+
+pub(crate) const APPLICATION: TableIs<'static> = TableIs {
+    name: "application",
+    tree: 4,
+    columns: &[
+        ("child", Kind::Integer, false),
+        ("day", Kind::Integer, true),
+        ("preferences", Kind::Text, true),
+    ],
+    keys: KeysAre::Rowid,
+};
+
+/// Makes the table.
+pub fn create_application() -> &'static str
+    ensures { result.now ≡ create_application }
+{
+    "CREATE TABLE application (child INTEGER PRIMARY KEY, day INTEGER NOT NULL, preferences TEXT NOT NULL) STRICT"
+}
+
+/// Writes a row over the one of its key, or adds it.
+pub fn put_application() -> &'static str
+    ensures { result.now ≡ put_application }
+{
+    "INSERT OR REPLACE INTO application (child, day, preferences) VALUES (?1, ?2, ?3)"
+}
+
+/// Deletes the row of a key.
+pub fn cut_application() -> &'static str
+    ensures { result.now ≡ cut_application }
+{
+    "DELETE FROM application WHERE child = ?1"
+}
+
+/// The rows, column by column.
+pub fn select_applications() -> &'static str
+    ensures { result.now ≡ select_applications }
+{
+    "SELECT child, day, preferences FROM application ORDER BY child"
+}

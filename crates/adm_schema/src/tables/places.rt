@@ -1,0 +1,49 @@
+// The table `place`: its columns and keys, and the texts of SQL that make, write and read it.
+ghost use Rattle.std.specs.Prelude.{◌≡◌};
+ghost use Rattle.adm_schema.specs.Creations.{create_place};
+ghost use Rattle.adm_schema.specs.Texts.{select_places};
+ghost use Rattle.adm_schema.specs.RowTexts.{put_place, cut_place};
+
+use crate::expected::{KeysAre, TableIs};
+use sqlite_schema::schema::Kind;
+
+pub(crate) const PLACE: TableIs<'static> = TableIs {
+    name: "place",
+    tree: 5,
+    columns: &[
+        ("child", Kind::Integer, false),
+        ("school", Kind::Text, true),
+        ("kind", Kind::Integer, true),
+        ("day", Kind::Integer, false),
+        ("reminded", Kind::Integer, false),
+    ],
+    keys: KeysAre::Rowid,
+};
+
+/// Makes the table.
+pub fn create_place() -> &'static str
+    ensures { result.now ≡ create_place }
+{
+    "CREATE TABLE place (child INTEGER PRIMARY KEY, school TEXT NOT NULL, kind INTEGER NOT NULL, day INTEGER, reminded INTEGER) STRICT"
+}
+
+/// Writes a row over the one of its key, or adds it.
+pub fn put_place() -> &'static str
+    ensures { result.now ≡ put_place }
+{
+    "INSERT OR REPLACE INTO place (child, school, kind, day, reminded) VALUES (?1, ?2, ?3, ?4, ?5)"
+}
+
+/// Deletes the row of a key.
+pub fn cut_place() -> &'static str
+    ensures { result.now ≡ cut_place }
+{
+    "DELETE FROM place WHERE child = ?1"
+}
+
+/// The rows, column by column.
+pub fn select_places() -> &'static str
+    ensures { result.now ≡ select_places }
+{
+    "SELECT child, school, kind, day, reminded FROM place ORDER BY child"
+}

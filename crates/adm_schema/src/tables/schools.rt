@@ -1,0 +1,57 @@
+// The table `school`: its columns and keys, and the texts of SQL that make, write and read it.
+ghost use Rattle.std.specs.Prelude.{◌≡◌};
+ghost use Rattle.adm_schema.specs.Creations.{create_school};
+ghost use Rattle.adm_schema.specs.Texts.{insert_school, select_schools};
+ghost use Rattle.adm_schema.specs.RowTexts.{find_school, cut_school};
+
+use crate::expected::{KeysAre, TableIs};
+use sqlite_schema::schema::Kind;
+
+pub(crate) const SCHOOL: TableIs<'static> = TableIs {
+    name: "school",
+    tree: 1,
+    columns: &[
+        ("code", Kind::Text, true),
+        ("name", Kind::Text, true),
+        ("pan", Kind::Integer, true),
+        ("east", Kind::Integer, true),
+        ("north", Kind::Integer, true),
+        ("criteria", Kind::Text, true),
+    ],
+    keys: KeysAre::Unique(&[1], &[&[1]]),
+};
+
+/// Makes the table.
+pub fn create_school() -> &'static str
+    ensures { result.now ≡ create_school }
+{
+    "CREATE TABLE school (code TEXT PRIMARY KEY NOT NULL, name TEXT NOT NULL, pan INTEGER NOT NULL, east INTEGER NOT NULL, north INTEGER NOT NULL, criteria TEXT NOT NULL) STRICT"
+}
+
+/// Adds a row.
+pub fn insert_school() -> &'static str
+    ensures { result.now ≡ insert_school }
+{
+    "INSERT INTO school (code, name, pan, east, north, criteria) VALUES (?1, ?2, ?3, ?4, ?5, ?6)"
+}
+
+/// The rowids of the rows of a key.
+pub fn find_school() -> &'static str
+    ensures { result.now ≡ find_school }
+{
+    "SELECT rowid FROM school WHERE code = ?1"
+}
+
+/// Deletes the row of a rowid.
+pub fn cut_school() -> &'static str
+    ensures { result.now ≡ cut_school }
+{
+    "DELETE FROM school WHERE rowid = ?1"
+}
+
+/// The rows, column by column.
+pub fn select_schools() -> &'static str
+    ensures { result.now ≡ select_schools }
+{
+    "SELECT code, name, pan, east, north, criteria FROM school ORDER BY code"
+}
