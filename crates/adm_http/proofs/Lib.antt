@@ -3,9 +3,10 @@ pub mod ResponseLemmas
 pub mod ReadingLemmas
 pub mod StepLemmas
 pub mod RowLemmas
-pub mod RouteLemmas
+pub mod FindLemmas
 pub mod WalkLemmas
 pub mod FormLemmas
+pub mod RouteLemmas
 pub mod LawLemmas
 pub mod StateLemmas
 pub mod ShowLemmas

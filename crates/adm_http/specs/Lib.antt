@@ -1,5 +1,4 @@
 pub mod Lengths
-pub mod Rows
 pub mod Routes
 pub mod Heads
 pub mod Replies

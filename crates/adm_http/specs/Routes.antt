@@ -1,14 +1,11 @@
--- The six routes: the targets of each, what it names, and for a text its media type and what it is.
-use Rattle.std.specs.Prelude.{ℕ, ◌==◌, ◌&&◌, List, [], ◌∷◌, length, nat_lt, if◌then◌else◌, Option, Some, None, option_map, option_and_then, codes, bytes_eq}
+-- The routes: the targets of each, what it names, and for a text its media type and what it is.
+use Rattle.std.specs.Prelude.{◌≡◌, ℕ, ◌==◌, ◌&&◌, List, [], ◌∷◌, ◌++◌, length, nat_lt, if◌then◌else◌, Option, Some, None, option_map, option_and_then, Result, Ok, Err, codes, bytes_eq}
 use Rattle.adm_types.specs.Code.{code_of}
 use Rattle.adm_types.specs.Fields.{plain_of, child_named}
-use Rattle.adm_register.specs.State.{State}
-use Rattle.adm_letters.specs.Letters.{letter_text}
-use Rattle.adm_letters.specs.Lists.{list_text}
-use Rattle.adm_letters.specs.Reports.{report_text}
-use Rattle.adm_http.specs.States.{child_text}
-use Rattle.adm_http.specs.declared.responses.Media.{Media}
-use Rattle.adm_http.specs.declared.responses.Media.TheVariants.{Json, PlainText}
+use Rattle.matchit.specs.Rows.{RowsOf, param_token}
+use Rattle.matchit.specs.Router.{RouteOf, nearest}
+use Rattle.matchit.specs.Route.{Scan}
+use Rattle.matchit.specs.declared.error.InsertError.{InsertError}
 use Rattle.adm_http.specs.declared.routes.Route.{Route}
 use Rattle.adm_http.specs.declared.routes.Route.TheVariants.{Command, Child, Letter, Waiting, Round, WhatIf}
 use Rattle.adm_http.specs.declared.routes.Target.{Target}
@@ -16,6 +13,13 @@ use Rattle.adm_http.specs.declared.routes.Target.TheVariants.{Body, Text}
 use Rattle.adm_http.specs.declared.routes.Purpose.TheVariants as purpose
 use Rattle.adm_http.specs.declared.routes.Resource.{Resource}
 use Rattle.adm_http.specs.declared.routes.Resource.TheVariants.{ChildState, ChildLetter, WaitingList, RoundReport}
+use Rattle.adm_register.specs.State.{State}
+use Rattle.adm_letters.specs.Letters.{letter_text}
+use Rattle.adm_letters.specs.Lists.{list_text}
+use Rattle.adm_letters.specs.Reports.{report_text}
+use Rattle.adm_http.specs.States.{child_text}
+use Rattle.adm_http.specs.declared.responses.Media.{Media}
+use Rattle.adm_http.specs.declared.responses.Media.TheVariants.{Json, PlainText}
 
 -- what follows the text, where the bytes begin with it
 abbrev pub after_prefix : List ℕ → List ℕ → Option (List ℕ)
@@ -90,3 +94,26 @@ text_in s (ChildState child) = child_text s child
 text_in s (ChildLetter child) = letter_text s child
 text_in s (WaitingList school) = list_text s school
 text_in s (RoundReport round) = report_text s round
+
+-- ---- the router
+
+abbrev pub row : List ℕ → List ℕ → List (ℕ × ℕ) → Route → List ℕ × RouteOf Route
+row pattern written names value = (pattern, record { pattern = pattern; text = written; names = names; value = value })
+
+-- a route as the router keeps it: its pattern, its text, and where in it the parameter is named
+abbrev pub row_of : Route → List ℕ × RouteOf Route
+row_of Command = row (codes "/command") (codes "/command") [] Command
+row_of Child = row (codes "/child/" ++ param_token ∷ []) (codes "/child/{no}") ((8, 10) ∷ []) Child
+row_of Letter = row (codes "/child/" ++ param_token ∷ codes "/letter") (codes "/child/{no}/letter") ((8, 10) ∷ []) Letter
+row_of Waiting = row (codes "/school/" ++ param_token ∷ codes "/waiting") (codes "/school/{code}/waiting") ((9, 13) ∷ []) Waiting
+row_of Round = row (codes "/round/" ++ param_token ∷ []) (codes "/round/{no}") ((8, 10) ∷ []) Round
+row_of WhatIf = row (codes "/what-if") (codes "/what-if") [] WhatIf
+
+-- the routes in the order of their patterns
+unfoldable pub all_routes : RowsOf (RouteOf Route)
+all_routes = row_of Letter ∷ row_of Child ∷ row_of Command ∷ row_of Round ∷ row_of Waiting ∷ row_of WhatIf ∷ []
+
+-- a route's text reads well, and conflicts with none of the rows
+abbrev pub IsRouteFree : Result Scan InsertError → RowsOf (RouteOf Route) → Type 0
+IsRouteFree (Ok scan) rows = nearest scan.pattern rows ≡ None
+IsRouteFree (Err e) rows = ⊥

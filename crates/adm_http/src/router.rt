@@ -2,24 +2,23 @@
 ghost use Rattle.std.specs.Prelude.{◌≡◌, OnOk, Ok, option_map};
 ghost use Rattle.matchit.specs.Route.{parse_route};
 ghost use Rattle.matchit.specs.Router.{InsertsRead};
-ghost use Rattle.adm_http.specs.Rows.{six_routes, IsRouteFree};
-ghost use Rattle.adm_http.specs.Routes.{route_of, target_of};
+ghost use Rattle.adm_http.specs.Routes.{route_of, target_of, all_routes, IsRouteFree};
 
-use crate::routes::{Route, Target, named, six};
+use crate::routes::{Route, Target, all_routes, named};
 use matchit::{InsertError, Router};
 use std::alloc::{AllocError, Global};
 
-/// The six routes.
+/// The routes.
 #[derive(Drop)]
 pub struct Routes {
     router: Router<Route>,
-    ghost six: { router ≡ six_routes },
+    ghost all: { router ≡ all_routes },
 }
 
 impl Routes {
-    /// The six routes. It fails only where memory runs out.
+    /// The routes. It fails only where memory runs out.
     pub fn new(alloc: Global) -> Result<Routes, AllocError> {
-        let router = six(alloc)?;
+        let router = all_routes(alloc)?;
         Ok(Routes { router })
     }
 

@@ -1,8 +1,7 @@
-// The six routes: the path of each, what it names, and for a text its media type and how it is made.
+// The routes: the path of each, what it names, and for a text its media type and how it is made.
 ghost use Rattle.std.specs.Prelude.{◌≡◌, IfOk};
 ghost use Rattle.adm_types.specs.Fields.{child_named};
-ghost use Rattle.adm_http.specs.Routes.{named_by, media_of, text_in};
-ghost use Rattle.adm_http.specs.Rows.{six_routes};
+ghost use Rattle.adm_http.specs.Routes.{named_by, media_of, text_in, all_routes};
 ghost use Rattle.adm_http.specs.Shows.{IsShown};
 
 use crate::answering::{Shown, given};
@@ -58,8 +57,8 @@ pub enum Target {
 }
 
 /// A router of the paths.
-pub(crate) fn six(alloc: Global) -> Result<Router<Route>, AllocError>
-    ensures { IfOk result (λ router. router ≡ six_routes) }
+pub(crate) fn all_routes(alloc: Global) -> Result<Router<Route>, AllocError>
+    ensures { IfOk result (λ router. router ≡ all_routes) }
 {
     let mut router = Router::new(alloc);
     add(&mut router, "/command", Route::Command)?;

@@ -1,13 +1,12 @@
 use Rattle.std.proofs.Common.{ap, ◌∙◌, inl, inr, arith}
 use Rattle.matchit.specs.Params.{walk}
-use Rattle.adm_http.proofs.RouteLemmas.{none_found}
-use Rattle.adm_http.proofs.FormLemmas.{found_part, Gave}
+use Rattle.adm_http.proofs.RouteLemmas.{none_found, found_part, Gave}
 use Rattle.adm_http.proofs.router.Routes.find.Goals as goal
 use Rattle.adm_http.proofs.router.Routes.find.Goals.{in-Some, in-None}
 
 pub returns-in_default : goal.returns-in_default
 returns-in_default c =
-    none_found c.args.target.now c.args.self.now.router (λ i. omega (arith, c.type_inv.target i)) c.args.self.now.six c.in_default.ensures.missing
+    none_found c.args.target.now c.args.self.now.router (λ i. omega (arith, c.type_inv.target i)) c.args.self.now.all c.in_default.ensures.missing
 
 pub returns : goal.returns
 returns c =
@@ -19,4 +18,4 @@ returns c =
       | in-None w ↦ inl (w.in-None.ensures.steps, ap (λ p. p.now) w.part-is)
     ] in
     found_part c.args.target.now c.args.self.now.router _ c.iter.result c.match-next.part.now c.utf8.target
-    (λ i. omega (arith, c.type_inv.target i)) c.args.self.now.six c.in-Ok.ensures.found walked gave
+    (λ i. omega (arith, c.type_inv.target i)) c.args.self.now.all c.in-Ok.ensures.found walked gave

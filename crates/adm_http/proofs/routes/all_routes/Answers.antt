@@ -1,7 +1,7 @@
 use Rattle.std.proofs.Common.{refl}
 use Rattle.matchit.proofs.OnLiterals.{matchit_on_literals}
-use Rattle.adm_http.specs.Rows.{six_routes}
-use Rattle.adm_http.proofs.routes.six.Goals as goal
+use Rattle.adm_http.specs.Routes.{all_routes}
+use Rattle.adm_http.proofs.routes.all_routes.Goals as goal
 
 pub add-requires : goal.add-requires
 unfolding matchit_on_literals
@@ -46,7 +46,7 @@ add-requires-6 c =
     rw (f.1, e.1, d.1, b.1, a.1, c.new-router.ensures) refl
 
 pub returns : goal.returns
-unfolding matchit_on_literals six_routes
+unfolding matchit_on_literals all_routes
 returns c =
     let a = c.in_ok-add.ensures in
     let b = c.in_ok-add-2.ensures in
