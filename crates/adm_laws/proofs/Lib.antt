@@ -6,3 +6,4 @@ pub mod ShorterList
 pub mod RaisedRound
 pub mod Lost
 pub mod GroupGains
+pub mod Restated

@@ -12,7 +12,7 @@ mod registers;
 mod taken;
 
 pub use cutting::offers_with_shorter_list;
-pub use groups::no_group_gains;
+pub use groups::{no_group_gains, offers_with_lists};
 pub use leaving::offers_without;
 pub use listing::offers_with_list;
 pub use places::offers_with_quota;
