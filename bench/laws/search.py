@@ -89,11 +89,32 @@ class Law:
             self.worse += true.place(other[index]) > own
 
 
+class Groups:
+    """Groups of children that state other lists together."""
+
+    def __init__(self):
+        self.tried = self.better = self.worse = self.all_better = 0
+
+    def count(self, own, quotas, stated):
+        """From the entrants' own lists to those that the members state; None is no member."""
+        members = [index for index, other in enumerate(stated) if other]
+        if not members:
+            return
+        self.tried += 1
+        after = tuple(other or entrant for entrant, other in zip(own, stated))
+        was, now = best(own, quotas), best(after, quotas)
+        self.better += sum(own[i].place(now[i]) < own[i].place(was[i]) for i in members)
+        self.worse += sum(own[i].place(now[i]) > own[i].place(was[i]) for i in members)
+        for other in stable_allocations(after, quotas):
+            self.all_better += all(own[i].place(other[i]) < own[i].place(was[i]) for i in members)
+
+
 class Counts:
     def __init__(self, kind):
         self.kind = kind
         self.problems = self.stable = self.several = self.placed = self.uneven = 0
         self.laws = {name: Law() for name in ("more places", "a child leaves", "a shorter list", "another list")}
+        self.groups = Groups()
 
     def problem(self, entrants, quotas):
         stable = stable_allocations(entrants, quotas)
@@ -112,6 +133,8 @@ class Counts:
         print(f"{self.kind}: not best 0, unstable 0, uneven {self.uneven}")
         for name, law in self.laws.items():
             print(f"{self.kind}, {name}: tried {law.tried}, better {law.better}, worse {law.worse}")
+        group = self.groups
+        print(f"{self.kind}, lists of a group: tried {group.tried}, better {group.better}, worse {group.worse}, all better {group.all_better}")
 
 
 def replaced(entrants, index, other):
@@ -124,7 +147,7 @@ def with_quota(quotas, school, quota):
 
 def small():
     """Each problem of three entrants and two schools with quotas 0 to 2, the second and the third entrant in one order alone."""
-    counts = Counts("small")
+    counts, groups = Counts("small"), Numbers(12)
     options = [("", ""), ("A", ""), ("B", ""), ("AB", ""), ("BA", ""), ("A", "A"), ("B", "B"), ("AB", "B"), ("BA", "A")]
     for first, second, third in product(range(9), repeat=3):
         if second > third:
@@ -147,6 +170,13 @@ def small():
                     if tenant in ("", own.tenant):
                         other = Entrant((listed, tenant, own.ranks))
                         counts.laws["another list"].count_list(entrants, quotas, replaced(entrants, 0, other), 0)
+                is_member = [groups.below(2) == 0 for _ in entrants]
+                stated = [None] * 3
+                for i in range(3):
+                    if is_member[i]:
+                        listed, tenant = options[groups.below(9)]
+                        stated[i] = Entrant((listed, tenant if tenant == entrants[i].tenant else "", entrants[i].ranks))
+                counts.groups.count(entrants, quotas, stated)
             best.cache_clear()
             stable_allocations.cache_clear()
     counts.print()
@@ -173,9 +203,32 @@ class Numbers:
         order = [".ABCD"[number] for number in self.order() if number]
         return "".join(order[: self.below(5)])
 
+    def another(self, own):
+        """Any list of an entrant, as the list, the tenancy and an even rank at each school, which holds where it does not truly list the school."""
+        listed, keeps = self.list(), self.below(2) == 0 and own.tenant != ""
+        if keeps:
+            listed = listed.replace(own.tenant, "") + own.tenant
+        return listed, own.tenant if keeps else "", {school: 2 * self.below(6) for school, _ in own.ranks}
+
+
+def by_truth(own, other):
+    """The entrant's rank at each school: its own where it truly lists the school, and else the other one."""
+    return {school: rank if school in own.list else other[school] for school, rank in own.ranks}
+
+
+def drawn_group(entrants, numbers):
+    """What each member of a group states: any list, and at each school that it does not truly list a rank that no other member has."""
+    is_member = [numbers.below(2) == 0 for _ in entrants]
+    lists = [numbers.another(own)[:2] if member else None for own, member in zip(entrants, is_member)]
+    even = [{} for _ in range(5)]
+    for school in "ABCD":
+        for row, number in zip(even, numbers.order()):
+            row[school] = 2 * number
+    return [stated and entrant(*stated, by_truth(own, even[i])) for i, (own, stated) in enumerate(zip(entrants, lists))]
+
 
 def drawn(count):
-    counts, numbers = Counts("drawn"), Numbers(11)
+    counts, numbers, groups = Counts("drawn"), Numbers(11), Numbers(13)
     for _ in range(count):
         length = numbers.below(5) + 1
         lists = []
@@ -198,15 +251,10 @@ def drawn(count):
         if not own.tenant:
             cut = Entrant((own.list[:first], "", own.ranks))
             counts.laws["a shorter list"].count(entrants, quotas, replaced(entrants, index, cut), quotas)
-        listed, keeps = numbers.list(), numbers.below(2) == 0 and own.tenant != ""
-        if keeps:
-            listed = listed.replace(own.tenant, "") + own.tenant
-        other = {}
-        for school, rank in own.ranks:
-            number = 2 * numbers.below(6)
-            other[school] = rank if school in own.list else number
-        changed = entrant(listed, own.tenant if keeps else "", other)
+        listed, tenant, even = numbers.another(own)
+        changed = entrant(listed, tenant, by_truth(own, even))
         counts.laws["another list"].count_list(entrants, quotas, replaced(entrants, index, changed), index)
+        counts.groups.count(entrants, quotas, drawn_group(entrants, groups))
     counts.print()
 
 

@@ -2,11 +2,13 @@
 use crate::cases::{CASES, chosen, table_of};
 use crate::counts::{Counts, nothing};
 use crate::drawn::{Numbers, another_list, some_table};
+use crate::groups::{drawn_group, members, restated, small_group};
 use crate::problems::{Names, code_of, entrants_of, given_by, make_names, seats_of, wishes_of};
 use crate::search::{all_stable, is_stable};
 use crate::tables::{ABSENT, Given, Row, Table, at, first_schools, length, place_on};
 use adm_laws::{
-    offers_with_list, offers_with_quota, offers_with_shorter_list, offers_without, taken_at,
+    offers_with_list, offers_with_lists, offers_with_quota, offers_with_shorter_list,
+    offers_without, taken_at,
 };
 use adm_match::{BadProblem, Entrant, Problem, Seats, offers};
 use std::alloc::{AllocError, Global};
@@ -167,8 +169,37 @@ impl Counts {
         Ok(())
     }
 
-    /// Each change of a small problem that its first entrant or a school makes.
-    fn try_small(&mut self, alloc: Global, names: &Names, posed: &Posed) -> Result<(), BadProblem> {
+    /// A group that has no member is not tried.
+    fn try_group(
+        &mut self,
+        alloc: Global,
+        names: &Names,
+        posed: &Posed,
+        stated: &Table,
+    ) -> Result<(), BadProblem> {
+        if members(stated) == 0 {
+            return Ok(());
+        }
+        let now = restated(&posed.table, stated);
+        let group = entrants_of(alloc, names, stated)?;
+        let offers = offers_with_lists(alloc, &posed.entrants, &posed.seats, &group)?;
+        let after = given_by(names, &offers);
+        self.count_unstable(is_stable(&now, after));
+        let stable = all_stable(alloc, &now)?;
+        self.groups
+            .count(&posed.table, stated, posed.given, after, &stable);
+        Ok(())
+    }
+
+    /// Each change of a small problem that its first entrant or a school makes, and one that a drawn
+    /// group makes.
+    fn try_small(
+        &mut self,
+        alloc: Global,
+        names: &Names,
+        posed: &Posed,
+        groups: &mut Numbers,
+    ) -> Result<(), BadProblem> {
         self.try_problem(alloc, names, posed)?;
         self.try_places(alloc, names, posed, 1, 1)?;
         self.try_places(alloc, names, posed, 2, 1)?;
@@ -186,7 +217,8 @@ impl Counts {
                 self.try_list(alloc, names, posed, 0, row)?;
             }
         }
-        Ok(())
+        let stated = small_group(&posed.table, groups);
+        self.try_group(alloc, names, posed, &stated)
     }
 
     /// One drawn change of each kind.
@@ -197,6 +229,7 @@ impl Counts {
         posed: &Posed,
         entrants: u32,
         numbers: &mut Numbers,
+        groups: &mut Numbers,
     ) -> Result<(), BadProblem> {
         self.try_problem(alloc, names, posed)?;
         let (school, more) = (numbers.below(4), numbers.below(3));
@@ -206,16 +239,19 @@ impl Counts {
         let count = numbers.below(4);
         self.try_shorter(alloc, names, posed, index, count)?;
         let row = another_list(&posed.table.rows[index % 5], numbers);
-        self.try_list(alloc, names, posed, index, row)
+        self.try_list(alloc, names, posed, index, row)?;
+        let stated = drawn_group(&posed.table, entrants, groups);
+        self.try_group(alloc, names, posed, &stated)
     }
 }
 
 /// All small problems, up to which of the second and the third entrant is which.
 fn small(alloc: Global, names: &Names) -> Result<Counts, BadProblem> {
     let mut counts = nothing();
+    let mut groups = Numbers::new(12);
     for number in 0..CASES {
         if let Some(table) = table_of(number) {
-            counts.try_small(alloc, names, &pose(alloc, names, table)?)?;
+            counts.try_small(alloc, names, &pose(alloc, names, table)?, &mut groups)?;
         }
     }
     Ok(counts)
@@ -224,11 +260,12 @@ fn small(alloc: Global, names: &Names) -> Result<Counts, BadProblem> {
 fn drawn(alloc: Global, names: &Names) -> Result<Counts, BadProblem> {
     let mut counts = nothing();
     let mut numbers = Numbers::new(11);
+    let mut groups = Numbers::new(13);
     for _ in 0..DRAWN {
         let entrants = numbers.below(5).wrapping_add(1);
         let table = some_table(&mut numbers, entrants);
         let posed = pose(alloc, names, table)?;
-        counts.try_drawn(alloc, names, &posed, entrants, &mut numbers)?;
+        counts.try_drawn(alloc, names, &posed, entrants, &mut numbers, &mut groups)?;
     }
     Ok(counts)
 }

@@ -1,4 +1,5 @@
 // Counts of problems, and of what each law says of their changes.
+use crate::groups::{Groups, no_groups};
 use crate::tables::{Given, Table, better_off, count_at, fills_alike, is_no_worse};
 use std::io;
 
@@ -65,6 +66,7 @@ pub struct Counts {
     pub leaving: Law,
     pub shorter: Law,
     pub lists: Law,
+    pub groups: Groups,
 }
 
 pub fn nothing() -> Counts {
@@ -80,6 +82,7 @@ pub fn nothing() -> Counts {
         leaving: none_tried(),
         shorter: none_tried(),
         lists: none_tried(),
+        groups: no_groups(),
     }
 }
 
@@ -152,6 +155,7 @@ impl Counts {
         self.places.print(rt, kind, "more places")?;
         self.leaving.print(rt, kind, "a child leaves")?;
         self.shorter.print(rt, kind, "a shorter list")?;
-        self.lists.print(rt, kind, "another list")
+        self.lists.print(rt, kind, "another list")?;
+        self.groups.print(rt, kind)
     }
 }

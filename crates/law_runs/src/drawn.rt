@@ -22,7 +22,7 @@ impl Numbers {
 }
 
 /// The numbers from 0 to 4 in some order.
-fn order_of_five(numbers: &mut Numbers) -> [u32; 5] {
+pub fn order_of_five(numbers: &mut Numbers) -> [u32; 5] {
     let mut order = [0, 1, 2, 3, 4];
     for last in 1..5 {
         let other = (numbers.below(5) as usize) % (last + 1);

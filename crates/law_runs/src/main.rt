@@ -5,6 +5,7 @@ mod cases;
 mod changes;
 mod counts;
 mod drawn;
+mod groups;
 mod problems;
 mod search;
 mod tables;
