@@ -40,7 +40,7 @@ use Rattle.adm_register.proofs.Puts.{AllRows-put_all}
 use Rattle.adm_register.proofs.Tidy.{tidy_none, tidy_put, tidy_cut}
 use Rattle.adm_register.specs.Fits.{BasePut, PlacesPut, DrawsPut, Fit}
 
--- a change of places and of what ends asks nothing of the schools, the children and the applications
+-- a change of places and of what ends affects neither the schools, the children nor the applications
 pub base_stays : (old : State) (places : List PlaceRow) (ended : List ℕ) → BasePut old (record no_change { places = places; ended = ended })
 base_stays old places ended = record { schools = tt; kept_schools = tt; few_schools = tt; children = tt; few_children = tt; applications = tt }
 
@@ -48,7 +48,7 @@ base_stays old places ended = record { schools = tt; kept_schools = tt; few_scho
 pub places_stay : (old : State) (children : List Child) → WellFormed old → PlacesPut old (record no_change { children = children })
 places_stay old children well = record { places = tt; kept = λ number row there still. refl; room = well.places.room }
 
--- a change without draws asks nothing of them
+-- a change without draws does not affect them
 abbrev pub draws_stay : (old : State) (change : Difference) → change.draws ≡ [] → DrawsPut old change
 draws_stay old change none = record {
   each = subst (AllByRecursion (λ (d : Draw). DrawFits (after old change).schools (after old change).children d.number d)) (sym none) tt;

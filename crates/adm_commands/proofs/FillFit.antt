@@ -1,4 +1,4 @@
--- What a fill changes fits the register, and its draw does not come again.
+-- What a fill changes fits the register, and its draw is not repeated.
 use Rattle.std.proofs.Common.{◌≡◌, ◌∙◌, ap, sym, subst, refl, cond, Bool, true, false, ℕ, ◌+◌, ◌<◌, map, length, List, [], ◌∷◌, Option, Some, None, arith, inl, inr}
 use Rattle.std.specs.Prelude.{is_some, not, ◌&&◌, ◌||◌, nat_eq, find, option_map}
 use Rattle.std.specs.Cmp.{nat_cmp_total, unsigned_Decides}
@@ -119,7 +119,7 @@ fill-fit old draw school day numbers row child well kept passes first =
       tidy = record { schools = tidy_none _ _; children = tidy_none _ _; applications = tidy_none _ _; places = tidy_put _ _ place; left = tidy_none _ _; draws = tidy_put _ _ it; imported = tidy_none _ _ };
     }
 
--- a draw's number does not come again
+-- a draw's number is not repeated
 pub fill_again : (old new : State) (draw : ℕ) (school : List ℕ) (day : ℕ) (numbers : List ℕ) (child : ℕ) → WellFormed old → first_failing (fill.tests old draw school day numbers) ≡ None
     → new ≡ after old (fill.change_of old draw school day numbers child) → first_failing (fill.tests new draw school day numbers) ≡ None → ⊥
 unfolding fill.tests fill.change_of

@@ -23,7 +23,7 @@ weight code row = cond (is_unplanned_at (Some row) code) 1 0
 total-cons : (f : PlaceRow → ℕ) (e : ℕ × PlaceRow) (es : Entries) → sum_by f (values_of (e ∷ es)) ≡ f e.1 + sum_by f (values_of es)
 total-cons f e es = sum_by-cons f e.1 (values_of es)
 
--- what another key has stays where one is taken away
+-- what another key has stays where one is removed
 lookup-remove : (k q : ℕ) (es : Entries) → is_at (nat_cmp q) k ≡ false → lookup (is_at (nat_cmp q)) (remove_entry (is_at (nat_cmp k)) es) ≡ lookup (is_at (nat_cmp q)) es
 lookup-remove k q [] other = refl
 lookup-remove k q (e ∷ es) other =
@@ -36,7 +36,7 @@ module _ (code : List ℕ) where
   abbrev f : PlaceRow → ℕ
   f = weight code
 
-  -- the places of one list are at most as many as those of another where each of them stands for one of the other with its key
+  -- the places of one list are at most as many as those of another where each of them corresponds to one of the other with its key
   sums : (es fs : Entries) → IsStrictlySortedBy nat_cmp (keys_of es)
       → ((q : ℕ) (row : PlaceRow) → lookup (is_at (nat_cmp q)) es ≡ Some row → is_unplanned_at (Some row) code ≡ true → is_unplanned_at (lookup (is_at (nat_cmp q)) fs) code ≡ true)
       → sum_by f (values_of es) ≤ sum_by f (values_of fs)

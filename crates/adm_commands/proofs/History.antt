@@ -4,7 +4,7 @@ use Rattle.std.specs.Cmp.{nat_cmp_total}
 use Rattle.std.specs.FinMap.{get}
 use Rattle.adm_register.specs.Change.{after}
 use Rattle.adm_commands.specs.Commands.Round as round
-use Rattle.adm_commands.specs.History.{DrawsKept, RoundIsRecorded, drawn_on}
+use Rattle.adm_commands.specs.History.{DrawsKept, RoundIsRecorded, recorded_draw}
 use Rattle.adm_commands.proofs.EachCommand.{shows}
 use Rattle.adm_commands.proofs.PutAgain.{get-insert_same}
 
@@ -13,9 +13,9 @@ draws_kept_lem old new command ordered step =
     let effect = step.1.1 in
     (shows command).draws old new effect.0 step.0 ordered step.1.0 effect.1 effect.2
 
-pub round_held_lem : RoundIsRecorded
+pub round_is_recorded_lem : RoundIsRecorded
 unfolding round.change_of
-round_held_lem old new draw day numbers step =
+round_is_recorded_lem old new draw day numbers step =
     let effect = step.1.1 in
     let held = effect.1 in
-    (held.0, held.1, ap (λ s. get s.draws draw) (effect.2 ∙ ap (after old) held.2) ∙ get-insert_same nat_cmp_total old.draws draw (drawn_on old draw day numbers held.0))
+    (held.0, held.1, ap (λ s. get s.draws draw) (effect.2 ∙ ap (after old) held.2) ∙ get-insert_same nat_cmp_total old.draws draw (recorded_draw old draw day numbers held.0))

@@ -71,7 +71,7 @@ none_new t number (row ∷ rows) each =
       ap (λ b. if b then new_rows t rows else row ∷ new_rows (with_row t row) rows) known ∙ rest.1,
     )
 
--- a row that is put in order of the keys stands at its own
+-- a row that is put in order of the keys is at its own
 module _ {K V : Type 0} {R : K → K → Ordering} (total : IsTotalOrder R) (key : V → K) where
   above : (k : K) (them : List V) → AllByRecursion (λ other. R k other ≡ Less) (map key them) → AllByRecursion (λ it. eq_by_cmp R k (key it) ≡ false) them
   above k [] all = tt

@@ -7,7 +7,7 @@ use Rattle.adm_types.specs.declared.commands.Refusal.{Refusal}
 use Rattle.adm_register.specs.State.{State}
 use Rattle.adm_commands.specs.Commands.Import.{is_known, refusal_of_row, with_row, after_row, refused_from, or_later, new_rows}
 
--- what comes of the rows that are left, beside those that were seen, comes of all rows
+-- what results from the rows that remain, beside those that were seen, results from all rows
 pub record Seen (old : State) (rows : List ImportRow) (seen : State) (number : ℕ) (rest added : List ImportRow) : Type 0 where
   pub why : refused_from seen number rest ≡ refused_from old 1 rows
   pub new : added ++ new_rows seen rest ≡ new_rows old rows
@@ -25,7 +25,7 @@ module _ (old : State) (rows : List ImportRow) (seen : State) (number : ℕ) (ro
   unfolding refused_from
   later passes = sym (ap (λ o. or_later number o (refused_from (after_row seen row) (number + 1) rest)) passes) ∙ so_far.why
 
-  -- a row that is known adds nothing
+  -- a known row changes nothing
   pub known_seen : refusal_of_row seen row ≡ None → is_known seen row ≡ true → Seen old rows seen (number + 1) rest added
   unfolding after_row new_rows
   known_seen passes known = record {

@@ -1,4 +1,4 @@
--- What a child that leaves a list changes fits, and does not come again.
+-- What a child that leaves a list changes fits, and is not repeated.
 use Rattle.std.proofs.Common.{◌≡◌, ◌∙◌, ap, sym, subst, refl, cond, true, false, ℕ, List, Some, None}
 use Rattle.std.specs.Prelude.{is_some, not}
 use Rattle.std.specs.FinMap.{get, get-insert}

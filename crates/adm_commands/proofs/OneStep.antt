@@ -2,7 +2,7 @@
 use Rattle.std.proofs.Common.{◌∙◌, ap, sym}
 use Rattle.adm_round.specs.Outcomes.{OneAllotment}
 use Rattle.adm_register.specs.Change.{after}
-use Rattle.adm_commands.specs.Outcome.{OneStep}
+use Rattle.adm_commands.specs.Steps.{OneStep}
 use Rattle.adm_commands.proofs.EachCommand.{shows}
 
 pub one_step_lem : OneAllotment → OneStep

@@ -35,7 +35,7 @@ use Rattle.adm_register.specs.State.{State}
 use Rattle.adm_commands.specs.Tests.{first_failing}
 use Rattle.adm_register.specs.WellFormed.{WellFormed}
 use Rattle.adm_register.specs.Wanted.{above, has_left, wanted_of, own_school}
-use Rattle.adm_commands.specs.Commands.Round.{takes_part, applicant_of, entrants, quota, sites, round_pairs, round_lots, is_lot_count, are_lots_apart, AreOutcomes}
+use Rattle.adm_commands.specs.Commands.Round.{takes_part, applicant_of, round_applicants, quota, sites, round_pairs, round_lots, is_lot_count, are_lots_apart, AreOutcomes}
 use Rattle.adm_commands.specs.Commands.Round as round
 use Rattle.adm_commands.specs.Problem.{lots_fault}
 use Rattle.adm_commands.specs.declared.problems.DrawFault.TheVariants.{LotCount, LotsRepeated}
@@ -118,7 +118,7 @@ list_fits old well number application there applicant made =
       known = All-append (λ code. is_site (sites old) code ≡ true) (wanted_of old application) (option_to_list (own_school place)) wanted_known own;
     })
 
--- what holds of what comes of each element holds of all that come
+-- what holds of the results of each element holds of all results
 All-filter_map : {X Y : Type 0} (Q : Y → Type 0) (h : X → Option Y) (xs : List X) → AllByRecursion (λ x. (y : Y) → h x ≡ Some y → Q y) xs → All Q (filter_map h xs)
 All-filter_map Q h [] all = All-nil Q
 All-filter_map Q h (x ∷ xs) all = next Q (h x) (filter_map h xs) all.0 (All-filter_map Q h xs all.1)
@@ -142,32 +142,32 @@ codes_in_order old well =
     let own = entries_at_own_keys nat_list_cmp_total code_cmp-IsAntisymmetric (λ (school : School). school.code) old.schools (λ code school there. (well.base.schools_fit code school there).own_code) in
     subst (IsStrictlySortedBy (slice_cmp nat_cmp)) (sym (map-map code_of_site (λ (school : School). record { school = school; quota = quota old school }) (values old.schools) ∙ own)) (entries_in_order old.schools)
 
-numbers_in_order : (old : State) → WellFormed old → IsStrictlySortedBy nat_cmp (map number_of (entrants old))
+numbers_in_order : (old : State) → WellFormed old → IsStrictlySortedBy nat_cmp (map number_of (round_applicants old))
 numbers_in_order old well =
     let own = entries_at_own_keys nat_cmp_total nat_cmp-IsAntisymmetric (λ (application : Application). application.child) old.applications (λ number application there. (well.base.applications_fit number application there).own_number) in
     sorted_filter_map nat_cmp (λ (application : Application). application.child) number_of (applicant_of old) (numbered old well) (values old.applications)
     (subst (IsStrictlySortedBy nat_cmp) (sym own) (entries_in_order old.applications))
 
 -- what holds of the applicant of each application that is there holds of each entrant
-each_entrant : (old : State) (Q : Applicant → Type 0) → ((number : ℕ) (application : Application) → get old.applications number ≡ Some application → (applicant : Applicant) → applicant_of old application ≡ Some applicant → Q applicant) → All Q (entrants old)
+each_entrant : (old : State) (Q : Applicant → Type 0) → ((number : ℕ) (application : Application) → get old.applications number ≡ Some application → (applicant : Applicant) → applicant_of old application ≡ Some applicant → Q applicant) → All Q (round_applicants old)
 each_entrant old Q each =
     let P : Application → Type 0 = λ application. (applicant : Applicant) → applicant_of old application ≡ Some applicant → Q applicant in
     All-filter_map Q (applicant_of old) (values old.applications) (recursion_from_All P (values old.applications) (values_hold nat_cmp_total nat_cmp-IsAntisymmetric P old.applications each))
 
--- the lots of an accepted round have no fault
+-- the lots of an accepted round pass both tests
 pub lots_pass : (old : State) (draw day : ℕ) (numbers : List ℕ) → first_failing (round.tests old draw day numbers) ≡ None → lots_fault old numbers ≡ None
 unfolding round.tests
 lots_pass old draw day numbers passes =
     let pass = all_pass (round.tests old draw day numbers) passes in
     λ i. cond (pass.1.1.1.0 i) (cond (pass.1.1.1.1.0 i) None (Some LotsRepeated)) (Some LotCount)
 
--- both tests of lots pass where there is no fault
+-- both tests of lots pass where there is no error
 both_pass : (count apart : Bool) → cond count (cond apart None (Some LotsRepeated)) (Some LotCount) ≡ None → (count ≡ true) × (apart ≡ true)
 both_pass true true e = (refl, refl)
 both_pass true false e = cc
 both_pass false apart e = cc
 
-pub posed : (old : State) (numbers : List ℕ) → WellFormed old → lots_fault old numbers ≡ None → IsPosed (sites old) (entrants old) (round_lots old numbers)
+pub posed : (old : State) (numbers : List ℕ) → WellFormed old → lots_fault old numbers ≡ None → IsPosed (sites old) (round_applicants old) (round_lots old numbers)
 posed old numbers well passes =
     let pass = both_pass (is_lot_count old numbers) (are_lots_apart old numbers) passes in
     let count = (unsigned_Decides (length numbers) (length (round_pairs old))).0 pass.0 in
@@ -184,27 +184,27 @@ posed old numbers well passes =
 
 -- and so it is by whatever names its sites, applicants and lots go
 pub posed_as : (old : State) (numbers : List ℕ) (found : List Site) (taking : List Applicant) (lots : List Lot) → WellFormed old → lots_fault old numbers ≡ None
-    → found ≡ sites old → taking ≡ entrants old → lots ≡ round_lots old numbers → IsPosed found taking lots
+    → found ≡ sites old → taking ≡ round_applicants old → lots ≡ round_lots old numbers → IsPosed found taking lots
 posed_as old numbers found taking lots well passes at_sites at_entrants at_lots =
     subst (λ ls. IsPosed found taking ls) (sym at_lots) (subst (λ xs. IsPosed found xs (round_lots old numbers)) (sym at_entrants)
-    (subst (λ xs. IsPosed xs (entrants old) (round_lots old numbers)) (sym at_sites) (posed old numbers well passes)))
+    (subst (λ xs. IsPosed xs (round_applicants old) (round_lots old numbers)) (sym at_sites) (posed old numbers well passes)))
 
 -- and its best outcomes are those of the round
 pub best_as : (old : State) (numbers : List ℕ) (found : List Site) (taking : List Applicant) (lots : List Lot) (outcomes : List Outcome)
-    → found ≡ sites old → taking ≡ entrants old → lots ≡ round_lots old numbers → AreBest (market_of_round found taking lots) taking outcomes → AreOutcomes old numbers outcomes
+    → found ≡ sites old → taking ≡ round_applicants old → lots ≡ round_lots old numbers → AreBest (market_of_round found taking lots) taking outcomes → AreOutcomes old numbers outcomes
 best_as old numbers found taking lots outcomes at_sites at_entrants at_lots best =
-    subst (λ xs. AreBest (market_of_round xs (entrants old) (round_lots old numbers)) (entrants old) outcomes) at_sites
+    subst (λ xs. AreBest (market_of_round xs (round_applicants old) (round_lots old numbers)) (round_applicants old) outcomes) at_sites
     (subst (λ xs. AreBest (market_of_round found xs (round_lots old numbers)) xs outcomes) at_entrants
     (subst (λ ls. AreBest (market_of_round found taking ls) taking outcomes) at_lots best))
 
 -- ---- how many take part
 
 -- so many children at the most take part
-pub few_entrants : (old : State) → WellFormed old → length (entrants old) ≤ 10000000
+pub few_entrants : (old : State) → WellFormed old → length (round_applicants old) ≤ 10000000
 few_entrants old well =
     let below = each_entrant old (λ applicant. number_of applicant < 10000000) (each old well) in
-    let bound = length-le_from_below 10000000 (map number_of (entrants old)) (numbers_in_order old well) (All-map (λ n. n < 10000000) number_of (entrants old) below) in
-    omega (arith, bound, length-map (entrants old) number_of)
+    let bound = length-le_from_below 10000000 (map number_of (round_applicants old)) (numbers_in_order old well) (All-map (λ n. n < 10000000) number_of (round_applicants old) below) in
+    omega (arith, bound, length-map (round_applicants old) number_of)
   where
     each : (old : State) → WellFormed old → (number : ℕ) (application : Application) → get old.applications number ≡ Some application → (applicant : Applicant) → applicant_of old application ≡ Some applicant → number_of applicant < 10000000
     each old well number application there applicant made =

@@ -1,4 +1,4 @@
--- A row that was put into a map or cut from it, asked for again.
+-- A row that was put into a map or removed from it, looked up again.
 use Rattle.std.proofs.Common.{◌≡◌, ◌∙◌, ap, sym, refl, cond, Bool, true, false, Some, None}
 use Rattle.std.specs.Prelude.{not, is_some}
 use Rattle.std.specs.declared.cmp.Ordering.{Ordering}

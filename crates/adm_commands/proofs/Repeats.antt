@@ -1,7 +1,7 @@
 -- A command that follows itself at once leaves a register as it was.
 use Rattle.std.proofs.Common.{◌∙◌, ap, Ok, Err}
 use Rattle.adm_commands.specs.Commands.{refused}
-use Rattle.adm_commands.specs.Outcome.{RepeatSafe}
+use Rattle.adm_commands.specs.Steps.{RepeatSafe}
 use Rattle.adm_commands.proofs.EachCommand.{shows}
 
 pub repeat_safe_lem : RepeatSafe

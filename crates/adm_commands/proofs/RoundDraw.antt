@@ -32,7 +32,7 @@ use Rattle.adm_round.specs.Outcomes.{is_fresh, HasListedSchool}
 use Rattle.adm_register.specs.State.{State}
 use Rattle.adm_register.specs.Draws.{DrawFits, is_due, is_next, are_in_order, no_draws, count_draws, is_choice, is_known_outcome, is_known_lot, draws_so_far}
 use Rattle.adm_commands.specs.KeptByTypes.{KeptByRound}
-use Rattle.adm_commands.specs.Commands.Round.{entrants, sites, round_pairs, round_lots}
+use Rattle.adm_commands.specs.Commands.Round.{round_applicants, sites, round_pairs, round_lots}
 use Rattle.adm_register.specs.WellFormed.{WellFormed, has_first_round}
 use Rattle.adm_register.proofs.DrawLemmas.{next_number}
 use Rattle.adm_register.proofs.RoundLemmas.{rises_by}
@@ -123,7 +123,7 @@ module _ {old : State} {numbers : List ℕ} {outcomes : List Outcome} (facts : I
   it = round_draw old draw day numbers outcomes
 
   lots_rise : rises lot_cmp lots ≡ true
-  lots_rise = rises_by pair_cmp pair_of lots (subst (IsStrictlySortedBy pair_cmp) (sym facts.posed.lots_drawn) (pairs_rise (sites old) (entrants old) facts.posed.codes_rise facts.posed.numbers_rise))
+  lots_rise = rises_by pair_cmp pair_of lots (subst (IsStrictlySortedBy pair_cmp) (sym facts.posed.lots_drawn) (pairs_rise (sites old) (round_applicants old) facts.posed.codes_rise facts.posed.numbers_rise))
 
   outcomes_rise : rises outcome_cmp outcomes ≡ true
   outcomes_rise = rises_by nat_cmp (λ (o : Outcome). o.child) outcomes (children_rise facts)
@@ -151,7 +151,7 @@ module _ {old : State} {numbers : List ℕ} {outcomes : List Outcome} (facts : I
       let school = choice who.0 who.1 (facts.best.allocation (number_of who.0)) (is_given facts HasListedSchool (lists_given facts) who.0 who.1) in
       ap (is_known_outcome old.schools old.children) (sym who.2) ∙ (λ i. child i && school i))
     where
-      choice : (applicant : Applicant) → In applicant (entrants old) → (place : Option Code) → IfSome place (λ s. is_listed (listed applicant) s ≡ true) → is_choice old.schools place ≡ true
+      choice : (applicant : Applicant) → In applicant (round_applicants old) → (place : Option Code) → IfSome place (λ s. is_listed (listed applicant) s ≡ true) → is_choice old.schools place ≡ true
       choice applicant at None lists = refl
       choice applicant at (Some code) lists = school_there old facts.well lots facts.posed applicant code at lists
 
@@ -159,7 +159,7 @@ module _ {old : State} {numbers : List ℕ} {outcomes : List Outcome} (facts : I
   known_lots = list_all_in (is_known_lot old.schools old.children) lots (λ lot at.
       let drawn = from_map lot_of_draw (zip (round_pairs old) numbers) lot at in
       let both = from_zip (round_pairs old) numbers drawn.0 drawn.1 in
-      let of = of_pair (sites old) (entrants old) drawn.0.0 both.0 in
+      let of = of_pair (sites old) (round_applicants old) drawn.0.0 both.0 in
       let school : contains_key old.schools drawn.0.0.school ≡ true = ap (λ (p : Pair). contains_key old.schools p.school) of.4 ∙ ap is_some (site_is old facts.well of.0 of.1).0 in
       let child : contains_key old.children drawn.0.0.child ≡ true = ap (λ (p : Pair). contains_key old.children p.child) of.4 ∙ (entrant_is old facts.well of.2 of.3).child in
       let number = passes_in (λ n. nat_lt n 4294967296) numbers drawn.0.1 kept.lots both.1 in

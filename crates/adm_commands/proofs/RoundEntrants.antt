@@ -18,7 +18,7 @@ use Rattle.adm_round.specs.declared.applicants.Applicant.{Applicant}
 use Rattle.adm_round.specs.declared.applicants.Site.{Site}
 use Rattle.adm_round.specs.Round.{code_of_site, number_of, listed, is_site, IsListFit, IsPosed}
 use Rattle.adm_register.specs.State.{State}
-use Rattle.adm_commands.specs.Commands.Round.{takes_part, applicant_of, entrants, quota, sites}
+use Rattle.adm_commands.specs.Commands.Round.{takes_part, applicant_of, round_applicants, quota, sites}
 use Rattle.adm_register.specs.Wanted.{wanted_of, own_school}
 use Rattle.adm_register.specs.WellFormed.{WellFormed}
 use Rattle.adm_register.proofs.Maps.{code_cmp-IsAntisymmetric}
@@ -45,7 +45,7 @@ made true (Some child) wanted own applicant e =
     (ap (λ (a : Applicant). Some a.child) same, ap (λ (a : Applicant). a.wanted) same, ap (λ (a : Applicant). a.own) same)
 
 module _ (old : State) (well : WellFormed old) where
-  pub entrant_is : (applicant : Applicant) → In applicant (entrants old) → IsEntrant old applicant
+  pub entrant_is : (applicant : Applicant) → In applicant (round_applicants old) → IsEntrant old applicant
   entrant_is applicant at =
       let found = from_filter_map (applicant_of old) (values old.applications) applicant at in
       let application = found.0 in
@@ -62,10 +62,10 @@ module _ (old : State) (well : WellFormed old) where
       }
 
   -- each application of an entrant is that of an applicant
-  pub applicant_there : (number : ℕ) (application : Application) → get old.applications number ≡ Some application → takes_part old application ≡ true → (applicant : Applicant) × In applicant (entrants old) × (number_of applicant ≡ number)
+  pub applicant_there : (number : ℕ) (application : Application) → get old.applications number ≡ Some application → takes_part old application ≡ true → (applicant : Applicant) × In applicant (round_applicants old) × (number_of applicant ≡ number)
   applicant_there number application there part =
       let fits = well.base.applications_fit number application there in
-      elim (get old.children application.child) as (λ o. get old.children application.child ≡ o → (applicant : Applicant) × In applicant (entrants old) × (number_of applicant ≡ number)) [
+      elim (get old.children application.child) as (λ o. get old.children application.child ≡ o → (applicant : Applicant) × In applicant (round_applicants old) × (number_of applicant ≡ number)) [
         | None ↦ λ e. absurd (false≢true (sym (ap is_some e) ∙ fits.child))
         | Some child ↦ λ e.
             let applicant : Applicant = record { child = child; wanted = wanted_of old application; own = own_school (get old.places application.child) } in
@@ -91,8 +91,8 @@ module _ (old : State) (well : WellFormed old) where
   has_site code school there = in_map (λ s. record { school = s; quota = quota old s }) (values old.schools) school (in_values nat_list_cmp_total code_cmp-IsAntisymmetric old.schools code school there)
 
   -- each school that an applicant lists is there
-  pub school_there : (lots : List Lot) → IsPosed (sites old) (entrants old) lots → (applicant : Applicant) (code : Code) → In applicant (entrants old) → is_listed (listed applicant) code ≡ true → contains_key old.schools code ≡ true
+  pub school_there : (lots : List Lot) → IsPosed (sites old) (round_applicants old) lots → (applicant : Applicant) (code : Code) → In applicant (round_applicants old) → is_listed (listed applicant) code ≡ true → contains_key old.schools code ≡ true
   school_there lots posed applicant code at lists =
-      let known = All_in (λ other. is_site (sites old) other ≡ true) (listed applicant) code (All_in (IsListFit (sites old)) (entrants old) applicant posed.lists_fit at).known (listed_in (listed applicant) code lists) in
+      let known = All_in (λ other. is_site (sites old) other ≡ true) (listed applicant) code (All_in (IsListFit (sites old)) (round_applicants old) applicant posed.lists_fit at).known (listed_in (listed applicant) code lists) in
       let found = any_in (λ site. pointwise nat_eq (code_of_site site) code) (sites old) known in
       ap (contains_key old.schools) (sym ((bytes_decides (code_of_site found.0) code).0 found.2)) ∙ ap is_some (site_is found.0 found.1).0

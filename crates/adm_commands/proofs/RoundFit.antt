@@ -10,7 +10,7 @@ use Rattle.adm_round.specs.Round.{IsPosed}
 use Rattle.adm_round.specs.Outcomes.{AllotmentFits}
 use Rattle.adm_register.specs.State.{State}
 use Rattle.adm_commands.specs.KeptByTypes.{KeptByRound}
-use Rattle.adm_commands.specs.Commands.Round.{entrants, sites, round_lots, AreOutcomes}
+use Rattle.adm_commands.specs.Commands.Round.{round_applicants, sites, round_lots, AreOutcomes}
 use Rattle.adm_register.specs.Draws.{draws_so_far}
 use Rattle.adm_commands.specs.Commands.Round as round
 use Rattle.adm_commands.specs.Tests.{first_failing}
@@ -23,7 +23,7 @@ use Rattle.adm_commands.proofs.RoundRoom.{room_after}
 use Rattle.adm_commands.proofs.RoundDraw.{round_draw, round_after, draw_fits, draw_next}
 
 pub round-fit : (old : State) (draw day : ℕ) (numbers : List ℕ) (outcomes : List Outcome) → WellFormed old → KeptByRound day numbers → first_failing (round.tests old draw day numbers) ≡ None
-    → AllotmentFits → IsPosed (sites old) (entrants old) (round_lots old numbers) → AreOutcomes old numbers outcomes → Fit old (round.change_of old draw day numbers outcomes)
+    → AllotmentFits → IsPosed (sites old) (round_applicants old) (round_lots old numbers) → AreOutcomes old numbers outcomes → Fit old (round.change_of old draw day numbers outcomes)
 unfolding round.tests round.change_of IsStrictlySortedBy
 round-fit old draw day numbers outcomes well kept passes law posed best =
     let pass = all_pass (round.tests old draw day numbers) passes in

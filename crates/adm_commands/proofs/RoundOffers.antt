@@ -23,7 +23,7 @@ use Rattle.adm_round.specs.declared.applicants.Applicant.{Applicant}
 use Rattle.adm_round.specs.Round.{number_of, listed, IsPosed}
 use Rattle.adm_round.specs.Outcomes.{is_fresh, outcome_of, HasListedSchool, KeepsTenant, HasRoom, AllotmentFits}
 use Rattle.adm_register.specs.State.{State, is_plan}
-use Rattle.adm_commands.specs.Commands.Round.{entrants, sites, round_lots, AreOutcomes, offer_of, offers_on}
+use Rattle.adm_commands.specs.Commands.Round.{round_applicants, sites, round_lots, AreOutcomes, offer_of, offers_on}
 use Rattle.adm_register.specs.Wanted.{has_left, own_school}
 use Rattle.adm_register.specs.WellFormed.{WellFormed, PlaceFits, has_first_round, has_days_in_order, lists_school}
 use Rattle.adm_register.proofs.RoundLemmas.{listed_in, in_listed}
@@ -85,7 +85,7 @@ pub record IsOffered (old : State) (day : ℕ) (row : PlaceRow) : Type 0 where
 -- the outcomes of a round that a register poses, with these numbers as its lots
 pub record IsRound (old : State) (numbers : List ℕ) (outcomes : List Outcome) : Type 0 where
   pub well : WellFormed old
-  pub posed : IsPosed (sites old) (entrants old) (round_lots old numbers)
+  pub posed : IsPosed (sites old) (round_applicants old) (round_lots old numbers)
   pub best : AreOutcomes old numbers outcomes
   pub law : AllotmentFits
 
@@ -94,23 +94,23 @@ module _ {old : State} {numbers : List ℕ} {outcomes : List Outcome} (facts : I
   abbrev pub outcome : Applicant → Outcome
   outcome applicant = outcome_of applicant (facts.best.allocation (number_of applicant))
 
-  pub its_outcome : (applicant : Applicant) → In applicant (entrants old) → In (outcome applicant) outcomes
-  its_outcome applicant at = subst (In (outcome applicant)) (sym facts.best.given) (in_map outcome (entrants old) applicant at)
+  pub its_outcome : (applicant : Applicant) → In applicant (round_applicants old) → In (outcome applicant) outcomes
+  its_outcome applicant at = subst (In (outcome applicant)) (sym facts.best.given) (in_map outcome (round_applicants old) applicant at)
 
-  pub of_outcome : (o : Outcome) → In o outcomes → (applicant : Applicant) × In applicant (entrants old) × (outcome applicant ≡ o)
-  of_outcome o at = from_map outcome (entrants old) o (subst (In o) facts.best.given at)
+  pub of_outcome : (o : Outcome) → In o outcomes → (applicant : Applicant) × In applicant (round_applicants old) × (outcome applicant ≡ o)
+  of_outcome o at = from_map outcome (round_applicants old) o (subst (In o) facts.best.given at)
 
-  pub is_given : (R : Applicant → Outcome → Type 0) → AllZip R (entrants old) outcomes → (applicant : Applicant) → In applicant (entrants old) → R applicant (outcome applicant)
-  is_given R all applicant at = zip_in R outcome (entrants old) applicant (subst (AllZip R (entrants old)) facts.best.given all) at
+  pub is_given : (R : Applicant → Outcome → Type 0) → AllZip R (round_applicants old) outcomes → (applicant : Applicant) → In applicant (round_applicants old) → R applicant (outcome applicant)
+  is_given R all applicant at = zip_in R outcome (round_applicants old) applicant (subst (AllZip R (round_applicants old)) facts.best.given all) at
 
   -- what the law says of the outcomes
-  abbrev pub allotted : AllZip HasListedSchool (entrants old) outcomes × AllZip KeepsTenant (entrants old) outcomes × All (HasRoom outcomes) (sites old) × (map (λ (o : Outcome). o.child) outcomes ≡ map number_of (entrants old))
-  allotted = facts.law (sites old) (entrants old) (round_lots old numbers) outcomes facts.posed facts.best
+  abbrev pub allotted : AllZip HasListedSchool (round_applicants old) outcomes × AllZip KeepsTenant (round_applicants old) outcomes × All (HasRoom outcomes) (sites old) × (map (λ (o : Outcome). o.child) outcomes ≡ map number_of (round_applicants old))
+  allotted = facts.law (sites old) (round_applicants old) (round_lots old numbers) outcomes facts.posed facts.best
 
-  pub lists_given : AllZip HasListedSchool (entrants old) outcomes
+  pub lists_given : AllZip HasListedSchool (round_applicants old) outcomes
   lists_given = allotted.0
 
-  pub tenants_given : AllZip KeepsTenant (entrants old) outcomes
+  pub tenants_given : AllZip KeepsTenant (round_applicants old) outcomes
   tenants_given = allotted.1
 
   pub children_rise : IsStrictlySortedBy nat_cmp (map (λ (o : Outcome). o.child) outcomes)
@@ -161,12 +161,12 @@ module _ {old : State} {numbers : List ℕ} {outcomes : List Outcome} (facts : I
 
   -- a child with a place that is not that of a plan is a tenant in the round
   pub tenant_is : (number : ℕ) (row : PlaceRow) → get old.places number ≡ Some row → is_plan row.place.state ≡ false
-      → (applicant : Applicant) × In applicant (entrants old) × (number_of applicant ≡ number) × (applicant.own ≡ Some row.place.school)
+      → (applicant : Applicant) × In applicant (round_applicants old) × (number_of applicant ≡ number) × (applicant.own ≡ Some row.place.school)
   tenant_is number row there other =
       let fits = facts.well.places.each number row there in
       let entitled = and_parts (has_first_round old.draws) (lists_school (get old.applications row.child) row.place.school)
       (sym (ap (λ b. if b then not (is_some (get old.applications row.child)) else has_first_round old.draws && lists_school (get old.applications row.child) row.place.school) other) ∙ fits.entitled) in
-      elim (get old.applications row.child) as (λ o. get old.applications row.child ≡ o → lists_school o row.place.school ≡ true → (applicant : Applicant) × In applicant (entrants old) × (number_of applicant ≡ number) × (applicant.own ≡ Some row.place.school)) [
+      elim (get old.applications row.child) as (λ o. get old.applications row.child ≡ o → lists_school o row.place.school ≡ true → (applicant : Applicant) × In applicant (round_applicants old) × (number_of applicant ≡ number) × (applicant.own ≡ Some row.place.school)) [
         | None ↦ λ is lists. absurd (false≢true lists)
         | Some application ↦ λ is lists.
             let found = applicant_there old facts.well number application (ap (get old.applications) (sym fits.own_number) ∙ is) (ap (λ b. b || nat_le application.day (closing old.season)) entitled.0) in

@@ -14,7 +14,7 @@ use Rattle.adm_register.specs.Change.{after}
 use Rattle.adm_register.specs.Fits.{Fit}
 use Rattle.adm_register.specs.WellFormed.{WellFormed}
 use Rattle.adm_commands.specs.History.{DrawsInOrder, DrawsStay}
-use Rattle.adm_commands.specs.Commands.{Changes, KeptByTypes, refused}
+use Rattle.adm_commands.specs.Commands.{MakesChange, KeptByTypes, refused}
 use Rattle.adm_commands.specs.Rules.{without_row}
 use Rattle.adm_commands.proofs.DrawsStay.{unchanged}
 use Rattle.adm_commands.proofs.ImportAgain.{ImportsKnown}
@@ -25,7 +25,7 @@ pub no_row : (o : Option Refusal) → without_row o ≡ None → o ≡ None
 no_row None none = refl
 no_row (Some refusal) none = cc
 
--- what says that rounds and fills come to something
+-- what says that rounds and fills have a result
 pub record Laws : Type 0 where
   pub some_best : OneBest
   pub faultless : PosedWithoutFault
@@ -33,25 +33,25 @@ pub record Laws : Type 0 where
 
 pub record Shows (command : Command) : Type 0 where
   -- where it is not refused, it changes something, or nothing, and answers
-  pub some : Laws → (old : State) → WellFormed old → refused old command ≡ None → (change : Difference) × (reply : Reply) × Changes old command change reply
+  pub some : Laws → (old : State) → WellFormed old → refused old command ≡ None → (change : Difference) × (reply : Reply) × MakesChange old command change reply
   -- what it changes fits
-  pub fits : (old : State) → KeptByTypes command → WellFormed old → AllotmentFits → refused old command ≡ None → (change : Difference) (reply : Reply) → Changes old command change reply → Fit old change
+  pub fits : (old : State) → KeptByTypes command → WellFormed old → AllotmentFits → refused old command ≡ None → (change : Difference) (reply : Reply) → MakesChange old command change reply → Fit old change
   -- where it is not refused when it follows itself, it changes nothing more
-  pub again : (old new : State) (change : Difference) (reply : Reply) → WellFormed old → refused old command ≡ None → Changes old command change reply → new ≡ after old change
-      → refused new command ≡ None → (more : Difference) (second : Reply) → Changes new command more second → after new more ≡ new
+  pub again : (old new : State) (change : Difference) (reply : Reply) → WellFormed old → refused old command ≡ None → MakesChange old command change reply → new ≡ after old change
+      → refused new command ≡ None → (more : Difference) (second : Reply) → MakesChange new command more second → after new more ≡ new
   -- what it changes is one
-  pub one_change : OneAllotment → (old : State) (one other : Difference) (first second : Reply) → Changes old command one first → Changes old command other second → one ≡ other
+  pub one_change : OneAllotment → (old : State) (one other : Difference) (first second : Reply) → MakesChange old command one first → MakesChange old command other second → one ≡ other
   -- draws that were made stay
-  pub draws : (old new : State) (change : Difference) (reply : Reply) → DrawsInOrder old → refused old command ≡ None → Changes old command change reply → new ≡ after old change
+  pub draws : (old new : State) (change : Difference) (reply : Reply) → DrawsInOrder old → refused old command ≡ None → MakesChange old command change reply → new ≡ after old change
       → DrawsInOrder new × DrawsStay old new
   -- and so do imported rows
-  pub imports : (old new : State) (change : Difference) (reply : Reply) → ImportsKnown old → refused old command ≡ None → Changes old command change reply → new ≡ after old change
+  pub imports : (old new : State) (change : Difference) (reply : Reply) → ImportsKnown old → refused old command ≡ None → MakesChange old command change reply → new ≡ after old change
       → ImportsKnown new × ImportsStay old new
 
 -- what a command must show that changes just this, and neither draws nor imported rows
 pub record ShowsOnly (command : Command) (only : State → Difference) : Type 0 where
-  pub done : (old : State) → Changes old command (only old) Done
-  pub is : (old : State) (change : Difference) (reply : Reply) → Changes old command change reply → change ≡ only old
+  pub done : (old : State) → MakesChange old command (only old) Done
+  pub is : (old : State) (change : Difference) (reply : Reply) → MakesChange old command change reply → change ≡ only old
   pub fits : (old : State) → KeptByTypes command → WellFormed old → refused old command ≡ None → Fit old (only old)
   pub again : (old : State) → WellFormed old → refused old command ≡ None → refused (after old (only old)) command ≡ None → after (after old (only old)) (only (after old (only old))) ≡ after old (only old)
   pub no_draw : (old : State) → (only old).draws ≡ []

@@ -24,10 +24,10 @@ use Rattle.adm_register.specs.Waits.{waiting_at}
 use Rattle.adm_register.specs.WellFormed.{WellFormed}
 use Rattle.adm_commands.specs.Tests.{first_failing}
 use Rattle.adm_commands.specs.Commands.Round as round
-use Rattle.adm_commands.specs.Commands.Round.{sites, entrants, round_lots, round_market}
+use Rattle.adm_commands.specs.Commands.Round.{sites, round_applicants, round_lots, round_market}
 use Rattle.adm_commands.specs.Commands.Fill as fill
 use Rattle.adm_commands.specs.Commands.Import as import
-use Rattle.adm_commands.specs.History.{drawn_on}
+use Rattle.adm_commands.specs.History.{recorded_draw}
 use Rattle.adm_register.proofs.DrawLemmas.{values_put, with_draws-append}
 use Rattle.adm_register.proofs.Puts.{there_each}
 use Rattle.adm_commands.proofs.DrawsStay.{unchanged, one_more}
@@ -44,7 +44,7 @@ use Rattle.adm_commands.proofs.RoundNext.{round-next}
 use Rattle.adm_commands.proofs.Shows.{Shows, no_row}
 use Rattle.adm_commands.proofs.Sorted.{sorted}
 
--- a draw's number does not come again
+-- a draw's number is not repeated
 round_again : (old new : State) (draw day : ℕ) (numbers : List ℕ) (outcomes : List Outcome) → WellFormed old → first_failing (round.tests old draw day numbers) ≡ None
     → new ≡ after old (round.change_of old draw day numbers outcomes) → first_failing (round.tests new draw day numbers) ≡ None → ⊥
 unfolding round.tests round.change_of
@@ -69,8 +69,8 @@ unfolding round.change_of
 round_shows draw day lots = record {
   some = λ laws old well accepted.
       let posed = posed old lots well (lots_pass old draw day lots (no_row _ accepted)) in
-      let best = laws.some_best (round_market old lots) (laws.faultless (sites old) (entrants old) (round_lots old lots) posed) in
-      let outcomes = outcomes_of best.0 (entrants old) in (
+      let best = laws.some_best (round_market old lots) (laws.faultless (sites old) (round_applicants old) (round_lots old lots) posed) in
+      let outcomes = outcomes_of best.0 (round_applicants old) in (
         round.change_of old draw day lots outcomes,
         round.reply_of old outcomes,
         (outcomes, record { allocation = best.0; best = best.1; given = refl }, refl, refl),
@@ -81,9 +81,9 @@ round_shows draw day lots = record {
   again = λ old new change reply well first held is passes more second next.
       absurd (round_again old new draw day lots held.0 well (no_row _ first) (is ∙ ap (after old) held.2) (no_row _ passes));
   one_change = λ law old one other first second x y.
-      x.2 ∙ ap (round.change_of old draw day lots) (law (round.sites old) (round.entrants old) (round_lots old lots) x.0 y.0 x.1 y.1) ∙ sym y.2;
+      x.2 ∙ ap (round.change_of old draw day lots) (law (round.sites old) (round.round_applicants old) (round_lots old lots) x.0 y.0 x.1 y.1) ∙ sym y.2;
   draws = λ old new change reply ordered accepted held is.
-      one_more old new change (drawn_on old draw day lots held.0) (ap (λ (c : Difference). c.draws) held.2) is ordered (round-next old draw day lots held.0 (no_row (first_failing (round.tests old draw day lots)) accepted));
+      one_more old new change (recorded_draw old draw day lots held.0) (ap (λ (c : Difference). c.draws) held.2) is ordered (round-next old draw day lots held.0 (no_row (first_failing (round.tests old draw day lots)) accepted));
   imports = λ old new change reply known accepted held is. stay_alone old new change (ap (λ (c : Difference). c.imported) held.2) is known;
 }
 

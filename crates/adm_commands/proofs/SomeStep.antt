@@ -1,4 +1,4 @@
--- Each command comes to something on each well-formed register.
+-- Each command has a result on each well-formed register.
 use Rattle.std.proofs.Common.{◌≡◌, refl, ℕ, Option, None, Some, Ok, Err}
 use Rattle.std.specs.Prelude.{Result}
 use Rattle.adm_types.specs.declared.commands.Refusal.{Refusal}
@@ -6,7 +6,7 @@ use Rattle.adm_types.specs.declared.commands.Reply.{Reply}
 use Rattle.adm_register.specs.State.{State}
 use Rattle.adm_register.specs.Change.{after}
 use Rattle.adm_commands.specs.Commands.{refused}
-use Rattle.adm_commands.specs.Outcome.{SomeStep, Step}
+use Rattle.adm_commands.specs.Steps.{SomeStep, Step}
 use Rattle.adm_commands.proofs.EachCommand.{shows}
 use Rattle.adm_commands.proofs.Shows.{Laws}
 

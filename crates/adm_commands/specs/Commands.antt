@@ -62,5 +62,5 @@ abbrev pub refused : State → Command → Option (Refusal × ℕ)
 refused old asked = (rules_of asked).refused old
 
 -- what an accepted command changes, and what it answers
-abbrev pub Changes : State → Command → Difference → Reply → Type 0
-Changes old asked = (rules_of asked).changes old
+abbrev pub MakesChange : State → Command → Difference → Reply → Type 0
+MakesChange old asked = (rules_of asked).changes old

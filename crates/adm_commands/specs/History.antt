@@ -9,9 +9,9 @@ use Rattle.adm_register.specs.State.{State}
 use Rattle.adm_register.specs.Draws.{no_draws, are_in_order, draws_so_far}
 use Rattle.adm_register.specs.WellFormed.{AllRows}
 use Rattle.adm_commands.specs.Commands.Round.{round_lots, AreOutcomes}
-use Rattle.adm_commands.specs.Outcome.{Accepts}
+use Rattle.adm_commands.specs.Steps.{Accepts}
 
--- each draw stands at its own number, and is the next after those before it, as in every register
+-- each draw is at its own number, and is the next after those before it, as in every register
 pub record DrawsInOrder (s : State) : Type 0 where
   pub own : AllRows (λ number (draw : Draw). draw.number ≡ number) s.draws
   pub in_order : IsTrue (are_in_order s.season no_draws (values s.draws))
@@ -25,14 +25,14 @@ abbrev pub DrawsKept : Type 0
 DrawsKept = (old new : State) (command : Command) → DrawsInOrder old → Accepts old command new → DrawsInOrder new × DrawsStay old new
 
 -- the draw of a round that began on this register, with these outcomes
-abbrev pub drawn_on : State → ℕ → ℕ → List ℕ → List Outcome → Draw
-drawn_on old draw day numbers outcomes =
+abbrev pub recorded_draw : State → ℕ → ℕ → List ℕ → List Outcome → Draw
+recorded_draw old draw day numbers outcomes =
     record { number = draw; round = (draws_so_far old).rounds + 1; school = None; day = day; outcomes = outcomes; lots = round_lots old numbers }
 
 -- the register holds the draw of that round, whose outcomes are those of the child-optimal stable allocation of the problem on the register in which it began
 abbrev pub RecordsRound : State → ℕ → ℕ → List ℕ → State → Type 0
 RecordsRound began draw day numbers s =
-    (outcomes : List Outcome) × AreOutcomes began numbers outcomes × (get s.draws draw ≡ Some (drawn_on began draw day numbers outcomes))
+    (outcomes : List Outcome) × AreOutcomes began numbers outcomes × (get s.draws draw ≡ Some (recorded_draw began draw day numbers outcomes))
 
 -- so does the register that an accepted round leaves
 abbrev pub RoundIsRecorded : Type 0

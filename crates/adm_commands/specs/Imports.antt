@@ -7,14 +7,14 @@ use Rattle.adm_types.specs.declared.commands.Reply.{Reply}
 use Rattle.adm_types.specs.declared.commands.Reply.TheVariants.{Imported}
 use Rattle.adm_register.specs.State.{State}
 use Rattle.adm_register.specs.WellFormed.{WellFormed}
-use Rattle.adm_commands.specs.Outcome.{Accepts, Step}
+use Rattle.adm_commands.specs.Steps.{Accepts, Step}
 
--- the new register comes of the old one by these commands, each accepted on the register after those before it
+-- the new register results from the old one by these commands, each accepted on the register after those before it
 abbrev pub Reaches : State → List Command → State → Type 0
 Reaches old [] new = new ≡ old
 Reaches old (command ∷ commands) new = (mid : State) × Accepts old command mid × Reaches mid commands new
 
--- the import is accepted, leaves the register as it is and counts each row as known; and it comes to nothing else
+-- the import is accepted, leaves the register as it is and counts each row as known; and it has no other result
 abbrev pub AddsNothing : State → List ImportRow → Type 0
 AddsNothing s rows =
     Step s (Import rows) (Ok (Imported 0 (length rows))) s

@@ -5,6 +5,6 @@ pub mod Offered
 pub mod Problem
 pub mod WhatIf
 pub mod Commands
-pub mod Outcome
+pub mod Steps
 pub mod History
 pub mod Imports

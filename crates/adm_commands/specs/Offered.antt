@@ -26,6 +26,7 @@ abbrev pub is_after_offer : Option (ℕ × Option ℕ) → ℕ → Bool
 is_after_offer None day = false
 is_after_offer (Some (offered, reminded)) day = nat_le (offered + 14) day
 
+-- whether there was a reminder of the offer, at least 14 days before this day (this profile)
 abbrev pub is_after_reminder : Option (ℕ × Option ℕ) → ℕ → Bool
 is_after_reminder None day = false
 is_after_reminder (Some (offered, None)) day = false

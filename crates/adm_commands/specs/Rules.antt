@@ -31,10 +31,10 @@ abbrev pub changes_just : Type 0 → (State → List (Bool × Refusal)) → (Sta
 changes_just kept tests only = record { kept = kept; refused = λ old. by_tests (tests old); changes = λ old. ChangesJust (only old) }
 
 -- what results from a command that is refused so, or changes this where it is not
-abbrev pub Comes : Option (Refusal × ℕ) → (Difference → Reply → Type 0) → Result (Difference × Reply) (Refusal × ℕ) → Type 0
-Comes why changes (Ok made) = (why ≡ None) × changes made.0 made.1
-Comes why changes (Err reason) = why ≡ Some reason
+abbrev pub ResultsIn : Option (Refusal × ℕ) → (Difference → Reply → Type 0) → Result (Difference × Reply) (Refusal × ℕ) → Type 0
+ResultsIn why changes (Ok made) = (why ≡ None) × changes made.0 made.1
+ResultsIn why changes (Err reason) = why ≡ Some reason
 
 -- what results from a command of these rules
 abbrev pub Follows : Rules → State → Result (Difference × Reply) (Refusal × ℕ) → Type 0
-Follows rules old made = Comes (rules.refused old) (rules.changes old) made
+Follows rules old made = ResultsIn (rules.refused old) (rules.changes old) made

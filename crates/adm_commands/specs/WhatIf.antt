@@ -10,34 +10,34 @@ use Rattle.adm_commands.specs.Problem.{lots_fault}
 use Rattle.adm_commands.specs.Commands.Round.{round_market}
 use Rattle.adm_commands.specs.declared.problems.DrawFault.{DrawFault}
 use Rattle.adm_commands.specs.declared.problems.DrawFault.TheVariants as draw
-use Rattle.adm_commands.specs.declared.what_ifs.NotTold.{NotTold}
-use Rattle.adm_commands.specs.declared.what_ifs.NotTold.TheVariants.{LotCount, LotsRepeated, UnknownChild, NotItsSchools, Memory}
+use Rattle.adm_commands.specs.declared.what_ifs.QuestionFault.{QuestionFault}
+use Rattle.adm_commands.specs.declared.what_ifs.QuestionFault.TheVariants.{LotCount, LotsRepeated, UnknownChild, NotItsSchools, Memory}
 
--- why it isn't told, where the lots pose no problem
-abbrev pub by_lots : DrawFault → NotTold
+-- why there is no answer, where the lots pose no problem
+abbrev pub by_lots : DrawFault → QuestionFault
 by_lots draw.LotCount = LotCount
 by_lots draw.LotsRepeated = LotsRepeated
 by_lots draw.Memory = Memory
 
--- why it isn't told, where the child may not list the schools
-abbrev pub by_list : WhatIfFault → NotTold
+-- why there is no answer, where the child may not list the schools
+abbrev pub by_list : WhatIfFault → QuestionFault
 by_list list.UnknownChild = UnknownChild
 by_list list.NotItsSchools = NotItsSchools
 by_list list.Memory = Memory
 
 -- the lots are tested before the list
-abbrev pub first_told : Option DrawFault → Option WhatIfFault → Option NotTold
-first_told None fault = option_map by_list fault
-first_told (Some fault) later = Some (by_lots fault)
+abbrev pub first_question_fault : Option DrawFault → Option WhatIfFault → Option QuestionFault
+first_question_fault None fault = option_map by_list fault
+first_question_fault (Some fault) later = Some (by_lots fault)
 
 -- The first of these tests that fails: there is one lot for each pair; at no school two lots are equal; the child is an entrant of
--- the problem; and it wants each of the schools, none of which comes twice. A tenant does not want its own school.
-abbrev pub told_fault : State → ℕ → List ℕ → List Code → Option NotTold
-told_fault s child numbers schools = first_told (lots_fault s numbers) (what_if_fault (round_market s numbers) child schools)
+-- the problem; and it wants each of the schools, none of which is repeated. A tenant does not want its own school.
+abbrev pub question_fault : State → ℕ → List ℕ → List Code → Option QuestionFault
+question_fault s child numbers schools = first_question_fault (lots_fault s numbers) (what_if_fault (round_market s numbers) child schools)
 
 -- By no other list does a child get a better school. Take any register, lots that pass both tests, any child, and any schools that it
 -- lists in place of its own list; those that its own list has not are dropped. What the best allocation of the problem then gives the
--- child never stands, on its own list, before what the best allocation gives it by that own list. To have none comes after every school.
+-- child is never, on its own list, before what the best allocation gives it by that own list. To have none comes after every school.
 abbrev pub NoBetterList : Type 0
 NoBetterList =
     (s : State) (numbers : List ℕ) (child : ℕ) (schools : List Code) (school : Option Code)

@@ -20,20 +20,20 @@ mod raise_pan;
 mod remind;
 mod round;
 
+use crate::command_result::CommandResult;
 use crate::kept::{kept_by_child, kept_by_round, kept_by_rows, kept_by_school};
-use crate::tried::Tried;
 use adm_register::{DrawsSoFar, Tables};
 use adm_types::Command;
 use std::alloc::{AllocError, Global};
 
-/// What comes of the command: what it changes and its reply, or the refusal of the first of its
+/// The result of the command: what it changes and its reply, or the refusal of the first of its
 /// tests that fails, beside the row of an import, which is 0 for a command without rows.
-pub(crate) fn tried(
+pub(crate) fn evaluate(
     old: &Tables,
     so_far: &DrawsSoFar,
     alloc: Global,
     command: &Command,
-) -> Result<Tried, AllocError>
+) -> Result<CommandResult, AllocError>
     requires well_formed { WellFormed old.now }
     requires draws { so_far.now ≡ draws_so_far old.now }
     requires within { IsWithin so_far.now }
@@ -43,36 +43,36 @@ pub(crate) fn tried(
     match command {
         Command::AddSchool(school) => {
             kept_by_school(school);
-            add_school::tried(old, alloc, school)
+            add_school::evaluate(old, alloc, school)
         }
-        Command::RaisePan { school, pan } => raise_pan::tried(old, alloc, *school, *pan),
+        Command::RaisePan { school, pan } => raise_pan::evaluate(old, alloc, *school, *pan),
         Command::AddChild(child) => {
             kept_by_child(child);
-            add_child::tried(old, alloc, child)
+            add_child::evaluate(old, alloc, child)
         }
         Command::Amend(child) => {
             kept_by_child(child);
-            amend::tried(old, alloc, child)
+            amend::evaluate(old, alloc, child)
         }
-        Command::NamePlan { child, school } => name_plan::tried(old, alloc, *child, *school),
+        Command::NamePlan { child, school } => name_plan::evaluate(old, alloc, *child, *school),
         Command::Apply(application) => {
             // read only so that the check sees what its type keeps
             let _number = application.day.number();
-            apply::tried(old, alloc, application)
+            apply::evaluate(old, alloc, application)
         }
         Command::Round { draw, day, lots } => {
             kept_by_round(*day, lots);
-            round::tried(old, so_far, alloc, *draw, *day, lots)
+            round::evaluate(old, so_far, alloc, *draw, *day, lots)
         }
-        Command::Accept { child, school } => accept::tried(old, alloc, *child, *school),
-        Command::Decline { child, school } => decline::tried(old, alloc, *child, *school),
+        Command::Accept { child, school } => accept::evaluate(old, alloc, *child, *school),
+        Command::Decline { child, school } => decline::evaluate(old, alloc, *child, *school),
         Command::Remind { child, school, day } => {
             // read only so that the check sees what its type keeps
             let _number = day.number();
-            remind::tried(old, alloc, *child, *school, *day)
+            remind::evaluate(old, alloc, *child, *school, *day)
         }
-        Command::Lapse { child, school, day } => lapse::tried(old, alloc, *child, *school, *day),
-        Command::LeaveList { child, school } => leave_list::tried(old, alloc, *child, *school),
+        Command::Lapse { child, school, day } => lapse::evaluate(old, alloc, *child, *school, *day),
+        Command::LeaveList { child, school } => leave_list::evaluate(old, alloc, *child, *school),
         Command::Fill {
             draw,
             school,
@@ -80,11 +80,11 @@ pub(crate) fn tried(
             lots,
         } => {
             kept_by_round(*day, lots);
-            fill::tried(old, so_far, alloc, *draw, *school, *day, lots)
+            fill::evaluate(old, so_far, alloc, *draw, *school, *day, lots)
         }
         Command::Import(rows) => {
             kept_by_rows(rows.as_slice());
-            import::tried(old, alloc, rows.as_slice())
+            import::evaluate(old, alloc, rows.as_slice())
         }
     }
 }

@@ -1,7 +1,7 @@
 // Laws of the steps of a register: repeats, rounds, imports, other lists.
 ghost use Rattle.adm_commands.specs.History.{DrawsKept, RoundIsRecorded};
 ghost use Rattle.adm_commands.specs.Imports.{ImportOnce};
-ghost use Rattle.adm_commands.specs.Outcome.{OneStep, RepeatSafe, SomeStep};
+ghost use Rattle.adm_commands.specs.Steps.{OneStep, RepeatSafe, SomeStep};
 ghost use Rattle.adm_commands.specs.Problem.{RoundIsPosed};
 ghost use Rattle.adm_commands.specs.WhatIf.{NoBetterList};
 
@@ -14,7 +14,7 @@ pub fn repeat_safe()
     ensures { RepeatSafe }
 {}
 
-/// Each command comes to something on each well-formed register: a refusal, or a reply and the
+/// Each command has a result on each well-formed register: a refusal, or a reply and the
 /// register that it leaves.
 pub fn some_step()
     ensures { SomeStep }
@@ -41,9 +41,9 @@ pub fn draws_kept()
     ensures { DrawsKept }
 {}
 
-/// A register holds the draw of the round that it comes from, whose outcomes are those of the
+/// A register holds the draw of the round that it results from, whose outcomes are those of the
 /// child-optimal stable allocation of the round's problem on the register in which it began.
-pub fn round_held()
+pub fn round_is_recorded()
     ensures { RoundIsRecorded }
 {}
 

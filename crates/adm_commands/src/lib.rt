@@ -1,9 +1,10 @@
 // The commands that change a register: when each is refused, what it changes, and what it answers.
 #![tactic(auto)]
 
+mod applicants;
 mod child_values;
+mod command_result;
 mod commands;
-mod entrants;
 mod failing;
 mod kept;
 mod laws;
@@ -13,15 +14,14 @@ mod one_row;
 mod pairs;
 mod problems;
 mod proposals;
-mod tried;
 mod what_ifs;
 
 pub use laws::{
-    draws_kept, import_once, no_better_list, one_step, repeat_safe, round_held, round_is_posed,
-    some_step,
+    draws_kept, import_once, no_better_list, one_step, repeat_safe, round_is_posed,
+    round_is_recorded, some_step,
 };
 pub use not_done::NotDone;
 pub use pairs::{fill_pairs, round_pairs};
 pub use problems::{DrawFault, problem};
 pub use proposals::{Proposal, decide, propose};
-pub use what_ifs::{NotTold, what_if};
+pub use what_ifs::{QuestionFault, what_if};

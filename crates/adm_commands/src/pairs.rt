@@ -1,9 +1,9 @@
 // For whom lots are drawn, in their order.
 ghost use Rattle.std.specs.Prelude.{◌≡◌, IfOk, map};
-ghost use Rattle.adm_commands.specs.Commands.Round.{entrants, sites, round_pairs};
+ghost use Rattle.adm_commands.specs.Commands.Round.{round_applicants, sites, round_pairs};
 ghost use Rattle.adm_commands.specs.Commands.Fill.{fill_pairs};
 
-use crate::entrants::{entrants, sites};
+use crate::applicants::{round_applicants, sites};
 use adm_register::{Register, Tables};
 use adm_round::{Applicant, Pair, Site, wanted_pairs};
 use adm_table::Shared;
@@ -18,14 +18,14 @@ pub(crate) struct Wants {
     pub(crate) pairs: Vec<Pair>,
 }
 
-/// They are worked out by the same steps whether a round is held or its pairs are asked for.
+/// They are worked out by the same steps whether a round is held or its pairs are queried.
 pub(crate) fn wants_of(old: &Tables, alloc: Global) -> Result<Wants, AllocError>
     ensures sites { IfOk result (λ wants. wants.sites.items ≡ sites old.now) }
-    ensures applicants { IfOk result (λ wants. wants.applicants.items ≡ entrants old.now) }
+    ensures applicants { IfOk result (λ wants. wants.applicants.items ≡ round_applicants old.now) }
     ensures pairs { IfOk result (λ wants. wants.pairs.items ≡ round_pairs old.now) }
 {
     let sites = sites(old, alloc)?;
-    let applicants = entrants(old, alloc)?;
+    let applicants = round_applicants(old, alloc)?;
     let pairs = wanted_pairs(alloc, &sites, &applicants)?;
     Ok(Wants {
         sites,

@@ -3,10 +3,10 @@ ghost use Rattle.std.specs.Prelude.{IfOk};
 ghost use Rattle.adm_register.specs.WellFormed.{WellFormed};
 ghost use Rattle.adm_register.specs.Extends.{Extends, KeepsSchools};
 ghost use Rattle.adm_register.specs.Difference.{IsDifference};
-ghost use Rattle.adm_commands.specs.Outcome.{Decides, decision};
+ghost use Rattle.adm_commands.specs.Steps.{Decides, decision};
 
 use crate::NotDone;
-use crate::commands::tried;
+use crate::commands::evaluate;
 use adm_register::{Difference, Register};
 use adm_round::allotment_fits;
 use adm_types::{Command, Reply};
@@ -22,7 +22,7 @@ pub fn propose(old: &Register, alloc: Global, command: &Command) -> Result<Propo
     ensures change { IfOk result (λ proposal. IsDifference old.now proposal.register proposal.change) }
 {
     allotment_fits();
-    match tried(old.tables(), old.draws_so_far(), alloc, command)? {
+    match evaluate(old.tables(), old.draws_so_far(), alloc, command)? {
         Err((refusal, row)) => Err(NotDone::Refused { refusal, row }),
         Ok((whole, reply)) => {
             let (register, change) = old.changed(alloc, whole)?;
@@ -54,7 +54,7 @@ pub fn decide(
     Ok((register, reply))
 }
 
-/// What an accepted command comes to.
+/// The result of an accepted command.
 #[derive(Drop)]
 pub struct Proposal {
     pub register: Register,

@@ -2,8 +2,8 @@
 ghost use Rattle.std.specs.Prelude.{◌≡◌, ◌⊎◌, None, Some, IfOk, IfErr};
 ghost use Rattle.adm_match.specs.Relisting.{IsWhatIf, IsNoGain};
 ghost use Rattle.adm_commands.specs.Commands.Round.{round_market};
-ghost use Rattle.adm_commands.specs.WhatIf.{by_lots, by_list, told_fault};
-ghost use Rattle.adm_commands.specs.declared.what_ifs.NotTold.TheVariants.{Memory};
+ghost use Rattle.adm_commands.specs.WhatIf.{by_lots, by_list, question_fault};
+ghost use Rattle.adm_commands.specs.declared.what_ifs.QuestionFault.TheVariants.{Memory};
 
 use crate::problems::{DrawFault, problem};
 use adm_match::WhatIfFault;
@@ -11,41 +11,41 @@ use adm_register::Register;
 use adm_types::{ChildNo, SchoolCode};
 use std::alloc::Global;
 
-/// Why it isn't told what a child would have. The tests are made in this order.
+/// Why there is no answer to what a child would have. The tests are made in this order.
 #[derive(Clone, Copy, Debug, PartialEq, Eq)]
-pub enum NotTold {
+pub enum QuestionFault {
     /// There is not one lot for each pair of a school and a child that wants it.
     LotCount = 1,
     /// Two lots at one school are equal.
     LotsRepeated = 2,
     /// The child does not take part in the next round.
     UnknownChild = 3,
-    /// A school is not among those that the child wants, or comes twice.
+    /// A school is not among those that the child wants, or is repeated.
     NotItsSchools = 4,
     /// Memory ran out.
     Memory = 5,
 }
 
-impl From<DrawFault> for NotTold {
+impl From<DrawFault> for QuestionFault {
     ghost from_gives = { λ fault told. told ≡ by_lots fault };
 
-    fn from(fault: DrawFault) -> NotTold {
+    fn from(fault: DrawFault) -> QuestionFault {
         match fault {
-            DrawFault::LotCount => NotTold::LotCount,
-            DrawFault::LotsRepeated => NotTold::LotsRepeated,
-            DrawFault::Memory => NotTold::Memory,
+            DrawFault::LotCount => QuestionFault::LotCount,
+            DrawFault::LotsRepeated => QuestionFault::LotsRepeated,
+            DrawFault::Memory => QuestionFault::Memory,
         }
     }
 }
 
-impl From<WhatIfFault> for NotTold {
+impl From<WhatIfFault> for QuestionFault {
     ghost from_gives = { λ fault told. told ≡ by_list fault };
 
-    fn from(fault: WhatIfFault) -> NotTold {
+    fn from(fault: WhatIfFault) -> QuestionFault {
         match fault {
-            WhatIfFault::UnknownChild => NotTold::UnknownChild,
-            WhatIfFault::NotItsSchools => NotTold::NotItsSchools,
-            WhatIfFault::Memory => NotTold::Memory,
+            WhatIfFault::UnknownChild => QuestionFault::UnknownChild,
+            WhatIfFault::NotItsSchools => QuestionFault::NotItsSchools,
+            WhatIfFault::Memory => QuestionFault::Memory,
         }
     }
 }
@@ -64,11 +64,11 @@ pub fn what_if(
     child: ChildNo,
     lots: &[u32],
     schools: &[SchoolCode],
-) -> Result<Option<SchoolCode>, NotTold>
-    ensures school { IfOk result (λ school. (told_fault old.now child lots.now schools.now ≡ None) × IsWhatIf (round_market old.now lots.now) child schools.now school) }
+) -> Result<Option<SchoolCode>, QuestionFault>
+    ensures school { IfOk result (λ school. (question_fault old.now child lots.now schools.now ≡ None) × IsWhatIf (round_market old.now lots.now) child schools.now school) }
     // By its own list it does no worse.
     ensures no_gain { IfOk result (IsNoGain (round_market old.now lots.now) child) }
-    ensures fault { IfErr result (λ fault. (told_fault old.now child lots.now schools.now ≡ Some fault) ⊎ (fault ≡ Memory)) }
+    ensures fault { IfErr result (λ fault. (question_fault old.now child lots.now schools.now ≡ Some fault) ⊎ (fault ≡ Memory)) }
 {
     let problem = problem(old, alloc, lots)?;
     Ok(adm_match::what_if(alloc, &problem, child, schools)?)

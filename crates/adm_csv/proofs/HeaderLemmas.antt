@@ -70,7 +70,7 @@ pub below_header : {A : Type 0} (all rest : List Record) (h : Record) (width : �
 below_header all rest h width (Ok x) is header wide reached = tt
 below_header all rest h width (Err e) is header wide reached = λ m. reached_below all rest h width e.row is header wide (reached m)
 
--- no fault is the reader's
+-- no error is the reader's
 pub no_read_fault : {A : Type 0} (view : A → List ImportRow) (all : List Record) (result : Result A RowFault) → ReadsRows ⊥ view all result → is_read_fault result ≡ false
 no_read_fault view all (Ok x) reads = refl
 no_read_fault view all (Err e) reads = by e.fault reads

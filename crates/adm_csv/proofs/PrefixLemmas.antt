@@ -14,7 +14,7 @@ use Rattle.adm_csv.specs.declared.fault.RowFault.{RowFault}
 use Rattle.adm_csv.specs.Kinds.{Text}
 use Rattle.adm_csv.specs.Rows.{Record, ReadsRows, IsReached, records_of, rows_in, rows_from, import_row_at, at_row, is_header}
 use Rattle.adm_csv.specs.Reading.{◌>>=◌}
-use Rattle.adm_csv.specs.Left.{records_left}
+use Rattle.adm_csv.specs.Remaining.{records_remaining}
 use Rattle.adm_csv.specs.Ended.{IsEnoughOf, RunsOutAt, ended_by, ended_from, ended_in, enough}
 use Rattle.adm_csv.proofs.HeaderLemmas.{same_records}
 use Rattle.adm_csv.proofs.RecordLemmas.{left_more}
@@ -47,7 +47,7 @@ begins s fields field (b ∷ text) n ended =
         let later = more (omega (arith, ended, none)) in
         (later.0, passes s fields field b text e ∙ later.1, (λ rest. passes s fields field b (text ++ rest) e ∙ later.2 rest), later.3)
 
-take_same : (n : ℕ) (s : State) (text rest : Text) → n ≤ ended_from s text → take n (records_left s (text ++ rest)) ≡ take n (records_left s text)
+take_same : (n : ℕ) (s : State) (text rest : Text) → n ≤ ended_from s text → take n (records_remaining s (text ++ rest)) ≡ take n (records_remaining s text)
 take_same zero s text rest ended = refl
 take_same (suc n) s text rest ended =
     let first = begins s [] [] text n ended in
@@ -102,7 +102,7 @@ enough_long (a ∷ []) many = absurd (let low = ended_low st.StartRecord (a ∷ 
 enough_long (a ∷ b ∷ []) many = absurd (let low = ended_low st.StartRecord (a ∷ b ∷ []) in omega (arith, many, low))
 enough_long (a ∷ b ∷ c ∷ text) many = omega arith
 
-are_left : (text : Text) → records default_config text ≡ records_left st.StartRecord text
+are_left : (text : Text) → records default_config text ≡ records_remaining st.StartRecord text
 are_left text = let same : length text + 1 ≡ suc (length text + 0) = omega arith in ap (λ n. records_from default_config n st.StartRecord text) same
 
 -- all records, or enough of them, say what all say

@@ -9,7 +9,7 @@ use Rattle.csv.specs.declared.parser.State.TheVariants as st
 use Rattle.csv.specs.declared.parser.Action.TheVariants as act
 use Rattle.std.proofs.lemmas.Option.{same_Some}
 use Rattle.adm_csv.specs.Kinds.{Text}
-use Rattle.adm_csv.specs.Left.{weight, records_left}
+use Rattle.adm_csv.specs.Remaining.{weight, records_remaining}
 
 -- a step that ends a record leaves a state that the end of the text does not end
 pub Rests : State × Action → Type 0
@@ -70,7 +70,7 @@ at_most : (b : Bool) → cond b 1 0 < 2
 at_most true = omega arith
 at_most false = omega arith
 
--- a record takes weight from what is left
+-- a record takes weight from what remains
 pub less : (s : State) (fields : List Text) (field text : Text) (q : Read) → next_record default_config s fields field text ≡ Some q → weight q.1 q.2 < weight s text
 unfolding next_record
 less s fields field [] q is = let end = less_end (ends_at_end s) (fields ++ (field ∷ []), st.StartRecord, []) q refl is in omega (arith, end)
@@ -94,13 +94,13 @@ enough (suc n) (suc m) s text a b =
     same_next n m (next_record default_config s [] [] text) (λ q is. let light = less s [] [] text q is in enough n m q.1 q.2 (omega (arith, light, a)) (omega (arith, light, b)))
 
 -- a record, and those after it
-pub left_more : (s : State) (text : Text) (q : Read) → next_record default_config s [] [] text ≡ Some q → records_left s text ≡ q.0 ∷ records_left q.1 q.2
+pub left_more : (s : State) (text : Text) (q : Read) → next_record default_config s [] [] text ≡ Some q → records_remaining s text ≡ q.0 ∷ records_remaining q.1 q.2
 unfolding records_from
 left_more s text q is =
     let lighter = less s [] [] text q is in
     ap (records_next (records_from default_config (weight s text))) is ∙ ap (λ rs. q.0 ∷ rs) (enough (weight s text) (suc (weight q.1 q.2)) q.1 q.2 lighter (omega arith))
 
 -- no record
-pub left_none : (s : State) (text : Text) → next_record default_config s [] [] text ≡ None → records_left s text ≡ []
+pub left_none : (s : State) (text : Text) → next_record default_config s [] [] text ≡ None → records_remaining s text ≡ []
 unfolding records_from
 left_none s text is = ap (records_next (records_from default_config (weight s text))) is

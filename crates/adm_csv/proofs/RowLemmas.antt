@@ -1,4 +1,4 @@
--- Rows of a file read one after another, up to the first fault.
+-- Rows of a file read one after another, up to the first error.
 use Rattle.std.proofs.Common.{◌≡◌, ◌∙◌, ◌+◌, ℕ, List, [], ◌∷◌, ◌++◌, length, take, Result, Ok, Err, ap, refl, sym, append_assoc, length-append, add-one, arith}
 use Rattle.std.specs.Result.{is_ok}
 use Rattle.std.proofs.Math.Seq.{take-append_seam}
@@ -32,7 +32,7 @@ fault_is : (width : ℕ) (front : List ImportRow) (k : ℕ) (left : List Record)
 fault_is width front k left r rs all e is so_far row =
     sym so_far ∙ ap (λ l. with_rows front (rows_from width k l)) is ∙ ap (λ o. with_rows front (at_row k o >>= λ x. rows_from width (k + 1) rs >>= λ xs. Ok (x ∷ xs))) row
 
--- a row with a fault
+-- a row with an error
 pub row_fault : (width : ℕ) (front : List ImportRow) (k : ℕ) (left : List Record) (r : Record) (rs all : List Record) (e : Fault) → left ≡ r ∷ rs → with_rows front (rows_from width k left) ≡ rows_from width 1 all
     → Fails e (import_row_at width k r) → FailsFrom width 1 (record { row = k; fault = e }) e all
 row_fault width front k left r rs all Memory is so_far row = tt
@@ -48,7 +48,7 @@ row_fault width front k left r rs all Read is so_far row = row
 pub rows_end : (width : ℕ) (front : List ImportRow) (k : ℕ) (left : List Record) → left ≡ [] → with_rows front (rows_from width k left) ≡ Ok front
 rows_end width front k left is = ap (λ l. with_rows front (rows_from width k l)) is ∙ ap Ok (append-nil front)
 
--- so many records were read without a fault and gave these rows, and these are left
+-- so many records were read without an error and gave these rows, and these remain
 pub record HasRows (width : ℕ) (all : List Record) (number : ℕ) (left : List Record) (rows : List ImportRow) : Type 0 where
   pub front : List Record
   pub all_is : all ≡ front ++ left

@@ -17,6 +17,7 @@ Record = List Text
 abbrev pub text_at : Record → ℕ → Option Text
 text_at fields i = option_and_then (λ b. if is_utf8 b then Some b else None) (field_at fields i)
 
+-- whether the field at this place is there, and is this text
 abbrev pub is_field : Record → ℕ → Text → Bool
 is_field fields i text = option_map_or (λ b. bytes_eq b text) (field_at fields i) false
 
@@ -35,6 +36,7 @@ cell_in (Some x) says width place fields = if nat_lt place width then says (text
 abbrev pub before : {A B : Type 0} → Cells A → Cells B → Cells (A × B)
 before first others width place fields = first width place fields >>= λ x. others width (place + 1) fields >>= λ xs. Ok (x, xs)
 
+-- the format of a record of CSV: a cell for each field, in this order
 abbrev pub csv : Format (λ A. Option Text → Result A Fault) Cells
 csv = record {
   field = λ name otherwise kind others. before (cell_in otherwise kind) others;
@@ -55,18 +57,20 @@ row_of cells width fields = if length fields == width then cells width 0 fields 
 
 -- ---- the header
 
--- whether all fields may be left out, and whether a header names them from a place on
+-- whether all fields may be omitted, and whether a header names them from a place on
 abbrev pub Names : Type 0 → Type 0
 Names A = Bool × (ℕ → Record → Bool)
 
+-- whether a field may be omitted: it has a value for that case
 abbrev pub may_be_left_out : {A : Type 0} → Option A → Bool
 may_be_left_out None = false
 may_be_left_out (Some x) = true
 
--- The header names a field, and then the others; or it ends here, where all of them may be left out.
+-- The header names a field, and then the others; or it ends here, where all of them may be omitted.
 abbrev pub names_then : Bool → Text → (ℕ → Record → Bool) → ℕ → Record → Bool
 names_then ends name others place fields = if length fields == place then ends else (is_field fields place name && others (place + 1) fields)
 
+-- the format of the header: the names of the fields, in this order; it may end where all fields that follow may be omitted
 abbrev pub header : Format (λ _. Unit {0}) Names
 header = record {
   field = λ name otherwise kind others. (may_be_left_out otherwise && others.0, names_then (may_be_left_out otherwise && others.0) name others.1);

@@ -48,7 +48,7 @@ ReadsNeeded old new = (text : Text) × Consumes old new text × IsNeeded text
 abbrev pub StopsWithin : Option Text → Option Text → ℕ → Type 0
 StopsWithin old new ended = (text : Text) × (rest : Text) × Consumes old new (text ++ rest) × (length rest ≤ 4096) × (ended ≡ ended_in text)
 
--- memory ran out at this row: while a piece was taken; or when all, or enough, was read, and the records before the row had no fault
+-- memory ran out at this row: while a piece was taken; or when all, or enough, was read, and the records before the row had no error
 abbrev pub RunsOutAt : Option Text → Option Text → ℕ → Type 0
 RunsOutAt old new row =
     StopsWithin old new row

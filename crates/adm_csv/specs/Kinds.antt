@@ -1,4 +1,4 @@
--- The kinds of a field: what its text says, or the fault of the kind. No text is a field that is none, or no UTF-8.
+-- The kinds of a field: what its text says, or the error of the kind. No text is a field that is none, or no UTF-8.
 use Rattle.std.specs.Prelude.{ℕ, List, Bool, true, false, codes, Option, Some, None, option_and_then, option_map, Result, if◌then◌else◌}
 use Rattle.std.specs.Str.{bytes_eq}
 use Rattle.adm_types.specs.Code.{code_or_none_of}
@@ -10,6 +10,7 @@ use Rattle.adm_csv.specs.declared.fault.Fault.{Fault}
 use Rattle.adm_csv.specs.declared.fault.Fault.TheVariants.{BadNumber, BadDate, BadText}
 use Rattle.adm_csv.specs.Reading.{some_or}
 
+-- a text, as bytes
 abbrev pub Text : Type 0
 Text = List ℕ
 
@@ -29,6 +30,7 @@ a_text text = some_or BadText text
 abbrev pub truth_of : Text → Option Bool
 truth_of text = if bytes_eq text (codes "yes") then Some true else (if bytes_eq text (codes "no") then Some false else None)
 
+-- a truth value: `yes` or `no`
 abbrev pub a_truth : Option Text → Result Bool Fault
 a_truth text = some_or BadText (option_and_then truth_of text)
 
@@ -36,6 +38,7 @@ a_truth text = some_or BadText (option_and_then truth_of text)
 abbrev pub flag_named : Text → Option ℕ
 flag_named text = option_and_then flag_of (plain_of text)
 
+-- the flags that a text lists, with `;` between each two
 abbrev pub flags_of : Text → Option (List ℕ)
 flags_of = items_of flag_named
 

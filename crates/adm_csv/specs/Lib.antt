@@ -3,4 +3,4 @@ pub mod Kinds
 pub mod Cells
 pub mod Rows
 pub mod Ended
-pub mod Left
+pub mod Remaining

@@ -1,15 +1,16 @@
--- Reading gives a value, or the first fault.
+-- Reading gives a value, or the first error.
 use Rattle.std.specs.Prelude.{◌≡◌, Option, Some, None, Result, Ok, Err}
 use Rattle.adm_csv.specs.declared.fault.Fault.{Fault}
 use Rattle.adm_csv.specs.declared.fault.Fault.TheVariants.{Read, Memory}
 
--- the next reading, unless this one found a fault
+-- the next reading, unless this one found an error
 infixl 10 ◌>>=◌
+-- the next reading, of the value that this one gives; or the error of this one
 abbrev pub ◌>>=◌ : {A B F : Type 0} → Result A F → (A → Result B F) → Result B F
 (Ok x) >>= f = f x
 (Err e) >>= f = Err e
 
--- the value, or this fault where there is none
+-- the value, or this error where there is none
 abbrev pub some_or : {A : Type 0} → Fault → Option A → Result A Fault
 some_or fault None = Err fault
 some_or fault (Some x) = Ok x

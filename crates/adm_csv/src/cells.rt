@@ -8,7 +8,7 @@ ghost use Rattle.adm_csv.specs.Reading.{Gives};
 
 use crate::Fault;
 use crate::cell::text_at;
-use crate::kinds::Kind;
+use crate::kinds::CsvKind;
 use adm_fields::{Field, Fields};
 use csv::ByteRecord;
 use std::alloc::Global;
@@ -20,7 +20,7 @@ fn cell<F: Field>(
     fields: &ByteRecord,
 ) -> Result<F::Value, Fault>
 where
-    F::Value: Kind,
+    F::Value: CsvKind,
     ensures { Gives result (cell_in F.otherwise F.Value.says width place (fields_of fields.now)) }
 {
     match F::otherwise() {
@@ -44,7 +44,7 @@ fn is_field(fields: &ByteRecord, place: usize, text: &str) -> bool
     }
 }
 
-/// Fields of a record, of which the first stands at a place.
+/// Fields of a record, of which the first is at a place.
 pub(crate) trait CsvFields: Fields {
     ghost count: { ℕ };
 
@@ -69,7 +69,7 @@ pub(crate) trait CsvFields: Fields {
         requires { place + count < 2 ^ 64 }
         ensures { result ≡ names place (fields_of fields.now) };
 
-    /// Whether all of the fields may be left out.
+    /// Whether all of the fields may be omitted.
     fn may_end() -> bool
         ensures { result ≡ ends };
 }
@@ -103,7 +103,7 @@ impl CsvFields for () {
 
 impl<F: Field, Others: CsvFields> CsvFields for (F, Others)
 where
-    F::Value: Kind,
+    F::Value: CsvKind,
 {
     ghost count = { suc Others.count };
 

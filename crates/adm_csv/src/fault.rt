@@ -35,7 +35,7 @@ pub enum Fault {
     Memory = 8,
 }
 
-/// The first fault of a file, and the number of its row: from 1, and 0 for the header.
+/// The first error of a file, and the number of its row: from 1, and 0 for the header.
 #[derive(Clone, Copy, Debug, PartialEq, Eq, Error)]
 #[error("row {row}: {fault}")]
 pub struct RowFault {

@@ -1,4 +1,4 @@
-// The kinds of a field: what its text says, or the fault of the kind.
+// The kinds of a field: what its text says, or the error of the kind.
 ghost use Rattle.std.specs.Prelude.{◌≡◌, Option, List, ℕ, Result, IfOk, map, option_map};
 ghost use Rattle.adm_types.specs.Joined.{pieces, all_some};
 ghost use Rattle.adm_csv.specs.Kinds as kinds;
@@ -12,15 +12,15 @@ use adm_types::{ChildNo, Day, Flag, SchoolCode, Seq, Text, codes, flag_bits, pla
 use std::alloc::{AllocError, Global};
 
 /// A kind of field. No text is a field that is none, or no UTF-8.
-pub(crate) trait Kind: Drop {
-    // What the text of a field says, or the fault of the kind.
+pub(crate) trait CsvKind: Drop {
+    // What the text of a field says, or the error of the kind.
     ghost says: { Option (List ℕ) → Result Self Fault };
 
     fn read(alloc: Global, text: Option<&str>) -> Result<Self, Fault>
         ensures { Gives result (says (option_map (λ s. s.now) text.entry)) };
 }
 
-impl Kind for u32 {
+impl CsvKind for u32 {
     ghost says = { kinds.a_number };
 
     fn read(_alloc: Global, text: Option<&str>) -> Result<u32, Fault> {
@@ -28,7 +28,7 @@ impl Kind for u32 {
     }
 }
 
-impl Kind for ChildNo {
+impl CsvKind for ChildNo {
     ghost says = { kinds.a_child };
 
     fn read(_alloc: Global, text: Option<&str>) -> Result<ChildNo, Fault> {
@@ -37,7 +37,7 @@ impl Kind for ChildNo {
     }
 }
 
-impl Kind for Text {
+impl CsvKind for Text {
     ghost says = { kinds.a_text };
 
     fn read(alloc: Global, text: Option<&str>) -> Result<Text, Fault> {
@@ -46,7 +46,7 @@ impl Kind for Text {
     }
 }
 
-impl Kind for bool {
+impl CsvKind for bool {
     ghost says = { kinds.a_truth };
 
     fn read(_alloc: Global, text: Option<&str>) -> Result<bool, Fault> {
@@ -54,7 +54,7 @@ impl Kind for bool {
     }
 }
 
-impl Kind for Day {
+impl CsvKind for Day {
     ghost says = { kinds.a_day };
 
     fn read(_alloc: Global, text: Option<&str>) -> Result<Day, Fault> {
@@ -62,7 +62,7 @@ impl Kind for Day {
     }
 }
 
-impl Kind for Seq<SchoolCode> {
+impl CsvKind for Seq<SchoolCode> {
     ghost says = { kinds.some_codes };
 
     fn read(alloc: Global, text: Option<&str>) -> Result<Seq<SchoolCode>, Fault> {
@@ -72,7 +72,7 @@ impl Kind for Seq<SchoolCode> {
 }
 
 /// A code, or the empty text for no school.
-impl Kind for Option<SchoolCode> {
+impl CsvKind for Option<SchoolCode> {
     ghost says = { kinds.a_code_or_none };
 
     fn read(_alloc: Global, text: Option<&str>) -> Result<Option<SchoolCode>, Fault> {
@@ -81,7 +81,7 @@ impl Kind for Option<SchoolCode> {
 }
 
 /// Flags, as the bits of a number.
-impl Kind for u16 {
+impl CsvKind for u16 {
     ghost says = { kinds.some_flags };
 
     fn read(alloc: Global, text: Option<&str>) -> Result<u16, Fault> {

@@ -1,7 +1,7 @@
 // The rows of a file: its header, and then its rows in order.
 ghost use Rattle.std.specs.Prelude.{◌≡◌, ◌∷◌, ◌≤◌, ◌||◌, length, true, IfErr, IfOk, IfSome, OnOk};
 ghost use Rattle.csv.specs.Records.{fields_of};
-ghost use Rattle.adm_csv.specs.Left.{IsPlain, left_of};
+ghost use Rattle.adm_csv.specs.Remaining.{IsPlain, remaining_of};
 ghost use Rattle.adm_csv.specs.Ended.{ReadsNeeded, RunsOutAt, StopsAfter};
 ghost use Rattle.adm_csv.specs.Reading.{Gives};
 ghost use Rattle.adm_csv.specs.Rows.{FailsAt, IsReached, IsReachedUnder, Record, ReadsRows, ReadsFrom, is_header, is_read_fault, most_rows, records_of, import_row_at};
@@ -20,7 +20,7 @@ const MOST_ROWS: u64 = 2_000;
 /// The records of a file, of any number of fields.
 fn source<'a>(alloc: Global, text: &'a [u8]) -> ByteRecordsIntoIter<&'a [u8]>
     ensures plain { IsPlain result }
-    ensures records { left_of result ≡ records_of text.now }
+    ensures records { remaining_of result ≡ records_of text.now }
 {
     ReaderBuilder::new()
         .has_headers(false)
@@ -32,8 +32,8 @@ fn source<'a>(alloc: Global, text: &'a [u8]) -> ByteRecordsIntoIter<&'a [u8]>
 /// Takes the header: the number of its fields.
 fn take_header(records: &mut ByteRecordsIntoIter<&[u8]>) -> Result<usize, Fault>
     requires { IsPlain records.old }
-    ensures ok { IfOk result (λ width. (h : Record) × (left_of records.old ≡ h ∷ left_of records.new) × (is_header h ≡ true) × IsPlain records.new × (width ≡ length h)) }
-    ensures err { IfErr result (λ e. FailsAt ⊥ (record { row = 0; fault = e }) e (left_of records.old)) }
+    ensures ok { IfOk result (λ width. (h : Record) × (remaining_of records.old ≡ h ∷ remaining_of records.new) × (is_header h ≡ true) × IsPlain records.new × (width ≡ length h)) }
+    ensures err { IfErr result (λ e. FailsAt ⊥ (record { row = 0; fault = e }) e (remaining_of records.old)) }
 {
     match records.next() {
         Some(Ok(fields)) => {
@@ -66,8 +66,8 @@ fn rows_from(
     records: ByteRecordsIntoIter<&[u8]>,
 ) -> Result<Vec<ImportRow>, RowFault>
     requires { IsPlain records }
-    ensures reads { ReadsFrom (λ v. v.items) width 1 (left_of records.entry) result }
-    ensures memory { IfErr result (λ e. e.fault ≡ Fault.Memory → IsReachedUnder width e.row (left_of records.entry)) }
+    ensures reads { ReadsFrom (λ v. v.items) width 1 (remaining_of records.entry) result }
+    ensures memory { IfErr result (λ e. e.fault ≡ Fault.Memory → IsReachedUnder width e.row (remaining_of records.entry)) }
 {
     let mut rows = Vec::new(alloc);
     let mut number = 0;
@@ -110,20 +110,20 @@ fn rows_of(alloc: Global, text: &[u8]) -> Result<Vec<ImportRow>, RowFault>
 
 /// The rows of an import, from the bytes of a file.
 ///
-/// Records are as `csv` reads them with commas, double quotes and any number of fields: a byte order
-/// mark at the start and empty lines are no part of any. The first is the header, exactly
-/// `child,name,east,north,looked_after,flags,siblings,day,preferences`, or this with `,present` after
-/// it; each other is a row of as many fields, and the fault is that of the first row with one. Under
-/// the shorter header no child has a present school. Read is told whatever stands before, and Memory
-/// may come at any point: their row is the one that was being read, that is, the number of records
-/// that had ended. Where Memory comes after the bytes were read, the records before its row have no
-/// fault.
+/// Records are as `csv` reads them with commas, double quotes and any number of fields: a byte
+/// order mark at the start and empty lines are no part of any. The first is the header, exactly
+/// `child,name,east,north,looked_after,flags,siblings,day,preferences`, or this with `,present`
+/// after it; each other is a row of as many fields, and the error is that of the first row with
+/// one. Under the shorter header no child has a present school. Read is reported whatever precedes
+/// it, and Memory may come at any point: their row is the one that was being read, that is, the
+/// number of records that had ended. Where Memory comes after the bytes were read, the records
+/// before its row have no error.
 ///
 /// It reads in pieces of up to 4,096 bytes, to the end or to the piece in which the 2,002nd record
 /// ends, since the file is known to have too many rows then; the rest is neither read nor kept. Memory
 /// grows with what is read (a single record may be as long as the file), and time with its bytes.
 pub fn read_rows<R: Input>(alloc: Global, reader: &mut R) -> Result<Vec<ImportRow>, RowFault>
-    // The rows, or the first fault, are those that the file says.
+    // The rows, or the first error, are those of the file.
     ensures rows { IfSome (R.remaining reader.old) (λ input. ReadsRows (Unit {0}) (λ v. v.items) (records_of input) result) }
 
     // Read comes only where the reader failed.
@@ -132,13 +132,13 @@ pub fn read_rows<R: Input>(alloc: Global, reader: &mut R) -> Result<Vec<ImportRo
     // Its row is the number of the records that ended in what was read before.
     ensures row { IfErr result (λ e. e.fault ≡ Fault.Read → StopsAfter (R.remaining reader.old) (R.remaining reader.new) e.row) }
 
-    // So is that of Memory, short of a part of the last piece; or the records before its row have no fault.
+    // So is that of Memory, short of a part of the last piece; or the records before its row have no error.
     ensures memory { IfErr result (λ e. e.fault ≡ Fault.Memory → RunsOutAt (R.remaining reader.old) (R.remaining reader.new) e.row) }
 
-    // A read failed exactly where Read is told.
+    // A read failed exactly where Read is reported.
     ensures reader { R.has_failed reader.new ≡ (R.has_failed reader.old || is_read_fault result) }
 
-    // No more was read than was needed, whatever came of it.
+    // No more was read than was needed, whatever the result.
     ensures needed { ReadsNeeded (R.remaining reader.old) (R.remaining reader.new) }
 {
     match read_text(alloc, reader) {

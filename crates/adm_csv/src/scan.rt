@@ -9,7 +9,7 @@ use std::alloc::{AllocError, Global};
 /// The byte order mark, which is no part of the first record.
 const MARK: [u8; 3] = [0xEF, 0xBB, 0xBF];
 
-/// Where the next byte stands, as far as the ends of records depend on it.
+/// Where the next byte is, as far as the ends of records depend on it.
 #[derive(Clone, Copy, Debug, PartialEq, Eq)]
 pub(crate) enum At {
     RecordStart,
@@ -61,7 +61,7 @@ fn start_record(byte: u8) -> (At, bool)
 }
 
 impl At {
-    /// Where the byte after this one stands, and whether this one ends a record.
+    /// Where the byte after this one is, and whether this one ends a record.
     fn after(self, byte: u8) -> (At, bool)
         ensures at { reader_state result.0 ≡ (step default_config (reader_state self) byte).0 }
         ensures ends { result.1 ≡ is_end (step default_config (reader_state self) byte).1 }

@@ -6,15 +6,15 @@ use Rattle.adm_types.specs.declared.commands.Command.{Command}
 use Rattle.adm_wire.specs.declared.fault.WireFault.{WireFault}
 use Rattle.adm_wire.specs.declared.fault.WireFault.TheVariants as fault
 use Rattle.adm_register.specs.State.{State as Register}
-use Rattle.adm_commands.specs.Outcome.{OneStep}
-use Rattle.adm_rows.specs.StandsFor.{LeavesOnly}
+use Rattle.adm_commands.specs.Steps.{OneStep}
+use Rattle.adm_rows.specs.Represents.{LeavesOnly}
 use Rattle.adm_desk.specs.declared.answer.Answer.{Answer}
 use Rattle.adm_desk.specs.declared.answer.Answer.TheVariants.{Done, Refused, Memory, Failed}
 use Rattle.adm_desk.specs.declared.answer.LineAnswer.{LineAnswer}
-use Rattle.adm_desk.specs.declared.answer.LineAnswer.TheVariants.{Handled, Faulty, Told}
+use Rattle.adm_desk.specs.declared.answer.LineAnswer.TheVariants.{Handled, Faulty, Queried}
 use Rattle.adm_desk.specs.Steps.{IsRun}
 use Rattle.adm_desk.specs.Lines.{AnswersLine, AnswersLines}
-use Rattle.adm_desk.specs.DeskState.{DeskState, Handles, InWork}
+use Rattle.adm_desk.specs.DeskState.{DeskState, Handles, InFlight}
 use Rattle.adm_commands.specs.Imports.{Reaches}
 use Rattle.adm_desk.specs.Acknowledged.{OneAfter, KeepsAcknowledged, acknowledged, handled, with_command}
 
@@ -48,7 +48,7 @@ over_lines step old new (l ∷ lines) (Faulty f ∷ answers) run = from_same ste
     unchanged step old mid line fault.MissingField by = by.1
     unchanged step old mid line fault.WrongKind by = by.1
     unchanged step old mid line fault.ExtraField by = by.1
-over_lines step old new (l ∷ lines) (Told t ∷ answers) run = absurd run.1
+over_lines step old new (l ∷ lines) (Queried t ∷ answers) run = absurd run.1
 over_lines {D} step old new (l ∷ lines) (Handled a ∷ answers) run =
     let by = run.1 in
     let P : Result Command WireFault → Type 0 = λ read. RunsOver step old (with_command read a (handled lines answers)) new in
@@ -79,11 +79,11 @@ module _ {C : Type 0} (disk : C → Disk) where
   after_work old mid new c more by alive run =
       let rest = all_failed mid new more by.0 run in
       let register : new.register ≡ old.register = ap (λ (s : DeskState C). s.register) rest.0 ∙ by.1 in
-      let at_mid : InWork mid.register c (disk mid.conn) = subst (λ (r : Register). InWork r c (disk mid.conn)) (sym by.1) (by.3 alive) in
+      let at_mid : InFlight mid.register c (disk mid.conn) = subst (λ (r : Register). InFlight r c (disk mid.conn)) (sym by.1) (by.3 alive) in
       record {
         run = subst (λ cs. Reaches old.register cs new.register) (sym rest.1) register;
         failed = ap (λ (s : DeskState C). s.failed) rest.0 ∙ by.0;
-        leaves = subst (λ (s : DeskState C). InWork s.register c (disk s.conn)) (sym rest.0) at_mid;
+        leaves = subst (λ (s : DeskState C). InFlight s.register c (disk s.conn)) (sym rest.0) at_mid;
       }
 
   pub keeps : (old new : DeskState C) (answered : List (Command × Answer)) → old.failed ≡ false → LeavesOnly old.register (disk old.conn) → RunsOver (Handles disk) old answered new → KeepsAcknowledged disk old new answered

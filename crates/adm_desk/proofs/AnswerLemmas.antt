@@ -10,7 +10,7 @@ use Rattle.adm_lists.proofs.KnownBytes.{Appends-then}
 use Rattle.adm_desk.specs.declared.answer.LineAnswer.{LineAnswer}
 use Rattle.adm_desk.specs.declared.run.Run.{Run}
 use Rattle.adm_desk.specs.Lines.{AnswersLines, line_text, answers_text, is_done, is_refused, is_failed}
-use Rattle.adm_desk.specs.Written.{Answered, Stopped, Counts, counted, IsBeginning, Takes, Breaks, joined_lines, HasNoLineFeed}
+use Rattle.adm_desk.specs.Written.{Answered, Interrupted, Counts, counted, IsBeginning, Takes, Breaks, joined_lines, HasNoLineFeed}
 use Rattle.adm_desk.proofs.Known.{Appends-nothing}
 use Rattle.adm_desk.proofs.CutLemmas.{Cuts-then, Cuts-nothing, whole-then}
 
@@ -75,9 +75,9 @@ later_beginning xs (y ∷ ys) text h =
     let same : length (xs ++ y ∷ ys) - 1 ≡ length xs + (length (y ∷ ys) - 1) = omega (arith, length-append xs (y ∷ ys)) in
     (h.0, rw same (after_front xs (y ∷ ys) (length (y ∷ ys) - 1) h.0 text h.1))
 
-pub Answered-stopped : {D : Type 0} (runs : D → List ℕ → LineAnswer → D → Type 0) (old mid new : D) (u v w : Option (List ℕ)) (a b : Run) (ls ms : List (List ℕ))
-    → Answered runs old mid u v a b ls → Stopped runs mid new v w ms → Stopped runs old new u w (ls ++ ms)
-Answered-stopped runs old mid new u v w a b ls ms p q = record {
+pub Answered-interrupted : {D : Type 0} (runs : D → List ℕ → LineAnswer → D → Type 0) (old mid new : D) (u v w : Option (List ℕ)) (a b : Run) (ls ms : List (List ℕ))
+    → Answered runs old mid u v a b ls → Interrupted runs mid new v w ms → Interrupted runs old new u w (ls ++ ms)
+Answered-interrupted runs old mid new u v w a b ls ms p q = record {
   answers = p.answers ++ q.answers;
   text = answers_text p.answers ++ q.text;
   answered = AnswersLines-append runs old mid new ls ms p.answers q.answers p.answered q.answered;
@@ -97,8 +97,8 @@ Answered-nothing runs h w run = record {
     or_false true = refl
     or_false false = refl
 
-pub Stopped-nothing : {D : Type 0} (runs : D → List ℕ → LineAnswer → D → Type 0) (h : D) (w : Option (List ℕ)) → Stopped runs h h w w []
-Stopped-nothing runs h w = record {
+pub Interrupted-nothing : {D : Type 0} (runs : D → List ℕ → LineAnswer → D → Type 0) (h : D) (w : Option (List ℕ)) → Interrupted runs h h w w []
+Interrupted-nothing runs h w = record {
   answers = [];
   text = [];
   answered = refl;
@@ -124,7 +124,7 @@ Takes-breaks runs old mid new u v w a b p q xs ys first next = record {
   more = next.more;
   whole = whole-then p xs q ys next.more first.lines next.lines first.cut.whole next.whole;
   plain = λ plain. let before = first.cut.plain plain in each_append HasNoLineFeed first.lines next.lines before.0 (next.plain before.1);
-  stopped = Answered-stopped runs old mid new u v w a b first.lines next.lines first.answered next.stopped;
+  interrupted = Answered-interrupted runs old mid new u v w a b first.lines next.lines first.answered next.interrupted;
 }
 
 -- bytes that were not taken lie behind
@@ -135,5 +135,5 @@ Breaks-longer runs old new u v p xs ys b = record {
   more = b.more ++ ys;
   whole = sym (append_assoc p xs ys) ∙ (ap (λ zs. zs ++ ys) b.whole ∙ append_assoc (joined_lines b.lines) b.more ys);
   plain = b.plain;
-  stopped = b.stopped;
+  interrupted = b.interrupted;
 }

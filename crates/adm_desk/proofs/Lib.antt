@@ -5,6 +5,6 @@ pub mod Known
 pub mod RestartLemmas
 pub mod RunLemmas
 pub mod Runs
-pub mod StandingLemmas
+pub mod DeskStateLemmas
 pub mod RoundLemmas
-pub mod StopLemmas
+pub mod CrashLemmas

@@ -16,7 +16,7 @@ use Rattle.adm_types.specs.declared.commands.Command.TheVariants.{Round}
 use Rattle.adm_register.specs.State.{State as Register}
 use Rattle.adm_register.specs.Draws.{no_draws, count_draw, count_draws, draws_so_far, is_next, are_in_order}
 use Rattle.adm_register.specs.declared.draws_so_far.DrawsSoFar.{DrawsSoFar}
-use Rattle.adm_commands.specs.Outcome.{Accepts}
+use Rattle.adm_commands.specs.Steps.{Accepts}
 use Rattle.adm_commands.specs.Rules.{without_row}
 use Rattle.adm_commands.specs.Tests.{first_failing}
 use Rattle.adm_commands.specs.Commands.Round as round
@@ -47,8 +47,8 @@ module _ (law : DrawsKept) (held : RoundIsRecorded) (draw day : ℕ) (numbers : 
       let rest = began before run.0 one.0 run.2 in
       (rest.0, (run.0, run.1, rest.1), rest.2)
 
-pub rounds_held_lem : DrawsKept → RoundIsRecorded → RoundsAreRecorded
-rounds_held_lem law held old new commands ordered run = (
+pub rounds_are_recorded_lem : DrawsKept → RoundIsRecorded → RoundsAreRecorded
+rounds_are_recorded_lem law held old new commands ordered run = (
   λ before later draw day numbers is. began law held draw day numbers later new before old ordered (subst (λ cs. Reaches old cs new) is run),
   (stay law commands old new ordered run).0,
 )
@@ -70,7 +70,7 @@ found_rounds law more old kept found commands (Some command) ordered run finds =
       | inr step ↦ more old kept found commands command first.1 first.0 step
     ]
 
--- ---- the round in work
+-- ---- the round in flight
 
 -- the next draw has the next number
 next_number : (season : SeasonFacts) (before : DrawsSoFar) (draw : Draw) → is_next season before draw ≡ true → draw.number ≡ before.draws + 1
@@ -124,7 +124,7 @@ round_number : (old new : Register) (draw day : ℕ) (numbers : List ℕ) → Ac
 unfolding round.tests
 round_number old new draw day numbers step = (unsigned_Decides draw ((draws_so_far old).draws + 1)).0 (first_passes (round.tests old draw day numbers) step.1.0)
 
--- with the round in work the register has no draw of its number, or the whole round
+-- with the round in flight the register has no draw of its number, or the whole round
 pub held_or_not : RoundIsRecorded → (kept found : Register) (work : Option Command) (disk : Disk) → DrawsInOrder kept → LeavesAcknowledged kept work disk → FindsAgain kept work found
     → RoundRecordedOrNot kept work found
 held_or_not law kept found None disk ordered left finds draw day numbers is = absurd (none-some _ is)

@@ -9,9 +9,9 @@ use Rattle.adm_desk.specs.declared.run.RunFault.{RunFault}
 use Rattle.adm_desk.specs.declared.run.RunFault.TheVariants.{Read, Write, Memory}
 use Rattle.adm_wire.specs.Streams.{Stream}
 use Rattle.adm_desk.specs.Lines.{lines_of, lines_ended}
-use Rattle.adm_desk.specs.Written.{Answered, Finished, AnsweredUpTo, Stopped, StoppedWithin, EndsAs, ReaderFailsBy, WriterFailsBy, OfWriter, Takes, Breaks, joined_lines, HasNoLineFeed, last_line}
+use Rattle.adm_desk.specs.Written.{Answered, Finished, AnsweredUpTo, Interrupted, InterruptedWithin, EndsAs, ReaderFailsBy, WriterFailsBy, OfWriter, Takes, Breaks, joined_lines, HasNoLineFeed, last_line}
 use Rattle.adm_desk.proofs.CutLemmas.{lines_of-joined, lines_of-piece, ended-joined, ended-more, first_lines}
-use Rattle.adm_desk.proofs.AnswerLemmas.{Answered-then, Answered-stopped}
+use Rattle.adm_desk.proofs.AnswerLemmas.{Answered-then, Answered-interrupted}
 
 -- ---- what was read, and the input
 
@@ -86,23 +86,23 @@ finished_from {D} runs old mid new u v w run ran p bytes takes last =
       failed = whole.counted.failed;
     }
 
-pub stopped_from : {D : Type 0} (runs : D → List ℕ → LineAnswer → D → Type 0) (old mid new : D) (u v w left : Option (List ℕ)) (run ran : Run) (p bytes : List ℕ)
-    → Takes runs old mid u v run ran [] p bytes → Stopped runs mid new v w (last_line p) → IsAtEnd left → StoppedWithin runs old new u w bytes left
-stopped_from runs old mid new u v w left run ran p bytes takes last end =
+pub interrupted_from : {D : Type 0} (runs : D → List ℕ → LineAnswer → D → Type 0) (old mid new : D) (u v w left : Option (List ℕ)) (run ran : Run) (p bytes : List ℕ)
+    → Takes runs old mid u v run ran [] p bytes → Interrupted runs mid new v w (last_line p) → IsAtEnd left → InterruptedWithin runs old new u w bytes left
+interrupted_from runs old mid new u v w left run ran p bytes takes last end =
     let plain = takes.cut.plain tt in
     let lines : lines_of bytes ≡ takes.lines ++ last_line p = ap lines_of takes.cut.whole ∙ all_lines takes.lines p plain.0 plain.1 in
     record {
       count = length (lines_of bytes);
       within = inl end;
-      stopped = rw (take-length (lines_of bytes), lines) (Answered-stopped runs old mid new u v w run ran takes.lines (last_line p) takes.answered last);
+      interrupted = rw (take-length (lines_of bytes), lines) (Answered-interrupted runs old mid new u v w run ran takes.lines (last_line p) takes.answered last);
     }
 
 pub broken_from : {D : Type 0} (runs : D → List ℕ → LineAnswer → D → Type 0) (old new : D) (u v left : Option (List ℕ)) (bytes : List ℕ)
-    → Breaks runs old new u v [] bytes → StoppedWithin runs old new u v bytes left
+    → Breaks runs old new u v [] bytes → InterruptedWithin runs old new u v bytes left
 broken_from runs old new u v left bytes broken = record {
   count = length broken.lines;
   within = inr (rw broken.whole (ended-more broken.lines broken.more (broken.plain tt)));
-  stopped = rw (broken.whole, first_lines broken.lines broken.more (broken.plain tt)) broken.stopped;
+  interrupted = rw (broken.whole, first_lines broken.lines broken.more (broken.plain tt)) broken.interrupted;
 }
 
 pub read_failed_from : {D : Type 0} (runs : D → List ℕ → LineAnswer → D → Type 0) (old new : D) (u v : Option (List ℕ)) (run ran : Run) (p bytes : List ℕ)
@@ -116,12 +116,12 @@ read_failed_from runs old new u v run ran p bytes takes =
       written = takes.answered.written;
     }
 
--- a run that read its input to the end, or that no fault of the reader ended
+-- a run that read its input to the end, or that no error of the reader ended
 pub ends_from : {D : Type 0} (runs : D → List ℕ → LineAnswer → D → Type 0) (old new : D) (input output : Stream) (had_failed : Bool) (r : Result Run RunFault)
     → IfOk r (λ run. IsAtEnd input.new × (bytes : List ℕ) × Consumes input.old input.new bytes × Finished runs old new output.old output.new run (lines_of bytes))
-    → OnErr r ((bytes : List ℕ) × Consumes input.old input.new bytes × StoppedWithin runs old new output.old output.new bytes input.new)
+    → OnErr r ((bytes : List ℕ) × Consumes input.old input.new bytes × InterruptedWithin runs old new output.old output.new bytes input.new)
     → IfErr r OfWriter → WriterFailsBy r had_failed output.has_failed → EndsAs runs old new input output r
-ends_from runs old new input output had_failed (Ok run) ok stopped fault left = ok
-ends_from runs old new input output had_failed (Err Read) ok stopped fault left = absurd fault
-ends_from runs old new input output had_failed (Err Write) ok stopped fault left = (left, stopped.0, stopped.1, stopped.2)
-ends_from runs old new input output had_failed (Err Memory) ok stopped fault left = stopped
+ends_from runs old new input output had_failed (Ok run) ok interrupted fault left = ok
+ends_from runs old new input output had_failed (Err Read) ok interrupted fault left = absurd fault
+ends_from runs old new input output had_failed (Err Write) ok interrupted fault left = (left, interrupted.0, interrupted.1, interrupted.2)
+ends_from runs old new input output had_failed (Err Memory) ok interrupted fault left = interrupted

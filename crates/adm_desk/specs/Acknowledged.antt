@@ -1,4 +1,4 @@
--- What a run promises over a crash: the register after the acknowledged commands, or also the one after the command in work.
+-- What a run promises over a crash: the register after the acknowledged commands, or also the one after the command in flight.
 use Rattle.std.specs.Prelude.{◌≡◌, ◌≤◌, ◌⊎◌, ℕ, List, [], ◌∷◌, Option, Some, None, is_some, zip, Result, Ok, Err}
 use Rattle.sqlite.specs.State.{State as Disk, HasCleanDisk}
 use Rattle.sqlite.specs.View.{doubt}
@@ -7,15 +7,15 @@ use Rattle.adm_types.specs.declared.commands.Command.{Command}
 use Rattle.adm_wire.specs.declared.fault.WireFault.{WireFault}
 use Rattle.adm_wire.specs.Commands.{command_of}
 use Rattle.adm_register.specs.State.{State as Register}
-use Rattle.adm_commands.specs.Outcome.{Accepts}
+use Rattle.adm_commands.specs.Steps.{Accepts}
 use Rattle.adm_commands.specs.Imports.{Reaches}
-use Rattle.adm_rows.specs.StandsFor.{LeavesOnly}
+use Rattle.adm_rows.specs.Represents.{LeavesOnly}
 use Rattle.adm_desk.specs.declared.answer.Answer.{Answer}
 use Rattle.adm_desk.specs.declared.answer.Answer.TheVariants.{Done, Refused, Memory, Failed}
 use Rattle.adm_desk.specs.declared.answer.LineAnswer.{LineAnswer}
-use Rattle.adm_desk.specs.declared.answer.LineAnswer.TheVariants.{Handled, Faulty, Told}
+use Rattle.adm_desk.specs.declared.answer.LineAnswer.TheVariants.{Handled, Faulty, Queried}
 use Rattle.adm_desk.specs.Lines.{AnswersLines}
-use Rattle.adm_desk.specs.DeskState.{DeskState, InWork}
+use Rattle.adm_desk.specs.DeskState.{DeskState, InFlight}
 
 -- ---- registers
 
@@ -33,14 +33,15 @@ acknowledged ((command, Refused refusal row) ∷ more) = acknowledged more
 acknowledged ((command, Memory) ∷ more) = acknowledged more
 acknowledged ((command, Failed) ∷ more) = acknowledged more
 
--- the command in work: the first that was answered Failed
-abbrev pub in_work : List (Command × Answer) → Option Command
-in_work [] = None
-in_work ((command, Done reply) ∷ more) = in_work more
-in_work ((command, Refused refusal row) ∷ more) = in_work more
-in_work ((command, Memory) ∷ more) = in_work more
-in_work ((command, Failed) ∷ more) = Some command
+-- the command in flight: the first that was answered Failed
+abbrev pub in_flight : List (Command × Answer) → Option Command
+in_flight [] = None
+in_flight ((command, Done reply) ∷ more) = in_flight more
+in_flight ((command, Refused refusal row) ∷ more) = in_flight more
+in_flight ((command, Memory) ∷ more) = in_flight more
+in_flight ((command, Failed) ∷ more) = Some command
 
+-- these commands and answers, after the command of a line and its answer, if the line is a command
 abbrev pub with_command : Result Command WireFault → Answer → List (Command × Answer) → List (Command × Answer)
 with_command (Ok command) answer more = (command, answer) ∷ more
 with_command (Err fault) answer more = more
@@ -51,36 +52,36 @@ handled [] answers = []
 handled (line ∷ lines) [] = []
 handled (line ∷ lines) (Handled answer ∷ answers) = with_command (command_of line) answer (handled lines answers)
 handled (line ∷ lines) (Faulty fault ∷ answers) = handled lines answers
-handled (line ∷ lines) (Told told ∷ answers) = handled lines answers
+handled (line ∷ lines) (Queried what_if_answer ∷ answers) = handled lines answers
 
 -- ---- what a crash leaves, and what the next start finds
 
--- All that a crash may leave stands for the register. With a command in work, which was accepted, each thing stands for it or for one that the command leaves.
+-- All that a crash may leave represents the register. With a command in flight, which was accepted, each thing represents it or one that the command leaves.
 abbrev pub LeavesAcknowledged : Register → Option Command → Disk → Type 0
 LeavesAcknowledged register None disk = LeavesOnly register disk
-LeavesAcknowledged register (Some command) disk = InWork register command disk
+LeavesAcknowledged register (Some command) disk = InFlight register command disk
 
--- the register, or with a command in work that one, or one that the command leaves where it is accepted
+-- the register, or with a command in flight that one, or one that the command leaves where it is accepted
 abbrev pub FindsAgain : Register → Option Command → Register → Type 0
 FindsAgain register None found = found ≡ register
 FindsAgain register (Some command) found = (found ≡ register) ⊎ Accepts register command found
 
 -- ---- by the commands and their answers
 
--- the register is one after the acknowledged commands, or one that the command in work leaves after these
+-- the register is one after the acknowledged commands, or one that the command in flight leaves after these
 abbrev pub FindsAfter : Register → List Command → List Answer → Register → Type 0
-FindsAfter r commands answers found = (kept : Register) × Reaches r (acknowledged (zip commands answers)) kept × FindsAgain kept (in_work (zip commands answers)) found
+FindsAfter r commands answers found = (kept : Register) × Reaches r (acknowledged (zip commands answers)) kept × FindsAgain kept (in_flight (zip commands answers)) found
 
--- all that a crash may leave stands for such a register
+-- all that a crash may leave represents such a register
 abbrev pub LeavesAfter : Register → List Command → List Answer → Disk → Type 0
-LeavesAfter r commands answers disk = (kept : Register) × Reaches r (acknowledged (zip commands answers)) kept × LeavesAcknowledged kept (in_work (zip commands answers)) disk
+LeavesAfter r commands answers disk = (kept : Register) × Reaches r (acknowledged (zip commands answers)) kept × LeavesAcknowledged kept (in_flight (zip commands answers)) disk
 
 -- The desk has a register after the acknowledged commands, in their order, each of which was accepted. It has failed just where a command is
--- in work. All that a crash may leave stands for that register, or also for one that the command in work leaves.
+-- in flight. All that a crash may leave represents that register, or also one that the command in flight leaves.
 pub record KeepsAcknowledged {C : Type 0} (disk : C → Disk) (old new : DeskState C) (answered : List (Command × Answer)) : Type 0 where
   pub run : Reaches old.register (acknowledged answered) new.register
-  pub failed : new.failed ≡ is_some (in_work answered)
-  pub leaves : LeavesAcknowledged new.register (in_work answered) (disk new.conn)
+  pub failed : new.failed ≡ is_some (in_flight answered)
+  pub leaves : LeavesAcknowledged new.register (in_flight answered) (disk new.conn)
 
 -- whatever lines were answered so: what their answers acknowledge is kept
 abbrev pub KeepsLines : {C : Type 0} → (C → Disk) → (DeskState C → List ℕ → LineAnswer → DeskState C → Type 0) → DeskState C → DeskState C → Type 0
@@ -88,7 +89,7 @@ KeepsLines disk runs old new = (lines : List (List ℕ)) (answers : List LineAns
 
 -- ---- for a private clause
 
--- the start found one of the things that the crash could leave, and nothing else may be left now
+-- the start found one of the things that the crash could leave, and nothing else may remain now
 pub record Reopens (old new : Disk) : Type 0 where
   pub clean : doubt old.is_clean ≤ doubt new.is_clean
   pub found : HasCleanDisk new → old.may_leave new.committed.trees

@@ -1,4 +1,4 @@
--- What a desk tells: where a child would be by another list.
+-- The questions that a desk answers: which school a child would get by another list.
 use Rattle.std.specs.Prelude.{◌≡◌, ⊤, ℕ, List, Bool, true, false, Option, Some, None, Ok, Err}
 use Rattle.adm_wire.specs.WhatIfs.{what_if_of}
 use Rattle.adm_wire.specs.declared.fault.WireFault.TheVariants as fault
@@ -6,32 +6,32 @@ use Rattle.adm_wire.specs.declared.what_if.WhatIf.{WhatIf}
 use Rattle.adm_match.specs.Relisting.{IsWhatIf, IsNoGain}
 use Rattle.adm_register.specs.State.{State as Register}
 use Rattle.adm_commands.specs.Commands.Round.{round_market}
-use Rattle.adm_commands.specs.WhatIf.{told_fault}
-use Rattle.adm_commands.specs.declared.what_ifs.NotTold.TheVariants as untold
+use Rattle.adm_commands.specs.WhatIf.{question_fault}
+use Rattle.adm_commands.specs.declared.what_ifs.QuestionFault.TheVariants as unanswered
 use Rattle.adm_desk.specs.DeskState.{DeskState}
 use Rattle.adm_desk.specs.declared.answer.LineAnswer.{LineAnswer}
-use Rattle.adm_desk.specs.declared.answer.LineAnswer.TheVariants.{Handled, Faulty, Told}
-use Rattle.adm_desk.specs.declared.answer.Told.{Told as ToldAnswer}
-use Rattle.adm_desk.specs.declared.answer.Told.TheVariants.{School, Untold, Failed}
+use Rattle.adm_desk.specs.declared.answer.LineAnswer.TheVariants.{Handled, Faulty, Queried}
+use Rattle.adm_desk.specs.declared.answer.WhatIfAnswer.{WhatIfAnswer}
+use Rattle.adm_desk.specs.declared.answer.WhatIfAnswer.TheVariants.{School, Unanswered, Failed}
 
--- What a question is told of a register. A school, or none: no test fails, the child has it in the best allocation of the next round's problem in which it lists these schools, and by its own list
--- it does no worse. Else the first test that fails, or want of memory.
-abbrev pub AnswersQuestion : Register → WhatIf → ToldAnswer → Type 0
+-- The answer to a question about a register. A school, or none: no test fails, the child has it in the best allocation of the next round's problem in which it
+-- lists these schools, and by its own list it does no worse. Else the first test that fails, or out of memory.
+abbrev pub AnswersQuestion : Register → WhatIf → WhatIfAnswer → Type 0
 AnswersQuestion s asked (School school) =
-    (told_fault s asked.child asked.lots asked.preferences ≡ None)
+    (question_fault s asked.child asked.lots asked.preferences ≡ None)
     × IsWhatIf (round_market s asked.lots) asked.child asked.preferences school × IsNoGain (round_market s asked.lots) asked.child school
-AnswersQuestion s asked (Untold untold.Memory) = ⊤
-AnswersQuestion s asked (Untold why) = told_fault s asked.child asked.lots asked.preferences ≡ Some why
+AnswersQuestion s asked (Unanswered unanswered.Memory) = ⊤
+AnswersQuestion s asked (Unanswered why) = question_fault s asked.child asked.lots asked.preferences ≡ Some why
 AnswersQuestion s asked Failed = ⊥
 
--- What bytes are told by a desk: their fault where they ask nothing, that it has failed, or what the question is told of its register. Any may meet want of memory. The desk stays as it is.
-abbrev pub DeskTells : {C : Type 0} → DeskState C → List ℕ → LineAnswer → Type 0
-DeskTells desk bytes (Faulty fault.Memory) = ⊤
-DeskTells desk bytes (Faulty f) = what_if_of bytes ≡ Err f
-DeskTells desk bytes (Told Failed) = (desk.failed ≡ true) × ((asked : WhatIf) × (what_if_of bytes ≡ Ok asked))
-DeskTells desk bytes (Told told) = (desk.failed ≡ false) × ((asked : WhatIf) × (what_if_of bytes ≡ Ok asked) × AnswersQuestion desk.register asked told)
-DeskTells desk bytes (Handled answer) = ⊥
+-- What a desk answers to bytes: their error where they are no question, that it has failed, or the answer to the question about its register. Any may run out of memory. The desk is unchanged.
+abbrev pub AnswersWhatIf : {C : Type 0} → DeskState C → List ℕ → LineAnswer → Type 0
+AnswersWhatIf desk bytes (Faulty fault.Memory) = ⊤
+AnswersWhatIf desk bytes (Faulty f) = what_if_of bytes ≡ Err f
+AnswersWhatIf desk bytes (Queried Failed) = (desk.failed ≡ true) × ((asked : WhatIf) × (what_if_of bytes ≡ Ok asked))
+AnswersWhatIf desk bytes (Queried what_if_answer) = (desk.failed ≡ false) × ((asked : WhatIf) × (what_if_of bytes ≡ Ok asked) × AnswersQuestion desk.register asked what_if_answer)
+AnswersWhatIf desk bytes (Handled answer) = ⊥
 
 -- the same of lines, one after another
-abbrev pub TellsLine : {C : Type 0} → DeskState C → List ℕ → LineAnswer → DeskState C → Type 0
-TellsLine old line answer new = DeskTells old line answer × (new ≡ old)
+abbrev pub AnswersQuestionLine : {C : Type 0} → DeskState C → List ℕ → LineAnswer → DeskState C → Type 0
+AnswersQuestionLine old line answer new = AnswersWhatIf old line answer × (new ≡ old)

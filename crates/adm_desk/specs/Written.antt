@@ -9,7 +9,7 @@ use Rattle.adm_desk.specs.declared.run.RunFault.{RunFault}
 use Rattle.adm_desk.specs.declared.run.RunFault.TheVariants.{Read, Write, Memory}
 use Rattle.adm_desk.specs.Lines.{AnswersLines, lines_of, lines_ended, answers_text, is_done, is_refused, is_failed}
 
--- a count that stops at the largest number
+-- a count that saturates at the largest number
 abbrev pub counted : ℕ → ℕ → ℕ
 counted old n = max old (min (old + n) (2 ^ 64 - 1))
 
@@ -46,31 +46,31 @@ pub record AnsweredUpTo {D : Type 0} (runs : D → List ℕ → LineAnswer → D
   pub written : Appends old_text new_text (answers_text answers)
 
 -- the lines were answered, and the answers were written but for a part of the last one
-pub record Stopped {D : Type 0} (runs : D → List ℕ → LineAnswer → D → Type 0) (old new : D) (old_text new_text : Option (List ℕ)) (lines : List (List ℕ)) : Type 0 where
+pub record Interrupted {D : Type 0} (runs : D → List ℕ → LineAnswer → D → Type 0) (old new : D) (old_text new_text : Option (List ℕ)) (lines : List (List ℕ)) : Type 0 where
   pub answers : List LineAnswer
   pub text : List ℕ
   pub answered : AnswersLines runs old lines answers new
   pub beginning : IsBeginning answers text
   pub written : Appends old_text new_text text
 
--- A fault of the writer or of memory, after these bytes: some first lines of them were answered, and one without LF only at the end of the input.
-pub record StoppedWithin {D : Type 0} (runs : D → List ℕ → LineAnswer → D → Type 0) (old new : D) (old_text new_text : Option (List ℕ)) (bytes : List ℕ) (left : Option (List ℕ)) : Type 0 where
+-- An error of the writer or of memory, after these bytes: some first lines of them were answered, and one without LF only at the end of the input.
+pub record InterruptedWithin {D : Type 0} (runs : D → List ℕ → LineAnswer → D → Type 0) (old new : D) (old_text new_text : Option (List ℕ)) (bytes : List ℕ) (left : Option (List ℕ)) : Type 0 where
   pub count : ℕ
   pub within : IsAtEnd left ⊎ (count ≤ lines_ended bytes)
-  pub stopped : Stopped runs old new old_text new_text (take count (lines_of bytes))
+  pub interrupted : Interrupted runs old new old_text new_text (take count (lines_of bytes))
 
--- How a run over the lines of an input ended. Without a fault the input was read to its end, and each of its lines was answered, written and counted.
--- With Read the input failed, and the lines that had ended before were answered; with Write the output failed, or with Memory memory ran out: some
--- first lines were answered, and only of the last answer a part may be missing.
+-- How a run over the lines of an input ended. Without an error the input was read to its end, and each of its lines was answered, written and
+-- counted. With Read the input failed, and the lines that had ended before were answered; with Write the output failed, or with Memory memory ran
+-- out: some first lines were answered, and only of the last answer a part may be missing.
 abbrev pub EndsAs : {D : Type 0} → (D → List ℕ → LineAnswer → D → Type 0) → D → D → Stream → Stream → Result Run RunFault → Type 0
 EndsAs runs old new input output (Ok run) = IsAtEnd input.new
     × (bytes : List ℕ) × Consumes input.old input.new bytes × Finished runs old new output.old output.new run (lines_of bytes)
 EndsAs runs old new input output (Err Read) = IfSome input.old (λ bytes. length bytes < 2 ^ 64 - 1 → input.has_failed ≡ true)
     × (bytes : List ℕ) × Consumes input.old input.new bytes × AnsweredUpTo runs old new output.old output.new bytes
 EndsAs runs old new input output (Err Write) = (output.has_failed ≡ true)
-    × (bytes : List ℕ) × Consumes input.old input.new bytes × StoppedWithin runs old new output.old output.new bytes input.new
+    × (bytes : List ℕ) × Consumes input.old input.new bytes × InterruptedWithin runs old new output.old output.new bytes input.new
 EndsAs runs old new input output (Err Memory) = (bytes : List ℕ) × Consumes input.old input.new bytes
-    × StoppedWithin runs old new output.old output.new bytes input.new
+    × InterruptedWithin runs old new output.old output.new bytes input.new
 
 -- a writer has failed since exactly with Write
 abbrev pub WriterFailsBy : {A : Type 0} → Result A RunFault → Bool → Bool → Type 0
@@ -117,9 +117,9 @@ pub record Breaks {D : Type 0} (runs : D → List ℕ → LineAnswer → D → T
   pub more : List ℕ
   pub whole : old_pending ++ bytes ≡ joined_lines lines ++ more
   pub plain : HasNoLineFeed old_pending → AllByRecursion HasNoLineFeed lines
-  pub stopped : Stopped runs old new old_text new_text lines
+  pub interrupted : Interrupted runs old new old_text new_text lines
 
--- no fault of a reader
+-- no error of a reader
 abbrev pub OfWriter : RunFault → Type 0
 OfWriter Read = ⊥
 OfWriter Write = Unit {0}

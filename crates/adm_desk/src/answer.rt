@@ -1,8 +1,8 @@
 // What a desk answers, and its texts.
 ghost use Rattle.std.specs.Prelude.{◌≡◌, ◌++◌, codes, IfOk, string_bytes};
-ghost use Rattle.adm_desk.specs.Lines.{school_text, not_told_text};
+ghost use Rattle.adm_desk.specs.Lines.{school_text, question_fault_text};
 
-use adm_commands::NotTold;
+use adm_commands::QuestionFault;
 use adm_types::{Refusal, Reply, SchoolCode};
 use adm_wire::{WireFault, failed_text, fault_text, memory_text, refusal_text, reply_text};
 use std::alloc::{AllocError, Global};
@@ -21,15 +21,15 @@ pub enum Answer {
 pub enum LineAnswer {
     Handled(Answer),
     Faulty(WireFault),
-    Told(Told),
+    Queried(WhatIfAnswer),
 }
 
 /// What a desk answers to a question.
 #[derive(Clone, Copy, PartialEq, Eq, Debug)]
-pub enum Told {
+pub enum WhatIfAnswer {
     /// The school where the child would be, or none.
     School(Option<SchoolCode>),
-    Untold(NotTold),
+    Unanswered(QuestionFault),
     Failed,
 }
 
@@ -59,22 +59,22 @@ impl LineAnswer {
         match self {
             LineAnswer::Handled(answer) => answer.text(alloc),
             LineAnswer::Faulty(fault) => fault_text(alloc, *fault),
-            LineAnswer::Told(told) => told.text(alloc),
+            LineAnswer::Queried(what_if_answer) => what_if_answer.text(alloc),
         }
     }
 }
 
-impl Told {
-    ghost use Rattle.adm_desk.specs.Lines.{told_text};
+impl WhatIfAnswer {
+    ghost use Rattle.adm_desk.specs.Lines.{what_if_answer_text};
 
     /// The text of the answer.
     pub fn text(&self, alloc: Global) -> Result<String, AllocError>
-        ensures { IfOk result (λ s. string_bytes s ≡ told_text self.now) }
+        ensures { IfOk result (λ s. string_bytes s ≡ what_if_answer_text self.now) }
     {
         match self {
-            Told::School(school) => school_text(alloc, *school),
-            Told::Untold(why) => not_told_text(alloc, *why),
-            Told::Failed => String::from_str(alloc, failed_text()),
+            WhatIfAnswer::School(school) => school_text(alloc, *school),
+            WhatIfAnswer::Unanswered(why) => question_fault_text(alloc, *why),
+            WhatIfAnswer::Failed => String::from_str(alloc, failed_text()),
         }
     }
 }
@@ -94,16 +94,16 @@ fn quoted_school(alloc: Global, school: &str) -> Result<String, AllocError>
     format!(in alloc; "{{\"school\":\"{school}\"}}")
 }
 
-fn not_told_text(alloc: Global, why: NotTold) -> Result<String, AllocError>
-    ensures { IfOk result (λ s. string_bytes s ≡ not_told_text why) }
+fn question_fault_text(alloc: Global, why: QuestionFault) -> Result<String, AllocError>
+    ensures { IfOk result (λ s. string_bytes s ≡ question_fault_text why) }
 {
     match why {
-        NotTold::LotCount => refusal_text(alloc, Refusal::LotCount, 0),
-        NotTold::LotsRepeated => refusal_text(alloc, Refusal::LotsRepeated, 0),
-        NotTold::UnknownChild => refusal_text(alloc, Refusal::UnknownChild, 0),
-        NotTold::NotItsSchools => {
+        QuestionFault::LotCount => refusal_text(alloc, Refusal::LotCount, 0),
+        QuestionFault::LotsRepeated => refusal_text(alloc, Refusal::LotsRepeated, 0),
+        QuestionFault::UnknownChild => refusal_text(alloc, Refusal::UnknownChild, 0),
+        QuestionFault::NotItsSchools => {
             String::from_str(alloc, "{\"name\":\"NotItsSchools\",\"refused\":23}")
         }
-        NotTold::Memory => String::from_str(alloc, memory_text()),
+        QuestionFault::Memory => String::from_str(alloc, memory_text()),
     }
 }

@@ -9,18 +9,18 @@ ghost use Rattle.adm_register.specs.WellFormed.{WellFormed};
 ghost use Rattle.adm_store.specs.Changes.{IsChanges};
 ghost use Rattle.adm_rows.specs.Faults.{IsNoRegister};
 ghost use Rattle.adm_rows.specs.FirstFault.{IsFirstFault};
-ghost use Rattle.adm_rows.specs.StandsFor.{IsStarted, LeavesOnly, LeavesNone};
+ghost use Rattle.adm_rows.specs.Represents.{IsStarted, LeavesOnly, LeavesNone};
 ghost use Rattle.adm_store.specs.Migration.{IsMigrated};
 ghost use Rattle.adm_desk.specs.Steps.{IsRun};
 ghost use Rattle.adm_desk.specs.DeskState.{Handles, Keeps, DeskState};
 ghost use Rattle.adm_desk.specs.Lines.{AnswersLine};
 ghost use Rattle.adm_desk.specs.Acknowledged.{KeepsAcknowledged, KeepsLines};
-ghost use Rattle.adm_desk.specs.Questions.{TellsLine};
+ghost use Rattle.adm_desk.specs.Questions.{AnswersQuestionLine};
 ghost use Rattle.adm_desk.specs.Written.{EndsAs, ReaderFailsBy, WriterFailsBy};
 
 use crate::handler::{self, Handler};
-use crate::lines::Liner;
-use crate::questions::Asked;
+use crate::lines::LineHandler;
+use crate::questions::QuestionHandler;
 use crate::{Answer, LineAnswer, Run, RunFault, lines};
 use adm_commands::{NotDone, Proposal, propose};
 use adm_register::{Difference, Register};
@@ -34,7 +34,7 @@ use std::marker::Model;
 
 /// One register, and the connection to the file that keeps it.
 ///
-/// Where it has not answered Failed, all that a crash may leave stands for its register.
+/// Where it has not answered Failed, all that a crash may leave represents its register.
 pub struct Desk<S: Alter> {
     alloc: Global,
     store: Store<S>,
@@ -56,12 +56,12 @@ impl<S: Alter + Drop> Drop for Desk<S> {
 impl<S: Alter> Model for Desk<S> {
     ghost use Rattle.std.specs.Prelude.{◌≡◌, false};
     ghost use Rattle.sqlite.specs.Held.{Held, held_code, state};
-    ghost use Rattle.adm_rows.specs.StandsFor.{LeavesOnly};
-    ghost use Rattle.adm_desk.specs.DeskState.{DeskState, coded_standing};
+    ghost use Rattle.adm_rows.specs.Represents.{LeavesOnly};
+    ghost use Rattle.adm_desk.specs.DeskState.{DeskState, coded_desk_state};
 
     ghost Value = { DeskState (Held S) };
 
-    ghost coded = { coded_standing (held_code S.code) };
+    ghost coded = { coded_desk_state (held_code S.code) };
 
     ghost view = { λ d. record { register = d.register; failed = d.failed; conn = d.store } };
 
@@ -69,10 +69,10 @@ impl<S: Alter> Model for Desk<S> {
 }
 
 impl<S: Alter> Desk<S> {
-    /// Opens the register that the file stands for. Faults 1 to 3 come only where it stands for
-    /// none, and the first of them that fits is told; whatever comes, a crash leaves the file as it was found, or, where
-    /// it was one of the first version, one of the second for the same register.
-    /// What it costs grows with the rows of the register.
+    /// Opens the register that the file represents. Errors 1 to 3 are reported only where it
+    /// represents none, and the first of them that fits is reported; whatever comes, a crash leaves
+    /// the file as it was found, or, where it was one of the first version, one of the second for
+    /// the same register. What it costs grows with the rows of the register.
     pub fn open(alloc: Global, conn: Connection<S>) -> Result<Desk<S>, (OpenFault, Connection<S>)>
         requires ended { conn.in_transaction ≡ false }
         requires started { IsStarted (state S.Store conn) }
@@ -120,8 +120,8 @@ impl<S: Alter> Desk<S> {
         }
     }
 
-    /// Answers a command. A refusal and want of memory change nothing. After one Failed every later
-    /// answer is Failed and the connection stays as it is, until the file is opened again.
+    /// Answers a command. A refusal and an error for memory change nothing. After one Failed every
+    /// later answer is Failed and the connection stays as it is, until the file is opened again.
     /// What it costs grows with the tables that the command changes, of which the pointers to their
     /// rows are copied; what is compared and written grows with the rows that it changes.
     pub fn handle(&mut self, command: &Command) -> Answer
@@ -207,23 +207,23 @@ impl<S: Alter> Desk<S> {
         lines::run_lines(self.alloc, self, input, output)
     }
 
-    /// Answers the questions that the lines of the reader ask, to its end, and writes an answer for
+    /// Answers the questions in the lines of the reader, to its end, and writes an answer for
     /// each. Lines are as for `run_lines`. The desk stays as it is.
-    pub fn tell_lines<R: Input, W: Output>(
+    pub fn answer_questions<R: Input, W: Output>(
         &self,
         input: &mut R,
         output: &mut W,
     ) -> Result<Run, RunFault>
-        ensures ends { EndsAs TellsLine self.now self.now (reader R.Input input.old input.new) (writer W.Output output.old output.new) result }
+        ensures ends { EndsAs AnswersQuestionLine self.now self.now (reader R.Input input.old input.new) (writer W.Output output.old output.new) result }
         ensures writer { WriterFailsBy result (W.has_failed output.old) (W.has_failed output.new) }
         ensures reader { ReaderFailsBy result (R.has_failed input.old) (R.has_failed input.new) }
     {
-        let mut asked = Asked(self);
+        let mut asked = QuestionHandler(self);
         lines::run_lines(self.alloc, &mut asked, input, output)
     }
 }
 
-impl<S: Alter> Liner for Desk<S> {
+impl<S: Alter> LineHandler for Desk<S> {
     ghost use Rattle.sqlite.specs.Held.{Held, state};
     ghost use Rattle.adm_desk.specs.Lines.{AnswersLine};
     ghost use Rattle.adm_desk.specs.DeskState.{Handles, DeskState};

@@ -2,7 +2,7 @@
 ghost use Rattle.adm_desk.specs.Acknowledged.{OneAfter};
 ghost use Rattle.adm_desk.specs.Rounds.{RoundsAreRecorded, RoundsStay};
 
-use adm_commands::{draws_kept, one_step, round_held};
+use adm_commands::{draws_kept, one_step, round_is_recorded};
 
 /// Accepted commands, one after another, leave one register.
 pub fn one_after()
@@ -14,11 +14,11 @@ pub fn one_after()
 
 /// Each round among accepted commands is held by the register after them: its outcomes are those of
 /// the child-optimal stable allocation of its problem on the register in which it began.
-pub fn rounds_held()
+pub fn rounds_are_recorded()
     ensures { RoundsAreRecorded }
 {
     draws_kept();
-    round_held();
+    round_is_recorded();
 }
 
 /// It is so after one command more.

@@ -2,6 +2,7 @@
 #![tactic(auto)]
 
 mod answer;
+mod crashes;
 mod desk;
 mod handler;
 mod laws;
@@ -9,11 +10,10 @@ mod lines;
 mod questions;
 mod restart;
 mod run;
-mod stops;
 
-pub use answer::{Answer, LineAnswer, Told};
+pub use answer::{Answer, LineAnswer, WhatIfAnswer};
+pub use crashes::run_until_crash;
 pub use desk::Desk;
-pub use laws::{one_after, rounds_held, rounds_stay};
+pub use laws::{one_after, rounds_are_recorded, rounds_stay};
 pub use restart::{Restarted, run_and_reopen};
 pub use run::{Run, RunFault};
-pub use stops::run_until_stopped;

@@ -3,14 +3,14 @@ ghost use Rattle.std.specs.Prelude.{ℕ, [], ◌∷◌, ◌++◌, take, IfOk, If
 ghost use Rattle.std.specs.Io.KnownBytes.{Appends};
 ghost use Rattle.adm_wire.specs.Streams.{reader, writer};
 ghost use Rattle.adm_desk.specs.Lines.{line_text};
-ghost use Rattle.adm_desk.specs.Written.{Answered, Stopped, EndsAs, last_line, Counts, Takes, Breaks, OfWriter, ReaderFailsBy, WriterFailsBy};
+ghost use Rattle.adm_desk.specs.Written.{Answered, Interrupted, EndsAs, last_line, Counts, Takes, Breaks, OfWriter, ReaderFailsBy, WriterFailsBy};
 
-use crate::{Answer, LineAnswer, Run, RunFault, Told};
+use crate::{Answer, LineAnswer, Run, RunFault, WhatIfAnswer};
 use adm_wire::{Input, Output};
 use std::alloc::Global;
 
 /// What answers lines.
-pub(crate) trait Liner {
+pub(crate) trait LineHandler {
     ghost use Rattle.std.specs.Prelude.{List, ℕ};
     ghost use Rattle.adm_desk.specs.declared.answer.LineAnswer.{LineAnswer};
 
@@ -36,13 +36,14 @@ fn count(run: &mut Run, answer: &LineAnswer)
         failed: _,
     } = *run;
     match answer {
-        LineAnswer::Handled(Answer::Done(_)) | LineAnswer::Told(Told::School(_)) => {
+        LineAnswer::Handled(Answer::Done(_)) | LineAnswer::Queried(WhatIfAnswer::School(_)) => {
             run.done = done.saturating_add(1);
         }
-        LineAnswer::Handled(Answer::Failed) | LineAnswer::Told(Told::Failed) => run.failed = true,
+        LineAnswer::Handled(Answer::Failed) | LineAnswer::Queried(WhatIfAnswer::Failed) =>
+            run.failed = true,
         LineAnswer::Handled(Answer::Refused { .. } | Answer::Memory)
         | LineAnswer::Faulty(_)
-        | LineAnswer::Told(Told::Untold(_)) => {
+        | LineAnswer::Queried(WhatIfAnswer::Unanswered(_)) => {
             run.refused = refused.saturating_add(1);
         }
     }
@@ -72,7 +73,7 @@ fn write_answer<W: Output>(
 }
 
 /// Answers a line and writes its answer.
-fn run_line<H: Liner, W: Output>(
+fn run_line<H: LineHandler, W: Output>(
     alloc: Global,
     handler: &mut H,
     output: &mut W,
@@ -80,7 +81,7 @@ fn run_line<H: Liner, W: Output>(
     line: &[u8],
 ) -> Result<(), RunFault>
     ensures answered { OnOk result (Answered H.runs (H.view handler.old) (H.view handler.new) (W.contents output.old) (W.contents output.new) run.old run.new (line.now ∷ [])) }
-    ensures stopped { OnErr result (Stopped H.runs (H.view handler.old) (H.view handler.new) (W.contents output.old) (W.contents output.new) (line.now ∷ [])) }
+    ensures interrupted { OnErr result (Interrupted H.runs (H.view handler.old) (H.view handler.new) (W.contents output.old) (W.contents output.new) (line.now ∷ [])) }
     ensures fault { IfErr result OfWriter }
     ensures writer { WriterFailsBy result (W.has_failed output.old) (W.has_failed output.new) }
 {
@@ -90,7 +91,7 @@ fn run_line<H: Liner, W: Output>(
 }
 
 /// Takes one byte: at LF the pending line is answered.
-fn take_byte<H: Liner, W: Output>(
+fn take_byte<H: LineHandler, W: Output>(
     handler: &mut H,
     output: &mut W,
     run: &mut Run,
@@ -119,7 +120,7 @@ fn take_byte<H: Liner, W: Output>(
 }
 
 /// Takes bytes, one after another.
-fn take_bytes<H: Liner, W: Output>(
+fn take_bytes<H: LineHandler, W: Output>(
     handler: &mut H,
     output: &mut W,
     run: &mut Run,
@@ -141,7 +142,7 @@ fn take_bytes<H: Liner, W: Output>(
 }
 
 /// Answers the last line, where it has no LF.
-fn finish<H: Liner, W: Output>(
+fn finish<H: LineHandler, W: Output>(
     alloc: Global,
     handler: &mut H,
     output: &mut W,
@@ -149,7 +150,7 @@ fn finish<H: Liner, W: Output>(
     pending: &[u8],
 ) -> Result<Run, RunFault>
     ensures answered { IfOk result (λ r. Answered H.runs (H.view handler.old) (H.view handler.new) (W.contents output.old) (W.contents output.new) run r (last_line pending.now)) }
-    ensures stopped { OnErr result (Stopped H.runs (H.view handler.old) (H.view handler.new) (W.contents output.old) (W.contents output.new) (last_line pending.now)) }
+    ensures interrupted { OnErr result (Interrupted H.runs (H.view handler.old) (H.view handler.new) (W.contents output.old) (W.contents output.new) (last_line pending.now)) }
     ensures fault { IfErr result OfWriter }
     ensures writer { WriterFailsBy result (W.has_failed output.old) (W.has_failed output.new) }
 {
@@ -163,9 +164,9 @@ fn finish<H: Liner, W: Output>(
     }
 }
 
-/// Answers the lines that the reader gives, to its end, and writes an answer for each. A fault of the
-/// reader leaves the lines answered that ended before it.
-pub(crate) fn run_lines<H: Liner, R: Input, W: Output>(
+/// Answers the lines that the reader gives, to its end, and writes an answer for each. An error of
+/// the reader leaves the lines answered that ended before it.
+pub(crate) fn run_lines<H: LineHandler, R: Input, W: Output>(
     alloc: Global,
     handler: &mut H,
     input: &mut R,

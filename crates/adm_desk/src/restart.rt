@@ -1,19 +1,19 @@
-// A run of commands over any store, a crash that comes to its disk, and the start after it.
+// A run of commands over any store, a crash of its disk, and the start after it.
 ghost use Rattle.std.specs.Prelude.{◌≡◌, ◌⊎◌, false, [], Option, IfOk, IfErr, IfSome, MatchOption};
 ghost use Rattle.sqlite.specs.Held.{Held, state};
 ghost use Rattle.sqlite.specs.State.{HasCleanDisk};
 ghost use Rattle.adm_rows.specs.Faults.{IsNoRegister};
-ghost use Rattle.adm_rows.specs.StandsFor.{IsStarted, LeavesOnly};
+ghost use Rattle.adm_rows.specs.Represents.{IsStarted, LeavesOnly};
 ghost use Rattle.adm_desk.specs.Steps.{IsRun};
 ghost use Rattle.adm_desk.specs.DeskState.{Handles, DeskState};
 ghost use Rattle.adm_commands.specs.History.{DrawsInOrder};
 ghost use Rattle.adm_register.specs.State.{State as Register};
 ghost use Rattle.adm_types.specs.declared.commands.Command.{Command as Asked};
-ghost use Rattle.adm_desk.specs.Rounds.{RecordsRounds, RecordsRoundInWork};
+ghost use Rattle.adm_desk.specs.Rounds.{RecordsRounds, RecordsRoundInFlight};
 ghost use Rattle.adm_desk.specs.Acknowledged.{FindsAgain, FindsAfter, LeavesAcknowledged, LeavesAfter, Reopens};
 
-use crate::{Answer, Desk, rounds_held, rounds_stay};
-use adm_commands::round_held;
+use crate::{Answer, Desk, rounds_are_recorded, rounds_stay};
+use adm_commands::round_is_recorded;
 use adm_rows::{OpenFault, one_register};
 use adm_types::Command;
 use sqlite::{Alter, Connection, Error, ErrorCode};
@@ -21,7 +21,7 @@ use sqlite_trees::error::StoreError;
 use sqlite_trees::store::Reopen;
 use std::alloc::Global;
 
-/// The answers of a run, and what the start after it came to: a desk, or the fault and, where the
+/// The answers of a run, and the result of the start after it: a desk, or the error and, where the
 /// store was started, the connection to it.
 pub struct Restarted<S: Alter> {
     pub answers: Vec<Answer>,
@@ -37,7 +37,7 @@ impl<S: Alter + Drop> Drop for Restarted<S> {
     }
 }
 
-fn fault_of(error: StoreError) -> OpenFault
+fn store_fault(error: StoreError) -> OpenFault
     ensures { (result ≡ OpenFault.Disk) ⊎ (result ≡ OpenFault.Memory) }
 {
     match error {
@@ -46,7 +46,7 @@ fn fault_of(error: StoreError) -> OpenFault
     }
 }
 
-pub(crate) fn fault_at(error: Error) -> OpenFault
+pub(crate) fn connection_fault(error: Error) -> OpenFault
     ensures { (result ≡ OpenFault.Disk) ⊎ (result ≡ OpenFault.Memory) }
 {
     match error {
@@ -55,7 +55,7 @@ pub(crate) fn fault_at(error: Error) -> OpenFault
     }
 }
 
-/// Lets a crash come to the disk under the desk, and starts the store again.
+/// Crashes the disk under the desk, and starts the store again.
 fn start_again<S: Alter + Reopen + Drop>(
     alloc: Global,
     desk: Desk<S>,
@@ -67,15 +67,15 @@ fn start_again<S: Alter + Reopen + Drop>(
 {
     let mut store = desk.into_connection().into_store();
     if let Err(error) = store.crash_and_reopen() {
-        return Err(fault_of(error));
+        return Err(store_fault(error));
     }
     match Connection::over(alloc, store) {
         Ok(conn) => Ok(conn),
-        Err((error, _)) => Err(fault_at(error)),
+        Err((error, _)) => Err(connection_fault(error)),
     }
 }
 
-/// Lets a crash come to the disk under the desk, starts the store again and opens what it holds.
+/// Crashes the disk under the desk, starts the store again and opens what it holds.
 fn reopen<S: Alter + Reopen + Drop>(
     alloc: Global,
     desk: Desk<S>,
@@ -92,7 +92,7 @@ fn reopen<S: Alter + Reopen + Drop>(
         Ok(conn) => conn,
         Err(fault) => return Err((fault, None)),
     };
-    // that a file stands for one register, a call of the law says
+    // a call of the law says that a file represents one register
     one_register();
     match Desk::open(alloc, conn) {
         Ok(desk) => Ok(desk),
@@ -100,7 +100,7 @@ fn reopen<S: Alter + Reopen + Drop>(
     }
 }
 
-/// Tells that the draws of the desk's register are in order. It does nothing.
+/// States that the draws of the desk's register are in order. It does nothing.
 fn has_draws_in_order<S: Alter + Drop>(desk: &Desk<S>)
     ensures { desk.now.failed ≡ false → DrawsInOrder desk.now.register }
 {
@@ -113,31 +113,31 @@ fn has_draws_in_order<S: Alter + Drop>(desk: &Desk<S>)
     }
 }
 
-/// Answers the commands, lets a crash come to the disk, starts the store again and opens what it
-/// holds. A crash within a command is a store that fails from some call on: the command is answered
-/// Failed. Disk and Memory come where the store or memory is wanting; where there is no room for the
-/// answers, no command was handled and there is no crash.
+/// Answers the commands, crashes the disk, starts the store again and opens what it holds. A crash
+/// within a command is a store that fails from some call on: the command is answered Failed. The
+/// error is Disk where the store fails, and Memory where memory runs out; where there is no room
+/// for the answers, no command was handled and there is no crash.
 pub fn run_and_reopen<S: Alter + Reopen + Drop>(
     alloc: Global,
     mut desk: Desk<S>,
     commands: &[Command],
 ) -> Restarted<S>
-    // The register is one after the acknowledged commands, or one that the command in work leaves after these.
+    // The register is one after the acknowledged commands, or one that the command in flight leaves after these.
     ensures register { desk.failed ≡ false → IfOk result.opened (λ new. HasCleanDisk (state S.Store new.conn)
         → FindsAfter desk.register commands.now result.answers.items new.register) }
     // It holds each round among the acknowledged commands, with the child-optimal stable allocation of the problem on the register in which it began.
     ensures rounds { desk.failed ≡ false → IfOk result.opened (λ new. HasCleanDisk (state S.Store new.conn)
         → RecordsRounds desk.register commands.now result.answers.items new.register) }
-    // A round in work is there whole, with the child-optimal stable allocation of the problem on the register in which it began, or not at all.
+    // A round in flight is there whole, with the child-optimal stable allocation of the problem on the register in which it began, or not at all.
     ensures round { desk.failed ≡ false → IfOk result.opened (λ new. HasCleanDisk (state S.Store new.conn)
-        → RecordsRoundInWork desk.register commands.now result.answers.items new.register) }
+        → RecordsRoundInFlight desk.register commands.now result.answers.items new.register) }
     ensures alive { IfOk result.opened (λ new. (new.failed ≡ false) × LeavesOnly new.register (state S.Store new.conn)) }
 
     // Whether it was opened again or not, the answers are a run of the commands. Where there was no room for them, none was handled, and the connection is the desk's as it was.
     ensures run { ((mid : DeskState (Held S)) × IsRun (Handles (state S.Store)) desk commands.now result.answers.items mid)
         ⊎ ((result.answers.items ≡ []) × (result.opened ≡ Err (OpenFault.Memory, Some desk.conn))) }
 
-    // What was started stands for such a register also where it was not opened, so no NotOurs, Version or BadRow comes.
+    // What was started represents such a register also where it was not opened, so the error is not NotOurs, Version or BadRow.
     ensures kept { desk.failed ≡ false → IfErr result.opened (λ e. IfSome e.1 (λ conn.
         LeavesAfter desk.register commands.now result.answers.items (state S.Store conn))) }
     ensures never { desk.failed ≡ false → IfErr result.opened (λ e. MatchOption e.1 (¬ IsNoRegister e.0) (λ conn. HasCleanDisk (state S.Store conn) → ¬ IsNoRegister e.0)) }
@@ -146,9 +146,9 @@ pub fn run_and_reopen<S: Alter + Reopen + Drop>(
     let _register = desk.register();
     has_draws_in_order(&desk);
     // what rounds leave, calls of the laws say
-    rounds_held();
+    rounds_are_recorded();
     rounds_stay();
-    round_held();
+    round_is_recorded();
     let answers = match desk.handle_all(commands) {
         Ok(answers) => answers,
         Err(_) => {

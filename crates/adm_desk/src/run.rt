@@ -1,6 +1,6 @@
-// What a run of lines came to.
+// The result of a run of lines.
 
-/// What a run of lines came to. The counts stop at `u64::MAX`.
+/// The result of a run of lines. The counts saturate at `u64::MAX`.
 #[derive(Clone, Copy, Debug, PartialEq, Eq)]
 pub struct Run {
     pub done: u64,
@@ -8,7 +8,7 @@ pub struct Run {
     pub failed: bool,
 }
 
-/// Why a run of lines stopped.
+/// Why a run of lines ended early.
 #[derive(Clone, Copy, Debug, PartialEq, Eq)]
 pub enum RunFault {
     Read,

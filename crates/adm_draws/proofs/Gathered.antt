@@ -87,7 +87,7 @@ module _ {I R : Type 0} (items : Draw → List I) (row : ℕ → I → R) (numbe
           let f : xs ++ ys ≡ xs ++ zs = cc in
           same_rest xs ys zs f
 
-  -- the rows of the first draw stand in front, and those of the others behind them
+  -- the rows of the first draw are in front, and those of the others after them
   pub first_front : (d : Draw) (ds : List Draw) → IsStrictlySortedBy nat_cmp (map (λ draw. draw.number) (d ∷ ds)) → front (is_of d.number) (rows_of (d ∷ ds)) ≡ map (row d.number) (items d)
   first_front d ds sorted =
       own_front d.number (items d) (rows_of ds) (none_later d.number ds (sorted_head nat_cmp d.number (map (λ draw. draw.number) ds) sorted))

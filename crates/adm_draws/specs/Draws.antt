@@ -1,4 +1,4 @@
--- Draws as rows of three tables, their order, and which draws may stand in a register. This profile's own rules.
+-- Draws as rows of three tables, their order, and which draws may be in a register. This profile's own rules.
 use Rattle.std.specs.Prelude.{ℕ, Bool, true, false, not, ◌&&◌, ◌||◌, nat_eq, List, [], ◌∷◌, map, All, IsTrue, IsPermutation, Option, Some, None, is_some}
 use Rattle.std.specs.declared.cmp.Ordering.{Ordering}
 use Rattle.std.specs.Ordering.{nat_cmp, ordering_then, is_lt}
@@ -28,9 +28,11 @@ offer_row_of number outcome = record { draw = number; outcome = outcome }
 abbrev pub lot_row_of : ℕ → Lot → LotRow
 lot_row_of number lot = record { draw = number; lot = lot }
 
+-- the outcomes of a draw, in their order, each with the draw's number
 abbrev pub offer_rows_of : Draw → List OfferRow
 offer_rows_of d = map (offer_row_of d.number) d.outcomes
 
+-- the lots of a draw, in their order, each with the draw's number
 abbrev pub lot_rows_of : Draw → List LotRow
 lot_rows_of d = map (lot_row_of d.number) d.lots
 
@@ -64,7 +66,7 @@ pub record AreByNumber (draws : List Draw) : Type 0 where
   pub rising : IsStrictlySortedBy nat_cmp (map (λ draw. draw.number) draws)
   pub each : All (λ draw. IsTrue (are_ordered draw)) draws
 
--- ---- which draws may stand in a register
+-- ---- which draws may be in a register
 
 -- who was moved has a school
 abbrev pub fresh_has_school : Outcome → Bool

@@ -48,7 +48,7 @@ abbrev pub is_empty : {X : Type 0} → List X → Bool
 is_empty [] = true
 is_empty (x ∷ xs) = false
 
--- the draws so far and those of these rows; none where rows are left over
+-- the draws so far and those of these rows; none where rows remain
 abbrev pub draws_after : List Draw → List DrawRow → List OfferRow → List LotRow → Option (List Draw)
 draws_after done [] offers lots = if is_empty offers && is_empty lots then Some done else None
 draws_after done (head ∷ heads) offers lots =

@@ -1,4 +1,4 @@
-// Whether a draw may stand in a register.
+// Whether a draw may be in a register.
 ghost use Rattle.std.specs.Prelude.{◌≡◌, IfOk};
 ghost use Rattle.std.specs.List.{list_all};
 ghost use Rattle.adm_types.specs.Code.{has};
@@ -9,7 +9,7 @@ use crate::repeats::has_repeated_lot;
 use adm_types::{Draw, Outcome, SchoolCode};
 use std::alloc::{AllocError, Global};
 
-/// Whether the outcomes and lots are in order, no lot comes twice at a school, and the draw is that
+/// Whether the outcomes and lots are in order, no lot is repeated at a school, and the draw is that
 /// of a round or of a fill. Memory grows with the lots, and time with the outcomes and with the
 /// lots, times their logarithm.
 pub fn is_draw(alloc: Global, draw: &Draw) -> Result<bool, AllocError>

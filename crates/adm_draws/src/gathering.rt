@@ -33,7 +33,7 @@ pub fn draws_of(
     gathered(alloc, &heads, &offers, &lots)
 }
 
-/// The draws of rows in order; `None` where rows are left over.
+/// The draws of rows in order; `None` where rows remain.
 fn gathered(
     alloc: Global,
     heads: &[DrawRow],
@@ -60,7 +60,7 @@ fn gathered(
     }
 }
 
-/// The rows of this draw that stand in front, and those behind them.
+/// The rows of this draw that are in front, and those behind them.
 fn split_offers(rows: &[OfferRow], number: u32) -> (&[OfferRow], &[OfferRow])
     ensures front { result.0.now ≡ front (is_offer_of number) rows.now }
     ensures later { result.1.now ≡ later (is_offer_of number) rows.now }
@@ -68,7 +68,7 @@ fn split_offers(rows: &[OfferRow], number: u32) -> (&[OfferRow], &[OfferRow])
     rows.split_at(count_offers(rows, number))
 }
 
-/// How many rows of this draw stand in front.
+/// How many rows of this draw are in front.
 fn count_offers(rows: &[OfferRow], number: u32) -> usize
     ensures value { result ≡ prefix_len (is_offer_of number) rows.now }
     ensures room { result ≤ length rows.now }
@@ -76,7 +76,7 @@ fn count_offers(rows: &[OfferRow], number: u32) -> usize
     rows.iter().take_while(|row| row.draw == number).count()
 }
 
-/// The rows of this draw that stand in front, and those behind them.
+/// The rows of this draw that are in front, and those behind them.
 fn split_lots(rows: &[LotRow], number: u32) -> (&[LotRow], &[LotRow])
     ensures front { result.0.now ≡ front (is_lot_of number) rows.now }
     ensures later { result.1.now ≡ later (is_lot_of number) rows.now }
@@ -84,7 +84,7 @@ fn split_lots(rows: &[LotRow], number: u32) -> (&[LotRow], &[LotRow])
     rows.split_at(count_lots(rows, number))
 }
 
-/// How many rows of this draw stand in front.
+/// How many rows of this draw are in front.
 fn count_lots(rows: &[LotRow], number: u32) -> usize
     ensures value { result ≡ prefix_len (is_lot_of number) rows.now }
     ensures room { result ≤ length rows.now }

@@ -1,4 +1,4 @@
-//! Draws of lots as rows of three tables, and back; and which draws may stand in a register.
+//! Draws of lots as rows of three tables, and back; and which draws may be in a register.
 #![tactic(auto)]
 
 mod checks;

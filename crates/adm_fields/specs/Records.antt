@@ -13,20 +13,23 @@ ChildValues Others = ℕ × (List ℕ × (ℕ × (ℕ × (Bool × (ℕ × (List 
 abbrev pub others : {Others : Type 0} → ChildValues Others → Others
 others v = v.1.1.1.1.1.1.1
 
--- the values of the fields of a child that may be left out
+-- the values of the fields of a child that may be omitted
 abbrev pub OptionalValues : Type 0
 OptionalValues = Option (List ℕ) × Unit {0}
 
+-- the values of the fields of an application: the child, the day and the list
 abbrev pub ApplicationValues : Type 0
 ApplicationValues = ℕ × (ℕ × (List (List ℕ) × Unit {0}))
 
+-- the values of an application without its child: the day and the list
 abbrev pub ApplicationWishes : Type 0
 ApplicationWishes = ℕ × (List (List ℕ) × Unit {0})
 
+-- the values of the fields of an imported row: those of a child, and the day and the list of its application
 abbrev pub ImportValues : Type 0
 ImportValues = ChildValues (ℕ × (List (List ℕ) × OptionalValues))
 
--- the child with these values, and with these of fields that may be left out
+-- the child with these values, and with these of fields that may be omitted
 abbrev pub child_with : {Others : Type 0} → ChildValues Others → OptionalValues → Child
 child_with v optional = record {
   no = v.0;
@@ -38,40 +41,49 @@ child_with v optional = record {
   present = optional.0;
 }
 
+-- the child with these values of its fields
 abbrev pub child_of : ChildValues OptionalValues → Child
 child_of v = child_with v (others v)
 
+-- the application with these values of its fields
 abbrev pub application_of : ApplicationValues → Application
 application_of v = record { child = v.0; day = v.1.0; list = v.1.1.0 }
 
+-- the imported row with these values of its fields
 abbrev pub import_of : ImportValues → ImportRow
 import_of v = record { child = child_with v (others v).1.1; day = (others v).0; preferences = (others v).1.0 }
 
--- the values of fields that are left out
+-- the values of fields that are omitted
 abbrev pub left_out : OptionalValues
 left_out = (None, tt)
 
--- the same without the fields that may be left out, as the tables have them
+-- the same without the fields that may be omitted, as the tables have them
 abbrev pub home_of : ChildValues (Unit {0}) → Child
 home_of v = child_with v left_out
 
+-- the imported row with these values, and without the fields that may be omitted
 abbrev pub bare_import_of : ChildValues ApplicationWishes → ImportRow
 bare_import_of v = record { child = child_with v left_out; day = (others v).0; preferences = (others v).1.0 }
 
 -- ---- and back
 
+-- the values of a child's fields, and then others
 abbrev pub values_and : {Others : Type 0} → Child → Others → ChildValues Others
 values_and c others = (c.no, (c.name, (c.home.east, (c.home.north, (c.looked_after, (c.flags, (c.siblings, others)))))))
 
+-- the values of a child's fields
 abbrev pub child_values : Child → ChildValues OptionalValues
 child_values c = values_and c (c.present, tt)
 
+-- the values of a child's fields without those that may be omitted
 abbrev pub home_values : Child → ChildValues (Unit {0})
 home_values c = values_and c tt
 
+-- the values of an application's fields
 abbrev pub application_values : Application → ApplicationValues
 application_values a = (a.child, (a.day, (a.list, tt)))
 
+-- the values of an imported row's fields without those that may be omitted
 abbrev pub import_values : ImportRow → ChildValues ApplicationWishes
 import_values r = values_and r.child (r.day, (r.preferences, tt))
 

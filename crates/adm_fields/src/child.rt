@@ -1,4 +1,4 @@
-// The fields of a child and of its application: the name of each, the type of its value, and its value where it is left out.
+// The fields of a child and of its application: the name of each, the type of its value, and its value where it is omitted.
 ghost use Rattle.std.specs.Prelude.{◌≡◌, ℕ, List, Option, None, Some, codes};
 
 use crate::Field;
@@ -135,7 +135,7 @@ impl Field for Siblings {
     }
 }
 
-/// The present school; none where it is left out.
+/// The present school; none where it is omitted.
 pub struct Present;
 
 impl Field for Present {

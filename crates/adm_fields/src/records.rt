@@ -16,7 +16,7 @@ pub type HomeFields<Others> = (
     ),
 );
 
-/// The fields of a child that may be left out. In a file they are the last.
+/// The fields of a child that may be omitted. In a file they are the last.
 pub type OptionalFields = (Present, ());
 
 /// The day and the preferences of an application, and then others.
@@ -43,7 +43,7 @@ pub type ChildValues<Others> = (
     (Text, (u32, (u32, (bool, (u16, (Seq<SchoolCode>, Others)))))),
 );
 
-/// The values of the fields of a child that may be left out.
+/// The values of the fields of a child that may be omitted.
 pub type OptionalValues = (Option<SchoolCode>, ());
 
 /// References to the values of the fields of a child.

@@ -1,4 +1,4 @@
--- What an import comes to, from what the desk did.
+-- The result of an import, from what the desk did.
 use Rattle.std.proofs.Common.{List, Result, Ok, Err}
 use Rattle.sqlite_disk.specs.declared.Disk as disk
 use Rattle.sqlite_store.specs.declared.store.FileStore.{FileStore}
@@ -12,7 +12,7 @@ use Rattle.adm_files.specs.declared.exit.Exit.{Exit}
 use Rattle.adm_files.specs.declared.fault.Fault.{Fault}
 use Rattle.adm_files.specs.declared.fault.Fault.TheVariants.{Row}
 
--- no answer is a fault of the file
+-- no answer is an error of the file
 pub imports_as : {D : Type 0} {g : disk.Ghosts D} (old new : DeskState (Held (FileStore D g))) (file output : Stream) (rows : List ImportRow) (e : Result Exit Fault)
     → FileGives file (Ok rows) → IsHandled file_state old new rows output e → ImportsAs old new file output e
 imports_as old new file output rows (Err (Row f)) gives handled = absurd handled.written

@@ -19,14 +19,14 @@ use Rattle.sqlite.specs.Tree.{Trees}
 use Rattle.sqlite.proofs.Theorems.{next_run}
 use Rattle.adm_types.specs.declared.commands.Command.{Command}
 use Rattle.adm_register.specs.State.{State as Register}
-use Rattle.adm_rows.specs.StandsFor.{StandsNow, OneRegister}
+use Rattle.adm_rows.specs.Represents.{RepresentsNow, OneRegister}
 use Rattle.adm_desk.specs.Acknowledged.{FindsAgain, LeavesAcknowledged}
-use Rattle.adm_desk.proofs.StopLemmas.{opens_it, never_none}
+use Rattle.adm_desk.proofs.CrashLemmas.{opens_it, never_none}
 use Rattle.adm_files.specs.NextRun.{GoesOn}
 
--- the trees stand for the register of the acknowledged commands, or also for one that the command in work leaves
+-- the trees represent the register of the acknowledged commands, or also one that the command in flight leaves
 abbrev pub StandsAgain : Register → Option Command → Trees → Type 0
-StandsAgain r work db = (found : Register) × FindsAgain r work found × StandsNow db found
+StandsAgain r work db = (found : Register) × FindsAgain r work found × RepresentsNow db found
 
 -- each thing that a crash may leave does
 stands_again : (r : Register) (work : Option Command) (s : State) → LeavesAcknowledged r work s → HasCleanDisk s → (db : Trees) → s.may_leave db → StandsAgain r work db
@@ -36,7 +36,7 @@ stands_again r (Some command) s work clean db may = elim (work.leaves clean db m
 clean_before : (old new : State) → doubt old.is_clean ≤ doubt new.is_clean → HasCleanDisk new → HasCleanDisk old
 clean_before old new falls clean = omega arith
 
--- what an open finds over this image stands so
+-- what an open finds over this image represents it so
 abbrev pub Finds : Image → Register → Option Command → Type 1
 Finds image r work = (s : State) → FindsIn image s → ∥ StandsAgain r work s.committed.trees ∥₁
 

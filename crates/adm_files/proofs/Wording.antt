@@ -5,7 +5,7 @@ use Rattle.std.specs.Result.{IsErr}
 use Rattle.std.proofs.KnownBytes.{Appends-trans}
 use Rattle.std.proofs.Math.Seq.{take-append-add}
 use Rattle.adm_wire.specs.Streams.{Stream}
-use Rattle.adm_files.specs.Told.{IsCut, PrintsText, Tells}
+use Rattle.adm_files.specs.Reports.{IsCut, PrintsText, ReportsText}
 
 -- a beginning of a text is one of a longer text
 begun : (n : ℕ) (xs ys : List ℕ) → (m : ℕ) × (take m (xs ++ ys) ≡ take n xs)
@@ -37,6 +37,6 @@ as_cut text errors (Ok x) is cut = let none : ⊥ = cc in absurd none
 as_cut text errors (Err e) is cut = cut
 
 -- a print that fails is passed over
-pub tells : {A B : Type 0} (text : List ℕ) (errors : Stream) (r : Result A B) → PrintsText text errors r → Tells text errors
+pub tells : {A B : Type 0} (text : List ℕ) (errors : Stream) (r : Result A B) → PrintsText text errors r → ReportsText text errors
 tells text errors (Ok x) writes = inl writes
 tells text errors (Err e) writes = inr writes

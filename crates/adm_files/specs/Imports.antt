@@ -1,4 +1,4 @@
--- What an import of a file of rows comes to.
+-- The result of an import of a file of rows.
 use Rattle.std.specs.Prelude.{◌≡◌, ◌⊎◌, ◌++◌, List, [], ◌∷◌, true, Option, Result, Ok, Err, IfOk, IfSome}
 use Rattle.sqlite_disk.specs.declared.Disk as disk
 use Rattle.sqlite_disk.specs.declared.Files.{Files}
@@ -26,7 +26,7 @@ use Rattle.adm_files.specs.declared.exit.Exit.{Exit}
 use Rattle.adm_files.specs.declared.fault.Fault.{Fault}
 use Rattle.adm_files.specs.declared.fault.Fault.TheVariants as fault
 
--- the file gives these rows, or this fault, of which Read comes only where a read failed
+-- the file gives these rows, or this error; it is Read only where a read failed
 abbrev pub FileGives : Stream → Result (List ImportRow) RowFault → Type 0
 FileGives file (Ok rows) = IfSome file.old (λ bytes. ReadsRows (Unit {0}) (λ xs. xs) (records_of bytes) (Ok rows))
 FileGives file (Err e) = IfSome file.old (λ bytes. ReadsRows (Unit {0}) (λ xs. xs) (records_of bytes) (Err e))
@@ -40,7 +40,7 @@ pub record IsHandled {C : Type 0} (disk : C → Left) (old new : DeskState C) (r
   pub exit : IfOk e (λ x. x ≡ exit_of_answer answer)
 
 module _ {D : Type 0} {g : disk.Ghosts D} where
-  -- how an import ended, from the desk as it was to the desk as it is: a fault of the file changes nothing
+  -- how an import ended, from the desk as it was to the desk as it is: an error of the file changes nothing
   abbrev pub ImportsAs : DeskState (Held (FileStore D g)) → DeskState (Held (FileStore D g)) → Stream → Stream → Result Exit Fault → Type 0
   ImportsAs old new file output (Err (fault.Row f)) = FileGives file (Err f) × (new ≡ old) × (output.new ≡ output.old)
   ImportsAs old new file output e = (rows : List ImportRow) × FileGives file (Ok rows) × IsHandled file_state old new rows output e

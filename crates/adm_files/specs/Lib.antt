@@ -1,6 +1,6 @@
 pub mod Exits
 pub mod Opened
-pub mod Told
+pub mod Reports
 pub mod Texts
 pub mod Imports
 pub mod Runs

@@ -22,15 +22,15 @@ use Rattle.adm_files.specs.declared.exit.Exit.{Exit}
 use Rattle.adm_files.specs.declared.fault.Fault.{Fault}
 
 -- A run over files that held this: where it opens the register, that is the one after the acknowledged commands, or also one that the
--- command in work leaves; and it never tells that they hold none.
+-- command in flight leaves; and it never reports that they hold none.
 pub record GoesOn {E : Type 0} (h : disk.Ghosts E) (image : Image) (r : Register) (work : Option Command) : Type 0 where
   pub opened : (desk : DeskState (Held (FileStore E h))) → IsOpened image desk → HasCleanDisk (file_state desk.conn) → ∥ FindsAgain r work desk.register ∥₁
   pub never : (e : Result Exit Fault) (closed : Result (Files E) (Error × FileStore E h)) (it : IsNotOpened image e closed) → HasCleanDisk (file_state it.left) → ¬ IsNoRegister it.cause
 
 module _ {D : Type 0} {g : disk.Ghosts D} {E : Type 0} (h : disk.Ghosts E) (c : Held (FileStore D g)) where
   -- It goes on so over all that a crash may leave of the files where the run ended with this store.
-  abbrev pub GoesOnAfterStop : FileStore D g → Type 0
-  GoesOnAfterStop last = (r : Register) (work : Option Command) → LeavesAcknowledged r work (file_state c) → IsClean (view last)
+  abbrev pub GoesOnAfterCrash : FileStore D g → Type 0
+  GoesOnAfterCrash last = (r : Register) (work : Option Command) → LeavesAcknowledged r work (file_state c) → IsClean (view last)
       → (image : Image) → (state last).may_leave image → GoesOn h image r work
 
   -- And over all that a crash may leave of files that were closed well.

@@ -1,4 +1,4 @@
--- What the open of a register in a file comes to, and what a close leaves.
+-- The result of opening a register in a file, and what a close leaves.
 use Rattle.std.specs.Prelude.{◌≡◌, ◌⊎◌, ℕ, Bool, false, IsTrue, List, Option, Result, Ok, Err, MatchResult}
 use Rattle.sqlite_disk.specs.declared.Disk as disk
 use Rattle.sqlite_disk.specs.declared.Files.{Files}
@@ -11,7 +11,7 @@ use Rattle.sqlite.specs.Held.{Held}
 use Rattle.sqlite.specs.Files.{file_state, IsClosed}
 use Rattle.sqlite.specs.Closing.{IsCopied}
 use Rattle.sqlite.specs.Start.{FindsIn}
-use Rattle.adm_rows.specs.StandsFor.{LeavesOnly, LeavesNone}
+use Rattle.adm_rows.specs.Represents.{LeavesOnly, LeavesNone}
 use Rattle.adm_store.specs.Migration.{IsMigrated}
 use Rattle.adm_rows.specs.Faults.{IsNoRegister}
 use Rattle.adm_rows.specs.FirstFault.{IsFirstFault}
@@ -23,12 +23,12 @@ use Rattle.adm_files.specs.declared.ended.Ended.{Ended}
 use Rattle.adm_files.specs.declared.exit.Exit.{Exit}
 use Rattle.adm_files.specs.declared.fault.Fault.{Fault}
 
--- what the file of rows at a path held, and what was left of it
+-- what the file of rows at a path held, and what remained of it
 abbrev pub files : {S : Type 0} → record { remaining : S → Option (List ℕ); has_failed : S → Bool; bytes_at : S → List ℕ → Option (List ℕ) } → S → S → List ℕ → Stream
 files g old new path = record { old = g.bytes_at old path; new = g.remaining new; has_failed = g.has_failed new }
 
 module _ {D : Type 0} {g : disk.Ghosts D} where
-  -- The close of a connection: on a clean disk the last commit is in the file alone, or its error tells what is left.
+  -- The close of a connection: on a clean disk the last commit is in the file alone, or its error says what remains.
   abbrev pub Closes : Held (FileStore D g) → Result (Files D) (Error × FileStore D g) → Type 0
   Closes c closed = MatchResult closed (λ files. AreClean g files.log files.db → IsCopied c files) (λ e. IsClosed c e.1)
 
@@ -36,19 +36,19 @@ module _ {D : Type 0} {g : disk.Ghosts D} where
   abbrev pub IsFound : Image → Held (FileStore D g) → Type 0
   IsFound image c = HasCleanDisk (file_state c) → IsTrue (file_state c).is_open × FindsIn image (file_state c)
 
-  -- the files stand for no register, or could not be read, and stay as they were, or stand for the same register in the second version; the first fault that fits is told
+  -- the files represent no register, or could not be read, and stay as they were, or represent the same register in the second version; the first error that fits is reported
   pub record IsNotOpened (image : Image) (e : Result Exit Fault) (closed : Result (Files D) (Error × FileStore D g)) : Type 0 where
     pub found : Held (FileStore D g)
     pub is_found : IsFound image found
     pub cause : OpenFault
-    pub told : e ≡ Err (of_open cause)
+    pub reported : e ≡ Err (of_open cause)
     pub left : Held (FileStore D g)
     pub none : IsNoRegister cause → LeavesNone (file_state left)
     pub first : HasCleanDisk (file_state left) → IsNoRegister cause → IsFirstFault (file_state found).now cause
     pub kept : Survives (file_state found) (file_state left) (IsMigrated (file_state found))
     pub closes : Closes left closed
 
-  -- the desk has the register that the files stood for, and a crash leaves the files as they were, or in the second version for the same register
+  -- the desk has the register that the files represented, and a crash leaves the files as they were, or in the second version for the same register
   pub record IsOpened (image : Image) (desk : DeskState (Held (FileStore D g))) : Type 0 where
     pub found : Held (FileStore D g)
     pub is_found : IsFound image found
@@ -61,6 +61,6 @@ module _ {D : Type 0} {g : disk.Ghosts D} where
   OpensAs image (Ok desk) = IsOpened image desk
   OpensAs image (Err ended) = IsNotOpened image ended.exit ended.closed
 
-  -- the register is not opened, and the streams stay as they were; or this comes of a desk that has it
+  -- the register is not opened, and the streams stay as they were; or this follows for a desk that has it
   abbrev pub Opens : Image → Type 0 → Result Exit Fault → Result (Files D) (Error × FileStore D g) → (DeskState (Held (FileStore D g)) → Type 0) → Type 0
-  Opens image Stays e closed Comes = (IsNotOpened image e closed × Stays) ⊎ ((desk : DeskState (Held (FileStore D g))) × IsOpened image desk × Comes desk)
+  Opens image Unchanged e closed Follows = (IsNotOpened image e closed × Unchanged) ⊎ ((desk : DeskState (Held (FileStore D g))) × IsOpened image desk × Follows desk)

@@ -10,7 +10,7 @@ use Rattle.sqlite.specs.Files.{file_state}
 use Rattle.adm_types.specs.Seasons.{SeasonFacts}
 use Rattle.adm_schema.specs.Schema.{no_schema}
 use Rattle.adm_register.specs.State.{only_season}
-use Rattle.adm_rows.specs.StandsFor.{LeavesOnly, LeavesOldOrNew}
+use Rattle.adm_rows.specs.Represents.{LeavesOnly, LeavesOldOrNew}
 use Rattle.adm_store.specs.declared.fault.CreateFault.{CreateFault}
 use Rattle.adm_store.specs.declared.fault.CreateFault.TheVariants as create
 use Rattle.adm_desk.specs.DeskState.{DeskState}
@@ -26,20 +26,20 @@ use Rattle.adm_files.specs.declared.exit.Exit.TheVariants as exit
 use Rattle.adm_files.specs.declared.fault.Fault.{Fault}
 
 -- what one line may be answered, and what is there then
-abbrev pub Liner : Type 0 → Type 1
-Liner S = S → List ℕ → LineAnswer → S → Type 0
+abbrev pub LineStep : Type 0 → Type 1
+LineStep S = S → List ℕ → LineAnswer → S → Type 0
 
 module _ {D : Type 0} {g : disk.Ghosts D} where
   -- the lines are run over the desk, and then its connection is closed
-  pub record Runs (runs : Liner (DeskState (Held (FileStore D g)))) (desk : DeskState (Held (FileStore D g))) (input output : Stream) (e : Result Exit Fault) (closed : Result (Files D) (Error × FileStore D g)) : Type 0 where
+  pub record Runs (runs : LineStep (DeskState (Held (FileStore D g)))) (desk : DeskState (Held (FileStore D g))) (input output : Stream) (e : Result Exit Fault) (closed : Result (Files D) (Error × FileStore D g)) : Type 0 where
     pub after : DeskState (Held (FileStore D g))
     pub run : Result Run RunFault
     pub ends : EndsAs runs desk after input output run
-    pub told : e ≡ of_lines run
+    pub reported : e ≡ of_lines run
     pub closes : Closes after.conn closed
 
-  -- a desk has the register that the files stood for, and runs the lines; nothing is read or written before it has
-  abbrev pub OpensAndRuns : Liner (DeskState (Held (FileStore D g))) → Image → Stream → Stream → Result Exit Fault → Result (Files D) (Error × FileStore D g) → Type 0
+  -- a desk has the register that the files represented, and runs the lines; nothing is read or written before it has
+  abbrev pub OpensAndRuns : LineStep (DeskState (Held (FileStore D g))) → Image → Stream → Stream → Result Exit Fault → Result (Files D) (Error × FileStore D g) → Type 0
   OpensAndRuns runs image input output e closed = Opens image ((input.new ≡ input.old) × (output.new ≡ output.old)) e closed (λ desk. Runs runs desk input output e closed)
 
   -- what a create leaves

@@ -28,7 +28,7 @@ Puts text output (Err fault.Write) = (output.has_failed ≡ true) × (n : ℕ) �
 Puts text output (Err fault.Memory) = output.new ≡ output.old
 Puts text output (Err f) = ⊥
 
--- the text, or this fault where there is none
+-- the text, or this error where there is none
 abbrev pub text_or : Fault → Option (List ℕ) → Result (List ℕ) Fault
 text_or f (Some text) = Ok text
 text_or f None = Err f
@@ -40,7 +40,7 @@ document_text s (document.List school) = text_or fault.UnknownSchool (list_text 
 document_text s (document.Report round) = text_or fault.NoRound (report_text s round)
 document_text s (document.Pairs school) = text_or fault.UnknownSchool (pairs_text s school)
 
--- the print of a text is done where it was written; where there is none, its fault is told and nothing is written
+-- printing a text is done where it was written; where there is none, its error is reported and nothing is written
 abbrev pub PrintsAs : Result (List ℕ) Fault → Stream → Result Exit Fault → Type 0
 PrintsAs (Ok text) output e = Puts text output e × IfOk e (λ x. x ≡ exit.Done)
 PrintsAs (Err f) output e = (e ≡ Err f) × (output.new ≡ output.old)
@@ -51,7 +51,7 @@ Prints image wanted output e closed = Opens image (output.new ≡ output.old) e 
 
 -- ---- for a private clause
 
--- the text, or its fault; for a text memory may run out
+-- the text, or its error; for a text memory may run out
 abbrev pub Says : {A : Type 0} → Result (List ℕ) Fault → Result (String A) Fault → Type 0
 Says (Ok text) (Ok given) = string_bytes given ≡ text
 Says (Ok text) (Err f) = f ≡ fault.Memory

@@ -1,4 +1,4 @@
-// What is known of why a file was not opened, beside the fault.
+// What is known of why a file was not opened, beside the error.
 use std::fs::{self, Metadata, OpenOptions};
 use std::io::ErrorKind;
 use std::path::Path;
@@ -62,7 +62,7 @@ pub fn cause_of_new(rt: &HostRuntime, file: &str) -> Option<Cause> {
     }
 }
 
-// What it tells of the folder that the file would be in.
+// What the system reports of the folder that the file would be in.
 fn cause_of_folder(rt: &HostRuntime, file: &str) -> Option<Cause> {
     let folder = Path::new(file).parent()?;
     match fs::metadata(rt, folder) {

@@ -21,7 +21,7 @@ pub enum Document {
 }
 
 impl Document {
-    /// Its text, over the register. The `Err` is why there is none, or want of memory.
+    /// Its text, over the register. The `Err` is why there is none, or out of memory.
     pub fn text(self, alloc: Global, register: &Register) -> Result<String, Fault>
         ensures { Says (document_text register.now self) result }
     {

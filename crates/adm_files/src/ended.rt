@@ -9,7 +9,7 @@ use adm_desk::Desk;
 use sqlite::{Error, FileStore, Files};
 use sqlite_disk::Disk;
 
-/// What a connection's close gives: the files, or why it failed and the store that is left.
+/// What a connection's close gives: the files, or why it failed and the store that remains.
 pub type Closed<D> = Result<Files<D>, (Error, FileStore<D>)>;
 
 /// How a line ended, and what the close of its connection left.
@@ -29,8 +29,8 @@ pub fn close<D: Disk + Drop>(desk: Desk<FileStore<D>>, exit: Result<Exit, Fault>
     }
 }
 
-/// How the line as a whole ended: a fault before all else, and a close that failed is one, but
-/// after a Failed.
+/// How the line as a whole ended: an error before all else, and a close that failed is one, but not
+/// after Failed.
 pub fn ending<D: Disk + Drop>(ended: Ended<D>) -> Result<Exit, Fault>
     ensures { result ≡ ending_of ended.exit (error_of ended.closed) }
 {

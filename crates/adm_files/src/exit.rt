@@ -1,20 +1,20 @@
 // The exit status of a run.
 ghost use Rattle.std.specs.Prelude.{◌≡◌, OnOk};
-ghost use Rattle.adm_files.specs.Exits.{exit_code, exit_of, exit_of_answer, exit_of_status, exit_of_words};
+ghost use Rattle.adm_files.specs.Exits.{exit_code, exit_of, exit_of_answer, exit_of_status, exit_of_arguments};
 
 use adm_desk::{Answer, Run};
-use adm_words::WordsFault;
+use adm_words::ArgumentsFault;
 
 /// How the program exits.
 #[derive(Clone, Copy, Debug, PartialEq, Eq)]
 pub enum Exit {
     /// Done.
     Done,
-    /// A fault, whose name was printed.
+    /// An error, whose name was printed.
     Fault,
-    /// Words that ask for nothing.
-    Words,
-    /// An import or some line was refused, faulty or met want of memory.
+    /// A usage error, or a request for help.
+    Usage,
+    /// An import or some line was refused, invalid or ran out of memory.
     Refused,
     /// The store failed, and the desk answered Failed from then on.
     Failed,
@@ -56,13 +56,14 @@ impl Exit {
         }
     }
 
-    /// The exit of words that ask for nothing, or that could not be read for want of memory.
-    pub fn of_words(fault: &WordsFault) -> Exit
-        ensures { result ≡ exit_of_words fault.now }
+    /// The exit of arguments that are a usage error, or that could not be read because memory ran out.
+    pub fn of_arguments(fault: &ArgumentsFault) -> Exit
+        ensures { result ≡ exit_of_arguments fault.now }
     {
         match fault {
-            WordsFault::Memory => Exit::Fault,
-            WordsFault::Words(_) | WordsFault::BadDate | WordsFault::BadWord => Exit::Words,
+            ArgumentsFault::Memory => Exit::Fault,
+            ArgumentsFault::Usage(_) | ArgumentsFault::BadDate | ArgumentsFault::BadWord =>
+                Exit::Usage,
         }
     }
 
@@ -73,7 +74,7 @@ impl Exit {
         match self {
             Exit::Done => 0,
             Exit::Fault => 1,
-            Exit::Words => 2,
+            Exit::Usage => 2,
             Exit::Refused => 3,
             Exit::Failed => 4,
         }

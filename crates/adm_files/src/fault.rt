@@ -1,8 +1,8 @@
-// Why a line of the command line came to nothing, and what is printed of it.
+// Why a line of the command line failed, and what is printed of it.
 ghost use Rattle.std.specs.Prelude.{◌≡◌, MatchResult};
 ghost use Rattle.adm_files.specs.Exits.{fault_line, disk_text, not_read_text, row_fault_text, row_fault_end, of_season, of_create, of_open, of_run, of_letter, of_error, IsOpenFault};
 ghost use Rattle.adm_wire.specs.Streams.{writer};
-ghost use Rattle.adm_files.specs.Told.{PrintsText};
+ghost use Rattle.adm_files.specs.Reports.{PrintsText};
 ghost use Rattle.adm_files.specs.declared.fault.Fault.TheVariants.{Memory};
 
 use crate::cause::{Cause, cause_of_kind};
@@ -18,7 +18,7 @@ use sqlite::{Error, ErrorCode};
 use std::alloc::AllocError;
 use std::io::{self, ErrorKind};
 
-/// Why a line of the command line came to nothing.
+/// Why a line of the command line failed.
 #[derive(Clone, Copy, Debug, PartialEq, Eq)]
 pub enum Fault {
     TooManyHolidays,
@@ -44,8 +44,9 @@ pub enum Fault {
 }
 
 impl Fault {
-    /// Prints `fault: `, the fault's name and LF; before the name of a fault in the file of an import
-    /// its row, and where a file was not opened a line with its cause, where one is known. It takes no memory.
+    /// Prints `fault: `, the error's name and LF; before the name of an error in the file of an
+    /// import its row, and where a file was not opened a line with its cause, where one is known.
+    /// It takes no memory.
     pub fn print<E: Output>(self, errors: &mut E) -> Result<(), WriteFailed>
         ensures { PrintsText (fault_line self) (writer E.Output errors.old errors.new) result }
     {
@@ -55,7 +56,7 @@ impl Fault {
         }
     }
 
-    /// The text of the fault; the `Err` is that of a row, whose text has the row in it.
+    /// The text of the error; the `Err` is that of a row, whose text has the row in it.
     fn text(self) -> Result<&'static str, RowFault>
         ensures { MatchResult result (λ text. text.now ≡ fault_line self) (λ fault. self ≡ Fault.Row fault) }
     {
@@ -90,7 +91,7 @@ pub fn print_text<E: Output>(text: &str, errors: &mut E) -> Result<(), WriteFail
     }
 }
 
-/// The name of the fault, and where its cause is known a second line.
+/// The name of the error, and where its cause is known a second line.
 fn disk_text(cause: Option<Cause>) -> &'static str
     ensures { result.now ≡ disk_text cause }
 {
@@ -122,7 +123,7 @@ fn not_read_text(cause: Option<Cause>) -> &'static str
     }
 }
 
-/// Prints the fault of a row in the file of an import, by the row and what follows it.
+/// Prints the error of a row in the file of an import, by the row and what follows it.
 fn print_row<E: Output>(row: u64, end: &str, errors: &mut E) -> Result<(), WriteFailed>
     ensures { PrintsText (row_fault_text row end.now) (writer E.Output errors.old errors.new) result }
 {
@@ -132,7 +133,7 @@ fn print_row<E: Output>(row: u64, end: &str, errors: &mut E) -> Result<(), Write
     print_text(end, errors)
 }
 
-/// What follows the row of a fault in the file of an import: a colon, the fault's name and LF.
+/// What follows the row of an error in the file of an import: a colon, the error's name and LF.
 fn row_fault_end(fault: adm_csv::Fault) -> &'static str
     ensures { result.now ≡ row_fault_end fault }
 {

@@ -3,7 +3,7 @@ ghost use Rattle.std.specs.Prelude.{◌≡◌, codes, IfOk, IfErr, OnErr, IsErrA
 ghost use Rattle.sqlite_wal.specs.Files.{image_at};
 ghost use Rattle.sqlite.specs.Files.{file_state};
 ghost use Rattle.adm_desk.specs.Lines.{AnswersLine};
-ghost use Rattle.adm_desk.specs.Questions.{TellsLine};
+ghost use Rattle.adm_desk.specs.Questions.{AnswersQuestionLine};
 ghost use Rattle.adm_desk.specs.DeskState.{Handles};
 ghost use Rattle.adm_files.specs.Exits.{IsOpenFault, IsDisk};
 ghost use Rattle.adm_wire.specs.Streams.{reader, writer};
@@ -60,14 +60,14 @@ fn run_desk<D: Disk + Drop, I: Input, O: Output>(
 
 /// Answers the questions of the input over the register in the file, which is there: an open makes no
 /// file here. The `Err` is why it was not opened; then nothing was read or written.
-pub fn tell_lines<S: Start, I: Input, O: Output>(
+pub fn answer_questions<S: Start, I: Input, O: Output>(
     rt: &HostRuntime,
     file: &str,
     start: S,
     input: &mut I,
     output: &mut O,
 ) -> Result<Ended<FileFrom<S>>, Fault>
-    ensures ok { IfOk result (λ ended. OpensAndRuns TellsLine (image_at S.Start)
+    ensures ok { IfOk result (λ ended. OpensAndRuns AnswersQuestionLine (image_at S.Start)
         (reader I.Input input.old input.new)
         (writer O.Output output.old output.new)
         ended.exit ended.closed) }
@@ -76,23 +76,23 @@ pub fn tell_lines<S: Start, I: Input, O: Output>(
     ensures untouched { OnErr result ((I.remaining input.new ≡ I.remaining input.old) × (O.contents output.new ≡ O.contents output.old)) }
 {
     match open_desk(rt, file, start)? {
-        Ok(desk) => Ok(tell_desk(desk, input, output)),
+        Ok(desk) => Ok(run_questions(desk, input, output)),
         Err(ended) => Ok(ended),
     }
 }
 
 /// Answers the questions of the input, and closes the connection, whatever comes.
-fn tell_desk<D: Disk + Drop, I: Input, O: Output>(
+fn run_questions<D: Disk + Drop, I: Input, O: Output>(
     desk: Desk<FileStore<D>>,
     input: &mut I,
     output: &mut O,
 ) -> Ended<D>
-    ensures { Runs TellsLine desk
+    ensures { Runs AnswersQuestionLine desk
         (reader I.Input input.old input.new)
         (writer O.Output output.old output.new)
         result.exit result.closed }
 {
-    match desk.tell_lines(input, output) {
+    match desk.answer_questions(input, output) {
         Ok(run) => close(desk, Ok(Exit::of(run))),
         Err(fault) => close(desk, Err(Fault::from(fault))),
     }

@@ -2,7 +2,7 @@
 ghost use Rattle.std.specs.Prelude.{◌≡◌, None, false, codes, IfOk, IfErr, IsErr, IsErrAnd};
 ghost use Rattle.sqlite_wal.specs.Files.{image_at};
 ghost use Rattle.sqlite.specs.Files.{file_state};
-ghost use Rattle.adm_rows.specs.StandsFor.{IsStarted};
+ghost use Rattle.adm_rows.specs.Represents.{IsStarted};
 ghost use Rattle.adm_files.specs.Exits.{IsOpenFault, IsDisk};
 ghost use Rattle.adm_files.specs.Opened.{IsFound, OpensAs};
 

@@ -11,7 +11,7 @@ pub struct NotOpened {
     pub cause: Option<Cause>,
 }
 
-/// A reader of the rows of an import: it is set to the file that the words name.
+/// A reader of the rows of an import: it is set to the file that the arguments name.
 pub trait Rows: Input {
     // The bytes of the file at a path, where they are known.
     ghost bytes_at: { Self → List ℕ → Option (List ℕ) };

@@ -9,7 +9,7 @@ use Rattle.adm_http.specs.declared.heads.Verdict.TheVariants.{Run}
 use Rattle.adm_http.specs.declared.routes.Purpose.{Purpose}
 use Rattle.adm_http.specs.declared.routes.Resource.{Resource}
 use Rattle.adm_desk.specs.declared.answer.LineAnswer.{LineAnswer}
-use Rattle.adm_http.specs.declared.answering.Shown.{Shown}
+use Rattle.adm_http.specs.declared.request_handler.Shown.{Shown}
 
 -- a range from the start is the front
 pub front_is : (xs : List ℕ) (n : ℕ) → slice_range xs 0 n ≡ take n xs

@@ -154,7 +154,7 @@ drop_past b p (suc n) h = let e : suc n - 1 ≡ n = omega arith in ap (λ k. dro
 drop_whole : (p : List ℕ) (n : ℕ) → n ≡ length p → drop n p ≡ []
 drop_whole p n e = ap (λ k. drop k p) e ∙ drop_front p [] p (append-nil p)
 
--- no slash is left: the parameter takes all
+-- no slash remains: the parameter takes all
 pub flat_find : (rs : Rows) (b : ℕ) (p : List ℕ) → b < 256 → longest_suffix (segment (b ∷ p)) rs ≡ [] → has_slash (b ∷ p) ≡ false
     → first (prepend (param_token ∷ []) rs) (b ∷ p) ≡ own rs
 unfolding seek

@@ -9,8 +9,8 @@ use Rattle.adm_letters.specs.declared.fault.LetterFault.{LetterFault}
 use Rattle.adm_letters.specs.declared.fault.LetterFault.TheVariants as letter
 use Rattle.adm_http.specs.Routes.{text_in}
 use Rattle.adm_http.specs.Shows.{IsShown, IsShownAs, Shows}
-use Rattle.adm_http.specs.declared.answering.Shown.{Shown}
-use Rattle.adm_http.specs.declared.answering.Shown.TheVariants.{Text, Missing, Memory, Failed}
+use Rattle.adm_http.specs.declared.request_handler.Shown.{Shown}
+use Rattle.adm_http.specs.declared.request_handler.Shown.TheVariants.{Text, Missing, Memory, Failed}
 use Rattle.adm_http.specs.declared.routes.Resource.{Resource}
 
 -- what was given is shown

@@ -3,7 +3,7 @@ use Rattle.std.proofs.Common.{◌≡◌, ◌∙◌, ap, refl, List, [], ◌∷�
 use Rattle.std.specs.Prelude.{Result, Ok, Err, IfOk}
 use Rattle.std.specs.List.{flat_map, join_by}
 
--- what a call gives, in other words
+-- what a call gives, in another form
 pub same_after : {X A E : Type 0} (given : Result X E) (view : X → A) (a b : A) → a ≡ b → IfOk given (λ x. view x ≡ a) → IfOk given (λ x. view x ≡ b)
 same_after (Ok x) view a b same is = is ∙ same
 same_after (Err e) view a b same is = tt

@@ -1,10 +1,10 @@
--- What serving connections, one after the other, leaves, and what is printed of a fault.
+-- What serving connections, one after the other, leaves, and what is printed of an error.
 use Rattle.std.specs.Prelude.{◌≡◌, ℕ, zero, suc, ◌⊎◌, List, codes}
 use Rattle.adm_desk.specs.declared.answer.LineAnswer.{LineAnswer}
 use Rattle.adm_http.specs.Responses.{Responds}
 use Rattle.adm_http.specs.declared.routes.Purpose.{Purpose}
 use Rattle.adm_http.specs.declared.routes.Resource.{Resource}
-use Rattle.adm_http.specs.declared.answering.Shown.{Shown}
+use Rattle.adm_http.specs.declared.request_handler.Shown.{Shown}
 use Rattle.adm_http.specs.declared.serve.ServeFault.{ServeFault}
 use Rattle.adm_http.specs.declared.serve.ServeFault.TheVariants.{Read, Write, Memory}
 
@@ -18,7 +18,7 @@ module _ {S : Type 0} (runs : Purpose → S → List ℕ → LineAnswer → S �
   AnswersUpTo zero old new = new ≡ old
   AnswersUpTo (suc n) old new = (mid : S) × AnswersUpTo n old mid × AnswersOne mid new
 
--- what is printed of a connection's fault
+-- what is printed of a connection's error
 abbrev pub connection_fault_line : ServeFault → List ℕ
 connection_fault_line Read = codes "fault: Read\n"
 connection_fault_line Write = codes "fault: Write\n"

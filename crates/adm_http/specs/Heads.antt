@@ -71,6 +71,7 @@ on_target Post (Some (Body purpose)) fields = body_verdict purpose fields
 on_target Get (Some (Text resource)) fields = Show resource
 on_target Post (Some (Text resource)) fields = NotAllowed Get
 
+-- the verdict by the method: 501 where it is neither GET nor POST, and else by the target
 abbrev pub on_verb : Option Verb → Option Target → List HeadField → Verdict
 on_verb None target fields = Reject 501
 on_verb (Some verb) target fields = on_target verb target fields
@@ -79,6 +80,7 @@ on_verb (Some verb) target fields = on_target verb target fields
 abbrev pub verdict_of : List ℕ → List ℕ → List HeadField → Verdict
 verdict_of method target fields = on_verb (verb_of method) (target_of target) fields
 
+-- the verdict on a head, by its method, its target and its fields
 abbrev pub head_verdict : RequestHead → Verdict
 head_verdict h = verdict_of h.method h.target (map name_and_value h.fields)
 

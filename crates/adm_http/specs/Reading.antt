@@ -10,7 +10,7 @@ use Rattle.adm_http.specs.declared.heads.Judgement.TheVariants.{Whole, Malformed
 use Rattle.adm_http.specs.declared.routes.Purpose.{Purpose}
 use Rattle.adm_http.specs.declared.routes.Resource.{Resource}
 use Rattle.adm_desk.specs.declared.answer.LineAnswer.{LineAnswer}
-use Rattle.adm_http.specs.declared.answering.Shown.{Shown}
+use Rattle.adm_http.specs.declared.request_handler.Shown.{Shown}
 use Rattle.adm_http.specs.declared.serve.ServeFault.{ServeFault}
 use Rattle.adm_http.specs.declared.serve.ServeFault.TheVariants.{Read, Write, Memory}
 
@@ -55,7 +55,7 @@ pub record HasRead (old new : Option (List ℕ)) (got : List ℕ) : Type 0 where
   pub near : IsNotFarPast got
   pub stopped : MayStop got ⊎ IsAtEnd new
 
--- reading stopped at a fault
+-- reading ended with an error
 pub record HasReadSome (old new : Option (List ℕ)) (got : List ℕ) : Type 0 where
   pub consumed : Consumes old new got
   pub near : IsNotFarPast got
@@ -83,14 +83,14 @@ module _ {S : Type 0} (runs : Purpose → S → List ℕ → LineAnswer → S �
       (got : List ℕ) × HasReadSome unread left got × Keeps was written
       × ((new ≡ old) ⊎ ((output : List ℕ) × HasRead unread left got × Responds runs shows old got output new))
 
--- whether the fault is the reader's
+-- whether the error is the reader's
 abbrev pub is_read_fault : {A : Type 0} → Result A ServeFault → Bool
 is_read_fault (Ok a) = false
 is_read_fault (Err Read) = true
 is_read_fault (Err Write) = false
 is_read_fault (Err Memory) = false
 
--- whether the fault is the writer's
+-- whether the error is the writer's
 abbrev pub is_write_fault : {A : Type 0} → Result A ServeFault → Bool
 is_write_fault (Ok a) = false
 is_write_fault (Err Read) = false

@@ -1,4 +1,4 @@
--- The response to a request: what is carried out, and which bytes come of it.
+-- The response to a request: what is carried out, and its bytes.
 use Rattle.std.specs.Prelude.{◌≡◌, ℕ, List, [], ◌∷◌, length, take, drop, nat_le, MatchBool, string_bytes}
 use Rattle.adm_http.specs.Heads.{IsJudgement, verdict_at_end}
 use Rattle.adm_wire.specs.Texts.{memory_text, failed_text}
@@ -12,22 +12,22 @@ use Rattle.adm_http.specs.declared.heads.Verdict.{Verdict}
 use Rattle.adm_http.specs.declared.heads.Verdict.TheVariants.{Reject, NotAllowed, Show, Run}
 use Rattle.adm_http.specs.declared.heads.Judgement.{Judgement}
 use Rattle.adm_http.specs.declared.heads.Judgement.TheVariants.{Whole, Malformed, Unfinished}
-use Rattle.adm_http.specs.declared.answering.Shown.{Shown}
-use Rattle.adm_http.specs.declared.answering.Shown.TheVariants as shown
+use Rattle.adm_http.specs.declared.request_handler.Shown.{Shown}
+use Rattle.adm_http.specs.declared.request_handler.Shown.TheVariants as shown
 use Rattle.adm_desk.specs.declared.answer.LineAnswer.{LineAnswer}
 
 -- the response to what running a body answered: its text
 abbrev pub of_answer : LineAnswer → Response
 of_answer answer = json (status_of answer) (line_text answer)
 
--- the response to what asking for a text gave
+-- the response to what reading a text gave
 abbrev pub of_shown : Resource → Shown → Response
 of_shown resource (shown.Text text) = record (json 200 (string_bytes text)) { media = media_of resource }
 of_shown resource shown.Missing = bare 404
 of_shown resource shown.Memory = json 503 memory_text
 of_shown resource shown.Failed = json 503 failed_text
 
--- `runs purpose old body answer new`: running the body as what it is for may answer this, and leave `new`; `shows old resource text`: asking for a text may give this
+-- `runs purpose old body answer new`: running the body as what it is for may answer this, and leave `new`; `shows old resource text`: reading a text may give this
 module _ {S : Type 0} (runs : Purpose → S → List ℕ → LineAnswer → S → Type 0) (shows : S → Resource → Shown → Type 0) where
   -- what a verdict on a head makes of the bytes that follow the head: at most the one command is run
   abbrev pub Carries : S → List ℕ → Verdict → Response → S → Type 0

@@ -68,7 +68,7 @@ route_of target =
     (or_found (option_and_then (with_part Waiting (codes "/waiting")) (after_prefix (codes "/school/") target))
     (option_and_then (at_end WhatIf) (after_prefix (codes "/what-if") target)))))
 
--- what the part of a route names, where it has the form that the route asks for
+-- what the part of a route names, where it has the form that the route requires
 abbrev pub named_by : Route × List ℕ → Option Target
 named_by (Command, part) = Some (Body purpose.Command)
 named_by (WhatIf, part) = Some (Body purpose.Question)
@@ -88,7 +88,7 @@ media_of (ChildLetter child) = PlainText
 media_of (WaitingList school) = PlainText
 media_of (RoundReport round) = PlainText
 
--- the text that is asked for, if the register has such a child, school or round
+-- the requested text, if the register has such a child, school or round
 abbrev pub text_in : State → Resource → Option (List ℕ)
 text_in s (ChildState child) = child_text s child
 text_in s (ChildLetter child) = letter_text s child

@@ -5,8 +5,8 @@ use Rattle.adm_desk.specs.DeskState.{DeskState}
 use Rattle.adm_letters.specs.declared.fault.LetterFault.{LetterFault}
 use Rattle.adm_letters.specs.declared.fault.LetterFault.TheVariants as letter
 use Rattle.adm_http.specs.Routes.{text_in}
-use Rattle.adm_http.specs.declared.answering.Shown.{Shown}
-use Rattle.adm_http.specs.declared.answering.Shown.TheVariants.{Text, Missing, Memory, Failed}
+use Rattle.adm_http.specs.declared.request_handler.Shown.{Shown}
+use Rattle.adm_http.specs.declared.request_handler.Shown.TheVariants.{Text, Missing, Memory, Failed}
 use Rattle.adm_http.specs.declared.routes.Resource.{Resource}
 
 -- the text, if there is one, or that there is none; for a text memory may run out

@@ -20,6 +20,7 @@ kind_of Plan = codes "plan"
 abbrev pub held_json : List ℕ → List ℕ → List ℕ
 held_json kind school = codes "{\"kind\":\"" ++ (kind ++ (codes "\",\"school\":\"" ++ (school ++ codes "\"}")))
 
+-- a place as JSON, or `null` for none
 abbrev pub place_json : Option Place → List ℕ
 place_json None = codes "null"
 place_json (Some place) = held_json (kind_of place.state) place.school
@@ -36,6 +37,7 @@ waits_json waits = join_by wait_json (codes ",") waits
 abbrev pub state_json : ℕ → List ℕ → List ℕ → List ℕ
 state_json child place waits = codes "{\"child\":" ++ (decimal child ++ (codes ",\"place\":" ++ (place ++ (codes ",\"waiting\":[" ++ (waits ++ codes "]}")))))
 
+-- the state of a child of the register, as JSON
 abbrev pub child_json : State → ℕ → List ℕ
 child_json s child = state_json child (place_json (place_of s child)) (waits_json (standings_of s child))
 

@@ -7,10 +7,12 @@ use Rattle.adm_http.specs.declared.heads.Verb.TheVariants.{Get, Post}
 use Rattle.adm_http.specs.declared.responses.Media.{Media}
 use Rattle.adm_http.specs.declared.responses.Media.TheVariants.{Json, PlainText}
 
+-- the name of a method
 abbrev pub verb_text : Verb → List ℕ
 verb_text Get = codes "GET"
 verb_text Post = codes "POST"
 
+-- the name of a media type, as the field Content-Type has it
 abbrev pub media_text : Media → List ℕ
 media_text Json = codes "application/json"
 media_text PlainText = codes "text/plain; charset=utf-8"
@@ -22,6 +24,7 @@ pub record Response : Type 0 where
   pub media : Media
   pub body : List ℕ
 
+-- the line of the field Allow, where one method is allowed
 abbrev pub allow_line : Option Verb → List ℕ
 allow_line None = []
 allow_line (Some verb) = codes "Allow: " ++ verb_text verb ++ crlf_bytes
@@ -48,6 +51,7 @@ json status body = record { status = status; allow = None; media = Json; body = 
 abbrev pub status_body : ℕ → List ℕ
 status_body status = codes "{\"status\":" ++ decimal status ++ codes "}"
 
+-- the response with this status, whose body names the status alone
 abbrev pub bare : ℕ → Response
 bare status = json status (status_body status)
 

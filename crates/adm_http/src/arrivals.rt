@@ -141,7 +141,7 @@ fn accept<C: Clock, E: Write>(
         if let Ok((stream, _)) = listener.accept() {
             return Some(Arrival::now(clock, stream));
         }
-        // A print that fails is passed over.
+        // A print that fails is ignored.
         let _ = errors.write_all(b"fault: Accept\n");
         thread::sleep(clock, Duration::from_secs(SECONDS_BETWEEN_ACCEPTS));
     }

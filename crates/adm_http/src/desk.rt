@@ -7,7 +7,7 @@ ghost use Rattle.adm_http.specs.Responses.{Responds};
 ghost use Rattle.adm_http.specs.Reading.{Served, is_read_fault, is_write_fault};
 ghost use Rattle.adm_http.specs.Shows.{Shows};
 
-use crate::answering::{Answering, Shown};
+use crate::request_handler::{RequestHandler, Shown};
 use crate::respond::respond;
 use crate::router::Routes;
 use crate::routes::{Purpose, Resource, show};
@@ -18,11 +18,11 @@ use sqlite::Alter;
 use std::alloc::{AllocError, Global};
 
 /// The bytes of the response to the request that the input is, and none to no bytes. At most one
-/// command is handled, as by `Desk::handle`; a question changes nothing, and is told as by
-/// `Desk::tell`.
+/// command is handled, as by `Desk::handle`; a question changes nothing, and is answered as by
+/// `Desk::answer_question`.
 ///
-/// The `Err` is want of memory for the response: the desk is then as after a response to this
-/// request, so that its one command may have been handled, and stands.
+/// The `Err` means that there is no memory for the response: the desk is then as after a response
+/// to this request, so its one command may have taken effect.
 pub fn answer<S: Alter>(
     alloc: Global,
     routes: &Routes,
@@ -55,7 +55,7 @@ pub fn serve_one<S: Alter, R: Input, W: Output>(
     serve(alloc, routes, desk, reader, writer)
 }
 
-impl<S: Alter> Answering for Desk<S> {
+impl<S: Alter> RequestHandler for Desk<S> {
     ghost View = { DeskState (Held S) };
 
     ghost view = { λ desk. desk };
@@ -70,7 +70,7 @@ impl<S: Alter> Answering for Desk<S> {
                 Ok(command) => LineAnswer::Handled(self.handle(&command)),
                 Err(fault) => LineAnswer::Faulty(fault),
             },
-            Purpose::Question => self.tell(alloc, body),
+            Purpose::Question => self.answer_question(alloc, body),
         }
     }
 

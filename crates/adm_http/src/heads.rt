@@ -34,7 +34,7 @@ pub(crate) enum Verdict {
     Reject(StatusCode),
     /// The route is for this method alone.
     NotAllowed(Verb),
-    /// A text that is asked for.
+    /// A requested text.
     Show(Resource),
     /// A command or a question, whose body has this length.
     Run(Purpose, u64),

@@ -1,10 +1,10 @@
 // The law that the same bytes are judged in one way.
 ghost use Rattle.adm_http.specs.Heads.{JudgedInOneWay};
 
-/// The same bytes are judged in one way, save where their first 8,192, or all where there are fewer,
-/// end within a target that breaks UTF-8, or hold no head and only one of more than 64 fields may
-/// still come: these may be refused at once, or more be asked for. At their end they come to 400 all
-/// the same where there are fewer than 8,192, and else to 400 or 431, which are both right.
+/// The same bytes are judged in one way, save where their first 8,192, or all where there are
+/// fewer, end within a target that breaks UTF-8, or hold no head and only one of more than 64
+/// fields may still come: these may be refused at once, or more be read. At their end the status is
+/// 400 all the same where there are fewer than 8,192, and else to 400 or 431, which are both right.
 pub fn judged_in_one_way()
     ensures { JudgedInOneWay }
 {}

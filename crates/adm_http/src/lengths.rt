@@ -2,7 +2,7 @@
 ghost use Rattle.std.specs.Prelude.{◌≡◌};
 ghost use Rattle.adm_http.specs.Lengths.{body_length_of};
 
-/// The number that 1 to 10 decimal digits write. Zeros may stand at its front.
+/// The number that 1 to 10 decimal digits write. Zeros may be at its front.
 pub(crate) fn body_length(bytes: &[u8]) -> Option<u64>
     ensures { result ≡ body_length_of bytes.now }
 {

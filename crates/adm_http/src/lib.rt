@@ -1,7 +1,6 @@
 // Requests over HTTP: the response to a request's bytes, and one connection served.
 #![tactic(auto)]
 
-mod answering;
 mod arrivals;
 mod desk;
 mod heads;
@@ -9,6 +8,7 @@ mod laws;
 mod lengths;
 mod listen;
 mod patience;
+mod request_handler;
 mod respond;
 mod responses;
 mod router;

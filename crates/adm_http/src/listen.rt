@@ -6,9 +6,9 @@ ghost use Rattle.adm_http.specs.Purposes.{RunsBody};
 ghost use Rattle.adm_http.specs.Connections.{AnswersOne, AnswersUpTo, connection_fault_line};
 ghost use Rattle.adm_http.specs.Shows.{Shows};
 
-use crate::answering::Answering;
 use crate::arrivals::{Arrival, Arrivals, SECONDS_OF_REQUEST};
 use crate::patience::Patient;
+use crate::request_handler::RequestHandler;
 use crate::router::Routes;
 use crate::serve::{ServeFault, serve};
 use adm_desk::Desk;
@@ -28,15 +28,15 @@ const SECONDS_OF_REST: u64 = 2;
 /// How many bytes are read and dropped after the response: 2 MiB.
 const BYTES_OF_REST: usize = 2_097_152;
 
-/// Serves as many connections, one after the other: of those that wait the first on which bytes have
-/// come, so that a silent one holds up no other. A connection's fault is printed as `fault: `, its
-/// name and LF, and the next one is served; a print that fails is passed over. The exit status is 4
+/// Serves as many connections, one after the other: of those that wait the first on which bytes
+/// have come, so that a silent one holds up no other. A connection's error is printed as `fault: `,
+/// its name and LF, and the next one is served; a print that fails is ignored. The exit status is 4
 /// where the desk has failed, and else 0.
 ///
 /// An accept that fails, as where the process has no free descriptor, is no connection and is not
 /// counted: `fault: Accept` and LF is printed, and the next one is tried a second later.
 ///
-/// A request that has not come whole within 5 seconds from its accept is the fault Read of its
+/// A request that has not come whole within 5 seconds from its accept is the error Read of its
 /// connection, unless it lies there whole when its turn comes. A response that has not gone out
 /// within 3 seconds is Write. Both are by the clock that is handed in. After a response the
 /// connection's sending side is ended, and what still comes is read and dropped, to its end, for 2
@@ -60,7 +60,7 @@ pub fn serve_on<C: Clock, S: Alter, E: Write>(
 }
 
 /// Serves as many connections, one after the other.
-pub(crate) fn serve_each<C: Clock, A: Answering, E: Write>(
+pub(crate) fn serve_each<C: Clock, A: RequestHandler, E: Write>(
     clock: &C,
     alloc: Global,
     routes: &Routes,
@@ -77,14 +77,14 @@ pub(crate) fn serve_each<C: Clock, A: Answering, E: Write>(
         let most = (count - turn) as usize;
         let next = arrivals.next(clock, listener, most, errors);
         if let Err(fault) = serve_next(clock, alloc, routes, desk, next) {
-            // A print that fails is passed over.
+            // A print that fails is ignored.
             let _ = errors.write_all(fault_line(fault).as_bytes());
         }
     }
 }
 
 // Serves a connection, where there is one.
-fn serve_next<C: Clock, A: Answering>(
+fn serve_next<C: Clock, A: RequestHandler>(
     clock: &C,
     alloc: Global,
     routes: &Routes,
@@ -104,7 +104,7 @@ fn serve_next<C: Clock, A: Answering>(
 }
 
 // Serves the request of a connection.
-fn serve_arrival<C: Clock, A: Answering>(
+fn serve_arrival<C: Clock, A: RequestHandler>(
     clock: &C,
     alloc: Global,
     routes: &Routes,
@@ -143,7 +143,7 @@ fn take_rest<C: Clock>(clock: &C, stream: &TcpStream) {
     }
 }
 
-// What is printed of a fault.
+// What is printed of an error.
 fn fault_line(fault: ServeFault) -> &'static str
     ensures { result.now ≡ connection_fault_line fault }
 {

@@ -31,7 +31,7 @@ impl<'a, C: Clock> Patient<'a, C> {
     }
 
     /// How long the next call may wait.
-    fn left(&mut self) -> io::Result<Duration> {
+    fn remaining(&mut self) -> io::Result<Duration> {
         let now = Instant::now(self.clock)?;
         let spent = match self.since {
             Some(since) => now.duration_since(since),
@@ -46,10 +46,10 @@ impl<'a, C: Clock> Patient<'a, C> {
 
 impl<C: Clock> Read for Patient<'_, C> {
     fn read(&mut self, buf: &mut [u8]) -> io::Result<usize> {
-        let left = self.left()?;
+        let remaining = self.remaining()?;
         let mut stream = self.stream;
-        if !left.is_zero() {
-            stream.set_read_timeout(Some(left))?;
+        if !remaining.is_zero() {
+            stream.set_read_timeout(Some(remaining))?;
             return stream.read(buf);
         }
         stream.set_nonblocking(true)?;
@@ -61,9 +61,9 @@ impl<C: Clock> Read for Patient<'_, C> {
 
 impl<C: Clock> Write for Patient<'_, C> {
     fn write(&mut self, buf: &[u8]) -> io::Result<usize> {
-        let left = self.left()?;
+        let remaining = self.remaining()?;
         // no time at all is an error
-        self.stream.set_write_timeout(Some(left))?;
+        self.stream.set_write_timeout(Some(remaining))?;
         let mut stream = self.stream;
         stream.write(buf)
     }

@@ -2,24 +2,24 @@
 ghost use Rattle.std.specs.Prelude.{◌≡◌, IfOk, ℕ, List, nat_le, ◌≤◌, drop, length, if◌then◌else◌};
 ghost use Rattle.adm_http.specs.Heads.{IsJudgement, IsInside};
 ghost use Rattle.adm_http.specs.Texts.{Response, response_bytes, json};
-ghost use Rattle.adm_http.specs.Replies.{status_of, status_of_command, status_of_told, status_of_fault};
+ghost use Rattle.adm_http.specs.Replies.{status_of, status_of_command, status_of_what_if, status_of_fault};
 ghost use Rattle.adm_http.specs.Responses.{of_answer, of_shown, Carries, Responds};
 
-use crate::answering::{Answering, Shown};
 use crate::heads::{HEAD_LIMIT, Judgement, Verdict, judge};
+use crate::request_handler::{RequestHandler, Shown};
 use crate::responses::{Media, bare, response};
 use crate::router::Routes;
 use crate::routes::{Resource, media};
-use adm_commands::NotTold;
-use adm_desk::{Answer, LineAnswer, Told};
+use adm_commands::QuestionFault;
+use adm_desk::{Answer, LineAnswer, WhatIfAnswer};
 use adm_wire::{WireFault, failed_text, memory_text};
 use http::StatusCode;
 use std::alloc::{AllocError, Global};
 
 /// The bytes of the response to the request that the input is, for which at most one command is
-/// run. The `Err` is want of memory: what was asked is then as after a response that was not made,
-/// so the command may stand.
-pub(crate) fn respond<A: Answering>(
+/// run. The `Err` means out of memory: the handler is then as after a response that was not made,
+/// so the command may have taken effect.
+pub(crate) fn respond<A: RequestHandler>(
     alloc: Global,
     routes: &Routes,
     desk: &mut A,
@@ -33,7 +33,7 @@ pub(crate) fn respond<A: Answering>(
 }
 
 /// The same of an input that was judged.
-pub(crate) fn respond_to<A: Answering>(
+pub(crate) fn respond_to<A: RequestHandler>(
     alloc: Global,
     desk: &mut A,
     input: &[u8],
@@ -74,7 +74,7 @@ fn unfinished(input: &[u8]) -> StatusCode
 }
 
 // Carries out what a head decided, over the bytes that follow it.
-fn carry<A: Answering>(
+fn carry<A: RequestHandler>(
     alloc: Global,
     desk: &mut A,
     rest: &[u8],
@@ -111,7 +111,7 @@ fn status_of(answer: LineAnswer) -> StatusCode
     match answer {
         LineAnswer::Handled(answer) => status_of_command(answer),
         LineAnswer::Faulty(fault) => status_of_fault(fault),
-        LineAnswer::Told(told) => status_of_told(told),
+        LineAnswer::Queried(what_if_answer) => status_of_what_if(what_if_answer),
     }
 }
 
@@ -125,17 +125,18 @@ fn status_of_command(answer: Answer) -> StatusCode
     }
 }
 
-fn status_of_told(told: Told) -> StatusCode
-    ensures { result ≡ status_of_told told }
+fn status_of_what_if(what_if_answer: WhatIfAnswer) -> StatusCode
+    ensures { result ≡ status_of_what_if what_if_answer }
 {
-    match told {
-        Told::School(_) => StatusCode::OK,
-        Told::Untold(NotTold::Memory) | Told::Failed => StatusCode::SERVICE_UNAVAILABLE,
-        Told::Untold(
-            NotTold::LotCount
-            | NotTold::LotsRepeated
-            | NotTold::UnknownChild
-            | NotTold::NotItsSchools,
+    match what_if_answer {
+        WhatIfAnswer::School(_) => StatusCode::OK,
+        WhatIfAnswer::Unanswered(QuestionFault::Memory) | WhatIfAnswer::Failed =>
+            StatusCode::SERVICE_UNAVAILABLE,
+        WhatIfAnswer::Unanswered(
+            QuestionFault::LotCount
+            | QuestionFault::LotsRepeated
+            | QuestionFault::UnknownChild
+            | QuestionFault::NotItsSchools,
         ) => StatusCode::CONFLICT,
     }
 }
@@ -153,7 +154,7 @@ fn status_of_fault(fault: WireFault) -> StatusCode
     }
 }
 
-// The response to what asking for a text gave.
+// The response to what reading a text gave.
 fn shown_response(alloc: Global, resource: Resource, shown: Shown) -> Result<Vec<u8>, AllocError>
     ensures { IfOk result (λ output. output.items ≡ response_bytes (of_shown resource shown)) }
 {

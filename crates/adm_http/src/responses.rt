@@ -51,7 +51,7 @@ impl fmt::Display for AllowLine {
     }
 }
 
-/// The bytes of a response. The `Err` is want of memory.
+/// The bytes of a response. The `Err` means out of memory.
 pub(crate) fn response(
     alloc: Global,
     status: StatusCode,

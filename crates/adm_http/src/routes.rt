@@ -4,7 +4,7 @@ ghost use Rattle.adm_types.specs.Fields.{child_named};
 ghost use Rattle.adm_http.specs.Routes.{named_by, media_of, text_in, all_routes};
 ghost use Rattle.adm_http.specs.Shows.{IsShown};
 
-use crate::answering::{Shown, given};
+use crate::request_handler::{Shown, given};
 use crate::responses::Media;
 use crate::router::add;
 use crate::states::child_text;
@@ -34,7 +34,7 @@ pub enum Purpose {
     Question,
 }
 
-/// A text that can be asked for.
+/// A text that can be requested.
 #[derive(Clone, Copy)]
 pub enum Resource {
     /// A child's place, and where it waits.
@@ -52,7 +52,7 @@ pub enum Resource {
 pub enum Target {
     /// A body, sent by POST.
     Body(Purpose),
-    /// A text, asked for by GET.
+    /// A text, requested by GET.
     Text(Resource),
 }
 
@@ -70,7 +70,7 @@ pub(crate) fn all_routes(alloc: Global) -> Result<Router<Route>, AllocError>
     Ok(router)
 }
 
-/// What the part of a route names, where it has the form that the route asks for.
+/// What the part of a route names, where it has the form that the route requires.
 pub(crate) fn named(route: Route, part: &str) -> Option<Target>
     ensures { result ≡ named_by (route, part.now) }
 {
@@ -96,7 +96,7 @@ pub(crate) fn media(resource: Resource) -> Media
     }
 }
 
-/// The text that is asked for, if the register has such a child, school or round.
+/// The requested text, if the register has such a child, school or round.
 #[tactic(auto, using(crate::proofs::ShowLemmas::given_shown))]
 pub(crate) fn show(alloc: Global, register: &Register, resource: &Resource) -> Shown
     ensures { IsShown (text_in register.now resource.now) result }

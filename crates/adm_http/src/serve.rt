@@ -4,8 +4,8 @@ ghost use Rattle.std.specs.Io.KnownBytes.{Consumes, Keeps, IsAtEnd};
 ghost use Rattle.adm_http.specs.Heads.{IsJudgement, IsInside};
 ghost use Rattle.adm_http.specs.Reading.{HasBody, GoesOnTo, IsNotFarPast, HasRead, HasReadSome, Served, is_read_fault, is_write_fault};
 
-use crate::answering::Answering;
 use crate::heads::{HEAD_LIMIT, Judgement, Verdict, judge};
+use crate::request_handler::RequestHandler;
 use crate::respond::respond_to;
 use crate::router::Routes;
 use adm_wire::{Input, Output};
@@ -28,7 +28,7 @@ pub enum ServeFault {
 
 /// Reads one request, runs at most its one command and writes the response. `Ok` gives how many
 /// bytes were written.
-pub(crate) fn serve<A: Answering, R: Input, W: Output>(
+pub(crate) fn serve<A: RequestHandler, R: Input, W: Output>(
     alloc: Global,
     routes: &Routes,
     desk: &mut A,
@@ -105,7 +105,7 @@ fn read_request<R: Input>(
     }
 }
 
-// Reads the body that a whole head of this length asks for, as far as it is there.
+// Reads the body that a whole head of this length requires, as far as it is there.
 fn read_body<R: Input>(
     reader: &mut R,
     input: &mut Vec<u8>,

@@ -62,7 +62,7 @@ fn held_text(alloc: Global, kind: &str, school: &str) -> Result<String, AllocErr
     format!(in alloc; "{{\"kind\":\"{kind}\",\"school\":\"{school}\"}}")
 }
 
-// How a place is held, in a word.
+// The state of a place, by its name.
 fn kind(state: PlaceState) -> &'static str
     ensures { result.now ≡ kind_of state }
 {

@@ -1,4 +1,4 @@
--- No group of children gains: the turns of deferred acceptance never come to one that rejects each of them where it would gain.
+-- No group of children gains: the turns of deferred acceptance never reach one that rejects each of them where it would gain.
 use Rattle.std.proofs.Common.{◌≡◌, ◌⊎◌, ℕ, zero, suc, ◌<◌, ◌≤◌, List, [], ◌∷◌, map, set, Option, None, Some, Bool, true, inl, inr, refl, sym, ap, ◌∙◌, subst, arith}
 use Rattle.std.specs.Prelude.{option_map}
 use Rattle.std.specs.List.{slice_get, AllZip}

@@ -28,9 +28,9 @@ use Rattle.adm_commands.specs.Commands.RaisePan.{tests, may_have, with_pan, chan
 use Rattle.adm_commands.specs.Tests.{first_failing}
 use Rattle.adm_commands.specs.Problem.{lots_fault, RoundIsPosed}
 use Rattle.adm_commands.specs.declared.problems.DrawFault.TheVariants.{LotCount, LotsRepeated}
-use Rattle.adm_commands.specs.Commands.Round.{sites, entrants, quota, round_lots, round_market, round_pairs, AreOutcomes}
+use Rattle.adm_commands.specs.Commands.Round.{sites, round_applicants, quota, round_lots, round_market, round_pairs, AreOutcomes}
 use Rattle.adm_commands.specs.Rules.{without_row}
-use Rattle.adm_commands.specs.Outcome.{Accepts}
+use Rattle.adm_commands.specs.Steps.{Accepts}
 use Rattle.adm_commands.proofs.Keeps.{all_pass}
 use Rattle.adm_commands.proofs.RaiseFit.{raise_pan-fit}
 use Rattle.adm_laws.specs.Registers.{NoLossByRaise}
@@ -69,7 +69,7 @@ module _ (old : State) (school : List ℕ) (pan : ℕ) (well : WellFormed old) w
       by None there may = cc
       by (Some row) there may = sites_raised row there (leb-true _ _ (and_parts (is_pan pan) (nat_le row.pan pan) may).1)
 
-  entrants_after : entrants (after old (change_of old school pan)) ≡ entrants old
+  entrants_after : round_applicants (after old (change_of old school pan)) ≡ round_applicants old
   unfolding change_of
   entrants_after = refl
 
@@ -77,7 +77,7 @@ passes_of : (o : Option Refusal) → without_row o ≡ None → o ≡ None
 passes_of None h = refl
 passes_of (Some why) h = cc
 
--- the lots have a fault by the pairs alone
+-- the lots fail a test by the pairs alone
 fault_same : (a b : State) (numbers : List ℕ) → round_pairs a ≡ round_pairs b → lots_fault a numbers ≡ lots_fault b numbers
 fault_same a b numbers same =
     ap (λ (ps : List Pair). cond (nat_eq (length numbers) (length ps)) (cond (not (repeats_lot (lots_of ps numbers))) None (Some LotsRepeated)) (Some LotCount)) same
@@ -96,44 +96,44 @@ module _ (old new : State) (school : List ℕ) (pan : ℕ) (well : WellFormed ol
   more : AllZip IsRaised (sites old) (sites next)
   more = sites_after old school pan well passes
 
-  same : entrants next ≡ entrants old
+  same : round_applicants next ≡ round_applicants old
   same = entrants_after old school pan well
 
-  same_pairs : pairs (sites next) (entrants old) ≡ pairs (sites old) (entrants old)
-  same_pairs = pairs_same (entrants old) (sites old) (sites next) more
+  same_pairs : pairs (sites next) (round_applicants old) ≡ pairs (sites old) (round_applicants old)
+  same_pairs = pairs_same (round_applicants old) (sites old) (sites next) more
 
   next_fault : (numbers : List ℕ) → lots_fault next numbers ≡ lots_fault old numbers
   next_fault numbers = fault_same next old numbers ((λ i. pairs (sites next) (same i)) ∙ same_pairs)
 
-  -- the lots have the fault that they had
+  -- the lots fail the test that they failed
   pub still_fault : (numbers : List ℕ) → lots_fault new numbers ≡ lots_fault old numbers
   still_fault numbers = ap (λ s. lots_fault s numbers) new_is ∙ next_fault numbers
 
-  market : (numbers : List ℕ) → round_market new numbers ≡ market_of_round (sites next) (entrants old) (round_lots old numbers)
+  market : (numbers : List ℕ) → round_market new numbers ≡ market_of_round (sites next) (round_applicants old) (round_lots old numbers)
   market numbers =
       ap (λ s. round_market s numbers) new_is
       ∙ ((λ i. market_of_round (sites next) (same i) (lots_of (pairs (sites next) (same i)) numbers))
-      ∙ (λ i. market_of_round (sites next) (entrants old) (lots_of (same_pairs i) numbers)))
+      ∙ (λ i. market_of_round (sites next) (round_applicants old) (lots_of (same_pairs i) numbers)))
 
-  best_now : (numbers : List ℕ) (outcomes : List Outcome) (second : AreOutcomes new numbers outcomes) → AreBest (market_of_round (sites next) (entrants old) (round_lots old numbers)) (entrants old) outcomes
+  best_now : (numbers : List ℕ) (outcomes : List Outcome) (second : AreOutcomes new numbers outcomes) → AreBest (market_of_round (sites next) (round_applicants old) (round_lots old numbers)) (round_applicants old) outcomes
   best_now numbers outcomes second = record {
     allocation = second.allocation;
     best = subst (λ m. IsBest m second.allocation) (market numbers) second.best;
-    given = second.given ∙ ap (outcomes_of second.allocation) (ap entrants new_is ∙ same);
+    given = second.given ∙ ap (outcomes_of second.allocation) (ap round_applicants new_is ∙ same);
   }
 
-  fits : (numbers : List ℕ) → RoundIsPosed → lots_fault old numbers ≡ None → IsPosed (sites next) (entrants old) (round_lots old numbers)
+  fits : (numbers : List ℕ) → RoundIsPosed → lots_fault old numbers ≡ None → IsPosed (sites next) (round_applicants old) (round_lots old numbers)
   fits numbers poses none =
       let well' : WellFormed next = after-keeps old (change_of old school pan) well (raise_pan-fit old school pan well passes) in
-      let whole : IsPosed (sites next) (entrants next) (round_lots next numbers) = poses next numbers well' (next_fault numbers ∙ none) in
-      subst (λ ps. IsPosed (sites next) (entrants old) (lots_of ps numbers)) same_pairs
+      let whole : IsPosed (sites next) (round_applicants next) (round_lots next numbers) = poses next numbers well' (next_fault numbers ∙ none) in
+      subst (λ ps. IsPosed (sites next) (round_applicants old) (lots_of ps numbers)) same_pairs
       (subst (λ es. IsPosed (sites next) es (lots_of (pairs (sites next) es) numbers)) same whole)
 
   -- the best outcomes after it leave nobody worse off
   pub no_loss_after : NoLossByQuotas → RoundIsPosed → (numbers : List ℕ) (before outcomes : List Outcome) (first : AreOutcomes old numbers before) (second : AreOutcomes new numbers outcomes) → lots_fault old numbers ≡ None → IsNoWorse (round_market old numbers).entrants second.allocation first.allocation
   unfolding best_now
   no_loss_after law poses numbers before outcomes first second none =
-      law (sites old) (sites next) (entrants old) (round_lots old numbers) before outcomes first (best_now numbers outcomes second) more (fits numbers poses none)
+      law (sites old) (sites next) (round_applicants old) (round_lots old numbers) before outcomes first (best_now numbers outcomes second) more (fits numbers poses none)
 
 pub no_loss_by_raise_law : NoLossByQuotas → RoundIsPosed → NoLossByRaise
 no_loss_by_raise_law law poses old new school pan numbers before after' first second well accepts none =

@@ -8,8 +8,8 @@ use Rattle.adm_round.specs.Outcomes.{outcomes_of}
 use Rattle.adm_register.specs.State.{State}
 use Rattle.adm_register.specs.WellFormed.{WellFormed}
 use Rattle.adm_commands.specs.Problem.{lots_fault}
-use Rattle.adm_commands.specs.Commands.Round.{entrants, round_market}
-use Rattle.adm_commands.specs.Outcome.{Accepts}
+use Rattle.adm_commands.specs.Commands.Round.{round_applicants, round_market}
+use Rattle.adm_commands.specs.Steps.{Accepts}
 use Rattle.adm_commands.specs.declared.problems.DrawFault.{DrawFault}
 use Rattle.adm_commands.specs.declared.problems.DrawFault.TheVariants.{LotCount, LotsRepeated, Memory}
 use Rattle.adm_laws.specs.Registers.{NoLossByRaise}
@@ -22,7 +22,7 @@ module _ (old new : State) (school : List ℕ) (pan : ℕ) (numbers : List ℕ) 
 
   pub no_loss_raised : NoLossByRaise → WellFormed old → (problem : Market) (given : Allocation) → problem ≡ round_market new numbers → lots_fault new numbers ≡ None → IsBest problem given → NoLossRaised old numbers given
   no_loss_raised law well problem given same none best before first =
-      law old new school pan numbers before (outcomes_of given (entrants new)) first (record { allocation = given; best = subst (λ m. IsBest m given) same best; given = refl })
+      law old new school pan numbers before (outcomes_of given (round_applicants new)) first (record { allocation = given; best = subst (λ m. IsBest m given) same best; given = refl })
       well accepts (sym (still_fault old new school pan well accepts numbers) ∙ none)
 
   pub not_raised : (fault : DrawFault) → (lots_fault new numbers ≡ Some fault) ⊎ (fault ≡ Memory) → IsNotRaised old school pan numbers (by_lots fault)

@@ -20,7 +20,7 @@ use Rattle.adm_round.specs.Ranks.{site_of, lot_at, wish_at, wishes_for, candidat
 use Rattle.adm_round.specs.Outcomes.{PosedWithoutFault}
 use Rattle.adm_register.specs.State.{State}
 use Rattle.adm_register.specs.Wanted.{above, has_left, wanted_of, own_school}
-use Rattle.adm_commands.specs.Commands.Round.{takes_part, applicant_of, entrants, sites, round_lots, round_market}
+use Rattle.adm_commands.specs.Commands.Round.{takes_part, applicant_of, round_applicants, sites, round_lots, round_market}
 use Rattle.adm_commands.specs.Problem.{RoundIsPosed}
 use Rattle.adm_laws.specs.Registers.{first_listed, with_application, KeepsLots, NoLossByShorterList}
 use Rattle.adm_laws.proofs.Zips.{zip_map, zip_with, zip_any, put_zip}
@@ -174,7 +174,7 @@ module _ (old : State) (application : Application) (count : ℕ) (there : get ol
           let taken = filter_taken stays count application.list in
           inr (refl, own, own, (taken.0, whole ∙ (taken.1 ∙ ap (λ ws. ws ++ taken.0) (sym first))))
 
-  entrants_shorter : AllZip IsShorter (entrants old) (entrants new)
+  entrants_shorter : AllZip IsShorter (round_applicants old) (round_applicants new)
   entrants_shorter =
       let P : Application → Application → Type 0 = λ a b. BothShorter (applicant_of old a) (applicant_of old b) in
       let zipped = put_zip nat_cmp_total P (λ a. both_same (applicant_of old a)) application.child application now shorter (entries old.applications) (entries_sorted old.applications) (sym (get-entries old.applications application.child) ∙ there) in
@@ -187,9 +187,9 @@ module _ (old : State) (application : Application) (count : ℕ) (there : get ol
       let second = lot_at (round_lots new drawn) in
       let was = candidate_of (site_of (sites old)) first in
       let is = candidate_of (site_of (sites old)) second in
-      let zipped = zip_with IsShorter (λ a b. IsCutFrom (is b) (was a)) (SameLots second first) (candidate_cut (sites old) second first) (entrants old) (entrants new) entrants_shorter (recursion_from_All (SameLots second first) (entrants new) keeps) in
+      let zipped = zip_with IsShorter (λ a b. IsCutFrom (is b) (was a)) (SameLots second first) (candidate_cut (sites old) second first) (round_applicants old) (round_applicants new) entrants_shorter (recursion_from_All (SameLots second first) (round_applicants new) keeps) in
       record {
-        entrants = zip_any (λ whole cut. IsCutFrom cut whole) (map was (entrants old)) (map is (entrants new)) (zip_pair was is (entrants old) (entrants new) zipped);
+        entrants = zip_any (λ whole cut. IsCutFrom cut whole) (map was (round_applicants old)) (map is (round_applicants new)) (zip_pair was is (round_applicants old) (round_applicants new) zipped);
         places = λ s. omega arith;
       }
     where
@@ -200,5 +200,5 @@ pub no_loss_by_shorter_list_law : NoLoss → PosedWithoutFault → RoundIsPosed 
 no_loss_by_shorter_list_law law faultless poses old application count numbers drawn before after first second there free well fits keeps =
     let new = with_application old (first_listed count application) in
     law (round_market new drawn) (round_market old numbers) second.allocation first.allocation
-    (faultless (sites new) (entrants new) (round_lots new drawn) (poses new drawn well fits))
+    (faultless (sites new) (round_applicants new) (round_lots new drawn) (poses new drawn well fits))
     (generous old application count there free numbers drawn keeps) second.best first.best.stable

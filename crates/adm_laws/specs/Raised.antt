@@ -8,7 +8,7 @@ use Rattle.adm_register.specs.State.{State}
 use Rattle.adm_commands.specs.Problem.{lots_fault}
 use Rattle.adm_commands.specs.Commands.Round.{round_market, AreOutcomes}
 use Rattle.adm_commands.specs.Commands.{refused}
-use Rattle.adm_commands.specs.Outcome.{Accepts}
+use Rattle.adm_commands.specs.Steps.{Accepts}
 use Rattle.adm_commands.specs.declared.problems.DrawFault.{DrawFault}
 use Rattle.adm_commands.specs.declared.problems.DrawFault.TheVariants as draw
 use Rattle.adm_commands.specs.declared.not_done.NotDone.{NotDone}

@@ -11,8 +11,8 @@ use Rattle.adm_round.specs.Ranks.{lot_at}
 use Rattle.adm_register.specs.State.{State}
 use Rattle.adm_register.specs.WellFormed.{WellFormed}
 use Rattle.adm_commands.specs.Problem.{lots_fault}
-use Rattle.adm_commands.specs.Commands.Round.{entrants, round_lots, round_market, AreOutcomes}
-use Rattle.adm_commands.specs.Outcome.{Accepts}
+use Rattle.adm_commands.specs.Commands.Round.{round_applicants, round_lots, round_market, AreOutcomes}
+use Rattle.adm_commands.specs.Steps.{Accepts}
 
 -- Raising an admission number before a round leaves no child worse off in it: where the command is accepted and the lots pose
 -- a round before it, the outcomes after it, by the same lots, give each entrant what it would have had, or a school that it
@@ -35,7 +35,7 @@ with_application s application = record s { applications = insert s.applications
 -- each who takes part has at each school of its list the same lot by the second lots as by the first, or none by both
 abbrev pub KeepsLots : State → List Lot → List Lot → Type 0
 KeepsLots s first second =
-    All (λ applicant. All (λ code. lot_at second code (number_of applicant) ≡ lot_at first code (number_of applicant)) (listed applicant)) (entrants s)
+    All (λ applicant. All (λ code. lot_at second code (number_of applicant) ≡ lot_at first code (number_of applicant)) (listed applicant)) (round_applicants s)
 
 -- A list that ends earlier leaves no child worse off in the round: where a child without a place lists only the first schools
 -- of its application, and each child that takes part keeps its lots, the outcomes give each entrant what it would have had, or

@@ -1,4 +1,4 @@
-// What families, schools and councillors ask of a round: its laws, each with a function that answers by it.
+// What families, schools and councillors may expect of a round: its laws, each with a function that answers by it.
 #![tactic(auto)]
 
 mod copies;

@@ -1,4 +1,4 @@
 mod Dates
 mod Joined
-mod Told
+mod Written
 mod Widths

@@ -6,7 +6,7 @@ use Rattle.adm_letters.specs.declared.fault.LetterFault.TheVariants as letter
 use Rattle.adm_register.specs.declared.list_fault.ListFault.{ListFault}
 use Rattle.adm_register.specs.declared.list_fault.ListFault.TheVariants.{UnknownSchool, Memory}
 
--- the text, if there is one, or else this fault; for a text memory may run out
+-- the text, if there is one, or else this error; for a text memory may run out
 abbrev pub GivesText : {A : Type 0} → Option (List ℕ) → LetterFault → Result (String A) LetterFault → Type 0
 GivesText (Some text) fault (Ok given) = string_bytes given ≡ text
 GivesText (Some text) fault (Err e) = e ≡ letter.Memory
@@ -14,6 +14,6 @@ GivesText None fault (Ok given) = ⊥
 GivesText None fault (Err e) = e ≡ fault
 
 -- why there is no text, where there is no waiting list
-abbrev pub fault_of : ListFault → LetterFault
-fault_of UnknownSchool = letter.UnknownSchool
-fault_of Memory = letter.Memory
+abbrev pub letter_fault_of : ListFault → LetterFault
+letter_fault_of UnknownSchool = letter.UnknownSchool
+letter_fault_of Memory = letter.Memory

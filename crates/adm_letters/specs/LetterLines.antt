@@ -4,6 +4,7 @@ use Rattle.adm_types.specs.declared.seasons.Phase.{Phase}
 use Rattle.adm_types.specs.declared.seasons.Phase.TheVariants.{Primary, Secondary}
 use Rattle.adm_waiting.specs.declared.lists.Waiting.{Waiting}
 
+-- the name of a phase
 abbrev pub phase_text : Phase → List ℕ
 phase_text Primary = codes "primary"
 phase_text Secondary = codes "secondary"
@@ -12,6 +13,7 @@ phase_text Secondary = codes "secondary"
 unfoldable pub head_line : ℕ → List ℕ → List ℕ
 head_line year phase = codes "Admission " ++ (decimal year ++ (codes " " ++ phase))
 
+-- the line of the child: its number and its name
 unfoldable pub child_line : ℕ → List ℕ → List ℕ
 child_line number name = codes "Child " ++ (decimal number ++ (codes " " ++ name))
 
@@ -27,6 +29,7 @@ offered_line code name day = codes "Place: " ++ (code ++ (codes " " ++ (name ++ 
 unfoldable pub reminded_line : List ℕ → List ℕ → List ℕ → List ℕ → List ℕ
 reminded_line code name day reminded = codes "Place: " ++ (code ++ (codes " " ++ (name ++ (codes ", offered " ++ (day ++ (codes ", reminded " ++ reminded))))))
 
+-- the line of an accepted place: the school's code and name
 unfoldable pub accepted_line : List ℕ → List ℕ → List ℕ
 accepted_line code name = codes "Place: " ++ (code ++ (codes " " ++ (name ++ codes ", accepted")))
 

@@ -14,7 +14,7 @@ use Rattle.adm_letters.specs.Lines.{lines_text}
 use Rattle.adm_letters.specs.Waits.{waits_of}
 use Rattle.adm_letters.specs.declared.waits.Wait.{Wait}
 
--- an offer of this day, and what may come of it after a reminder
+-- an offer of this day, and what may follow after a reminder
 abbrev pub offer_lines : List ℕ → List ℕ → ℕ → Option ℕ → List (List ℕ)
 offer_lines code name day None = offered_line code name (day_text day) ∷ []
 offer_lines code name day (Some reminded) = reminded_line code name (day_text day) (day_text reminded) ∷ withdrawal_line (day_text reminded) ∷ []
@@ -30,6 +30,7 @@ abbrev pub name_in : Option School → List ℕ
 name_in None = []
 name_in (Some school) = school.name
 
+-- the name of the school of a code
 abbrev pub school_name : State → List ℕ → List ℕ
 school_name s code = name_in (get s.schools code)
 
@@ -42,6 +43,7 @@ lines_of_place s (Some place) = place_lines place.school (school_name s place.sc
 abbrev pub wait_line : State → Wait → List ℕ
 wait_line s wait = waiting_line wait.school (school_name s wait.school) wait.standing.entry wait.standing.many
 
+-- a line for each school at which the child waits, or the line that it waits nowhere
 abbrev pub lines_of_waits : State → List Wait → List (List ℕ)
 lines_of_waits s [] = waits_nowhere ∷ []
 lines_of_waits s (wait ∷ waits) = map (wait_line s) (wait ∷ waits)

@@ -20,7 +20,7 @@ columns = right 5 (codes "Pos") ++ (right 9 (codes "Child") ++ (right 4 (codes "
 unfoldable pub list_row : Waiting → List ℕ
 list_row entry = right 5 (decimal entry.position) ++ (right 9 (decimal entry.child) ++ (right 4 (decimal entry.class) ++ right 9 (decimal entry.metres)))
 
--- how many wait, and how many places are left
+-- how many wait, and how many places remain
 unfoldable pub list_foot : ℕ → ℕ → List ℕ
 list_foot waiting vacancies = codes "Waiting " ++ (decimal waiting ++ (codes ", vacancies " ++ decimal vacancies))
 

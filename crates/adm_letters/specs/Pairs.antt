@@ -11,6 +11,7 @@ use Rattle.adm_letters.specs.Lines.{lines_text}
 unfoldable pub pair_line : List ℕ → ℕ → List ℕ
 pair_line code child = code ++ (codes " " ++ decimal child)
 
+-- the line of a pair
 abbrev pub pair_text : Pair → List ℕ
 pair_text pair = pair_line pair.school pair.child
 

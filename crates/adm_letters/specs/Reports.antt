@@ -21,6 +21,7 @@ abbrev pub school_or_dash : Option (List ℕ) → List ℕ
 school_or_dash (Some code) = code
 school_or_dash None = codes "-"
 
+-- the line of an outcome: the child's number, and the code of its school or a dash
 abbrev pub outcome_text : Outcome → List ℕ
 outcome_text outcome = outcome_line outcome.child (school_or_dash outcome.school)
 
@@ -28,6 +29,7 @@ outcome_text outcome = outcome_line outcome.child (school_or_dash outcome.school
 unfoldable pub report_foot : ℕ → ℕ → ℕ → List ℕ
 report_foot offers kept unplaced = codes "Offers " ++ (decimal offers ++ (codes ", kept " ++ (decimal kept ++ (codes ", unplaced " ++ decimal unplaced))))
 
+-- the foot of a report, by the outcomes of its round
 abbrev pub report_counts : List Outcome → List ℕ
 report_counts outcomes = report_foot (count_by (λ outcome. outcome.fresh) outcomes) (count_by is_kept outcomes) (count_by (λ outcome. is_none outcome.school) outcomes)
 

@@ -1,5 +1,5 @@
 -- Where a child waits, and at which position (School Admissions Code 2021, section 2: waiting lists).
--- The same entries stand on the schools' lists.
+-- The same entries are on the schools' lists.
 use Rattle.std.specs.Prelude.{ℕ, List, Option, option_map}
 use Rattle.std.specs.List.{filter_map}
 use Rattle.adm_register.specs.State.{State}

@@ -1,7 +1,7 @@
 // Why there is no such letter, list, report or list of pairs.
 ghost use Rattle.std.specs.Prelude.{◌≡◌};
 ghost use Rattle.adm_letters.specs.declared.fault.LetterFault.TheVariants.{Memory};
-ghost use Rattle.adm_letters.specs.Answers.{fault_of};
+ghost use Rattle.adm_letters.specs.Answers.{letter_fault_of};
 
 use adm_register::ListFault;
 use std::alloc::AllocError;
@@ -33,7 +33,7 @@ impl From<AllocError> for LetterFault {
 }
 
 impl From<ListFault> for LetterFault {
-    ghost from_gives = { λ list fault. fault ≡ fault_of list };
+    ghost from_gives = { λ list fault. fault ≡ letter_fault_of list };
 
     fn from(fault: ListFault) -> LetterFault {
         match fault {

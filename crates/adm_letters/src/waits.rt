@@ -7,7 +7,7 @@ use adm_register::{Register, Standing};
 use adm_types::{ChildNo, SchoolCode};
 use std::alloc::{AllocError, Global};
 
-/// A school at which a child waits, and where it stands on the waiting list there.
+/// A school at which a child waits, and its position on the waiting list there.
 #[derive(Clone, Copy)]
 pub(crate) struct Wait {
     pub(crate) school: SchoolCode,

@@ -17,7 +17,7 @@ one_if b = cond b 1 0
 
 -- ---- by keys
 
--- what another key has stays where one is taken away
+-- what another key has stays where one is removed
 lookup_remove : {V : Type 0} (k q : ℕ) (es : List (ℕ × V)) → is_at (nat_cmp q) k ≡ false → lookup (is_at (nat_cmp q)) (remove_entry (is_at (nat_cmp k)) es) ≡ lookup (is_at (nat_cmp q)) es
 lookup_remove k q [] other = refl
 lookup_remove k q (e ∷ es) other =
@@ -26,7 +26,7 @@ lookup_remove k q (e ∷ es) other =
       | false ↦ λ here. ap (cond (is_at (nat_cmp q) e.0) (Some e.1)) (lookup_remove k q es other)
     ] refl
 
--- one that passes is taken away
+-- one that passes is removed
 count_remove : {W : Type 0} (r : W → Bool) (k : ℕ) (fs : List (ℕ × W)) (w : W) → lookup (is_at (nat_cmp k)) fs ≡ Some w → r w ≡ true
     → count_by r (values_of fs) ≡ 1 + count_by r (values_of (remove_entry (is_at (nat_cmp k)) fs))
 count_remove {W = W} r k fs w there passes =

@@ -36,7 +36,7 @@ pub values_by : {X : Type 0} (key : X → ℕ) (xs : List X) → values_of (by_k
 values_by key [] = refl
 values_by key (x ∷ xs) = ap (λ ys. x ∷ ys) (values_by key xs)
 
--- what is found at a key stands in the list, and has that key
+-- what is found at a key is in the list, and has that key
 pub from_key : {X : Type 0} (key : X → ℕ) (xs : List X) (q : ℕ) (x : X) → at_key key xs q ≡ Some x → In x xs × (key x ≡ q)
 from_key key [] q x there = absurd (none-some x there)
 from_key {X = X} key (y ∷ ys) q x there =
@@ -46,7 +46,7 @@ from_key {X = X} key (y ∷ ys) q x there =
     ] refl there
 
 module _ {X : Type 0} (key : X → ℕ) where
-  -- a key below those of the elements is below those that they stand with
+  -- a key below those of the elements is below those that they are paired with
   pub rising : (x : X) (xs : List X) → AllByRecursion (λ k. nat_cmp (key x) k ≡ Less) (map key xs) → AllByRecursion (λ k. nat_cmp (key x) k ≡ Less) (keys_of (by_key key xs))
   rising x xs less = subst (AllByRecursion (λ k. nat_cmp (key x) k ≡ Less)) (sym (keys_by key xs)) less
 

@@ -23,7 +23,7 @@ module _ {K V : Type 0} {R : K → K → Ordering} (total : IsTotalOrder R) wher
       ap is_some (get-insert total rows key row q)
       ∙ elim (eq_by_cmp R q key) as (λ b. is_some (cond b (Some row) (get rows q)) ≡ true) [ true ↦ refl | false ↦ there ]
 
-  -- the key of the row that was taken out is not there
+  -- the key of the row that was removed is not there
   pub not_contains_key-removed : (rows : FinMap R V) (key : K) → not (contains_key (remove rows key) key) ≡ true
   not_contains_key-removed rows key = ap (λ o. not (is_some o)) (get-remove total rows key key ∙ ap (λ b. cond b None (get rows key)) (tied total key))
 

@@ -1,4 +1,4 @@
--- What stands in a list, and in the lists that are made from it.
+-- What is in a list, and in the lists that are made from it.
 use Rattle.std.proofs.Common.{◌≡◌, ◌∙◌, ◌⊎◌, inl, inr, ap, sym, subst, refl, cond, Bool, true, false, ◌&&◌, ℕ, zero, suc, List, [], ◌∷◌, ◌++◌, map, take, filter, find, Option, Some, None, All, Contains, IsPermutation, arith}
 use Rattle.std.specs.List.{AllByRecursion, list_all, list_any, filter_map, cons_option, flat_map, zip, AllZip}
 use Rattle.std.proofs.lemmas.Bool.{cases_Bool, false≢true, and_parts, or_cases, or_parts}
@@ -13,13 +13,13 @@ In x (y ∷ ys) = (y ≡ x) ⊎ In x ys
 
 -- ---- by places
 
--- what a list contains at some place stands in it
+-- what a list contains at some place is in it
 pub from_contains : {X : Type 0} (xs : List X) (x : X) → Contains xs x → In x xs
 from_contains [] x h = absurd (omega (arith, h.1))
 from_contains (y ∷ ys) x (zero, below, at) = inl at
 from_contains (y ∷ ys) x (suc k, below, at) = inr (from_contains ys x (k, omega arith, at))
 
--- and what stands in it is at some place
+-- and what is in it is at some place
 pub contains : {X : Type 0} (xs : List X) (x : X) → In x xs → Contains xs x
 contains [] x h = absurd h
 contains (y ∷ ys) x h = elim h [
@@ -27,18 +27,18 @@ contains (y ∷ ys) x h = elim h [
   | inr later ↦ let w = contains ys x later in (suc w.0, omega (arith, w.1), w.2)
 ]
 
--- what stands in a list stands in each order of it
+-- what is in a list is in each order of it
 pub in_moved : {X : Type 0} (xs ys : List X) (x : X) → IsPermutation xs ys → In x xs → In x ys
 in_moved xs ys x same h = from_contains ys x (Contains-permutation xs ys x same (contains xs x h))
 
--- ---- what holds of each, and of one that stands there
+-- ---- what holds of each, and of one that is there
 
--- what holds of each holds of one that stands there
+-- what holds of each holds of one that is there
 pub all_in : {X : Type 0} (P : X → Type 0) (xs : List X) (x : X) → AllByRecursion P xs → In x xs → P x
 all_in P [] x all at = absurd at
 all_in P (y ∷ ys) x all at = elim at [ inl same ↦ subst P same all.0 | inr later ↦ all_in P ys x all.1 later ]
 
--- what holds of each that stands there holds of each
+-- what holds of each that is there holds of each
 pub in_all : {X : Type 0} (P : X → Type 0) (xs : List X) → ((x : X) → In x xs → P x) → AllByRecursion P xs
 in_all P [] each = tt
 in_all P (x ∷ xs) each = (each x (inl refl), in_all P xs (λ y at. each y (inr at)))
@@ -52,19 +52,19 @@ in_All P xs each = All-from_recursion P xs (in_all P xs each)
 
 -- ---- tests
 
--- where all pass, one that stands there does
+-- where all pass, one that is there does
 pub passes_in : {X : Type 0} (p : X → Bool) (xs : List X) (x : X) → list_all p xs ≡ true → In x xs → p x ≡ true
 passes_in p [] x all at = absurd at
 passes_in p (y ∷ ys) x all at =
     let both = and_parts (p y) (list_all p ys) all in
     elim at [ inl same ↦ ap p (sym same) ∙ both.0 | inr later ↦ passes_in p ys x both.1 later ]
 
--- all pass where each that stands there does
+-- all pass where each that is there does
 pub list_all_in : {X : Type 0} (p : X → Bool) (xs : List X) → ((x : X) → In x xs → p x ≡ true) → list_all p xs ≡ true
 list_all_in p [] each = refl
 list_all_in p (x ∷ xs) each = λ i. each x (inl refl) i && list_all_in p xs (λ y at. each y (inr at)) i
 
--- where some pass, one stands there that does
+-- where some pass, one is there that does
 pub any_in : {X : Type 0} (p : X → Bool) (xs : List X) → list_any p xs ≡ true → (x : X) × In x xs × (p x ≡ true)
 any_in p [] some = absurd (false≢true some)
 any_in p (x ∷ xs) some = elim (or_cases (p x) (list_any p xs) some) [
@@ -72,14 +72,14 @@ any_in p (x ∷ xs) some = elim (or_cases (p x) (list_any p xs) some) [
   | inr later ↦ let found = any_in p xs later in (found.0, inr found.1, found.2)
 ]
 
--- where none passes, one that stands there does not
+-- where none passes, one that is there does not
 pub none_in : {X : Type 0} (p : X → Bool) (xs : List X) (x : X) → list_any p xs ≡ false → In x xs → p x ≡ false
 none_in p [] x none at = absurd at
 none_in p (y ∷ ys) x none at =
     let parts = or_parts (p y) (list_any p ys) none in
     elim at [ inl same ↦ ap p (sym same) ∙ parts.0 | inr later ↦ none_in p ys x parts.1 later ]
 
--- what is found stands there, and passes
+-- what is found is there, and passes
 pub find_gives : {X : Type 0} (p : X → Bool) (xs : List X) (x : X) → find p xs ≡ Some x → In x xs × (p x ≡ true)
 find_gives p [] x h = absurd (none-some x h)
 find_gives p (y ∷ ys) x h = elim (cases_Bool (p y)) [
@@ -91,7 +91,7 @@ find_gives p (y ∷ ys) x h = elim (cases_Bool (p y)) [
       (inr later.0, later.1)
 ]
 
--- where one stands there that passes, one is found
+-- where one is there that passes, one is found
 pub finds : {X : Type 0} (p : X → Bool) (xs : List X) (x : X) → In x xs → p x ≡ true → (y : X) × (find p xs ≡ Some y)
 finds p [] x h t = absurd h
 finds p (y ∷ ys) x h t = elim (cases_Bool (p y)) [
@@ -102,7 +102,7 @@ finds p (y ∷ ys) x h t = elim (cases_Bool (p y)) [
   ]
 ]
 
--- where none is found, none that stands there passes
+-- where none is found, none that is there passes
 pub find_none : {X : Type 0} (p : X → Bool) (xs : List X) → find p xs ≡ None → (x : X) → In x xs → p x ≡ false
 find_none p [] h x there = absurd there
 find_none p (y ∷ ys) h x there = elim (cases_Bool (p y)) [
@@ -115,12 +115,12 @@ find_none p (y ∷ ys) h x there = elim (cases_Bool (p y)) [
 
 -- ---- a map
 
--- what an element is mapped to stands in the map
+-- what an element is mapped to is in the map
 pub in_map : {X Y : Type 0} (f : X → Y) (xs : List X) (x : X) → In x xs → In (f x) (map f xs)
 in_map f [] x at = absurd at
 in_map f (y ∷ ys) x at = elim at [ inl same ↦ inl (ap f same) | inr later ↦ inr (in_map f ys x later) ]
 
--- and what stands in the map is what some element is mapped to
+-- and what is in the map is what some element is mapped to
 pub from_map : {X Y : Type 0} (f : X → Y) (xs : List X) (y : Y) → In y (map f xs) → (x : X) × In x xs × (f x ≡ y)
 from_map f [] y at = absurd at
 from_map f (x ∷ xs) y at = elim at [
@@ -130,17 +130,17 @@ from_map f (x ∷ xs) y at = elim at [
 
 -- ---- two lists joined
 
--- what stands in the first stands in both joined
+-- what is in the first is in both joined
 pub in_left : {X : Type 0} (xs ys : List X) (x : X) → In x xs → In x (xs ++ ys)
 in_left [] ys x h = absurd h
 in_left (z ∷ zs) ys x h = elim h [ inl same ↦ inl same | inr later ↦ inr (in_left zs ys x later) ]
 
--- and so does what stands in the second
+-- and so is what is in the second
 pub in_right : {X : Type 0} (xs ys : List X) (x : X) → In x ys → In x (xs ++ ys)
 in_right [] ys x h = h
 in_right (z ∷ zs) ys x h = inr (in_right zs ys x h)
 
--- what stands in both joined stands in one of them
+-- what is in both joined is in one of them
 pub from_append : {X : Type 0} (xs ys : List X) (x : X) → In x (xs ++ ys) → In x xs ⊎ In x ys
 from_append [] ys x at = inr at
 from_append (z ∷ zs) ys x at = elim at [
@@ -150,13 +150,13 @@ from_append (z ∷ zs) ys x at = elim at [
 
 -- ---- the first elements, and those that pass a test
 
--- what is among the first elements stands in the list
+-- what is among the first elements is in the list
 pub from_take : {X : Type 0} (n : ℕ) (xs : List X) (x : X) → In x (take n xs) → In x xs
 from_take zero xs x at = absurd at
 from_take (suc n) [] x at = absurd at
 from_take (suc n) (y ∷ ys) x at = elim at [ inl same ↦ inl same | inr later ↦ inr (from_take n ys x later) ]
 
--- what stands in the list and passes is among those that pass
+-- what is in the list and passes is among those that pass
 pub in_filter : {X : Type 0} (p : X → Bool) (xs : List X) (x : X) → In x xs → p x ≡ true → In x (filter p xs)
 in_filter p [] x h t = absurd h
 in_filter p (y ∷ ys) x h t = elim (cases_Bool (p y)) [
@@ -169,7 +169,7 @@ in_filter p (y ∷ ys) x h t = elim (cases_Bool (p y)) [
       ])
 ]
 
--- and what is among them stands in the list and passes
+-- and what is among them is in the list and passes
 pub from_filter : {X : Type 0} (p : X → Bool) (xs : List X) (x : X) → In x (filter p xs) → In x xs × (p x ≡ true)
 from_filter p [] x at = absurd at
 from_filter p (y ∷ ys) x at = elim (cases_Bool (p y)) [
@@ -225,7 +225,7 @@ from_flat_map f (x ∷ xs) y at = elim (from_append (f x) (flat_map f xs) y at) 
 
 -- ---- pairs
 
--- the parts of a pair stand each in its list
+-- the parts of a pair are each in its list
 pub from_zip : {X Y : Type 0} (xs : List X) (ys : List Y) (both : X × Y) → In both (zip xs ys) → In both.0 xs × In both.1 ys
 from_zip [] ys both at = absurd at
 from_zip (x ∷ xs) [] both at = absurd at
@@ -234,7 +234,7 @@ from_zip (x ∷ xs) (y ∷ ys) both at = elim at [
   | inr later ↦ let found = from_zip xs ys both later in (inr found.0, inr found.1)
 ]
 
--- what holds of each element and what it is mapped to holds of one that stands there
+-- what holds of each element and what it is mapped to holds of one that is there
 pub zip_in : {X Y : Type 0} (R : X → Y → Type 0) (f : X → Y) (xs : List X) (x : X) → AllZip R xs (map f xs) → In x xs → R x (f x)
 zip_in R f [] x all at = absurd at
 zip_in R f (y ∷ ys) x all at = elim at [ inl same ↦ subst (λ z. R z (f z)) same all.0 | inr later ↦ zip_in R f ys x all.1 later ]

@@ -11,6 +11,6 @@ pub if_none_weaker : {A : Type 0} (P Q : Type 0) (r : Option A) → IfNone r P �
 if_none_weaker P Q None p f = f p
 if_none_weaker P Q (Some x) p f = tt
 
--- a list, after what stands before it
+-- a list, after what is before it
 abbrev pub with_front : {A : Type 0} → List A → Option (List A) → Option (List A)
 with_front front o = option_map (λ xs. front ++ xs) o

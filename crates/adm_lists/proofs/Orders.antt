@@ -1,4 +1,4 @@
--- What the answers of a comparison tell.
+-- What the results of a comparison say.
 use Rattle.std.proofs.Common.{◌≡◌, refl, true, T, ℕ, ◌==◌, Ordering, Less, Equal, Greater, arith}
 use Rattle.std.specs.Ordering.{nat_cmp, is_eq, is_lt, eq_by_cmp}
 use Rattle.std.specs.Cmp.{IsTotalOrder, Equal-is, eq_by_cmp_equiv}

@@ -1,4 +1,4 @@
--- What tests joined by `&&` and `||` come to.
+-- The results of tests joined by `&&` and `||`.
 use Rattle.std.proofs.Common.{◌≡◌, refl, Bool, true, false, cond, T, ◌&&◌, ◌||◌}
 
 -- where both of two tests are passed, each is

@@ -1,4 +1,4 @@
--- What a walk over a list has come to, with one element more.
+-- The result of a walk over a list, with one element more.
 use Rattle.std.proofs.Common.{◌≡◌, ◌∙◌, ap, sym, ℕ, ◌+◌, ◌<◌, length, take, get_or, List, [], ◌∷◌, ◌++◌, append-nil, Option, Some, None, map}
 use Rattle.std.specs.List.{filter_map, cons_option}
 use Rattle.std.proofs.lemmas.List.{take_more, map-append}

@@ -11,7 +11,7 @@ use Rattle.adm_match.specs.Turns.{held_at, IsHeldByNext, Shaped, NoneLost, IsGue
 use Rattle.adm_match.proofs.SideBySide.{after_set, count_set}
 use Rattle.adm_match.proofs.RanksAndBlocks.{has_true, has_false, not_has, same_or_not}
 
--- what holds once the entrant at i has come to the school s, and s may hold one too many
+-- what holds once the entrant at i has proposed to the school s, and s may hold one too many
 pub record Arrived (m : Market) (rows : List Progress) (i : ℕ) (s : Code) : Type 0 where
   pub shaped : Shaped m rows
   pub within_quota_there : (t : Code) (k : ℕ) (e : Candidate) → t ≢ s → IsGuestAt m.entrants rows t k e → held_at rows t ≤ quota_of m.seats t
@@ -91,7 +91,7 @@ guest_elsewhere m rows i v s k e apart g =
       | inr h ↦ (g.0, (g.1.0, h.1, g.1.2), g.2)
     ]
 
--- An entrant that no school holds comes to the next school of its list.
+-- An entrant that no school holds proposes to the next school of its list.
 pub arrive : (m : Market) (rows : List Progress) (i : ℕ) (d : Candidate) (r : Progress) (w : Wish) → Sound m rows → slice_get m.entrants i ≡ Some d → slice_get rows i ≡ Some r → r.school ≡ None → slice_get d.list r.rejections ≡ Some w → Arrived m (set rows i (record r { school = Some w.school })) i w.school
 arrive m rows i d r w h at row free next =
     let v : Progress = record r { school = Some w.school } in
@@ -99,7 +99,7 @@ arrive m rows i d r w h at row free next =
     let more : held_at (set rows i v) s ≡ held_at rows s + 1 = held_set_more rows i r v s row (none_has r.school s free) (has_true v.school s refl) in
     let others : (t : Code) → t ≢ s → held_at (set rows i v) t ≡ held_at rows t = λ t n. held_set_other rows i r v t row (none_has r.school t free) (other_has v.school s t refl n) in
     let out : (t : Code) → t ≢ s → has v.school t ≡ false = λ t n. other_has v.school s t refl n in
-    -- what rejected an entrant stands in the old rows, too
+    -- what rejected an entrant is in the old rows, too
     let back : (k : ℕ) (e : Candidate) (x : Progress) (j : ℕ) (z : Wish) → slice_get m.entrants k ≡ Some e → slice_get (set rows i v) k ≡ Some x → j < x.rejections → slice_get e.list j ≡ Some z → IsRejected m rows e z.school
     = λ k e x j z ek xk l jz. elim (after_set rows i k v x xk) [
       | inl g ↦ h.rejected k e r j z ek (ap (slice_get rows) g.0 ∙ row) (omega (arith, ap (λ y. y.rejections) g.1)) jz

@@ -157,7 +157,7 @@ claims_share e o w apart = bool_same _ _
           (suc rest.0, rest.1, rest.2, rest.3, rest.4)
     ]
 
--- no claim of a list without repeats comes twice
+-- no claim of a list without repeats is repeated
 own_claims : (e : Candidate) (ws : List Wish) → some_pair same_school ws ≡ false → some_pair same_claim (asked e ws) ≡ false
 own_claims e [] apart = refl
 own_claims e (w ∷ ws) apart =

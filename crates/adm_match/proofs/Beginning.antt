@@ -36,7 +36,7 @@ key_take (w ∷ ws) (suc n) s l = elim (cases_Bool (bytes_eq w.school s)) [
       ∙ sym (ap (λ b. option_map (λ (x : Wish). x.key) (cond b (Some w) (find (λ x. bytes_eq x.school s) ws))) miss))
 ]
 
--- what stands on the beginning stands before its end
+-- what is on the beginning is before its end
 pub rank_taken : (ws : List Wish) (n : ℕ) (s : Code) → preference_rank (take n ws) s < length (take n ws) → preference_rank ws s < n
 rank_taken [] zero s l = absurd (omega arith)
 rank_taken [] (suc n) s l = absurd (omega arith)

@@ -93,7 +93,7 @@ module _ {V K : Type 0} (key : V → K) (items : List V) where
   -- ---- what is looked up
 
   module _ (R : K → K → Ordering) (exact : IsAntisymmetric R) (pairs : List (K × ℕ)) (finds : FindsEach R key items pairs) (own : K) where
-    -- an item of the key stands at the index
+    -- an item of the key is at the index
     abbrev Stands : ℕ → Type 0
     Stands k = (v : V) × (slice_get items k ≡ Some v) × (key v ≡ own)
 

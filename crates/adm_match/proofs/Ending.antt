@@ -12,7 +12,7 @@ use Rattle.adm_match.specs.Turns.{held_at, IsWithin, WellListed, Shaped, IsGuest
 use Rattle.adm_match.proofs.SideBySide.{count_beside, element_at}
 use Rattle.adm_match.proofs.RanksAndBlocks.{All_at, list_any_gives, wish_at_rank, ranks_before_asym, guest_gives}
 
--- what an entrant has stands after the schools that rejected it
+-- what an entrant has is after the schools that rejected it
 pub rejections_is : (m : Market) (rows : List Progress) → WellListed m → Shaped m rows → AllDone m.entrants rows → (k : ℕ) (e : Candidate) (r : Progress) → slice_get m.entrants k ≡ Some e → slice_get rows k ≡ Some r → assigned_rank e.list r.school ≡ r.rejections
 rejections_is m rows well h done k e r ek rk = elim (h.holds k e r ek rk) [
   | inl none ↦ ap (assigned_rank e.list) none ∙ (omega (arith, done k e r ek rk none, h.within k e r ek rk))

@@ -39,7 +39,7 @@ not_found p (x ∷ xs) e j y a = elim (cases_Bool (p x)) [
     at p x xs miss h zero y a = ap p (sym (same_Some x y a)) ∙ miss
     at p x xs miss h (suc j) y a = h j y a
 
--- a wish stands at its school's rank or after it
+-- a wish is at its school's rank or after it
 pub rank_upto : (ws : List Wish) (k : ℕ) (w : Wish) → slice_get ws k ≡ Some w → preference_rank ws w.school ≤ k
 rank_upto [] k w e = absurd (none-some w e)
 rank_upto (x ∷ xs) zero w e =
@@ -56,7 +56,7 @@ pub rank_within : (ws : List Wish) (o : Option Code) → assigned_rank ws o ≤ 
 rank_within ws None = omega arith
 rank_within ws (Some s) = prefix_len-le-length (λ (w : Wish). not (bytes_eq w.school s)) ws
 
--- a school that blocks stands on the list
+-- a school that blocks is on the list
 blocks_listed : (m : Market) (a : Allocation) (e : Candidate) (s : Code) → blocks m a e s ≡ true → preference_rank e.list s < length e.list
 blocks_listed m a e s h =
     let parts = and_parts (prefers a e s) _ h in

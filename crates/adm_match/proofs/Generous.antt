@@ -35,7 +35,7 @@ and_not_false : (a b : Bool) → b ≡ false → a ≡ (a && not b)
 and_not_false true b h = ap not (sym h)
 and_not_false false b h = refl
 
--- where each child is among others, and none comes twice, no test passes for more of them than of the others
+-- where each child is among others, and none is repeated, no test passes for more of them than of the others
 counts_within : (test : ℕ → Bool) (xs ys : List Candidate) → ChildrenOnce xs → ((k : ℕ) (e : Candidate) → slice_get xs k ≡ Some e → (j : ℕ) × (f : Candidate) × (slice_get ys j ≡ Some f) × (e.child ≡ f.child)) → count_by (λ e. test e.child) xs ≤ count_by (λ e. test e.child) ys
 counts_within test [] ys once there = omega arith
 counts_within test (x ∷ xs) ys once there =
@@ -195,7 +195,7 @@ map_gives f [] k y at = absurd (none-some y at)
 map_gives f (x ∷ xs) zero y at = (x, refl, same_Some (f x) y at)
 map_gives f (x ∷ xs) (suc k) y at = map_gives f xs k y at
 
--- entrants whose lists are cut can be told apart as before
+-- entrants whose lists are cut can be distinguished as before
 cut_distinct : (m n : Market) → Distinct m → ((k : ℕ) (y : Candidate) → slice_get n.entrants k ≡ Some y → (x : Candidate) × (slice_get m.entrants k ≡ Some x) × IsCutFrom y x) → Distinct n
 cut_distinct m n d from =
     let old : (k : ℕ) (y : Candidate) (j : ℕ) (w : Wish) (at : slice_get n.entrants k ≡ Some y) → slice_get y.list j ≡ Some w → (slice_get (from k y at).0.list j ≡ Some w) × (j < length y.list)

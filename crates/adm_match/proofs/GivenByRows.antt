@@ -33,7 +33,7 @@ find_none p [] h = refl
 find_none p (y ∷ ys) h =
     ap (λ b. cond b (Some y) (find p ys)) (h 0 y refl) ∙ find_none p ys (λ j z a. h (suc j) z a)
 
--- each entrant is given the school that holds it, where no child stands at two indices
+-- each entrant is given the school that holds it, where no child is at two indices
 pub gives_by : (m : Market) (rows : List Progress) → ((i j : ℕ) (d e : Candidate) → slice_get m.entrants i ≡ Some d → slice_get m.entrants j ≡ Some e → i < j → d.child ≡ e.child → ⊥) → Shaped m rows → AllotsWhatIsHeld m rows (found_in rows)
 gives_by m rows once h k e r ek rk =
     let test : Progress → Bool = λ row. row.child == e.child in
@@ -86,7 +86,7 @@ reached_all m rows b well h done given =
     (λ k r e rk ek. reached_is e r (λ j w jw. well.own_rank k e j w ek jw) (h.holds k e r ek rk) (done k e r ek rk) (h.within k e r ek rk)
     ∙ ap (gone_through e.list) (sym (given k e r ek rk)))
 
--- The rows when no turn is left.
+-- The rows when no turn remains.
 pub record Settled (m : Market) (rows : List Progress) : Type 0 where
   pub distinct : Distinct m
   pub sound : Sound m rows

@@ -25,7 +25,7 @@ pub record Part (m : Market) (k : ℕ) (e e' : Candidate) : Type 0 where
   pub old : (j : ℕ) (w : Wish) → slice_get e'.list j ≡ Some w → (i : ℕ) × (slice_get e.list i ≡ Some w)
   pub free : (j : ℕ) (w : Wish) → slice_get e'.list j ≡ Some w → is_tenant e' w.school ≡ false → is_tenant e w.school ≡ false
 
--- an entrant of the changed problem, and the one at whose index it stands
+-- an entrant of the changed problem, and the one whose index it has
 origin : (m m' : Market) (k : ℕ) (e e' : Candidate) → Differs m m' k e e' → Part m k e e' → (j : ℕ) (x : Candidate) → slice_get m'.entrants j ≡ Some x → (y : Candidate) × (slice_get m.entrants j ≡ Some y) × (x.child ≡ y.child) × ((i : ℕ) (w : Wish) → slice_get x.list i ≡ Some w → is_tenant x w.school ≡ false → ((n : ℕ) × (slice_get y.list n ≡ Some w)) × (is_tenant y w.school ≡ false)) × ((i : ℕ) (w : Wish) → slice_get x.list i ≡ Some w → (n : ℕ) × (slice_get y.list n ≡ Some w))
 origin m m' k e e' h part j x xj = elim (cases_eq j k) [
   | inl is ↦

@@ -1,4 +1,4 @@
--- What a problem without a fault gives: each school once on a list, each child once, keys apart.
+-- What a well-formed problem gives: each school once on a list, each child once, keys apart.
 use Rattle.std.proofs.Common.{◌≡◌, ℕ, zero, suc, ◌+◌, ◌<◌, List, [], ◌∷◌, Option, None, Some, Bool, true, false, cond, not, ◌&&◌, inl, inr, refl, sym, ap, ◌∙◌, subst, arith}
 use Rattle.std.specs.Prelude.{bytes_eq, option_map}
 use Rattle.std.specs.List.{slice_get, list_any, find}
@@ -20,7 +20,7 @@ some_or_none : (b : Bool) (x : BadProblem) (o : Option BadProblem) → cond b (S
 some_or_none true x o h = absurd (none-some x (sym h))
 some_or_none false x o h = (refl, h)
 
--- each test of a problem without a fault
+-- each test of a well-formed problem
 pub record Posed (m : Market) : Type 0 where
   pub schools : repeats_school m ≡ false
   pub known : names_unknown m ≡ false
@@ -53,7 +53,7 @@ some_pair_not test (z ∷ zs) (suc i) zero x y h a b l = absurd (omega arith)
 some_pair_not test (z ∷ zs) (suc i) (suc j) x y h a b l =
     some_pair_not test zs i j x y (or_parts (list_any (test z) zs) (some_pair test zs) h).1 a b (omega arith)
 
--- a wish of a list without repeats stands at its school's rank, and gives the key there
+-- a wish of a list without repeats is at its school's rank, and gives the key there
 pub rank_is : (ws : List Wish) (j : ℕ) (w : Wish) → some_pair same_school ws ≡ false → slice_get ws j ≡ Some w → preference_rank ws w.school ≡ j
 rank_is [] j w h e = absurd (none-some w e)
 rank_is (x ∷ xs) zero w h e =
@@ -125,7 +125,7 @@ are_ranked m rows s h shaped k l d c apart gd gc before =
       ]
     ]
 
--- a child stands at one index
+-- a child is at one index
 pub child_once : (m : Market) → Posed m → (i j : ℕ) (d e : Candidate) → slice_get m.entrants i ≡ Some d → slice_get m.entrants j ≡ Some e → i < j → d.child ≡ e.child → ⊥
 child_once m h i j d e di ej less same =
     eqb-false d.child e.child (some_pair_not same_child m.entrants i j d e h.children di ej less) same

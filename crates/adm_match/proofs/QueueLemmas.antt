@@ -124,7 +124,7 @@ pub queued_within : (m : Market) (directory : Directory) (rows : List Progress) 
 queued_within m directory rows schools index queue rest h is =
     first_of_all (λ x. x < length m.entrants) index rest (subst (λ (x : List ℕ). All (λ x. x < length m.entrants) x) is h.queued.within)
 
--- where the queue is empty no turn is left
+-- where the queue is empty no turn remains
 pub empty_done : (m : Market) (directory : Directory) (rows : List Progress) (schools : List Holding) (queue : List ℕ) → BetweenTurns m directory rows schools queue → queue ≡ [] → AllDone m.entrants rows
 empty_done m directory rows schools queue h is k e r ek rk none = elim (cases_lt r.rejections (length e.list)) [
   | inr most ↦ most

@@ -50,7 +50,7 @@ list_any_gives p xs h =
     let w = Any-from_list_any p xs h in
     (w.0, w.1, slice_get-get_or xs w.0 w.1 w.2 ∙ ap Some w.3, w.4)
 
--- a school before the end of a list stands at its rank
+-- a school before the end of a list is at its rank
 pub wish_at_rank : (ws : List Wish) (s : Code) → preference_rank ws s < length ws → (w : Wish) × (slice_get ws (preference_rank ws s) ≡ Some w) × (w.school ≡ s)
 wish_at_rank [] s l = absurd (omega arith)
 wish_at_rank (w ∷ ws) s l =

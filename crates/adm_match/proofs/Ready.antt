@@ -1,4 +1,4 @@
--- A problem without a fault is ready to be allotted.
+-- A well-formed problem is ready to be allotted.
 use Rattle.std.proofs.Common.{◌≡◌, List, None, sym, subst}
 use Rattle.adm_match.specs.declared.problem.Seats.{Seats}
 use Rattle.adm_match.specs.Market.{Candidate, Market, market_of, first_fault}

@@ -1,4 +1,4 @@
--- Whether an element comes twice, told from the set of those before it.
+-- Whether an element is repeated, known from the set of those before it.
 use Rattle.std.proofs.Common.{◌≡◌, ℕ, zero, suc, ◌+◌, ◌<◌, List, [], ◌∷◌, ◌++◌, length, get_or, take, drop, map, Bool, true, false, cond, not, ◌||◌, refl, sym, ap, ◌∙◌, Ordering}
 use Rattle.std.specs.List.{list_any}
 use Rattle.std.specs.Ordering.{is_eq}
@@ -52,7 +52,7 @@ pair_same t u xs h = ap (λ (f : _ → _ → Bool). some_pair f xs) (λ i x y. h
 abbrev same : {K : Type 0} → (K → K → Ordering) → K → K → Bool
 same cmp a b = is_eq (cmp a b)
 
--- the set holds the first keys, and none of them came twice
+-- the set holds the first keys, and none of them was repeated
 pub record SeenAll {K : Type 0} (cmp : K → K → Ordering) (keys : List K) (seen : BTreeSet K) (n : ℕ) : Type 0 where
   pub held : (q : K) → contains cmp seen q ≡ list_any (λ key. is_eq (cmp key q)) (take n keys)
   pub apart : some_pair (λ a b. is_eq (cmp a b)) (take n keys) ≡ false

@@ -1,4 +1,4 @@
--- One turn: what it keeps, and that it takes one from what is left to do.
+-- One turn: what it keeps, and that it takes one from what remains to do.
 use Rattle.std.proofs.Common.{◌≡◌, ℕ, suc, ◌+◌, ◌<◌, ◌≤◌, List, [], ◌∷◌, length, get_or, map, set, None, Some, inl, refl, sym, ap, ◌∙◌, subst, arith}
 use Rattle.std.specs.Prelude.{is_none, option_map}
 use Rattle.std.specs.List.{slice_get, sum_by}
@@ -30,7 +30,7 @@ sum_set f xs i x y e =
 rejected_few : (m : Market) (rows : List Progress) → Shaped m rows → sum_by (λ r. r.rejections) rows ≤ sum_by (λ e. length e.list) m.entrants
 rejected_few m rows h = sum_beside (λ r. r.rejections) (λ e. length e.list) rows m.entrants h.same (λ k r e rk ek. h.within k e r ek rk)
 
--- one that comes to a school is one less that no school holds
+-- one that proposes to a school is one less that no school holds
 pub turns_left_arrive : (m : Market) (rows : List Progress) (i : ℕ) (r : Progress) (s : Code) → Shaped m rows → slice_get rows i ≡ Some r → r.school ≡ None → turns_left m.entrants (set rows i (record r { school = Some s })) + 1 ≡ turns_left m.entrants rows
 turns_left_arrive m rows i r s h at free =
     let v : Progress = record r { school = Some s } in
@@ -76,7 +76,7 @@ next_wish es rows i free e items row w e_is list_is w_is =
     let read : w ≡ get_or free.0.list free.1.rejections w = w_is ∙ (λ j. get_or (items_same j) (row_same j).rejections w) in
     slice_get_read free.0.list (length free.0.list) free.1.rejections w refl free.5 read
 
--- the entrant comes to the school of its next wish
+-- the entrant proposes to the school of its next wish
 pub came : (m : Market) (rows now : List Progress) (i : ℕ) (w : Wish) (free : IsFree m.entrants rows i) → Sound m rows → slice_get free.0.list free.1.rejections ≡ Some w → now ≡ set rows i (held_by free.1 w.school) → Arrived m now i w.school × (turns_left m.entrants now + 1 ≡ turns_left m.entrants rows)
 came m rows now i w free h next now_is = (
   subst (λ (x : List Progress). Arrived m x i w.school) (sym now_is) (arrive m rows i free.0 free.1 w h free.2 free.3 free.4 next),

@@ -105,7 +105,7 @@ mirrored_set m rows now schools at seat new h here mine rest = record {
   ];
 }
 
--- the school that an entrant comes to, and its holding
+-- the school that an entrant proposes to, and its holding
 pub record Coming (m : Market) (rows : List Progress) (schools : List Holding) (i at : ℕ) (e : Candidate) (r : Progress) (w : Wish) (seat : Seats) (old : Holding) : Type 0 where
   pub distinct : Distinct m
   pub seated : Seated m
@@ -120,7 +120,7 @@ pub record Coming (m : Market) (rows : List Progress) (schools : List Holding) (
   pub code : seat.code ≡ w.school
   pub held_at : slice_get schools at ≡ Some old
 
--- who is free after the entrant at i has come to a school
+-- who is free after the entrant at i has proposed to a school
 free_after_coming : (es : List Candidate) (rows : List Progress) (i : ℕ) (r : Progress) (s : Code) (k : ℕ) → IsFree es (set rows i (held_by r s)) k → (k ≢ i) × IsFree es rows k
 free_after_coming es rows i r s k f = elim (after_set rows i k (held_by r s) f.1 f.3) [
   | inl is ↦ absurd (none-some s (sym f.4 ∙ ap (λ (x : Progress). x.school) (sym is.1)))
@@ -169,7 +169,7 @@ turn_holds m rows now schools i at e r w seat old new c now_is considers =
       within = tt;
     })
 
--- the guest that ranks last is rejected, and stands at the index that the directory has for it
+-- the guest that ranks last is rejected, and is at the index that the directory has for it
 pub record Leaving (m : Market) (mid : List Progress) (s : Code) (k : ℕ) (guest : Guest) : Type 0 where
   pub last : IsLast m.entrants mid s k
   pub child : last.0.child ≡ guest.child
@@ -283,7 +283,7 @@ pub considers_as : (old new : Holding) (child child' : ℕ) (key : RankKey) (ten
 considers_as old new child child' key tenant tenant' out out' c t o h =
     subst (λ (x : ℕ). Considers old new x key tenant' out') c (subst (λ (b : Bool). Considers old new child key b out') t (subst (λ (x : Option ℕ). Considers old new child key tenant x) o h))
 
--- the one who is rejected stands among the entrants
+-- the one who is rejected is among the entrants
 pub rejected_stands : (m : Market) (rows mid : List Progress) (schools : List Holding) (i at : ℕ) (e : Candidate) (r : Progress) (w : Wish) (seat : Seats) (old new : Holding) (out : ℕ) → Coming m rows schools i at e r w seat old → mid ≡ set rows i (held_by r w.school) → (considers : Considers old new e.child w.key (is_tenant e w.school) (Some out)) → (k : ℕ) × StandsAt m.entrants out k
 rejected_stands m rows mid schools i at e r w seat old new out c mid_is considers =
     let s = w.school in

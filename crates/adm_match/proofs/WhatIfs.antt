@@ -1,4 +1,4 @@
--- What a child is told that lists others of its schools: the problem with that list can be allotted, and no gain comes of it.
+-- What a child gets that lists others of its schools: the problem with that list can be allotted, and the child gains nothing by it.
 use Rattle.std.proofs.Common.{◌≡◌, ℕ, zero, suc, ◌+◌, ◌<◌, List, [], ◌∷◌, ◌++◌, length, get_or, take, map, Option, None, Some, Bool, true, false, cond, not, ◌||◌, inl, inr, refl, sym, ap, ◌∙◌, subst, add-one, append_assoc, append-nil, bytes_eq, ◌==◌}
 use Rattle.std.specs.Prelude.{find}
 use Rattle.std.specs.List.{slice_get, list_any, list_all, cons_option}
@@ -39,7 +39,7 @@ wishes_more list schools i school first old new l at was now =
     now ∙ (ap (λ (x : List Wish). x ++ wishes_among list (school ∷ [])) was ∙ (append_assoc first (wishes_among list (take i schools)) (wishes_among list (school ∷ []))
     ∙ sym (ap (λ (x : List Code). first ++ wishes_among list x) step ∙ ap (λ (x : List Wish). first ++ x) (wishes_append list (take i schools) (school ∷ [])))))
 
--- a school that is not asked for is no wish's
+-- a school that is not listed is no wish's
 wishes_without : (list : List Wish) (schools : List Code) (s : Code) → list_any (bytes_eq s) schools ≡ false → list_any (λ z. bytes_eq s z.school) (wishes_among list schools) ≡ false
 wishes_without list [] s h = refl
 wishes_without list (c ∷ cs) s h = one list (wishes_among list cs) c s (find (λ wish. bytes_eq wish.school c) list) refl parts.0 (wishes_without list cs s parts.1)

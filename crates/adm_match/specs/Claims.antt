@@ -1,4 +1,4 @@
--- By which keys the entrants that are no tenants ask for the schools.
+-- The keys by which the entrants that are no tenants compete for the schools.
 use Rattle.std.specs.Prelude.{not, List, map, filter}
 use Rattle.std.specs.List.{flat_map}
 use Rattle.adm_match.specs.declared.problem.Wish.{Wish}

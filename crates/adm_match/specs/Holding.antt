@@ -17,6 +17,7 @@ pub record Holding : Type 0 where
   pub tenants : List ℕ
   pub guests : List Guest
 
+-- the holding with this quota, these tenants and these guests
 abbrev pub holding_of : ℕ → List ℕ → List Guest → Holding
 holding_of quota tenants guests = record { quota = quota; tenants = tenants; guests = guests }
 
@@ -31,15 +32,16 @@ guest_cmp a b =
 abbrev pub tenants_with : Holding → ℕ → Bool → List ℕ
 tenants_with held child tenant = if tenant then held.tenants ++ child ∷ [] else held.tenants
 
+-- the guests with one more child, unless that child is a tenant
 abbrev pub guests_with : Holding → ℕ → RankKey → Bool → List Guest
 guests_with held child key tenant = if tenant then held.guests else record { key = key; child = child } ∷ held.guests
 
--- the guest is one of these, the others are left, and none of them ranks after it
-pub record RanksLast (guests : List Guest) (left : List Guest) (child : ℕ) : Type 0 where
+-- the guest is one of these, the others remain, and none of them ranks after it
+pub record RanksLast (guests : List Guest) (remaining : List Guest) (child : ℕ) : Type 0 where
   pub guest : Guest
   pub is_child : guest.child ≡ child
-  pub others : IsPermutation guests (guest ∷ left)
-  pub last : All (λ other. precedes guest.key other.key ≡ false) left
+  pub others : IsPermutation guests (guest ∷ remaining)
+  pub last : All (λ other. precedes guest.key other.key ≡ false) remaining
 
 -- Nobody is rejected: there is room, or there are tenants alone.
 pub record HoldsAll (old new : Holding) (child : ℕ) (key : RankKey) (tenant : Bool) : Type 0 where
@@ -51,6 +53,7 @@ pub record Rejects (old new : Holding) (child : ℕ) (key : RankKey) (tenant : B
   pub over : old.quota < length (tenants_with old child tenant) + length (guests_with old child key tenant)
   pub last : RanksLast (guests_with old child key tenant) new.guests out
 
+-- the guests afterwards: all are held where nobody is rejected, and else all but the rejected child
 abbrev pub GuestsAfter : Holding → Holding → ℕ → RankKey → Bool → Option ℕ → Type 0
 GuestsAfter old new child key tenant None = HoldsAll old new child key tenant
 GuestsAfter old new child key tenant (Some out) = Rejects old new child key tenant out

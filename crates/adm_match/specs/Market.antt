@@ -25,6 +25,7 @@ pub record Market : Type 0 where
   pub entrants : List Candidate
   pub seats : List Seats
 
+-- the problem of these entrants and seats
 abbrev pub market_of : List Candidate → List Seats → Market
 market_of entrants seats = record { entrants = entrants; seats = seats }
 
@@ -46,6 +47,7 @@ is_tenant entrant school = has entrant.tenant school
 abbrev pub key_at : List Wish → Code → Option RankKey
 key_at list school = option_map (λ wish. wish.key) (find (λ wish. bytes_eq wish.school school) list)
 
+-- whether there are both keys, and the first ranks before the second
 abbrev pub both_precede : Option RankKey → Option RankKey → Bool
 both_precede None key = false
 both_precede (Some first) None = false
@@ -68,6 +70,7 @@ some_pair test (x ∷ xs) = list_any (test x) xs || some_pair test xs
 abbrev pub same_code : Seats → Seats → Bool
 same_code one other = bytes_eq one.code other.code
 
+-- whether two entrants are the same child
 abbrev pub same_child : Candidate → Candidate → Bool
 same_child one other = one.child == other.child
 
@@ -75,7 +78,7 @@ same_child one other = one.child == other.child
 abbrev pub same_school : Wish → Wish → Bool
 same_school one other = bytes_eq one.school other.school
 
--- a code that comes twice, among the seats or on one list
+-- a code that is repeated, among the seats or on one list
 abbrev pub repeats_school : Market → Bool
 repeats_school m =
     some_pair same_code m.seats
@@ -88,10 +91,11 @@ names_unknown m =
     (λ entrant. list_any (λ wish. not (list_any (λ seat. bytes_eq seat.code wish.school) m.seats)) entrant.list)
     m.entrants
 
--- a child that comes twice
+-- a child that is repeated
 abbrev pub repeats_child : Market → Bool
 repeats_child m = some_pair same_child m.entrants
 
+-- whether there is a school, and it is not the last of the list
 abbrev pub is_not_last : List Wish → Option Code → Bool
 is_not_last list None = false
 is_not_last list (Some school) = not (preference_rank list school + 1 == length list)
@@ -100,6 +104,7 @@ is_not_last list (Some school) = not (preference_rank list school + 1 == length 
 abbrev pub has_tenant_not_last : Market → Bool
 has_tenant_not_last m = list_any (λ entrant. is_not_last entrant.list entrant.tenant) m.entrants
 
+-- whether there is a key, and it is equal to this one
 abbrev pub is_key : Option RankKey → RankKey → Bool
 is_key None key = false
 is_key (Some other) key = other.class == key.class && (other.distance == key.distance && other.lot == key.lot)
@@ -114,7 +119,7 @@ shares one other wish =
 abbrev pub share_rank : Candidate → Candidate → Bool
 share_rank one other = list_any (shares one other) one.list
 
--- two entrants that a school cannot tell apart
+-- two entrants that a school cannot distinguish
 abbrev pub has_equal_rank : Market → Bool
 has_equal_rank m = some_pair share_rank m.entrants
 

@@ -12,11 +12,11 @@ use Rattle.adm_match.specs.Market.{Code, Candidate, Market}
 use Rattle.adm_match.specs.Turns.{held_at, IsFree, Sound, turns_left}
 use Rattle.adm_match.specs.Holding.{Holding, SameBag, guests_of}
 
--- the child stands at that index among the entrants
+-- the child is at that index among the entrants
 abbrev pub StandsAt : List Candidate → ℕ → ℕ → Type 0
 StandsAt entrants child k = (e : Candidate) × (slice_get entrants k ≡ Some e) × (e.child ≡ child)
 
--- the school's seats stand at that index
+-- the school's seats are at that index
 abbrev pub SeatedAt : List Seats → Code → ℕ → Type 0
 SeatedAt seats school j = (seat : Seats) × (slice_get seats j ≡ Some seat) × (seat.code ≡ school)
 
@@ -44,7 +44,7 @@ pub record IsMirror (m : Market) (rows : List Progress) (seat : Seats) (held : H
   pub count : length held.tenants + length held.guests ≡ held_at rows seat.code
   pub guests : SameBag (guests_of m.entrants rows seat.code) held.guests
 
--- the schools stand in the order of the seats, and each holds whom the rows say
+-- the schools are in the order of the seats, and each holds whom the rows say
 pub record Mirrored (m : Market) (rows : List Progress) (schools : List Holding) : Type 0 where
   pub same : length schools ≡ length m.seats
   pub each : (j : ℕ) (seat : Seats) (held : Holding) → slice_get m.seats j ≡ Some seat → slice_get schools j ≡ Some held → IsMirror m rows seat held
@@ -61,7 +61,7 @@ pub record Turned (m : Market) (old new : List Progress) (schools : List Holding
   pub free : FreeAfter m.entrants old new i out
   pub within : IfSome out (λ k. k < length new)
 
--- each free entrant stands in the queue, and the queue has indices of entrants
+-- each free entrant is in the queue, and the queue has indices of entrants
 pub record Queued (entrants : List Candidate) (rows : List Progress) (queue : List ℕ) : Type 0 where
   pub waiting : (k : ℕ) → IsFree entrants rows k → list_any (λ q. q == k) queue ≡ true
   pub within : All (λ q. q < length entrants) queue

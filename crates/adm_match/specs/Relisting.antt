@@ -49,7 +49,7 @@ OneBest =
 abbrev pub is_wanted : Candidate → Code → Bool
 is_wanted entrant school = not (is_tenant entrant school) && list_any (λ wish. bytes_eq wish.school school) entrant.list
 
--- whether the entrant wants each of these schools, and none of them comes twice
+-- whether the entrant wants each of these schools, and none of them is repeated
 abbrev pub may_list : Candidate → List Code → Bool
 may_list entrant schools = list_all (is_wanted entrant) schools && not (some_pair bytes_eq schools)
 
@@ -58,7 +58,7 @@ abbrev pub list_fault : Option Candidate → List Code → Option WhatIfFault
 list_fault None schools = Some UnknownChild
 list_fault (Some entrant) schools = if may_list entrant schools then None else Some NotItsSchools
 
--- a child that is no entrant, or a school that it does not want or that comes twice
+-- a child that is no entrant, or a school that it does not want or that is repeated
 abbrev pub what_if_fault : Market → ℕ → List Code → Option WhatIfFault
 what_if_fault m child schools = list_fault (find (λ entrant. entrant.child == child) m.entrants) schools
 
@@ -66,7 +66,7 @@ what_if_fault m child schools = list_fault (find (λ entrant. entrant.child == c
 abbrev pub IsWhatIf : Market → ℕ → List Code → Option Code → Type 0
 IsWhatIf m child schools school = (other : Allocation) × IsBest (relisted m child schools) other × (school ≡ other child)
 
--- on its list the school never stands before the one that the child has in the best allocation
+-- on its list the school is never before the one that the child has in the best allocation
 abbrev pub IsNoGain : Market → ℕ → Option Code → Type 0
 IsNoGain m child school =
     (best : Allocation) → IsBest m best

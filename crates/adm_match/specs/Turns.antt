@@ -1,4 +1,4 @@
--- Where the entrants stand between two turns of deferred acceptance.
+-- The state of the entrants between two turns of deferred acceptance.
 use Rattle.std.specs.Prelude.{◌≡◌, ℕ, ◌<◌, ◌≤◌, ◌⊎◌, ◌+◌, ◌-◌, ◌≢◌, Bool, true, false, List, length, Option, None, Some, is_none, is_some, if◌then◌else◌, slice_get, count_by, sum_by, unwrap_or, option_map, find, ◌==◌}
 use Rattle.adm_types.specs.Code.{has}
 use Rattle.adm_match.specs.declared.problem.Wish.{Wish}
@@ -10,7 +10,7 @@ use Rattle.adm_match.specs.Stability.{Allocation, IsStable}
 abbrev pub held_at : List Progress → Code → ℕ
 held_at rows s = count_by (λ row. has row.school s) rows
 
--- each school of a list has the rank at which it stands: no school comes twice
+-- each school of a list has the rank of its place on the list: no school is repeated
 pub record WellListed (m : Market) : Type 0 where
   pub own_rank : (k : ℕ) (e : Candidate) (j : ℕ) (w : Wish) → slice_get m.entrants k ≡ Some e → slice_get e.list j ≡ Some w → preference_rank e.list w.school ≡ j
 
@@ -93,7 +93,7 @@ abbrev pub AreRanked : List Candidate → List Progress → Code → Type 0
 AreRanked entrants rows s =
     (k l : ℕ) (d c : Candidate) → k ≢ l → IsGuestAt entrants rows s k d → IsGuestAt entrants rows s l c → ranks_before s d c ≡ false → ranks_before s c d ≡ true
 
--- what is left to do: each turn takes one from it, so the turns end
+-- what remains to do: each turn takes one from it, so the turns end
 abbrev pub turns_left : List Candidate → List Progress → ℕ
 turns_left entrants rows =
     (sum_by (λ e. length e.list) entrants + count_by (λ r. is_none r.school) rows) - sum_by (λ r. r.rejections) rows

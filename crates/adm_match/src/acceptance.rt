@@ -92,7 +92,7 @@ fn propose(
     Ok(Some(rejected))
 }
 
-/// Where the entrants stand when no turn is left.
+/// The state of the entrants when no turn remains.
 fn settle(alloc: Global, entrants: &[Entrant], seats: &[Seats]) -> Result<Vec<Progress>, AllocError>
     requires distinct { Distinct (market_of entrants.now seats.now) }
     requires seated { Seated (market_of entrants.now seats.now) }
@@ -114,7 +114,7 @@ fn settle(alloc: Global, entrants: &[Entrant], seats: &[Seats]) -> Result<Vec<Pr
     Ok(rows)
 }
 
-/// The best stable allocation of entrants that can be told apart, at schools that have seats.
+/// The best stable allocation of entrants that can be distinguished, at schools that have seats.
 pub(crate) fn allot(
     alloc: Global,
     entrants: &[Entrant],

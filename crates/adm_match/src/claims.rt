@@ -1,4 +1,4 @@
-// By which keys the entrants that are no tenants ask for the schools.
+// The keys by which the entrants that are no tenants compete for the schools.
 ghost use Rattle.std.specs.Prelude.{◌≡◌, ◌++◌, ◌∷◌, [], IfOk};
 ghost use Rattle.adm_match.specs.Claims.{asked, all_claims};
 
@@ -8,7 +8,7 @@ use adm_types::SchoolCode;
 use std::alloc::{AllocError, Global};
 
 /// A school that an entrant lists and of which it is no tenant, with the entrant's key there. Keys
-/// come first in the order, since they are told apart faster than codes.
+/// come first in the order, since they are compared faster than codes.
 #[derive(Clone, Copy, Debug, PartialEq, Eq, PartialOrd, Ord)]
 pub struct Claim {
     pub key: RankKey,

@@ -1,4 +1,4 @@
-// Where each child stands among the entrants, and each school among the seats.
+// The index of each child among the entrants, and of each school among the seats.
 ghost use Rattle.std.specs.Prelude.{◌≡◌, ◌<◌, ℕ, length, IfOk};
 ghost use Rattle.std.specs.List.{Contains};
 ghost use Rattle.std.specs.List.Sorted.{IsSortedByKey, IsPermutation};
@@ -18,7 +18,7 @@ pub struct Directory {
     pub(crate) schools: Vec<(SchoolCode, usize)>,
 }
 
-/// An index that stands beside the key, which one of the pairs has.
+/// An index that is beside the key, which one of the pairs has.
 fn index_beside<K: Ord + Copy + Drop>(pairs: &[(K, usize)], key: K) -> usize
     requires sorted { IsSortedByKey (λ pair. pair.0) K.cmp pairs.now }
     requires there { (k : ℕ) × Contains pairs.now (key, k) }

@@ -20,7 +20,7 @@ fn seat_codes(alloc: Global, seats: &[Seats]) -> Result<Vec<SchoolCode>, AllocEr
     seats.iter().map(|seat| seat.code).collect(alloc)
 }
 
-/// Whether a code comes twice among the seats.
+/// Whether a code is repeated among the seats.
 fn seats_repeat(alloc: Global, seats: &[Seats]) -> Result<bool, AllocError>
     ensures { IfOk result (λ answer. answer ≡ some_pair same_code seats.now) }
 {
@@ -35,7 +35,7 @@ fn listed_schools(alloc: Global, list: &[Wish]) -> Result<Vec<SchoolCode>, Alloc
     list.iter().map(|wish| wish.school).collect(alloc)
 }
 
-/// Whether a school comes twice on the list.
+/// Whether a school is repeated on the list.
 fn list_repeats(alloc: Global, list: &[Wish]) -> Result<bool, AllocError>
     ensures { IfOk result (λ answer. answer ≡ some_pair same_school list.now) }
 {
@@ -43,7 +43,7 @@ fn list_repeats(alloc: Global, list: &[Wish]) -> Result<bool, AllocError>
     has_repeat(alloc, &schools)
 }
 
-/// Whether a school comes twice on some list.
+/// Whether a school is repeated on some list.
 fn some_list_repeats(alloc: Global, entrants: &[Entrant]) -> Result<bool, AllocError>
     ensures { IfOk result (λ answer. answer ≡ list_any (λ entrant. some_pair same_school entrant.list) entrants.now) }
 {
@@ -116,7 +116,7 @@ fn children_of(alloc: Global, entrants: &[Entrant]) -> Result<Vec<ChildNo>, Allo
         .collect(alloc)
 }
 
-/// Whether a child comes twice.
+/// Whether a child is repeated.
 fn repeats_child(alloc: Global, entrants: &[Entrant]) -> Result<bool, AllocError>
     ensures { IfOk result (λ answer. answer ≡ some_pair same_child entrants.now) }
 {
@@ -143,7 +143,7 @@ fn has_tenant_not_last(entrants: &[Entrant]) -> bool
     entrants.iter().any(|entrant| tenancy_is_not_last(entrant))
 }
 
-/// Whether a school cannot tell two entrants apart.
+/// Whether a school cannot distinguish two entrants.
 fn has_equal_rank(alloc: Global, entrants: &[Entrant]) -> Result<bool, AllocError>
     requires { list_any (λ entrant. some_pair same_school entrant.list) entrants.now ≡ false }
     ensures { IfOk result (λ answer. answer ≡ some_pair share_rank entrants.now) }

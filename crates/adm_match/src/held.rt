@@ -71,7 +71,7 @@ impl Held {
         tenant: bool,
     ) -> Result<Option<ChildNo>, AllocError>
         ensures ok { IfOk result (Considers self.old self.new child key tenant) }
-        // After want of memory it holds whom it held.
+        // After an error it holds whom it held.
         ensures err { OnErr result (self.new ≡ self.old) }
     {
         if tenant {

@@ -103,7 +103,7 @@ pub struct Seats {
 /// What is wrong with a problem.
 #[derive(Clone, Copy, Debug, PartialEq, Eq, Error)]
 pub enum BadProblem {
-    /// A school comes twice, among the seats or on one list.
+    /// A school is repeated, among the seats or on one list.
     #[error("a school comes twice")]
     RepeatedSchool = 1,
     /// A list names a school without seats.
@@ -118,7 +118,7 @@ pub enum BadProblem {
     /// Memory ran out.
     #[error("out of memory")]
     Memory = 5,
-    /// A child comes twice.
+    /// A child is repeated.
     #[error("a child comes twice")]
     RepeatedChild = 6,
 }
@@ -158,7 +158,7 @@ impl Problem {
     ghost use Rattle.adm_match.specs.Market.{market_of, first_fault};
 
     /// The problem of just these entrants and seats, or the first of the tests that fails: a school
-    /// that comes twice, a list that names a school without seats, a child that comes twice, a
+    /// that is repeated, a list that names a school without seats, a child that is repeated, a
     /// tenant whose school is not the last of its list, two entrants with equal keys at a school.
     /// The cost grows with the list entries, times their logarithm.
     pub fn new(

@@ -1,4 +1,4 @@
-// Where the entrants stand between two turns, and what their rows give.
+// The state of the entrants between two turns, and what their rows give.
 ghost use Rattle.std.specs.Prelude.{◌≡◌, ◌<◌, IfOk, Some, length, map, ℕ, slice_get, slice_set, sum_by, ◌^◌};
 ghost use Rattle.adm_types.specs.Code.{has};
 ghost use Rattle.adm_match.specs.Turns.{start_of, held_by, with_rejection, reached};

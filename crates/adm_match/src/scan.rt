@@ -99,7 +99,7 @@ fn propose(entrants: &[Entrant], seats: &[Seats], rows: &mut [Progress], index: 
     }
 }
 
-/// Where the entrants stand when no turn is left.
+/// The state of the entrants when no turn remains.
 fn settle(alloc: Global, entrants: &[Entrant], seats: &[Seats]) -> Result<Vec<Progress>, AllocError>
     requires { first_fault (market_of entrants.now seats.now) ≡ None }
     ensures sound { IfOk result (λ rows. Sound (market_of entrants.now seats.now) rows.items) }

@@ -20,7 +20,7 @@ pub enum WhatIfFault {
     /// The child is no entrant.
     #[error("the child is no entrant")]
     UnknownChild = 1,
-    /// A school is not among those that the child wants, or comes twice.
+    /// A school is not among those that the child wants, or is repeated.
     #[error("a school is not among the child's wanted ones, or comes twice")]
     NotItsSchools = 2,
     /// Memory ran out.
@@ -71,14 +71,14 @@ fn wants_all(entrant: &Entrant, schools: &[SchoolCode]) -> bool
     schools.iter().all(|school| wants(entrant, *school))
 }
 
-/// Whether a school comes twice.
+/// Whether a school is repeated.
 fn repeats(alloc: Global, schools: &[SchoolCode]) -> Result<bool, AllocError>
     ensures { IfOk result (λ answer. answer ≡ some_pair bytes_eq schools.now) }
 {
     has_repeat(alloc, schools)
 }
 
-/// Whether the entrant wants each of the schools, and none of them comes twice.
+/// Whether the entrant wants each of the schools, and none of them is repeated.
 fn may_list(alloc: Global, entrant: &Entrant, schools: &[SchoolCode]) -> Result<bool, AllocError>
     ensures { IfOk result (λ answer. answer ≡ may_list entrant.now schools.now) }
 {
@@ -88,7 +88,7 @@ fn may_list(alloc: Global, entrant: &Entrant, schools: &[SchoolCode]) -> Result<
 }
 
 /// Why the child may not list these schools.
-fn fault_of(
+fn fault_of_list(
     alloc: Global,
     entrants: &[Entrant],
     child: ChildNo,
@@ -118,7 +118,7 @@ pub fn what_if(
     ensures no_gain { IfOk result (IsNoGain problem.now child) }
     ensures fault { IfErr result (λ fault. (what_if_fault problem.now child schools.now ≡ Some fault) ⊎ (fault ≡ Memory)) }
 {
-    let fault = fault_of(alloc, &problem.entrants, child, schools)?;
+    let fault = fault_of_list(alloc, &problem.entrants, child, schools)?;
     if let Some(fault) = fault {
         return Err(fault);
     }

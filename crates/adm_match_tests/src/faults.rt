@@ -8,7 +8,7 @@ const A: &[(&str, u32)] = &[("A", 1)];
 
 const TWO: &[(&str, u32)] = &[("A", 1), ("B", 1)];
 
-/// The fault of a problem of children 1 and 2.
+/// The error of a problem of children 1 and 2.
 fn fault(
     alloc: Global,
     lines: &'static [Line],

@@ -1,4 +1,4 @@
--- What each action comes to, and the exit status of its line, from the clauses of what it calls.
+-- The result of each action, and the exit status of its line, from the clauses of what it calls.
 use Rattle.std.proofs.Common.{◌≡◌, ◌≢◌, ◌⊎◌, ℕ, Bool, true, false, if◌then◌else◌, nat_lt, refl, List, Option, None, Some, Result, Ok, Err, inl, inr, Bor, sym, subst}
 use Rattle.std.specs.Prelude.{IfOk, IsTrue}
 use Rattle.sqlite_disk.specs.declared.Disk as disk
@@ -13,24 +13,24 @@ use Rattle.adm_types.specs.declared.seasons.SeasonFault.{SeasonFault}
 use Rattle.adm_types.specs.declared.seasons.SeasonFault.TheVariants as season
 use Rattle.adm_words.specs.declared.actions.Action.{Action}
 use Rattle.adm_words.specs.declared.actions.Action.TheVariants as action
-use Rattle.adm_words.specs.declared.faults.WordsFault.{WordsFault}
-use Rattle.adm_words.specs.declared.faults.WordsFault.TheVariants as words
+use Rattle.adm_words.specs.declared.faults.ArgumentsFault.{ArgumentsFault}
+use Rattle.adm_words.specs.declared.faults.ArgumentsFault.TheVariants as arguments
 use Rattle.sqlite.specs.Files.{file_state}
 use Rattle.sqlite.specs.Held.{Held}
 use Rattle.adm_desk.specs.Lines.{AnswersLine}
-use Rattle.adm_desk.specs.Questions.{TellsLine}
+use Rattle.adm_desk.specs.Questions.{AnswersQuestionLine}
 use Rattle.adm_desk.specs.DeskState.{Handles, DeskState}
 use Rattle.adm_desk.specs.declared.answer.Answer.{Answer}
 use Rattle.adm_desk.specs.declared.answer.Answer.TheVariants as answer
 use Rattle.adm_desk.specs.declared.run.Run.{Run}
 use Rattle.adm_desk.specs.declared.run.RunFault.{RunFault}
-use Rattle.adm_files.specs.Exits.{of_season, of_lines, has_many_holidays, IsCauseIn, ExitsBy, exit_of_answer, ending_of, error_of, told_of, line_outcome, exit_of_words, exit_code}
+use Rattle.adm_files.specs.Exits.{of_season, of_lines, has_many_holidays, IsCauseIn, ExitsBy, exit_of_answer, ending_of, error_of, exit_of_result, line_outcome, exit_of_arguments, exit_code}
 use Rattle.adm_wire.specs.Streams.{Stream}
 use Rattle.adm_files.specs.Opened.{IsNotOpened}
 use Rattle.adm_files.specs.Imports.{ImportsAs, ImportsFile, ImportsInto}
 use Rattle.adm_program.specs.Served.{ServesAs, ServesOver}
 use Rattle.adm_files.specs.Texts.{Prints, PrintsAs, document_text}
-use Rattle.adm_files.specs.Runs.{Liner, OpensAndRuns, Creates, CreatesAs}
+use Rattle.adm_files.specs.Runs.{LineStep, OpensAndRuns, Creates, CreatesAs}
 use Rattle.adm_program.specs.Does.{Does}
 use Rattle.adm_files.specs.declared.document.Document.{Document}
 use Rattle.adm_files.specs.declared.document.Document.TheVariants as document
@@ -52,13 +52,13 @@ no_season file phase year days season.YearRange range many = inl (refl, range re
 no_season file phase year days season.TooManyHolidays range many = inr (inl (refl, many refl))
 no_season file phase year days season.Memory range many = inr (inr (inl refl))
 
--- the status of a line that ended so, and of what its close came to
+-- the status of a line that ended so, and of the result of its close
 abbrev status : Result Exit Fault → Option Error → ℕ
-status e closed = exit_code (told_of (ending_of e closed))
+status e closed = exit_code (exit_of_result (ending_of e closed))
 
--- a line that ended with a fault
+-- a line that ended with an error
 fault_exit : (e : Result Exit Fault) (f : Fault) (closed : Option Error) → e ≡ Err f → status e closed ≡ 1
-fault_exit e f closed told = subst (λ (y : Result Exit Fault). status y closed ≡ 1) (sym told) refl
+fault_exit e f closed reported = subst (λ (y : Result Exit Fault). status y closed ≡ 1) (sym reported) refl
 
 -- something was done, and its connection closed
 done_exit : (e : Exit) (closed : Option Error) → e ≡ exit.Done → (status (Ok e) closed ≡ 0) ⊎ (status (Ok e) closed ≡ 1)
@@ -105,7 +105,7 @@ print_exit (Ok text) output (Ok x) closed prints = done_exit x closed prints.1
 print_exit (Ok text) output (Err f) closed prints = inr refl
 print_exit (Err f) output e closed prints = inr (fault_exit e f closed prints.0)
 
--- an action that came to nothing
+-- an action that failed before it began
 unmade : (a : Action) → ExitsBy (Ok a) 1
 unmade (action.Init file phase year days) = inr refl
 unmade (action.Do file) = λ e. cc
@@ -117,17 +117,17 @@ unmade (action.List file school) = inr refl
 unmade (action.RoundReport file round) = inr refl
 unmade (action.Pairs file school) = inr refl
 
--- words that ask for nothing
-pub refused : (fault : WordsFault) → ExitsBy (Err fault) (exit_code (exit_of_words fault))
-refused (words.Words e) = refl
-refused words.BadDate = refl
-refused words.BadWord = refl
-refused words.Memory = refl
+-- arguments that are a usage error
+pub refused : (fault : ArgumentsFault) → ExitsBy (Err fault) (exit_code (exit_of_arguments fault))
+refused (arguments.Usage e) = refl
+refused arguments.BadDate = refl
+refused arguments.BadWord = refl
+refused arguments.Memory = refl
 
 -- a run over lines never ends with 2
 ran : (run : Result Run RunFault) (e : Result Exit Fault) (closed : Option Error) → e ≡ of_lines run → status e closed ≢ 2
-ran (Err f) e closed told = subst (λ (y : Result Exit Fault). status y closed ≢ 2) (sym told) (λ e. cc)
-ran (Ok run) e closed told = subst (λ (y : Result Exit Fault). status y closed ≢ 2) (sym told) (run_exit run.failed (nat_lt 0 run.refused) closed)
+ran (Err f) e closed reported = subst (λ (y : Result Exit Fault). status y closed ≢ 2) (sym reported) (λ e. cc)
+ran (Ok run) e closed reported = subst (λ (y : Result Exit Fault). status y closed ≢ 2) (sym reported) (run_exit run.failed (nat_lt 0 run.refused) closed)
 
 module _ {D : Type 0} {g : disk.Ghosts D} where
   pub season_made : (image : Image) (a : Action) (file : Bor (List ℕ)) (phase : Phase) (year : ℕ) (days given : List ℕ) (rows : List ℕ → Stream) (input output : Stream)
@@ -151,12 +151,12 @@ module _ {D : Type 0} {g : disk.Ghosts D} where
 
   -- the register was not opened
   not_opened : (image : Image) (e : Result Exit Fault) (closed : Result (Files D) (Error × FileStore D g)) → IsNotOpened image e closed → status e (error_of closed) ≡ 1
-  not_opened image e closed left = fault_exit e _ (error_of closed) left.told
+  not_opened image e closed left = fault_exit e _ (error_of closed) left.reported
 
-  lines_exit : (runs : Liner (DeskState (Held (FileStore D g)))) (image : Image) (input output : Stream) (e : Result Exit Fault) (closed : Result (Files D) (Error × FileStore D g)) → OpensAndRuns runs image input output e closed
+  lines_exit : (runs : LineStep (DeskState (Held (FileStore D g)))) (image : Image) (input output : Stream) (e : Result Exit Fault) (closed : Result (Files D) (Error × FileStore D g)) → OpensAndRuns runs image input output e closed
       → status e (error_of closed) ≢ 2
   lines_exit runs image input output e closed (inl left) = not_two _ (not_opened image e closed left.0)
-  lines_exit runs image input output e closed (inr does) = ran does.2.run e (error_of closed) does.2.told
+  lines_exit runs image input output e closed (inr does) = ran does.2.run e (error_of closed) does.2.reported
 
   file_exit : (desk : DeskState (Held (FileStore D g))) (file output : Stream) (e : Result Exit Fault) (closed : Result (Files D) (Error × FileStore D g))
       → ImportsFile desk file output e closed → status e (error_of closed) ≢ 2
@@ -189,7 +189,7 @@ module _ {D : Type 0} {g : disk.Ghosts D} where
   made image (action.Init file phase year days) rows input output e closed does =
       created does.2 does.6.found does.6.creates.left e (error_of closed) does.6.creates.made
   made image (action.Do file) rows input output e closed does = lines_exit (AnswersLine (Handles file_state)) image input output e closed does
-  made image (action.WhatIf file) rows input output e closed does = lines_exit TellsLine image input output e closed does
+  made image (action.WhatIf file) rows input output e closed does = lines_exit AnswersQuestionLine image input output e closed does
   made image (action.Import file csv) rows input output e closed does = import_exit image (rows csv.now) output e closed does.1
   made image (action.Serve file port count) rows input output e closed does = serve_exit image port count output e closed does.1
   made image (action.Letter file child) rows input output e closed does = document_exit image (document.Letter child) output e closed does.1
@@ -199,6 +199,6 @@ module _ {D : Type 0} {g : disk.Ghosts D} where
 
   -- the status of an action
   pub exits : (image : Image) (a : Action) (rows : List ℕ → Stream) (input output : Stream) (r : Result (Ended D g) Fault) (x : Exit)
-      → IfOk r (λ ended. Does image a rows input output ended.exit ended.closed) → x ≡ told_of (line_outcome r) → ExitsBy (Ok a) (exit_code x)
-  exits image a rows input output (Ok ended) x does told = subst (λ (y : Exit). ExitsBy (Ok a) (exit_code y)) (sym told) (made image a rows input output ended.exit ended.closed does)
-  exits image a rows input output (Err f) x does told = subst (λ (y : Exit). ExitsBy (Ok a) (exit_code y)) (sym told) (unmade a)
+      → IfOk r (λ ended. Does image a rows input output ended.exit ended.closed) → x ≡ exit_of_result (line_outcome r) → ExitsBy (Ok a) (exit_code x)
+  exits image a rows input output (Ok ended) x does reported = subst (λ (y : Exit). ExitsBy (Ok a) (exit_code y)) (sym reported) (made image a rows input output ended.exit ended.closed does)
+  exits image a rows input output (Err f) x does reported = subst (λ (y : Exit). ExitsBy (Ok a) (exit_code y)) (sym reported) (unmade a)

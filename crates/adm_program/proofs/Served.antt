@@ -1,4 +1,4 @@
--- What serving connections over a desk comes to, from the clauses of what it calls.
+-- The result of serving connections over a desk, from the clauses of what it calls.
 use Rattle.std.proofs.Common.{◌≡◌, ℕ, Bool, true, false, if◌then◌else◌, refl, Err, subst}
 use Rattle.sqlite_disk.specs.declared.Disk as disk
 use Rattle.sqlite_store.specs.declared.store.FileStore.{FileStore}
@@ -13,10 +13,10 @@ use Rattle.adm_files.specs.declared.exit.Exit.TheVariants as exit
 use Rattle.adm_files.specs.declared.fault.Fault.{Fault}
 use Rattle.adm_files.specs.declared.fault.Fault.TheVariants as fault
 
--- the exit tells whether the store failed
+-- the exit says whether the store failed
 pub exit_served : (failed : Bool) (status : ℕ) (e : Exit) → status ≡ (if failed then 4 else 0) → e ≡ exit_of_status status → e ≡ (if failed then exit.Failed else exit.Done)
-exit_served true status e is told = subst (λ (n : ℕ). e ≡ exit_of_status n) is told
-exit_served false status e is told = subst (λ (n : ℕ). e ≡ exit_of_status n) is told
+exit_served true status e is reported = subst (λ (n : ℕ). e ≡ exit_of_status n) is reported
+exit_served false status e is reported = subst (λ (n : ℕ). e ≡ exit_of_status n) is reported
 
 module _ {D : Type 0} {g : disk.Ghosts D} where
   -- no connection could be waited for

@@ -5,32 +5,32 @@ use Rattle.std.specs.Borrow.{Bor}
 use Rattle.sqlite_disk.specs.declared.Disk as disk
 use Rattle.sqlite_disk.specs.declared.start.Start as start
 use Rattle.sqlite_wal.specs.Files.{image_at}
-use Rattle.adm_words.specs.Lines.{ReadsWords}
+use Rattle.adm_words.specs.Lines.{ReadsArguments}
 use Rattle.adm_words.specs.declared.actions.Action.{Action}
-use Rattle.adm_files.specs.Exits.{has_many_holidays, IsCauseIn, line_outcome, told_of, exit_code}
+use Rattle.adm_files.specs.Exits.{has_many_holidays, IsCauseIn, line_outcome, exit_of_result, exit_code}
 use Rattle.adm_wire.specs.Streams.{Stream}
-use Rattle.adm_files.specs.Told.{TellsOutcome}
+use Rattle.adm_files.specs.Reports.{ReportsOutcome}
 use Rattle.adm_program.specs.Does.{Does}
-use Rattle.adm_program.specs.Words.{DoesWords, texts}
+use Rattle.adm_program.specs.Arguments.{ActsOn, texts}
 use Rattle.adm_files.specs.declared.ended.Ended.{Ended}
 use Rattle.adm_files.specs.declared.exit.Exit.{Exit}
 use Rattle.adm_files.specs.declared.fault.Fault.{Fault}
 use Rattle.adm_files.specs.declared.fault.Fault.TheVariants.{TooManyHolidays}
 
--- words that ask for an action
-pub taken : {D S : Type 0} {g : disk.Ghosts D} (first : start.Ghosts S) (words : List (Bor (List ℕ))) (a : Action) (rows : List ℕ → Stream) (input output errors : Stream) (r : Result (Ended D g) Fault) (x : Exit)
-    → ReadsWords (texts words) (Ok a) → IfOk r (λ ended. Does (image_at first) a rows input output ended.exit ended.closed) → IfErr r (IsCauseIn a)
+-- arguments that name an action
+pub taken : {D S : Type 0} {g : disk.Ghosts D} (first : start.Ghosts S) (arguments : List (Bor (List ℕ))) (a : Action) (rows : List ℕ → Stream) (input output errors : Stream) (r : Result (Ended D g) Fault) (x : Exit)
+    → ReadsArguments (texts arguments) (Ok a) → IfOk r (λ ended. Does (image_at first) a rows input output ended.exit ended.closed) → IfErr r (IsCauseIn a)
     → (IsTrue (has_many_holidays a) → r ≡ Err TooManyHolidays) → OnErr r ((input.new ≡ input.old) × (output.new ≡ output.old))
-    → x ≡ told_of (line_outcome r) → TellsOutcome (line_outcome r) errors → DoesWords g first words rows input output errors (exit_code x)
-taken first words a rows input output errors (Ok ended) x reads does cause many kept exits told =
+    → x ≡ exit_of_result (line_outcome r) → ReportsOutcome (line_outcome r) errors → ActsOn g first arguments rows input output errors (exit_code x)
+taken first arguments a rows input output errors (Ok ended) x reads does cause many kept exits reported =
     record {
       read = Ok a;
       reads = reads;
-      comes = inl (record { ended = ended.exit; closed = ended.closed; does = does; few = λ (t : IsTrue (has_many_holidays a)). (let e = many t in cc); told = told; exits = ap exit_code exits });
+      follows = inl (record { ended = ended.exit; closed = ended.closed; does = does; few = λ (t : IsTrue (has_many_holidays a)). (let e = many t in cc); reported = reported; exits = ap exit_code exits });
     }
-taken first words a rows input output errors (Err f) x reads does cause many kept exits told =
+taken first arguments a rows input output errors (Err f) x reads does cause many kept exits reported =
     record {
       read = Ok a;
       reads = reads;
-      comes = inr (record { cause = f; is_cause = cause; many = λ (t : IsTrue (has_many_holidays a)). (let e = many t in cc); unread = kept.0; unwritten = kept.1; told = told; exits = ap exit_code exits });
+      follows = inr (record { cause = f; is_cause = cause; many = λ (t : IsTrue (has_many_holidays a)). (let e = many t in cc); unread = kept.0; unwritten = kept.1; reported = reported; exits = ap exit_code exits });
     }

@@ -10,7 +10,7 @@ use Rattle.adm_words.specs.declared.actions.Action.{Action}
 use Rattle.adm_words.specs.declared.actions.Action.TheVariants as action
 use Rattle.sqlite.specs.Files.{file_state}
 use Rattle.adm_desk.specs.Lines.{AnswersLine}
-use Rattle.adm_desk.specs.Questions.{TellsLine}
+use Rattle.adm_desk.specs.Questions.{AnswersQuestionLine}
 use Rattle.adm_desk.specs.DeskState.{Handles}
 use Rattle.adm_wire.specs.Streams.{Stream}
 use Rattle.adm_files.specs.Runs.{OpensAndRuns, Creates}
@@ -27,7 +27,7 @@ abbrev pub Does : {D : Type 0} {g : disk.Ghosts D} → Image → Action → (Lis
 Does image (action.Init file phase year days) rows input output e closed = (input.new ≡ input.old) × (output.new ≡ output.old)
     × (season : SeasonFacts) × (season.phase ≡ phase) × (season.year ≡ year) × IsRising days season.holidays × Creates image season e closed
 Does image (action.Do file) rows input output e closed = OpensAndRuns (AnswersLine (Handles file_state)) image input output e closed
-Does image (action.WhatIf file) rows input output e closed = OpensAndRuns TellsLine image input output e closed
+Does image (action.WhatIf file) rows input output e closed = OpensAndRuns AnswersQuestionLine image input output e closed
 Does image (action.Import file csv) rows input output e closed = (input.new ≡ input.old) × ImportsInto image (rows csv.now) output e closed
 Does image (action.Serve file port count) rows input output e closed = (input.new ≡ input.old) × ServesOver image port count output e closed
 Does image (action.Letter file child) rows input output e closed = (input.new ≡ input.old) × Prints image (document.Letter child) output e closed

@@ -1,3 +1,3 @@
 pub mod Served
 pub mod Does
-pub mod Words
+pub mod Arguments

@@ -1,7 +1,7 @@
 // What each line of the command line does, over a reader and writers.
 ghost use Rattle.std.specs.Prelude.{◌≡◌, codes, IsTrue, IfOk, IfErr, OnErr, IsErrAnd};
 ghost use Rattle.sqlite_wal.specs.Files.{image_at};
-ghost use Rattle.adm_files.specs.Exits.{has_many_holidays, IsCauseIn, IsOpenFault, RunsWords, IsDisk};
+ghost use Rattle.adm_files.specs.Exits.{has_many_holidays, IsCauseIn, IsOpenFault, RunsArguments, IsDisk};
 ghost use Rattle.adm_files.specs.declared.fault.Fault.TheVariants.{TooManyHolidays};
 ghost use Rattle.adm_program.specs.Does.{Does};
 ghost use Rattle.adm_files.specs.Imports.{ImportsInto};
@@ -9,12 +9,12 @@ ghost use Rattle.adm_wire.specs.Streams.{reader, writer};
 ghost use Rattle.adm_files.specs.Opened.{files};
 ghost use Rattle.adm_program.specs.Served.{ServesOver};
 ghost use Rattle.adm_files.specs.Texts.{Prints};
-ghost use Rattle.adm_program.specs.Words.{DoesWords, texts};
+ghost use Rattle.adm_program.specs.Arguments.{ActsOn, texts};
 
 use crate::serving::serve_connections;
 use adm_files::{
-    Document, Ended, Fault, Rows, do_lines, end, import, init, open_desk, print, refuse_words,
-    tell_lines,
+    Document, Ended, Fault, Rows, answer_questions, do_lines, end, import, init, open_desk, print,
+    refuse_arguments,
 };
 use adm_types::Season;
 use adm_wire::{Input, Output};
@@ -23,14 +23,14 @@ use sqlite::{FileFrom, Start};
 use sqlite_disk::Disk;
 use std::io::Write;
 
-/// Does what the words ask for, with the program's name first, and gives the exit status:
-/// 0 done; 1 a fault, printed to `errors` as `fault: ` and its name; 2 words that ask for nothing;
-/// 3 an import or some line was refused, faulty or met want of memory; 4 the store failed. What goes
-/// wrong with single connections while `serve` runs is printed to `log`, and nothing else is. `rows`
-/// opens the file that `import` reads.
-pub fn run_words<S: Start, F: Rows, I: Input, O: Output, E: Output, L: Write>(
+/// Does what the arguments say, with the program's name first, and gives the exit status: 0 done; 1
+/// an error, printed to `errors` as `fault: ` and its name; 2 a usage error; 3 an import or some
+/// line was refused, invalid or ran out of memory; 4 the store failed. What goes wrong with single
+/// connections while `serve` runs is printed to `log`, and nothing else is. `rows` opens the file
+/// that `import` reads.
+pub fn run_arguments<S: Start, F: Rows, I: Input, O: Output, E: Output, L: Write>(
     rt: &HostRuntime,
-    words: &[&str],
+    arguments: &[&str],
     start: S,
     rows: &mut F,
     input: &mut I,
@@ -38,20 +38,20 @@ pub fn run_words<S: Start, F: Rows, I: Input, O: Output, E: Output, L: Write>(
     errors: &mut E,
     log: &mut L,
 ) -> u8
-    ensures does { DoesWords ⟦<FileFrom<S> as Disk>⟧ S.Start words.entry.now (files F.Rows rows.old rows.new)
+    ensures does { ActsOn ⟦<FileFrom<S> as Disk>⟧ S.Start arguments.entry.now (files F.Rows rows.old rows.new)
         (reader I.Input input.old input.new) (writer O.Output output.old output.new) (writer E.Output errors.old errors.new) result }
-    ensures status { RunsWords (texts words.entry.now) result }
+    ensures status { RunsArguments (texts arguments.entry.now) result }
 {
-    match action(rt.alloc(), words) {
+    match action(rt.alloc(), arguments) {
         Ok(action) => {
             let ended = run_action(rt, action, start, rows, input, output, log);
             end(ended, errors).code()
         }
-        Err(fault) => refuse_words(rt.alloc(), &fault, errors).code(),
+        Err(fault) => refuse_arguments(rt.alloc(), &fault, errors).code(),
     }
 }
 
-/// Does what a line of the command line asks for. The `Err` is why there is no season of these
+/// Does what a line of the command line says. The `Err` is why there is no season of these
 /// values, or why the file was not opened; then nothing was read or written.
 fn run_action<S: Start, F: Rows, I: Input, O: Output, L: Write>(
     rt: &HostRuntime,
@@ -81,7 +81,7 @@ fn run_action<S: Start, F: Rows, I: Input, O: Output, L: Write>(
             Err(fault) => Err(Fault::from(fault)),
         },
         Action::Do { file } => do_lines(rt, file, start, input, output),
-        Action::WhatIf { file } => tell_lines(rt, file, start, input, output),
+        Action::WhatIf { file } => answer_questions(rt, file, start, input, output),
         Action::Import { file, csv } => import(rt, file, csv, start, rows, output),
         Action::Serve { file, port, count } => serve(rt, file, start, port, count, output, log),
         Action::Letter { file, child } => {

@@ -9,7 +9,7 @@ use crate::distances::distance;
 use adm_types::limits::is_listed;
 use adm_types::{Child, Criterion, School};
 
-/// Whether the bit of a flag, from 0 to 15, stands among the flags.
+/// Whether the bit of a flag, from 0 to 15, is among the flags.
 fn has_flag(flags: u16, flag: u32) -> bool
     requires { flag ≤ 15 }
     ensures { result ≡ has_flag flags flag }

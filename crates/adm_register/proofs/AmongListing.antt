@@ -43,7 +43,7 @@ module _ (s : State) (codes : List (List ℕ)) (code : List ℕ) (among : is_lis
 pub one_of_itself : (code : List ℕ) → is_listed (code ∷ []) code ≡ true
 one_of_itself code = in_listed (code ∷ []) code (inl refl)
 
--- before the first round nobody stands anywhere
+-- before the first round nobody is on a waiting list
 module _ (s : State) (child : ℕ) (none : has_first_round s.draws ≡ false) where
   nobody : (code : List ℕ) → is_waiting s child code ≡ false
   nobody code = by (get s.applications child) refl

@@ -11,11 +11,11 @@ use Rattle.adm_types.specs.declared.rows.School.{School}
 use Rattle.adm_types.specs.Limits.{code_cmp}
 use Rattle.adm_register.specs.WellFormed.{ApplicationFits, fits_application, is_application}
 
-pub application_decided : (last_day : ℕ) (schools : FinMap code_cmp School) (children : FinMap nat_cmp Child) (number : ℕ) (application : Application)
-    → (fits_application last_day schools children number application ≡ true) ↔ ApplicationFits last_day schools children number application
-application_decided last_day schools children number application = (
+pub application_decided : (last_list_day : ℕ) (schools : FinMap code_cmp School) (children : FinMap nat_cmp Child) (number : ℕ) (application : Application)
+    → (fits_application last_list_day schools children number application ≡ true) ↔ ApplicationFits last_list_day schools children number application
+application_decided last_list_day schools children number application = (
   λ test.
-      let own = and_parts (nat_eq application.child number) (is_application last_day schools children application) test in
+      let own = and_parts (nat_eq application.child number) (is_application last_list_day schools children application) test in
       let known = and_parts _ _ own.1 in
       let without_repeat = and_parts _ _ known.0 in
       let list_length = and_parts _ _ without_repeat.0 in

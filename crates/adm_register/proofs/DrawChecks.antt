@@ -16,7 +16,7 @@ use Rattle.adm_register.specs.WellFormed.{AllRows}
 use Rattle.adm_register.specs.Draws.{DrawFits, fits_known_draw, is_known_draw}
 use Rattle.adm_register.proofs.SameRows.{values_hold, rows_hold}
 
--- the form is left out
+-- the form is omitted
 pub record IsKnown (schools : FinMap code_cmp School) (children : FinMap nat_cmp Child) (number : ℕ) (draw : Draw) : Type 0 where
   pub test : fits_known_draw schools children number draw ≡ true
 

@@ -94,7 +94,7 @@ module _ {K V : Type 0} {R : K → K → Ordering} (total : IsTotalOrder R) (sam
       ∙ ap entries (same_map total same (from_entries {R = R} es) (from_entries {R = R} ds) (λ q. get_rows total es q ∙ alike q ∙ sym (get_rows total ds q)))
       ∙ entries_rows total ds other
 
-  -- rows put in order stand each at its key
+  -- rows put in order are each at its key
   put_at-sorted : (key : V → K) (put : List V) → IsStrictlySortedBy R (map key put) → (q : K) (there : Option V) → put_at R key put q there ≡ or_else (row_at R (pairs key put) q) there
   unfolding IsStrictlySortedBy pairs or_else
   put_at-sorted key [] sorted q there = refl
@@ -212,7 +212,7 @@ module _ {K : Type 0} {R : K → K → Ordering} (total : IsTotalOrder R) (same 
     | false ↦ λ tie rest. at_one P ks q all.1 rest
   ] refl among
 
-  -- what stands at a key after a cut
+  -- what is at a key after a cut
   cut_at-any : {V : Type 0} (cut : List K) (q : K) (there : Option V) → cut_at R cut q there ≡ cond (list_any (eq_by_cmp R q) cut) None there
   cut_at-any [] q there = refl
   cut_at-any (k ∷ cut) q there =

@@ -13,13 +13,13 @@ use Rattle.adm_register.specs.WellFormed.{ImportFits, fits_import, fits_child, f
 use Rattle.adm_register.proofs.ApplicationChecks.{application_decided}
 use Rattle.adm_register.proofs.ChildChecks.{child_decided}
 
-pub import_decided : (last_day : ℕ) (schools : FinMap code_cmp School) (children : FinMap nat_cmp Child) (number : ℕ) (row : ImportRow)
-    → (fits_import last_day schools children number row ≡ true) ↔ ImportFits last_day schools children number row
-import_decided last_day schools children number row =
+pub import_decided : (last_list_day : ℕ) (schools : FinMap code_cmp School) (children : FinMap nat_cmp Child) (number : ℕ) (row : ImportRow)
+    → (fits_import last_list_day schools children number row ≡ true) ↔ ImportFits last_list_day schools children number row
+import_decided last_list_day schools children number row =
     let child = child_decided schools number row.child in
-    let application = application_decided last_day schools children number (application_of row) in (
+    let application = application_decided last_list_day schools children number (application_of row) in (
       λ test.
-          let both = and_parts (fits_child schools number row.child) (fits_application last_day schools children number (application_of row)) test in
+          let both = and_parts (fits_child schools number row.child) (fits_application last_list_day schools children number (application_of row)) test in
           record { child = child.0 both.0; application = application.0 both.1 },
       λ fits i. child.1 fits.child i && application.1 fits.application i,
     )

@@ -1,4 +1,4 @@
--- What an application's list keeps where some of its schools are left out.
+-- What an application's list keeps where some of its schools are omitted.
 use Rattle.std.proofs.Common.{◌≡◌, ◌∙◌, ap, refl, ℕ, Bool, true, false, not, cond, ◌&&◌, ◌||◌, List, [], ◌∷◌, Option, Some, None}
 use Rattle.std.specs.Prelude.{IfSome, filter, nat_eq}
 use Rattle.std.specs.List.{list_all, take_while}

@@ -1,4 +1,4 @@
--- What stands in a table after rows were put and rows were cut.
+-- What is in a table after rows were put and rows were cut.
 use Rattle.std.proofs.Common.{◌≡◌, ◌∙◌, ap, sym, subst, refl, cond, true, false, ℕ, List, [], ◌∷◌, Some, None}
 use Rattle.std.specs.Prelude.{is_some, map, not}
 use Rattle.std.specs.declared.cmp.Ordering.{Ordering}

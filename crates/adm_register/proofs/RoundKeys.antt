@@ -17,7 +17,7 @@ use Rattle.adm_register.specs.WellFormed.{AllRows}
 use Rattle.adm_register.proofs.SameRows.{values_hold}
 
 module _ {K V : Type 0} {R : K → K → Ordering} (total : IsTotalOrder R) (same : IsAntisymmetric R) (m : FinMap R V) where
-  -- a value of a map, each of whose rows stands at its own key, is at its key
+  -- a value of a map, each of whose rows is at its own key, is at its key
   pub from_values : (key : V → K) → AllRows (λ k v. key v ≡ k) m → (v : V) → In v (values m) → get m (key v) ≡ Some v
   from_values key own v at = All_in (λ w. get m (key w) ≡ Some w) (values m) v (values_hold total same (λ w. get m (key w) ≡ Some w) m (λ k w there. subst (λ q. get m q ≡ Some w) (sym (own k w there)) there)) at
 

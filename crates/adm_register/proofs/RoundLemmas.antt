@@ -1,4 +1,4 @@
--- Codes that are listed stand in the list, and a list whose keys rise is one that rises.
+-- Codes that are listed are in the list, and a list whose keys rise is one that rises.
 use Rattle.std.proofs.Common.{◌≡◌, inl, inr, ap, refl, Bool, true, false, ℕ, List, [], ◌∷◌, map}
 use Rattle.std.specs.Prelude.{◌&&◌, ◌||◌, nat_eq}
 use Rattle.std.specs.declared.cmp.Ordering.{Ordering}
@@ -12,7 +12,7 @@ use Rattle.adm_lists.proofs.Members.{In}
 use Rattle.adm_types.specs.Limits.{is_listed}
 use Rattle.adm_draws.specs.Draws.{rises}
 
--- a code that is listed stands in the list
+-- a code that is listed is in the list
 pub listed_in : (codes : List (List ℕ)) (code : List ℕ) → is_listed codes code ≡ true → In code codes
 listed_in [] code listed = absurd (false≢true listed)
 listed_in (other ∷ codes) code listed = elim (or_cases (pointwise nat_eq other code) (is_listed codes code) listed) [
@@ -20,7 +20,7 @@ listed_in (other ∷ codes) code listed = elim (or_cases (pointwise nat_eq other
   | inr later ↦ inr (listed_in codes code later)
 ]
 
--- and one that stands there is listed
+-- and one that is there is listed
 pub in_listed : (codes : List (List ℕ)) (code : List ℕ) → In code codes → is_listed codes code ≡ true
 in_listed [] code at = absurd at
 in_listed (other ∷ codes) code at = elim at [

@@ -1,4 +1,4 @@
--- The tests of rows tell whether they are equal.
+-- The tests of rows decide whether they are equal.
 use Rattle.std.specs.Prelude.{◌≡◌, ◌↔◌, ◌&&◌, not, nat_eq, ℕ, Bool, true, false, List, Option, Some, None}
 use Rattle.std.proofs.Common.{refl, ap, sym, subst, true≢false}
 use mathlib.Core.Bool.{beq}

@@ -24,8 +24,8 @@ abbrev pub applications_ended : State → State → List Application
 applications_ended old new = filter (λ (a : Application). not (contains_key new.applications a.child)) (values old.applications)
 
 -- the places of the old register whose children have none in the new one
-abbrev pub vacated : State → State → List PlaceRow
-vacated old new = filter (λ (p : PlaceRow). not (contains_key new.places p.child)) (values old.places)
+abbrev pub vacated_places : State → State → List PlaceRow
+vacated_places old new = filter (λ (p : PlaceRow). not (contains_key new.places p.child)) (values old.places)
 
 -- the difference is just the rows of the new register that the old one has not, and the applications and the places that ended
 pub record IsDifference (old new : State) (difference : Difference) : Type 0 where
@@ -37,7 +37,7 @@ pub record IsDifference (old new : State) (difference : Difference) : Type 0 whe
   pub draws : AreNew (λ (d : Draw). d.number) old.draws new.draws difference.draws
   pub imported : AreNew (λ (r : ImportRow). r.child.no) old.imported new.imported difference.imported
   pub ended : difference.ended ≡ map (λ (a : Application). a.child) (applications_ended old new)
-  pub vacated : difference.vacated ≡ map (λ (p : PlaceRow). p.child) (vacated old new)
+  pub vacated : difference.vacated ≡ map (λ (p : PlaceRow). p.child) (vacated_places old new)
 
 -- what of a change differs from what the old register has
 abbrev pub differing : State → Difference → Difference

@@ -17,6 +17,7 @@ use Rattle.adm_register.specs.declared.draws_so_far.DrawsSoFar.{DrawsSoFar}
 
 -- ---- how far draws have come
 
+-- the counts of no draws: all are 0, and there is no last day
 abbrev pub no_draws : DrawsSoFar
 no_draws = record { draws = 0; rounds = 0; lots = 0; day = None }
 
@@ -24,6 +25,7 @@ no_draws = record { draws = 0; rounds = 0; lots = 0; day = None }
 abbrev pub is_round : Draw → Bool
 is_round draw = nat_lt 0 draw.round
 
+-- the counts after one more draw
 abbrev pub count_draw : DrawsSoFar → Draw → DrawsSoFar
 count_draw before draw = record {
   draws = before.draws + 1;
@@ -32,6 +34,7 @@ count_draw before draw = record {
   day = Some draw.day;
 }
 
+-- the counts after these draws, one after another
 abbrev pub count_draws : DrawsSoFar → List Draw → DrawsSoFar
 count_draws before [] = before
 count_draws before (draw ∷ draws) = count_draws (count_draw before draw) draws
@@ -75,6 +78,7 @@ abbrev pub is_choice : FinMap code_cmp School → Option (List ℕ) → Bool
 is_choice schools None = true
 is_choice schools (Some code) = contains_key schools code
 
+-- whether the child of an outcome is in the register, and its school too, if it has one
 abbrev pub is_known_outcome : FinMap code_cmp School → FinMap nat_cmp Child → Outcome → Bool
 is_known_outcome schools children outcome = contains_key children outcome.child && is_choice schools outcome.school
 
@@ -82,7 +86,7 @@ is_known_outcome schools children outcome = contains_key children outcome.child 
 abbrev pub is_known_lot : FinMap code_cmp School → FinMap nat_cmp Child → Lot → Bool
 is_known_lot schools children lot = contains_key schools lot.school && contains_key children lot.child && nat_lt lot.lot 4294967296
 
--- a draw stands at its own number, and each school and child that it names is there
+-- a draw is at its own number, and each school and child that it names is there
 pub record DrawFits (schools : FinMap code_cmp School) (children : FinMap nat_cmp Child) (number : ℕ) (draw : Draw) : Type 0 where
   pub own_number : draw.number ≡ number
   pub form : IsTrue (is_draw draw)

@@ -63,6 +63,7 @@ pub record IsTidyIn {K V : Type 0} (R : K → K → Ordering) (key : V → K) (c
   pub cut_sorted : IsStrictlySortedBy R cut
   pub apart : AllByRecursion (λ k. list_any (eq_by_cmp R k) (map key put) ≡ false) cut
 
+-- in each table, inserted rows and deleted keys are in the order of the keys, and no key is both inserted and deleted
 pub record IsTidy (change : Difference) : Type 0 where
   pub schools : IsTidyIn code_cmp (λ (s : School). s.code) [] change.schools
   pub children : IsTidyIn nat_cmp (λ (c : Child). c.no) [] change.children

@@ -10,7 +10,7 @@ use Rattle.adm_register.specs.declared.groups.Course.{Course}
 use Rattle.adm_register.specs.declared.register_rows.Rows.{Rows}
 use Rattle.adm_register.specs.declared.row_groups.BaseRows.{BaseRows}
 use Rattle.adm_register.specs.declared.row_groups.CourseRows.{CourseRows}
-use Rattle.adm_register.specs.declared.row_groups.DrawnRows.{DrawnRows}
+use Rattle.adm_register.specs.declared.row_groups.DrawRows.{DrawRows}
 use Rattle.adm_register.specs.State.{State}
 
 -- what the tables have at each key
@@ -47,12 +47,12 @@ abbrev pub base_part : Rows → BaseRows
 base_part rows = record { season = rows.season; schools = rows.schools; children = rows.children; applications = rows.applications }
 
 -- those of the draws
-abbrev pub drawn_part : Rows → DrawnRows
-drawn_part rows = record { draws = rows.draws; offers = rows.offers; lots = rows.lots }
+abbrev pub draws_part : Rows → DrawRows
+draws_part rows = record { draws = rows.draws; offers = rows.offers; lots = rows.lots }
 
 -- and the others
 abbrev pub course_part : Rows → CourseRows
-course_part rows = record { places = rows.places; left = rows.left; drawn = drawn_part rows; imported = rows.imported }
+course_part rows = record { places = rows.places; left = rows.left; drawn = draws_part rows; imported = rows.imported }
 
 -- these are the rows of the first tables of the state, in any order
 pub record AreBaseRowsOf (rows : BaseRows) (s : State) : Type 0 where

@@ -5,6 +5,7 @@ use Rattle.std.specs.FinMap.{FinMap, get}
 use Rattle.adm_types.specs.declared.rows.PlaceRow.{PlaceRow}
 use Rattle.adm_register.specs.State.{is_plan}
 
+-- whether there is a place, and it is that of a plan
 abbrev pub is_plan_row : Option PlaceRow → Bool
 is_plan_row None = false
 is_plan_row (Some row) = is_plan row.place.state

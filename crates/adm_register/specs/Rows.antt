@@ -8,7 +8,7 @@ use Rattle.adm_types.specs.declared.rows.Place.{Place}
 use Rattle.adm_types.specs.declared.draws.Draw.{Draw}
 use Rattle.adm_register.specs.declared.register_rows.Rows.{Rows}
 use Rattle.adm_draws.specs.Draws.{row_of, offer_rows_of, lot_rows_of}
-use Rattle.adm_draws.specs.Draws as drawn
+use Rattle.adm_draws.specs.Draws as draw_rows
 use Rattle.adm_register.specs.State.{State}
 
 -- the rows of a state, each table's in the order of its key
@@ -34,7 +34,7 @@ pub record AreRowsOf (rows : Rows) (s : State) : Type 0 where
   pub applications : IsPermutation rows.applications (values s.applications)
   pub places : IsPermutation rows.places (values s.places)
   pub left : IsPermutation rows.left (values s.left)
-  pub draws : drawn.AreDrawRowsOf rows.draws rows.offers rows.lots (values s.draws)
+  pub draws : draw_rows.AreDrawRowsOf rows.draws rows.offers rows.lots (values s.draws)
   pub imported : IsPermutation rows.imported (values s.imported)
 
 -- the child's place

@@ -43,7 +43,7 @@ waiting_at s code = filter_map (waiting_child s code) (values s.applications)
 abbrev pub list_of : State → School → List Waiting
 list_of s school = waiting_list school (waiting_at s school.code)
 
--- where a child stands on the waiting list of a school, if it waits there: its entry, and how many wait
+-- the position of a child on the waiting list of a school, if it waits there: its entry, and how many wait
 abbrev pub standing_of : State → ℕ → List ℕ → Option Standing
 standing_of s child code = if is_waiting s child code then among (get s.schools code) (get s.children child) else None
   where
@@ -52,10 +52,10 @@ standing_of s child code = if is_waiting s child code then among (get s.schools 
     among (Some school) None = None
     among (Some school) (Some child) = Some (record { entry = entry_of school (waiting_at s code) child; many = length (waiting_at s code) })
 
--- where a child stands at one of the schools, beside the school's code, if it waits there
+-- the position of a child at one of the schools, beside the school's code, if it waits there
 abbrev pub standing_at : State → ℕ → List ℕ → Option (List ℕ × Standing)
 standing_at s child code = option_map (λ standing. (code, standing)) (standing_of s child code)
 
--- where a child stands at each school that it wants and waits at, the most wanted first
+-- the positions of a child at each school that it wants and waits at, the most wanted first
 abbrev pub standings_of : State → ℕ → List (List ℕ × Standing)
 standings_of s child = filter_map (standing_at s child) (wanted s child)

@@ -31,7 +31,7 @@ AllRows {K} {V} P rows = (key : K) (row : V) → get rows key ≡ Some row → P
 abbrev pub are_schools : FinMap code_cmp School → List (List ℕ) → Bool
 are_schools schools codes = list_all (contains_key schools) codes
 
--- a school stands at its own code, with a name and numbers in their limits
+-- a school is at its own code, with a name and numbers in their limits
 pub record SchoolFits (code : List ℕ) (school : School) : Type 0 where
   pub own_code : school.code ≡ code
   pub code_form : IsTrue (is_code school.code)
@@ -46,7 +46,7 @@ is_school school = is_code school.code && is_utf8 school.name && is_name school.
 abbrev pub fits_school : List ℕ → School → Bool
 fits_school code school = bytes_eq school.code code && is_school school
 
--- a child stands at its own number, with a name and numbers in their limits, 16 flags, and siblings at schools that are there
+-- a child is at its own number, with a name and numbers in their limits, 16 flags, and siblings at schools that are there
 pub record ChildFits (schools : FinMap code_cmp School) (number : ℕ) (child : Child) : Type 0 where
   pub own_number : child.no ≡ number
   pub number_form : IsTrue (is_child_number child.no)
@@ -65,22 +65,22 @@ abbrev pub fits_child : FinMap code_cmp School → ℕ → Child → Bool
 fits_child schools number child = nat_eq child.no number && is_child schools child
 
 -- 1 to 10 schools that are there, without repeat, by the last day of the lists, for a child that is there
-pub record ApplicationFits (last_day : ℕ) (schools : FinMap code_cmp School) (children : FinMap nat_cmp Child) (number : ℕ) (application : Application) : Type 0 where
+pub record ApplicationFits (last_list_day : ℕ) (schools : FinMap code_cmp School) (children : FinMap nat_cmp Child) (number : ℕ) (application : Application) : Type 0 where
   pub own_number : application.child ≡ number
   pub child : IsTrue (contains_key children application.child)
-  pub day : IsTrue (is_from first_day last_day application.day)
+  pub day : IsTrue (is_from first_day last_list_day application.day)
   pub list_length : IsTrue (is_from 1 most_preferences (length application.list))
   pub without_repeat : IsTrue (is_without_repeat application.list)
   pub known : IsTrue (are_schools schools application.list)
 
 -- the test of all but its key
 abbrev pub is_application : ℕ → FinMap code_cmp School → FinMap nat_cmp Child → Application → Bool
-is_application last_day schools children application =
-    contains_key children application.child && is_from first_day last_day application.day && is_from 1 most_preferences (length application.list)
+is_application last_list_day schools children application =
+    contains_key children application.child && is_from first_day last_list_day application.day && is_from 1 most_preferences (length application.list)
     && is_without_repeat application.list && are_schools schools application.list
 
 abbrev pub fits_application : ℕ → FinMap code_cmp School → FinMap nat_cmp Child → ℕ → Application → Bool
-fits_application last_day schools children number application = nat_eq application.child number && is_application last_day schools children application
+fits_application last_list_day schools children number application = nat_eq application.child number && is_application last_list_day schools children application
 
 -- whether a round was held: the first draw is a round's
 abbrev pub has_first_round : FinMap nat_cmp Draw → Bool
@@ -93,7 +93,7 @@ lists_school (Some application) school = is_listed application.list school
 
 -- a child with a plan has no application; any other place is at a school that its child lists, and there was a round
 abbrev pub is_entitled : Bool → Option Application → Place → Bool
-is_entitled held application place = if is_plan place.state then not (is_some application) else held && lists_school application place.school
+is_entitled had_round application place = if is_plan place.state then not (is_some application) else had_round && lists_school application place.school
 
 -- its days are days, and a reminder comes at least 14 days after the offer
 abbrev pub has_days_in_order : PlaceState → Bool
@@ -103,20 +103,20 @@ has_days_in_order Accepted = true
 has_days_in_order Plan = true
 
 -- the child and the school are there, and the child is entitled to its place
-pub record PlaceFits (schools : FinMap code_cmp School) (children : FinMap nat_cmp Child) (applications : FinMap nat_cmp Application) (held : Bool) (number : ℕ) (row : PlaceRow) : Type 0 where
+pub record PlaceFits (schools : FinMap code_cmp School) (children : FinMap nat_cmp Child) (applications : FinMap nat_cmp Application) (had_round : Bool) (number : ℕ) (row : PlaceRow) : Type 0 where
   pub own_number : row.child ≡ number
   pub child : IsTrue (contains_key children row.child)
   pub school : IsTrue (contains_key schools row.place.school)
   pub state : IsTrue (has_days_in_order row.place.state)
-  pub entitled : IsTrue (is_entitled held (get applications row.child) row.place)
+  pub entitled : IsTrue (is_entitled had_round (get applications row.child) row.place)
 
 -- the test of all but its key
 abbrev pub is_place : FinMap code_cmp School → FinMap nat_cmp Child → FinMap nat_cmp Application → Bool → PlaceRow → Bool
-is_place schools children applications held row =
-    contains_key children row.child && contains_key schools row.place.school && has_days_in_order row.place.state && is_entitled held (get applications row.child) row.place
+is_place schools children applications had_round row =
+    contains_key children row.child && contains_key schools row.place.school && has_days_in_order row.place.state && is_entitled had_round (get applications row.child) row.place
 
 abbrev pub fits_place : FinMap code_cmp School → FinMap nat_cmp Child → FinMap nat_cmp Application → Bool → ℕ → PlaceRow → Bool
-fits_place schools children applications held number row = nat_eq row.child number && is_place schools children applications held row
+fits_place schools children applications had_round number row = nat_eq row.child number && is_place schools children applications had_round row
 
 -- whether this is a place at the school, and not that of a plan
 abbrev pub is_unplanned_at : Option PlaceRow → List ℕ → Bool
@@ -155,8 +155,8 @@ abbrev pub fits_school_with : FinMap nat_cmp PlaceRow → List ℕ → School �
 fits_school_with places code school = fits_school code school && nat_le (places_outside_plans places code) school.pan
 
 -- each place fits the rows that it names, and at each school those that are not a plan's are at most its admission number
-pub record PlacesFit (schools : FinMap code_cmp School) (children : FinMap nat_cmp Child) (applications : FinMap nat_cmp Application) (places : FinMap nat_cmp PlaceRow) (held : Bool) : Type 0 where
-  pub each : AllRows (PlaceFits schools children applications held) places
+pub record PlacesFit (schools : FinMap code_cmp School) (children : FinMap nat_cmp Child) (applications : FinMap nat_cmp Application) (places : FinMap nat_cmp PlaceRow) (had_round : Bool) : Type 0 where
+  pub each : AllRows (PlaceFits schools children applications had_round) places
   pub room : AllRows (λ code school. places_outside_plans places code ≤ school.pan) schools
 
 -- each left pair fits the rows that it names
@@ -168,14 +168,14 @@ pub record DrawsFit (season : SeasonFacts) (schools : FinMap code_cmp School) (c
   pub each : AllRows (DrawFits schools children) draws
   pub in_order : IsTrue (are_in_order season no_draws (values draws))
 
--- an imported row stands at its child's number, and the child and its application could be added
-pub record ImportFits (last_day : ℕ) (schools : FinMap code_cmp School) (children : FinMap nat_cmp Child) (number : ℕ) (row : ImportRow) : Type 0 where
+-- an imported row is at its child's number, and the child and its application could be added
+pub record ImportFits (last_list_day : ℕ) (schools : FinMap code_cmp School) (children : FinMap nat_cmp Child) (number : ℕ) (row : ImportRow) : Type 0 where
   pub child : ChildFits schools number row.child
-  pub application : ApplicationFits last_day schools children number (application_of row)
+  pub application : ApplicationFits last_list_day schools children number (application_of row)
 
 -- the test of it
 abbrev pub fits_import : ℕ → FinMap code_cmp School → FinMap nat_cmp Child → ℕ → ImportRow → Bool
-fits_import last_day schools children number row = fits_child schools number row.child && fits_application last_day schools children number (application_of row)
+fits_import last_list_day schools children number row = fits_child schools number row.child && fits_application last_list_day schools children number (application_of row)
 
 -- each imported row fits the rows that it names
 abbrev pub ImportedFit : SeasonFacts → FinMap code_cmp School → FinMap nat_cmp Child → FinMap nat_cmp ImportRow → Type 0

@@ -16,7 +16,7 @@ pub(crate) struct Base {
     pub(crate) applications: Table<ChildNo, Shared<Application>>,
 }
 
-/// What comes of it: places, the schools that children left, draws, and imported rows.
+/// What results from it: places, the schools that children left, draws, and imported rows.
 pub(crate) struct Course {
     pub(crate) places: Table<ChildNo, PlaceRow>,
     pub(crate) left: Table<LeftPair, LeftPair>,

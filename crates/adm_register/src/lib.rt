@@ -1,4 +1,4 @@
-// The register of a season: its rows, what is asked of them, and the change that makes the next register.
+// The register of a season: its rows, the queries over them, and the change that makes the next register.
 #![tactic(auto)]
 
 mod changed;

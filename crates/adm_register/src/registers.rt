@@ -134,9 +134,9 @@ impl Register {
         self.tables.waiting(alloc, school)
     }
 
-    /// Where the child stands on the waiting list of the school, and how many wait there; none where
-    /// it does not wait there. It takes memory for a pointer to each application that lists the
-    /// school, and for each child that waits. What it costs grows with the applications.
+    /// The position of the child on the waiting list of the school, and how many wait there; none
+    /// where it does not wait there. It takes memory for a pointer to each application that lists
+    /// the school, and for each child that waits. What it costs grows with the applications.
     pub fn standing(
         &self,
         alloc: Global,
@@ -148,10 +148,11 @@ impl Register {
         self.tables.standing_of(alloc, child, school)
     }
 
-    /// Where the child stands at each school that it wants and waits at, the most wanted first, beside
-    /// the school's code. It takes memory for a pointer to each application that lists one of these
-    /// schools, and for each child that waits there. What it costs grows with the applications, which
-    /// are gone through once for all schools, and with those that list one of them.
+    /// The position of the child at each school that it wants and waits at, the most wanted first,
+    /// beside the school's code. It takes memory for a pointer to each application that lists one
+    /// of these schools, and for each child that waits there. What it costs grows with the
+    /// applications, which are gone through once for all schools, and with those that list one of
+    /// them.
     pub fn standings(
         &self,
         alloc: Global,
@@ -186,7 +187,7 @@ impl Register {
         self.tables.rows(alloc)
     }
 
-    /// The rows, of which more can be asked. It takes no memory.
+    /// The rows, for more queries. It takes no memory.
     pub fn tables(&self) -> &Tables
         ensures value { result.now ≡ self.now }
         ensures well_formed { WellFormed self.now }

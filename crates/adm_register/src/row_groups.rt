@@ -18,13 +18,13 @@ pub(crate) struct BaseRows {
 pub(crate) struct CourseRows {
     pub(crate) places: Seq<PlaceRow>,
     pub(crate) left: Seq<LeftPair>,
-    pub(crate) drawn: DrawnRows,
+    pub(crate) drawn: DrawRows,
     pub(crate) imported: Seq<ImportRow>,
 }
 
 /// The rows of the draws.
 #[derive(Drop)]
-pub(crate) struct DrawnRows {
+pub(crate) struct DrawRows {
     pub(crate) draws: Seq<DrawRow>,
     pub(crate) offers: Seq<OfferRow>,
     pub(crate) lots: Seq<LotRow>,

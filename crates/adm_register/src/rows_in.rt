@@ -1,4 +1,4 @@
-// Rows put into tables, and taken out of them.
+// Rows inserted into tables, and read from them.
 ghost use Rattle.std.specs.Prelude.{◌≡◌, Err, List, map, IfOk};
 ghost use Rattle.std.specs.Map.{keys_of, values_of};
 ghost use Rattle.std.specs.List.{IsDistinct};
@@ -7,14 +7,14 @@ ghost use Rattle.std.specs.Ordering.{eq_by_cmp};
 ghost use Rattle.std.specs.Ordering.{nat_cmp};
 ghost use Rattle.adm_draws.specs.Draws.{AreDrawRowsOf, AreByNumber};
 ghost use Rattle.adm_types.specs.declared.draws.Draw.{Draw as DrawValue};
-ghost use Rattle.adm_register.specs.Groups.{IsBaseOf, IsCourseOf, AreBaseRowsOf, AreCourseRowsOf, HasRowsByKey, base_part, drawn_part, course_part};
+ghost use Rattle.adm_register.specs.Groups.{IsBaseOf, IsCourseOf, AreBaseRowsOf, AreCourseRowsOf, HasRowsByKey, base_part, draws_part, course_part};
 ghost use Rattle.adm_register.specs.Rows as rows_of;
 ghost use Rattle.adm_register.specs.Rows.{rows_in_order};
 ghost use Rattle.adm_register.specs.State.{State};
 ghost use Rattle.adm_register.specs.WellFormed.{WellFormed};
 
 use crate::groups::{Base, Course};
-use crate::row_groups::{BaseRows, CourseRows, DrawnRows};
+use crate::row_groups::{BaseRows, CourseRows, DrawRows};
 use crate::tables::Tables;
 use crate::{Rows, RowsFault};
 use adm_draws::{draw_rows, lot_rows, offer_rows};
@@ -44,7 +44,7 @@ impl Tables {
         let others = CourseRows {
             places,
             left,
-            drawn: DrawnRows {
+            drawn: DrawRows {
                 draws,
                 offers,
                 lots,
@@ -101,17 +101,17 @@ impl Tables {
         Ok(CourseRows {
             places: Seq::from_vec(self.course.places.to_vec(alloc)?),
             left: Seq::from_vec(self.course.left.to_vec(alloc)?),
-            drawn: self.drawn_rows(alloc)?,
+            drawn: self.rows_of_draws(alloc)?,
             imported: copied_rows(alloc, &self.course.imported)?,
         })
     }
 
     /// The rows of the draws.
-    fn drawn_rows(&self, alloc: Global) -> Result<DrawnRows, AllocError>
-        ensures { IfOk result (λ rows. rows ≡ drawn_part (rows_in_order self.now)) }
+    fn rows_of_draws(&self, alloc: Global) -> Result<DrawRows, AllocError>
+        ensures { IfOk result (λ rows. rows ≡ draws_part (rows_in_order self.now)) }
     {
         let draws = self.course.draws.to_vec(alloc)?;
-        Ok(DrawnRows {
+        Ok(DrawRows {
             draws: Seq::from_vec(draw_rows(alloc, &draws)?),
             offers: Seq::from_vec(offer_rows(alloc, &draws)?),
             lots: Seq::from_vec(lot_rows(alloc, &draws)?),
@@ -192,12 +192,12 @@ fn shared_table<K: Ord + Exact, V: Keyed<K> + Drop>(
 }
 
 /// The table of the draws that have these rows; `BadRow` where no draws have them.
-fn draws_table(alloc: Global, rows: DrawnRows) -> Result<Table<u32, Shared<Draw>>, RowsFault>
+fn draws_table(alloc: Global, rows: DrawRows) -> Result<Table<u32, Shared<Draw>>, RowsFault>
     ensures made { IfOk result (λ table. AreDrawRowsOf rows.draws rows.offers rows.lots (values_of table) × (map (λ draw. draw.number) (values_of table) ≡ keys_of table) × IsStrictlySortedBy nat_cmp (keys_of table)) }
     ensures only { IfOk result (λ table. (draws : List DrawValue) → AreByNumber draws → AreDrawRowsOf rows.draws rows.offers rows.lots draws → draws ≡ values_of table) }
     ensures none { result ≡ Err RowsFault.BadRow → (draws : List DrawValue) → AreByNumber draws → AreDrawRowsOf rows.draws rows.offers rows.lots draws → ⊥ }
 {
-    let DrawnRows {
+    let DrawRows {
         draws,
         offers,
         lots,

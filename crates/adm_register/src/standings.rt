@@ -1,4 +1,4 @@
-// Where a child stands on a waiting list.
+// The position of a child on a waiting list.
 ghost use Rattle.std.specs.Prelude.{◌≡◌, IfOk};
 ghost use Rattle.std.specs.List.{filter_map};
 ghost use Rattle.adm_register.specs.WellFormed.{WellFormed};
@@ -10,7 +10,7 @@ use adm_types::{Application, ChildNo, SchoolCode};
 use adm_waiting::{Waiting, entry};
 use std::alloc::{AllocError, Global};
 
-/// Where a child stands on the waiting list of a school.
+/// The position of a child on the waiting list of a school.
 #[derive(Clone, Copy, PartialEq, Eq, Debug)]
 pub struct Standing {
     /// Its entry on that list.
@@ -20,7 +20,7 @@ pub struct Standing {
 }
 
 impl Tables {
-    /// Where the child stands on the waiting list of the school, if it waits there.
+    /// The position of the child on the waiting list of the school, if it waits there.
     pub(crate) fn standing_of(
         &self,
         alloc: Global,
@@ -37,8 +37,8 @@ impl Tables {
         self.standing_among(alloc, child, school, &applications)
     }
 
-    /// Where the child stands at each school that it wants and waits at. The applications are walked
-    /// once for all of them.
+    /// The position of the child at each school that it wants and waits at. The applications are
+    /// walked once for all of them.
     pub(crate) fn standings_of(
         &self,
         alloc: Global,
@@ -63,8 +63,8 @@ impl Tables {
         Ok(found)
     }
 
-    /// Where the child stands on the waiting list of the school, if it waits there, where whoever
-    /// waits there is found among these applications.
+    /// The position of the child on the waiting list of the school, if it waits there, where
+    /// whoever waits there is found among these applications.
     fn standing_among(
         &self,
         alloc: Global,

@@ -1,4 +1,4 @@
-// The rows of a register as tables, of which nothing is asked, and what is read off them.
+// The rows of a register as tables, without any invariant, and what is read off them.
 ghost use Rattle.std.specs.Prelude.{◌≡◌, IfOk, Some, option_copied, count_by, bytes_eq};
 ghost use Rattle.std.specs.FinMap as map;
 ghost use Rattle.std.specs.Map.{values_of};
@@ -16,7 +16,7 @@ use adm_types::{
 use std::alloc::AllocError;
 use std::marker::Model;
 
-/// A season and tables of rows, which need not be a register's. What is asked of them takes no
+/// A season and tables of rows, which need not be a register's. Queries of them take no
 /// memory, where nothing else is said.
 pub struct Tables {
     pub(crate) base: Base,
@@ -148,7 +148,7 @@ impl Tables {
     {
         match self.place_row(child) {
             None => false,
-            Some(row) => is_held_at(row, school),
+            Some(row) => is_unplanned_at(row, school),
         }
     }
 
@@ -194,7 +194,7 @@ impl Tables {
         let _all = self.course.places.len();
         let mut count = 0;
         for piece in self.course.places.pieces() {
-            count += held_in(piece, code);
+            count += count_unplanned(piece, code);
         }
         count
     }
@@ -239,18 +239,18 @@ fn count_at(places: &Piece<ChildNo, PlaceRow>, code: SchoolCode) -> usize
 }
 
 /// How many of the places of a piece are at the school, and not those of a plan.
-fn held_in(places: &Piece<ChildNo, PlaceRow>, code: SchoolCode) -> usize
+fn count_unplanned(places: &Piece<ChildNo, PlaceRow>, code: SchoolCode) -> usize
     ensures { result ≡ count_by (λ row. is_unplanned_at (Some row) code) (values_of places.now.rows.value.entries) }
 {
     places
         .rows()
         .values()
-        .filter(|row| is_held_at(row, code))
+        .filter(|row| is_unplanned_at(row, code))
         .count()
 }
 
 /// Whether this is a place at the school, and not that of a plan.
-fn is_held_at(row: &PlaceRow, code: SchoolCode) -> bool
+fn is_unplanned_at(row: &PlaceRow, code: SchoolCode) -> bool
     ensures { result ≡ is_unplanned_at (Some row.now) code }
 {
     row.place.school == code && !is_plan(&row.place.state)

@@ -148,7 +148,7 @@ fn add_listing(
     Ok(())
 }
 
-/// Whether the school stands in a list before the first that is another one.
+/// Whether the school is in a list before the first that is another one.
 fn is_before(list: &[SchoolCode], other: SchoolCode, school: SchoolCode) -> bool
     ensures { result ≡ is_listed (take_while (λ code. not (bytes_eq code other)) list.now) school }
 {

@@ -1,4 +1,4 @@
-// Which schools each child wants, and the rows by which this is told.
+// Which schools each child wants, and the rows by which this is decided.
 ghost use Rattle.std.specs.Prelude.{◌≡◌, IfOk, filter, not, option_copied, bytes_eq};
 ghost use Rattle.std.specs.FinMap as rows;
 ghost use Rattle.std.specs.List.{take_while};

@@ -1,4 +1,4 @@
--- The problem that a round poses has no fault.
+-- The problem that a round poses is well-formed.
 use Rattle.std.proofs.Common.{◌≡◌, ℕ, List, ◌++◌, map, Option, None, Some, Bool, true, false, cond, not, ◌&&◌, ◌||◌, [], ◌∷◌, inl, inr, refl, sym, ap, ◌∙◌, subst, arith}
 use Rattle.std.specs.Prelude.{bytes_eq, option_map, unwrap_or, ◌==◌, find, filter}
 use Rattle.std.specs.List.{list_any}
@@ -28,8 +28,8 @@ use Rattle.adm_round.specs.declared.applicants.Site.{Site}
 use Rattle.adm_round.specs.declared.applicants.Pair.{Pair}
 use Rattle.adm_round.specs.Round.{code_of_site, number_of, wants, listed, pair_at, pairs_at, pairs, pair_of, is_site, IsListFit, IsPosed}
 use Rattle.adm_round.specs.Ranks.{site_of, lot_at, wishes_for, candidate_of, seats_of, market_of_round}
-use Rattle.adm_round.specs.declared.directory.Directory.{Directory}
-use Rattle.adm_round.specs.Lookups.{site_in, lot_in, IsDirectory}
+use Rattle.adm_round.specs.declared.round_index.RoundIndex.{RoundIndex}
+use Rattle.adm_round.specs.Lookups.{site_in, lot_in, IsRoundIndex}
 use Rattle.adm_round.proofs.Pairs.{pair_not, no_pair}
 use Rattle.adm_round.proofs.ListedSchools.{code_swap, code_self, site_known, school_of_wish, schools_are, wish_is, no_repeat, none_any, no_unknown, own_last}
 
@@ -112,7 +112,7 @@ lots_apart sites applicants lots a b code h i j known wa wb apart same =
     ((bytes_eq-Decides one.drawn.school other.drawn.school).1 (one.at_code ∙ sym other.at_code))
     (eq-eqb one.drawn.lot other.drawn.lot (sym one.is ∙ (same ∙ other.is))))
 
--- a key that stands on a list is that of a wish
+-- a key that is on a list is that of a wish
 key_found : (ws : List Wish) (code : Code) (key : RankKey) → is_key (key_at ws code) key ≡ true → (w : Wish) × In w ws × (w.school ≡ code) × (w.key.lot ≡ key.lot)
 key_found ws code key h = walk (find (λ w. bytes_eq w.school code) ws) refl h
   where
@@ -202,6 +202,6 @@ module _ (sites : List Site) (applicants : List Applicant) (lots : List Lot) (h 
       (or_from (some_pair same_code m.seats) (list_any (λ e. some_pair same_school e.list) m.entrants) seats_once lists_once) known_seats children_once tenants_last ranks_differ
 
 -- the entrants and seats that were made are those of the round
-pub same_market : (sites : List Site) (applicants : List Applicant) (lots : List Lot) (directory : Directory) (entrants : List Candidate) (seats : List Seats) → IsDirectory sites lots directory → entrants ≡ map (candidate_of (site_in sites directory) (lot_in directory)) applicants → seats ≡ map seats_of sites → match.market_of entrants seats ≡ market_of_round sites applicants lots
-same_market sites applicants lots directory entrants seats is e s =
+pub same_market : (sites : List Site) (applicants : List Applicant) (lots : List Lot) (round_index : RoundIndex) (entrants : List Candidate) (seats : List Seats) → IsRoundIndex sites lots round_index → entrants ≡ map (candidate_of (site_in sites round_index) (lot_in round_index)) applicants → seats ≡ map seats_of sites → match.market_of entrants seats ≡ market_of_round sites applicants lots
+same_market sites applicants lots round_index entrants seats is e s =
     λ i. match.market_of ((e ∙ (λ j. map (candidate_of (λ code. is.sites_found code j) (λ school child. is.lots_found school child j)) applicants)) i) (s i)

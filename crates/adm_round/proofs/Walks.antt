@@ -18,11 +18,11 @@ use Rattle.adm_match.specs.Market.{Code}
 use Rattle.adm_match.specs.declared.problem.Wish.{Wish}
 use Rattle.adm_round.specs.declared.applicants.Site.{Site}
 use Rattle.adm_round.specs.declared.applicants.Pair.{Pair}
-use Rattle.adm_round.specs.declared.directory.Directory.{Directory}
+use Rattle.adm_round.specs.declared.round_index.RoundIndex.{RoundIndex}
 use Rattle.adm_round.specs.Round.{code_of_site, pair_of}
 use Rattle.adm_round.specs.Ranks.{wish_at, site_of, wishes_for}
 use Rattle.adm_types.specs.Limits.{code_cmp}
-use Rattle.adm_round.specs.Lookups.{pair_cmp, first_value, HasFirst, IsDirectory}
+use Rattle.adm_round.specs.Lookups.{pair_cmp, first_value, HasFirst, IsRoundIndex}
 
 -- one more row, from the last one on
 pub first_more : {K V : Type 0} (cmp : K → K → Ordering) (rows : List (K × V)) (back : ℕ) (row : K × V) (old new : BTreeMap K V) → back < length rows → row ≡ get_or rows (length rows - 1 - back) row → HasFirst cmp (drop (length rows - back) rows) old → Updates cmp old new row.0 (Some row.1) → HasFirst cmp (drop (length rows - (back + 1)) rows) new
@@ -86,8 +86,8 @@ rows_more sites i site old new l at was now =
     now ∙ ((λ j. was j ++ (code_of_site site, sym count j) ∷ [])
     ∙ (sym (rows_push 0 (take i sites) site) ∙ ap (λ (xs : List Site). map row_of_place (enumerate_from 0 xs)) (sym (next_of sites i site l at))))
 
-pub is_directory : (sites : List Site) (lots : List Lot) (directory : Directory) (index_rows : List (Code × ℕ)) (lot_rows : List (Pair × ℕ)) → index_rows ≡ map (λ place. (code_of_site place.1, place.0)) (enumerate_from 0 sites) → lot_rows ≡ map (λ lot. (pair_of lot, lot.lot)) lots → HasFirst code_cmp index_rows directory.indices → HasFirst pair_cmp lot_rows directory.lots → IsDirectory sites lots directory
-is_directory sites lots directory index_rows lot_rows i l indices found = record {
+pub is_round_index : (sites : List Site) (lots : List Lot) (round_index : RoundIndex) (index_rows : List (Code × ℕ)) (lot_rows : List (Pair × ℕ)) → index_rows ≡ map (λ place. (code_of_site place.1, place.0)) (enumerate_from 0 sites) → lot_rows ≡ map (λ lot. (pair_of lot, lot.lot)) lots → HasFirst code_cmp index_rows round_index.indices → HasFirst pair_cmp lot_rows round_index.lots → IsRoundIndex sites lots round_index
+is_round_index sites lots round_index index_rows lot_rows i l indices found = record {
   sites_found = λ code.
       ap (λ o. option_and_then (slice_get sites) o) (indices code ∙ ap (λ rs. first_value code_cmp rs code) i)
       ∙ sites_found sites 0 sites code (λ k. let same : 0 + k ≡ k = omega arith in ap (slice_get sites) same);

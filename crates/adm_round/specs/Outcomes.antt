@@ -1,4 +1,4 @@
--- What a round comes to: for each applicant a school or none.
+-- The outcomes of a round: for each applicant a school or none.
 -- School Admissions Code 2021, section 2: an offer for each child; what is fresh is this profile's.
 use Rattle.std.specs.Prelude.{◌≡◌, ℕ, ◌≤◌, Bool, true, false, not, ◌&&◌, List, map, Option, None, Some, is_some, IfSome, All, count_by}
 use Rattle.std.specs.List.{list_any, AllZip}
@@ -56,7 +56,7 @@ HasRoom outcomes site = has_fresh (code_of_site site) outcomes ≡ true → outc
 abbrev pub is_kept : Outcome → Bool
 is_kept outcome = is_some outcome.school && not outcome.fresh
 
--- The problem that a round poses has no fault.
+-- The problem that a round poses is well-formed.
 abbrev pub PosedWithoutFault : Type 0
 PosedWithoutFault =
     (sites : List Site) (applicants : List Applicant) (lots : List Lot)

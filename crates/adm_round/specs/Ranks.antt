@@ -36,6 +36,7 @@ abbrev pub candidate_of : (Code → Option Site) → (Code → ℕ → ℕ) → 
 candidate_of site lot applicant =
     record { child = number_of applicant; list = wishes_for site lot applicant.child (listed applicant); tenant = applicant.own }
 
+-- the seats of a site: its school's code, and its quota
 abbrev pub seats_of : Site → Seats
 seats_of site = record { code = code_of_site site; quota = site.quota }
 

@@ -18,6 +18,7 @@ use Rattle.adm_round.specs.declared.applicants.Pair.{Pair}
 abbrev pub code_of_site : Site → Code
 code_of_site site = site.school.code
 
+-- the number of an applicant's child
 abbrev pub number_of : Applicant → ℕ
 number_of applicant = applicant.child.no
 
@@ -29,6 +30,7 @@ wants code applicant = is_listed applicant.wanted code
 abbrev pub listed : Applicant → List Code
 listed applicant = applicant.wanted ++ option_to_list applicant.own
 
+-- the pair of a school and an applicant's child
 abbrev pub pair_at : Code → Applicant → Pair
 pair_at code applicant = record { school = code; child = number_of applicant }
 
@@ -62,8 +64,8 @@ pub record IsListFit (sites : List Site) (applicant : Applicant) : Type 0 where
   pub own_apart : IfSome applicant.own (λ own. wants own applicant ≡ false)
   pub known : All (λ code. is_site sites code ≡ true) (listed applicant)
 
--- What a round asks of its sites, applicants and lots. Codes and numbers rise, so that none comes twice; the lots are
--- those of the pairs, in order; and no two of them at one school are equal.
+-- What a round requires of its sites, applicants and lots. Codes and numbers rise, so that none is repeated; the lots
+-- are those of the pairs, in order; and no two of them at one school are equal.
 pub record IsPosed (sites : List Site) (applicants : List Applicant) (lots : List Lot) : Type 0 where
   pub codes_rise : IsStrictlySortedBy (slice_cmp nat_cmp) (map code_of_site sites)
   pub schools_fit : All (λ site. is_school_in_range site.school ≡ true) sites

@@ -12,7 +12,7 @@ use adm_match::offers;
 use adm_types::{Lot, Outcome};
 use std::alloc::{AllocError, Global};
 
-/// What the round comes to for each applicant, in their order, by the best stable allocation of
+/// The outcome of the round for each applicant, in their order, by the best stable allocation of
 /// its problem. Where it is an error, memory ran out. It takes memory for each site, list entry
 /// and lot, and the cost grows with them, times their logarithm.
 pub fn allot(

@@ -1,8 +1,8 @@
-// The laws of rounds: no fault, one allotment, and it fits.
+// The laws of rounds: the problem is well-formed, its allotment is the only one, and it fits.
 ghost use Rattle.adm_round.specs.Outcomes.{AllotmentFits, OneAllotment, PosedWithoutFault};
 
-/// The problem that a round poses has no fault: no child and no school of a list comes twice, each
-/// school is there, a tenant's own school is the last of its list, and no two rank equally.
+/// The problem that a round poses is well-formed: no child and no school of a list is repeated,
+/// each school is there, a tenant's own school is the last of its list, and no two rank equally.
 pub fn posed_without_fault()
     ensures { PosedWithoutFault }
 {}

@@ -3,18 +3,18 @@
 
 mod allotting;
 mod applicants;
-mod directory;
 mod laws;
 mod lots;
 mod outcomes;
 mod problems;
 mod raised;
+mod round_index;
 mod wanting;
 
 pub use allotting::allot;
 pub use applicants::{Applicant, Pair, Site};
 pub use laws::{allotment_fits, one_allotment, posed_without_fault};
-pub use lots::{drawn, wanted_pairs};
+pub use lots::{assign_lots, wanted_pairs};
 pub use outcomes::{Totals, counts};
 pub use problems::problem_of;
 pub use raised::no_loss_by_quotas;

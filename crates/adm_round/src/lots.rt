@@ -74,9 +74,9 @@ fn lot_of(pair: Pair, number: u32) -> Lot
 }
 
 /// The lots of the pairs, each with the number drawn for it: the first number is the first pair's.
-/// Where there are more of the ones than of the others, those are left out. They take memory for
+/// Where there are more of the ones than of the others, those are omitted. They take memory for
 /// each lot, and time for each.
-pub fn drawn(alloc: Global, pairs: Vec<Pair>, numbers: &[u32]) -> Result<Vec<Lot>, AllocError>
+pub fn assign_lots(alloc: Global, pairs: Vec<Pair>, numbers: &[u32]) -> Result<Vec<Lot>, AllocError>
     ensures { IfOk result (λ lots. lots.items ≡ lots_of pairs.items numbers.now) }
 {
     pairs

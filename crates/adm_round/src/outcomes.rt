@@ -1,4 +1,4 @@
-// What a round comes to for each of its children, and how many come to what.
+// The outcome of a round for each of its children, and the counts of the outcomes.
 ghost use Rattle.std.specs.Prelude.{◌≡◌, IfOk, count_by, is_none};
 ghost use Rattle.adm_types.specs.Code.{has};
 ghost use Rattle.adm_match.specs.Stability.{school_of};
@@ -52,7 +52,7 @@ pub(crate) fn outcomes_of(
         .collect(alloc)
 }
 
-/// How many children of a round came to what.
+/// How many children of a round have which outcome.
 #[derive(Clone, Copy, Debug, PartialEq, Eq)]
 pub struct Totals {
     /// Those with a school that is not their own of before.

@@ -7,20 +7,20 @@ ghost use Rattle.adm_round.specs.Ranks.{wish_at, wishes_for, candidate_of, seats
 ghost use Rattle.adm_round.specs.Lookups.{site_in, lot_in};
 
 use crate::applicants::{Applicant, Site};
-use crate::directory::{Directory, directory_of, lot_in, site_in};
+use crate::round_index::{RoundIndex, lot_in, round_index_of, site_in};
 use adm_match::{BadProblem, Entrant, Problem, Seats, Wish};
 use adm_rank::key;
 use adm_types::{Child, Lot, SchoolCode};
 use std::alloc::{AllocError, Global};
 
 /// The site's school, with the key by which the child ranks there.
-fn wish_at(directory: &Directory, child: &Child, site: &Site) -> Wish
+fn wish_at(round_index: &RoundIndex, child: &Child, site: &Site) -> Wish
     requires school { IsTrue (is_school_in_range site.now.school) }
     requires child { IsTrue (is_child_in_range child.now) }
-    ensures { result ≡ wish_at (lot_in directory.now) child.now site.now }
+    ensures { result ≡ wish_at (lot_in round_index.now) child.now site.now }
 {
     let school = site.school.as_ref();
-    let lot = lot_in(directory, school.code, child.no);
+    let lot = lot_in(round_index, school.code, child.no);
     Wish {
         school: school.code,
         key: key(school, child, lot),
@@ -31,16 +31,16 @@ fn wish_at(directory: &Directory, child: &Child, site: &Site) -> Wish
 fn add_wish(
     wishes: &mut Vec<Wish>,
     sites: &[Site],
-    directory: &Directory,
+    round_index: &RoundIndex,
     child: &Child,
     school: SchoolCode,
 ) -> Result<(), AllocError>
     requires schools { All (λ site. is_school_in_range site.school ≡ true) sites.now }
     requires child { IsTrue (is_child_in_range child.now) }
-    ensures { IfOk result (λ _. wishes.new.items ≡ wishes.old.items ++ wishes_for (site_in sites.now directory.now) (lot_in directory.now) child.now (school ∷ [])) }
+    ensures { IfOk result (λ _. wishes.new.items ≡ wishes.old.items ++ wishes_for (site_in sites.now round_index.now) (lot_in round_index.now) child.now (school ∷ [])) }
 {
-    if let Some(site) = site_in(sites, directory, school) {
-        wishes.push(wish_at(directory, child, site))?;
+    if let Some(site) = site_in(sites, round_index, school) {
+        wishes.push(wish_at(round_index, child, site))?;
     }
     Ok(())
 }
@@ -49,16 +49,16 @@ fn add_wish(
 fn add_wishes(
     wishes: &mut Vec<Wish>,
     sites: &[Site],
-    directory: &Directory,
+    round_index: &RoundIndex,
     child: &Child,
     schools: &[SchoolCode],
 ) -> Result<(), AllocError>
     requires schools { All (λ site. is_school_in_range site.school ≡ true) sites.now }
     requires child { IsTrue (is_child_in_range child.now) }
-    ensures { IfOk result (λ _. wishes.new.items ≡ wishes.old.items ++ wishes_for (site_in sites.now directory.now) (lot_in directory.now) child.now schools.now) }
+    ensures { IfOk result (λ _. wishes.new.items ≡ wishes.old.items ++ wishes_for (site_in sites.now round_index.now) (lot_in round_index.now) child.now schools.now) }
 {
     for index in 0..schools.len() {
-        add_wish(wishes, sites, directory, child, schools[index])?;
+        add_wish(wishes, sites, round_index, child, schools[index])?;
     }
     Ok(())
 }
@@ -67,16 +67,16 @@ fn add_wishes(
 fn add_own(
     wishes: &mut Vec<Wish>,
     sites: &[Site],
-    directory: &Directory,
+    round_index: &RoundIndex,
     child: &Child,
     own: Option<SchoolCode>,
 ) -> Result<(), AllocError>
     requires schools { All (λ site. is_school_in_range site.school ≡ true) sites.now }
     requires child { IsTrue (is_child_in_range child.now) }
-    ensures { IfOk result (λ _. wishes.new.items ≡ wishes.old.items ++ wishes_for (site_in sites.now directory.now) (lot_in directory.now) child.now (option_to_list own)) }
+    ensures { IfOk result (λ _. wishes.new.items ≡ wishes.old.items ++ wishes_for (site_in sites.now round_index.now) (lot_in round_index.now) child.now (option_to_list own)) }
 {
     match own {
-        Some(school) => add_wish(wishes, sites, directory, child, school),
+        Some(school) => add_wish(wishes, sites, round_index, child, school),
         None => Ok(()),
     }
 }
@@ -85,18 +85,18 @@ fn add_own(
 fn entrant_of(
     alloc: Global,
     sites: &[Site],
-    directory: &Directory,
+    round_index: &RoundIndex,
     applicant: &Applicant,
 ) -> Result<Entrant, AllocError>
     requires schools { All (λ site. is_school_in_range site.school ≡ true) sites.now }
     requires child { IsTrue (is_child_in_range applicant.now.child) }
-    ensures { IfOk result (λ entrant. entrant ≡ candidate_of (site_in sites.now directory.now) (lot_in directory.now) applicant.now) }
+    ensures { IfOk result (λ entrant. entrant ≡ candidate_of (site_in sites.now round_index.now) (lot_in round_index.now) applicant.now) }
 {
     let child = applicant.child.as_ref();
     let wanted = applicant.wanted.as_slice();
     let mut list = Vec::new(alloc);
-    add_wishes(&mut list, sites, directory, child, wanted)?;
-    add_own(&mut list, sites, directory, child, applicant.own)?;
+    add_wishes(&mut list, sites, round_index, child, wanted)?;
+    add_own(&mut list, sites, round_index, child, applicant.own)?;
     Ok(Entrant {
         child: child.no,
         list,
@@ -108,17 +108,17 @@ fn entrant_of(
 fn entrants_of(
     alloc: Global,
     sites: &[Site],
-    directory: &Directory,
+    round_index: &RoundIndex,
     applicants: &[Applicant],
 ) -> Result<Vec<Entrant>, AllocError>
     requires schools { All (λ site. is_school_in_range site.school ≡ true) sites.now }
     requires children { All (λ applicant. is_child_in_range applicant.child ≡ true) applicants.now }
-    ensures { IfOk result (λ entrants. entrants.items ≡ map (candidate_of (site_in sites.now directory.now) (lot_in directory.now)) applicants.now) }
+    ensures { IfOk result (λ entrants. entrants.items ≡ map (candidate_of (site_in sites.now round_index.now) (lot_in round_index.now)) applicants.now) }
 {
     let mut entrants = Vec::new(alloc);
     for index in 0..applicants.len() {
         let applicant = &applicants[index];
-        entrants.push(entrant_of(alloc, sites, directory, applicant)?)?;
+        entrants.push(entrant_of(alloc, sites, round_index, applicant)?)?;
     }
     Ok(entrants)
 }
@@ -139,7 +139,7 @@ fn all_seats(alloc: Global, sites: &[Site]) -> Result<Vec<Seats>, AllocError>
     sites.iter().map(|site| seats_of(site)).collect(alloc)
 }
 
-/// The problem of the round, which has no fault. Where it is an error, memory ran out. It takes
+/// The problem of the round, which is well-formed. Where it is an error, memory ran out. It takes
 /// memory for each site, list entry and lot, and the cost grows with them, times their logarithm.
 pub fn problem_of(
     alloc: Global,
@@ -150,8 +150,8 @@ pub fn problem_of(
     requires { IsPosed sites.now applicants.now lots.now }
     ensures { IfOk result (λ problem. problem ≡ market_of_round sites.now applicants.now lots.now) }
 {
-    let directory = directory_of(alloc, sites, lots)?;
-    let entrants = entrants_of(alloc, sites, &directory, applicants)?;
+    let round_index = round_index_of(alloc, sites, lots)?;
+    let entrants = entrants_of(alloc, sites, &round_index, applicants)?;
     let seats = all_seats(alloc, sites)?;
     match Problem::new(alloc, entrants, seats) {
         Ok(problem) => Ok(problem),

@@ -1,4 +1,4 @@
--- Why it is told that the store failed.
+-- Why it is reported that the store failed.
 use Rattle.std.proofs.Common.{◌≡◌, ◌∙◌, refl, ℕ, List, [], Option, Some, None, ap, inl, inr, ◌⊎◌, arith, IsTrue, true, false, subst, sym}
 use Rattle.std.specs.Prelude.{IsSome, IfSome, is_some}
 use Rattle.sqlite_disk.specs.Disk.{MoreFaults}
@@ -62,7 +62,7 @@ pub cause_here : (v : Version) (old new : State) → DiskFailedIn v old new → 
 cause_here v old new failed has clean live unlimited = inl (failed clean live unlimited has)
 
 module _ (old mid new : State) where
-  -- no fault is forgotten
+  -- no error is forgotten
   pub cause_before : Survives mid new (λ _. ⊥) → HasDiskCause old mid → HasDiskCause old new
   cause_before later cause clean live unlimited =
       let early : HasCleanDisk mid = omega (arith, later.clean, clean) in
@@ -79,7 +79,7 @@ module _ (old mid new : State) where
   pub failed_after : Survives old mid (λ _. ⊥) → Survives mid new (λ _. ⊥) → SeesTheSame old mid → DiskFailed mid new → DiskFailed old new
   failed_after first later same failed v = failed_in v first later (same v) (failed v)
 
--- ---- the fault of rows
+-- ---- the error of rows
 
 abbrev Told : RowsFault → OpenFault → Type 0
 Told fault e = ((fault ≡ rows.BadRow) × (e ≡ BadRow)) ⊎ ((fault ≡ rows.Memory) × (e ≡ Memory))

@@ -1,4 +1,4 @@
--- What stands in a map at each of its keys.
+-- What is in a map at each of its keys.
 use Rattle.std.proofs.Common.{◌≡◌, ◌∙◌, inl, inr, Bool, true, false, cond, List, [], ◌∷◌, map, Some, refl, sym, ap, subst}
 use Rattle.std.specs.Prelude.{T}
 use Rattle.std.specs.declared.cmp.Ordering.{Ordering}
@@ -57,7 +57,7 @@ module _ {K V : Type 0} {R : K → K → Ordering} (total : IsTotalOrder R) (sam
     pub own_entry : (m : FinMap R V) → OwnKeys m → (e : K × V) → Has (entries m) e → key e.1 ≡ e.0
     own_entry m own e h = own e.0 e.1 (get-entries m e.0 ∙ found (entries m) (entries_sorted m) e h)
 
-    -- each row stands at its own key
+    -- each row is at its own key
     pub value_at : (m : FinMap R V) → OwnKeys m → (v : V) → Has (values m) v → get m (key v) ≡ Some v
     value_at m own v h =
         let it = has_source (λ (e : K × V). e.1) (entries m) v h in

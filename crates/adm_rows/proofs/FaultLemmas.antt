@@ -1,4 +1,4 @@
--- What a connection sees of a file that stands for a register.
+-- What a connection sees of a file that represents a register.
 use Rattle.std.proofs.Common.{◌≡◌, ◌∙◌, length, refl, sym, ap, subst}
 use Rattle.sqlite.specs.Tree.{Trees}
 use Rattle.sqlite.specs.Effect.{Database, IsDatabase}
@@ -11,18 +11,18 @@ use Rattle.adm_schema.specs.declared.version.Version.{Version}
 use Rattle.adm_schema.specs.declared.version.Version.TheVariants.{First, Second}
 use Rattle.adm_register.specs.State.{State as Register}
 use Rattle.adm_schema.specs.Schema.{schema_of}
-use Rattle.adm_rows.specs.StandsFor.{StandsAs, StandsFor, HoldsRegister}
+use Rattle.adm_rows.specs.Represents.{RepresentsIn, Represents, HoldsRegister}
 
--- what a connection at rest sees of a file that stands for a register, in the version of its tables
-pub stands_now : (s : State) (db : Trees) (r : Register) → StandsFor db r → db ≡ s.committed.trees → s.now ≡ s.committed → IsDatabase s.now → (v : Version) × (s.now.schema ≡ schema_of v) × HoldsRegister v s.now.trees r
-stands_now s db r file is settled live =
+-- what a connection at rest sees of a file that represents a register, in the version of its tables
+pub represents_now : (s : State) (db : Trees) (r : Register) → Represents db r → db ≡ s.committed.trees → s.now ≡ s.committed → IsDatabase s.now → (v : Version) × (s.now.schema ≡ schema_of v) × HoldsRegister v s.now.trees r
+represents_now s db r file is settled live =
     let v = file.version in
     let trees : s.now.trees ≡ db = ap (λ (d : Database). d.trees) settled ∙ sym is in
     let listed = subst (λ (t : Trees). Lists (t catalog_tree) (schema_of v)) (sym trees) file.stands.sound.lists in
     (v, lists_once (s.now.trees catalog_tree) s.now.schema (schema_of v) live.lists listed, subst (λ (t : Trees). HoldsRegister v t r) (sym trees) file.stands.holds)
 
 -- and the other way round
-pub stands_here : (v : Version) (s : State) (db : Trees) (r : Register) → HoldsRegister v s.now.trees r → s.now.schema ≡ schema_of v → db ≡ s.committed.trees → s.now ≡ s.committed → IsDatabase s.now → StandsAs v db r
+pub stands_here : (v : Version) (s : State) (db : Trees) (r : Register) → HoldsRegister v s.now.trees r → s.now.schema ≡ schema_of v → db ≡ s.committed.trees → s.now ≡ s.committed → IsDatabase s.now → RepresentsIn v db r
 stands_here v s db r holds has is settled live =
     let trees : s.now.trees ≡ db = ap (λ (d : Database). d.trees) settled ∙ sym is in
     record {

@@ -1,4 +1,4 @@
--- Which fault of an open comes first.
+-- Which error of an open is reported.
 use Rattle.std.proofs.Common.{◌≡◌, ◌∙◌, ℕ, List, [], ◌∷◌, Ok, Option, Result, ◌⊎◌, inl, inr, refl, sym, ap, subst, arith}
 use Rattle.std.specs.List.Sorted.{IsPermutation}
 use Rattle.std.proofs.lemmas.List.Sorted.{IsPermutation-sym, length_permutation}
@@ -23,7 +23,7 @@ use Rattle.adm_rows.specs.declared.fault.OpenFault.{OpenFault}
 use Rattle.adm_rows.specs.declared.fault.OpenFault.TheVariants.{NotOurs}
 use Rattle.adm_rows.specs.FirstFault.{first_open_fault, AnswersRows, IsAnswered, IsNotAsked, IsFirstFault}
 
--- ---- what a query tells, under any schema
+-- ---- what a query finds, under any schema
 
 -- the rows that are shown are those that the text answers
 pub answered : (sql : List ℕ) (old new : State) (rows : List Row) → Shown sql [] old new rows → IsAnswered old.now sql rows
@@ -74,7 +74,7 @@ not_asked sql old new e why text (inl (inr h)) c is plain =
     no_text_error old.step_limit h.0.command it.0 (timed [] h.0.formats h.1.now) e why text it.2
 not_asked sql old new e why text (inr h) c is plain = absurd (let wrong = sym h.4 ∙ text in cc)
 
--- ---- the first fault
+-- ---- the first error
 
 -- it does not depend on the order of the rows
 first_permuted : (xs ys : List Row) → IsPermutation xs ys → first_open_fault xs ≡ first_open_fault ys

@@ -1,4 +1,4 @@
--- What an entry that is put into a map, or taken out of it, does to the list of the entries.
+-- What an entry that is put into a map, or removed from it, does to the list of the entries.
 use Rattle.std.proofs.Common.{◌≡◌, ◌∙◌, inl, inr, ap, sym, subst, refl, cond, Bool, true, false, List, [], ◌∷◌, Some, None, IsPermutation}
 use Rattle.std.specs.declared.cmp.Ordering.{Ordering}
 use Rattle.std.specs.declared.cmp.Ordering.TheVariants.{Less, Equal, Greater}
@@ -13,7 +13,7 @@ use Rattle.adm_lists.proofs.Orders.{tied, same_key}
 use Rattle.adm_lists.proofs.Members.{In}
 
 module _ {K V : Type 0} (R : K → K → Ordering) where
-  -- an entry whose key is new comes to the others
+  -- an entry whose key is new joins the others
   pub new_entry : (es : List (K × V)) (k : K) (v : V) → lookup (is_at (R k)) es ≡ None → IsPermutation ((k, v) ∷ es) (insert_entry R es k v)
   new_entry [] k v none = IsPermutation-refl ((k, v) ∷ [])
   new_entry (e ∷ es) k v none =
@@ -25,7 +25,7 @@ module _ {K V : Type 0} (R : K → K → Ordering) where
             IsPermutation-trans _ _ _ (IsPermutation-sym _ _ (IsPermutation-middle (e ∷ []) (k, v) es)) (IsPermutation-cons e _ _ rest)
       ] refl
 
--- where no key is found, none is taken out
+-- where no key is found, none is removed
 pub none_taken : {K V : Type 0} (test : K → Bool) (es : List (K × V)) → lookup test es ≡ None → remove_entry test es ≡ es
 none_taken test [] none = refl
 none_taken test (e ∷ es) none =
@@ -35,7 +35,7 @@ none_taken test (e ∷ es) none =
     ] none
 
 module _ {K V : Type 0} {R : K → K → Ordering} (same : IsAntisymmetric R) where
-  -- the entry that is taken out was one of them
+  -- the entry that is removed was one of them
   pub one_taken : (es : List (K × V)) (k : K) (v : V) → lookup (is_at (R k)) es ≡ Some v → IsPermutation es ((k, v) ∷ remove_entry (is_at (R k)) es)
   one_taken [] k v some = absurd (none-some v some)
   one_taken (e ∷ es) k v some =

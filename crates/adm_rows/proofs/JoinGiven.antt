@@ -1,4 +1,4 @@
--- One turn of the loops that give a child, or an imported row, its school out of those that are left.
+-- One turn of the loops that give a child, or an imported row, its school out of those that remain.
 use Rattle.std.proofs.Common.{◌≡◌, ◌∙◌, ap, sym, subst, Bool, ℕ, ◌+◌, ◌<◌, length, take, drop, get_or, append-nil, List, [], ◌∷◌, ◌++◌, map, Option, Some, None, IsPermutation}
 use Rattle.std.specs.Prelude.{slice_set}
 use Rattle.std.specs.BTreeMap.{insert_entry, is_at}
@@ -18,20 +18,20 @@ use Rattle.adm_rows.specs.Joins.{IsOnceEachKey, IsWithout, present_left_at, key_
 use Rattle.adm_rows.proofs.JoinEntries.{new_entry, none_taken, one_taken, entry_found, no_entry}
 use Rattle.adm_rows.proofs.JoinOnce.{key_total, key_exact, twice}
 
--- a school that is left, at its key
+-- a school that remains, at its key
 abbrev pub Entry : Type 0
 Entry = (ℕ × Bool) × List ℕ
 
 -- ---- a row is put
 
--- one row more is among those that are left
+-- one row more is among those that remain
 pub put_row : (rows : List PresentRow) (i : ℕ) (row : PresentRow) (es : List Entry) → i < length rows → row ≡ get_or rows i row → IsPermutation (take i rows) (map present_left_at es)
     → None ≡ lookup (is_at (key_cmp (present_key row))) es → IsPermutation (take (i + 1) rows) (map present_left_at (insert_entry key_cmp es (present_key row) row.school))
 put_row rows i row es within at so_far none =
     subst (λ xs. IsPermutation xs (map present_left_at (insert_entry key_cmp es (present_key row) row.school))) (sym (next_of rows i row within at))
     (IsPermutation-push_more (take i rows) (map present_left_at es) _ row so_far (IsPermutation-map present_left_at _ _ (new_entry key_cmp es (present_key row) row.school (sym none))))
 
--- a row whose key has a school already is one with a key that stands twice
+-- a row whose key has a school already is one with a key that occurs twice
 pub put_twice : (rows : List PresentRow) (i : ℕ) (row : PresentRow) (es : List Entry) (school : List ℕ) → i < length rows → row ≡ get_or rows i row → IsPermutation (take i rows) (map present_left_at es)
     → Some school ≡ lookup (is_at (key_cmp (present_key row))) es → IsOnceEachKey rows → ⊥
 put_twice rows i row es school within at so_far some once =
@@ -42,22 +42,22 @@ put_twice rows i row es school within at so_far some once =
     twice key_total (map present_key (take i rows)) (map present_key (drop (i + 1) rows)) (present_key row) (in_map present_key (take i rows) (present_left_at entry) there)
     (subst (IsDistinct (eq_by_cmp key_cmp)) (sym (ap (map present_key) split) ∙ map-append present_key (take i rows) (row ∷ drop (i + 1) rows)) once)
 
--- ---- a school is taken out
+-- ---- a school is removed
 
--- what was left is the row of the school that is taken, where there is one, and what is left then
+-- what remained is the row of the school that is taken, where there is one, and what remains then
 pub taken_out : (es : List Entry) (n : ℕ) (imported : Bool) (o : Option (List ℕ)) → o ≡ lookup (is_at (key_cmp (n, imported))) es
     → IsPermutation (map present_left_at es) (present_row n imported o ++ map present_left_at (remove_entry (is_at (key_cmp (n, imported))) es))
 taken_out es n imported None is = subst (λ xs. IsPermutation (map present_left_at es) (map present_left_at xs)) (sym (none_taken (is_at (key_cmp (n, imported))) es (sym is))) (IsPermutation-refl _)
 taken_out es n imported (Some school) is = IsPermutation-map present_left_at _ _ (one_taken key_exact es (n, imported) school (sym is))
 
--- none is left at a key at which nothing is found
+-- none remains at a key at which nothing is found
 pub none_left : (es : List Entry) (n : ℕ) (imported : Bool) → lookup (is_at (key_cmp (n, imported))) es ≡ None → IsWithout (map present_left_at es) imported n
 none_left es n imported none school at =
     let row = from_map present_left_at es _ (from_contains (map present_left_at es) _ at) in
     let entry : row.0 ≡ ((n, imported), school) = ap (λ (r : PresentRow). (present_key r, r.school)) row.2 in
     no_entry key_total es (n, imported) school none (subst (λ e. In e es) entry row.1)
 
--- where fewer rows are left, those of a child that has none are none
+-- where fewer rows remain, those of a child that has none are none
 pub fewer : (rows front rest : List PresentRow) (imported : Bool) (n : ℕ) → IsPermutation rows (front ++ rest) → IsWithout rows imported n → IsWithout rest imported n
 fewer rows front rest imported n moved none school at =
     none school (contains rows _ (in_moved _ _ _ (IsPermutation-sym _ _ moved) (in_right front rest _ (from_contains rest _ at))))
@@ -66,7 +66,7 @@ module _ {X : Type 0} (imported : Bool) (no : X → ℕ) (present : X → Option
   abbrev row_given : X → List PresentRow
   row_given x = present_row (no x) imported (present x)
 
-  -- what the elements before a place have been given, and what is left
+  -- what the elements before a place have been given, and what remains
   pub record IsGiven (before : List PresentRow) (xs : List X) (left : List PresentRow) : Type 0 where
     pub moved : IsPermutation before (flat_map row_given xs ++ left)
     pub taken : AllByRecursion (λ x. IsWithout left imported (no x)) xs

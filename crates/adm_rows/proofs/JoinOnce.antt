@@ -1,4 +1,4 @@
--- Keys of joined rows that stand once each.
+-- Keys of joined rows that occur once each.
 use Rattle.std.proofs.Common.{◌≡◌, ◌∙◌, inl, inr, ap, sym, subst, refl, cond, Bool, true, false, ℕ, List, [], ◌∷◌, ◌++◌, map, Option, Some, None}
 use Rattle.std.specs.declared.cmp.Ordering.{Ordering}
 use Rattle.std.specs.declared.cmp.Ordering.TheVariants.{Less, Equal, Greater}
@@ -55,10 +55,10 @@ other_kind a b = by (nat_cmp a b)
     by Equal = refl
     by Greater = refl
 
--- ---- keys that stand twice
+-- ---- keys that occur twice
 
 module _ {K : Type 0} {R : K → K → Ordering} (total : IsTotalOrder R) where
-  -- a key that stands before itself stands twice
+  -- a key that is before itself occurs twice
   pub twice : (xs ys : List K) (k : K) → In k xs → IsDistinct (eq_by_cmp R) (xs ++ k ∷ ys) → ⊥
   twice [] ys k at once = at
   twice (x ∷ xs) ys k at once = elim at [
@@ -69,7 +69,7 @@ module _ {K : Type 0} {R : K → K → Ordering} (total : IsTotalOrder R) where
     | inr later ↦ twice xs ys k later (IsDistinct-tail (eq_by_cmp R) x _ once)
   ]
 
-  -- keys that stand once each in two lists, none of the one equal to one of the other
+  -- keys that occur once each in two lists, none of the one equal to one of the other
   once_append : (xs ys : List K) → IsDistinct (eq_by_cmp R) xs → IsDistinct (eq_by_cmp R) ys → ((x y : K) → In x xs → In y ys → eq_by_cmp R x y ≡ false) → IsDistinct (eq_by_cmp R) (xs ++ ys)
   once_append [] ys first second apart = second
   once_append (x ∷ xs) ys first second apart =
@@ -82,7 +82,7 @@ module _ {K : Type 0} {R : K → K → Ordering} (total : IsTotalOrder R) where
 
 -- ---- the keys of rows of present schools
 
--- the row of a present school stands at its key
+-- the row of a present school is at its key
 pub key_of_present : (n : ℕ) (imported : Bool) (o : Option (List ℕ)) (row : PresentRow) → In row (present_row n imported o) → present_key row ≡ (n, imported)
 key_of_present n imported None row at = absurd at
 key_of_present n imported (Some school) row at = elim at [ inl same ↦ ap present_key (sym same) | inr later ↦ absurd later ]
@@ -97,7 +97,7 @@ module _ {X : Type 0} (imported : Bool) (no : X → ℕ) (present : X → Option
       let found = from_flat_map (λ x. present_row (no x) imported (present x)) xs row at in
       (found.0, found.1, key_of_present (no found.0) imported (present found.0) row found.2)
 
-  -- where no number stands twice, no key does
+  -- where no number occurs twice, no key does
   once_given : (xs : List X) → IsOnceEach (map no xs) → IsOnceEachKey (given xs)
   unfolding IsDistinct
   once_given [] once = tt
@@ -115,7 +115,7 @@ module _ {X : Type 0} (imported : Bool) (no : X → ℕ) (present : X → Option
       by None rest = rest
       by (Some school) rest = IsDistinct-cons (eq_by_cmp key_cmp) (no x, imported) (map present_key (given xs)) (in_all (λ k. eq_by_cmp key_cmp (no x, imported) k ≡ false) (map present_key (given xs)) first) rest
 
--- the rows of children and of imported rows have no key twice, where no number stands twice in either
+-- the rows of children and of imported rows have no key twice, where no number occurs twice in either
 once_presents : (children : List Child) (imported : List ImportRow) → IsOnceEach (map (λ c. c.no) children) → IsOnceEach (map import_no imported) → IsOnceEachKey (presents_of children imported)
 once_presents children imported once once_imported =
     subst (IsDistinct (eq_by_cmp key_cmp)) (sym (map-append present_key (flat_map present_of_child children) (flat_map present_of_import imported)))
@@ -154,7 +154,7 @@ module _ {V : Type 0} (no : V → ℕ) where
   own_numbers [] own = refl
   own_numbers (e ∷ es) own = λ i. own e (inl refl) i ∷ own_numbers es (λ x at. own x (inr at)) i
 
-  -- no number stands twice among the rows of a map that has each at its own number
+  -- no number occurs twice among the rows of a map that has each at its own number
   pub once_values : (m : FinMap nat_cmp V) → ((k : ℕ) (v : V) → get m k ≡ Some v → no v ≡ k) → IsOnceEach (map no (values m))
   once_values m own =
       let sorted = entries_in_order m in

@@ -1,4 +1,4 @@
--- What all joined rows together come to, once each child and each imported row has been given its own.
+-- The result of joining all rows, once each child and each imported row has been given its own.
 use Rattle.std.proofs.Common.{◌≡◌, ◌∙◌, inl, inr, ap, sym, subst, refl, Bool, true, false, ℕ, ◌≤◌, length, take, drop, append-nil, List, [], ◌∷◌, ◌++◌, map, IsPermutation, arith}
 use Rattle.std.specs.List.{AllByRecursion, flat_map}
 use Rattle.std.proofs.lemmas.List.{nil_from_length, take-append-le, take_all}
@@ -19,7 +19,7 @@ written_over n ys xs whole same =
     let all : length ys ≤ n = omega arith in
     take-append-le n ys (drop (length ys) xs) fits ∙ take_all n ys all
 
--- where no row is left, those that were given are all
+-- where no row remains, those that were given are all
 pub all_given : (rows before between : List PresentRow) (children : List Child) (imported : List ImportRow) (es : List Entry) → length es ≡ 0
     → IsPermutation rows before → IsPermutation before (flat_map present_of_child children ++ between) → IsPermutation between (flat_map present_of_import imported ++ map present_left_at es)
     → IsPermutation (presents_of children imported) rows
@@ -35,7 +35,7 @@ not_among rows imported n row none key at =
     let is : row ≡ record { child = n; is_imported = imported; school = row.school } = λ i. record { child = (key i).0; is_imported = (key i).1; school = row.school } in
     none row.school (contains rows _ (subst (λ r. In r rows) is at))
 
--- what stands in a list stands, but for its present school, in each that is the same but for those
+-- what is in a list is, but for its present school, in each that is the same but for those
 same_bare : {X Y : Type 0} (bare : X → Y) (joined before after : List X) (x : X) → IsPermutation (map bare joined) (map bare before) → map bare after ≡ map bare before → In x joined → (y : X) × In y after × (bare y ≡ bare x)
 same_bare bare joined before after x moved same at = from_map bare after (bare x) (subst (In (bare x)) (sym same) (in_moved _ _ _ moved (in_map bare joined x at)))
 
@@ -43,7 +43,7 @@ module _ (rows left left_then : List PresentRow) (children given : List Child) (
     (whole : IsPermutation rows (flat_map present_of_child given ++ left)) (rest : IsPermutation left (flat_map present_of_import given_imports ++ left_then))
     (same : map bare_child given ≡ map bare_child children) (same_imports : map bare_import given_imports ≡ map bare_import imported)
     (taken : AllByRecursion (λ child. IsWithout left false child.no) given) (taken_imports : AllByRecursion (λ row. IsWithout left_then true (import_no row)) given_imports) where
-  -- where a row is left that is nobody's, the rows can be joined to no children and imported rows
+  -- where a row remains that is nobody's, the rows can be joined to no children and imported rows
   pub nobodys : (row : PresentRow) → In row left_then → (joined : List Child) (joined_imports : List ImportRow) → IsJoin children imported rows joined joined_imports → ⊥
   nobodys row at joined joined_imports it =
       let between : In row left = in_moved _ _ _ (IsPermutation-sym _ _ rest) (in_right (flat_map present_of_import given_imports) left_then row at) in
@@ -61,7 +61,7 @@ module _ (rows left left_then : List PresentRow) (children given : List Child) (
             not_among left_then true (import_no own.0) row (all_in (λ r. IsWithout left_then true (import_no r)) given_imports own.0 taken_imports own.1) (import.2 ∙ ap (λ n. (n, true)) number) at
       ]
 
--- where entries are left, one of them is
+-- where entries remain, one of them is
 pub one_left : (es : List Entry) → (length es ≡ 0 → ⊥) → (row : PresentRow) × In row (map present_left_at es)
 one_left [] some = absurd (some refl)
 one_left (e ∷ es) some = (present_left_at e, inl refl)

@@ -1,4 +1,4 @@
--- A file stands for at most one register.
+-- A file represents at most one register.
 use Rattle.std.proofs.Common.{◌≡◌, ◌∙◌, true, not, Option, Some, None, refl, sym, ap, subst}
 use Rattle.std.specs.List.Sorted.{IsPermutation}
 use Rattle.std.proofs.lemmas.List.Sorted.{IsPermutation-sym, Contains-permutation}
@@ -15,7 +15,7 @@ use Rattle.adm_schema.specs.declared.version.Version.{Version}
 use Rattle.adm_register.specs.Rows.{rows_in_order}
 use Rattle.adm_schema.specs.Schema.{meta, schema_of}
 use Rattle.adm_schema.proofs.Listed.{meta_in}
-use Rattle.adm_rows.specs.StandsFor.{OneRegister, HoldsRegister}
+use Rattle.adm_rows.specs.Represents.{OneRegister, HoldsRegister}
 use Rattle.adm_rows.proofs.FaultLemmas.{one_version}
 use Rattle.adm_rows.proofs.Entries.{has_value, value_at}
 use Rattle.adm_rows.proofs.SameDraws.{same_draws}
@@ -26,7 +26,7 @@ use Rattle.std.specs.List.{list_all}
 use Rattle.std.proofs.lemmas.Bool.{and_parts}
 use Rattle.adm_rows.proofs.RegisterRows.{rows_held, read_back, season_back, left_total, left_same}
 
--- maps whose rows stand at their own keys, and which have the same rows, are the same
+-- maps whose rows are at their own keys, and which have the same rows, are the same
 module _ {K V : Type 0} {R : K → K → Ordering} (total : IsTotalOrder R) (exact : IsAntisymmetric R) (key : V → K) where
   had_too : (m n : FinMap R V) → ((k : K) (v : V) → get m k ≡ Some v → key v ≡ k) → ((k : K) (v : V) → get n k ≡ Some v → key v ≡ k) → IsPermutation (values m) (values n) → (k : K) (v : V) → get m k ≡ Some v → get n k ≡ Some v
   had_too m n own other same k v there =

@@ -96,7 +96,7 @@ module _ {K V W : Type 0} (R : K → K → Ordering) (f : K → V → W) where
   sorted_with [] = refl
   sorted_with (e ∷ es) = λ i. below_with e.0 es i && sorted_with es i
 
-  -- and at a key stands what is made of what stood there
+  -- and at a key is what is made of what was there
   find_with : IsAntisymmetric R → (q : K) (es : List (K × V)) → find R q (with_values es) ≡ option_map (f q) (find R q es)
   find_with same q [] = refl
   find_with same q (e ∷ es) =
@@ -131,7 +131,7 @@ module _ {K V : Type 0} {R : K → K → Ordering} (total : IsTotalOrder R) (sam
           ap (λ o. option_map (λ w. unwrap_or o w) (cond (is_some o) (get new q) None)) is ∙ ap (option_map (λ w. unwrap_or (Some v) w)) there.1 ∙ sym is
 
   module _ (key : V → K) (own : (k : K) (v : V) → get new k ≡ Some v → key v ≡ k) {P : Type 0} (f : V → List P) where
-    -- what the values of the old map give is given, in the same order, by those that stood at the keys of the values of the new one
+    -- what the values of the old map give is given, in the same order, by those that were at the keys of the values of the new one
     pub given_then : flat_map f (values old) ≡ flat_map (λ v. given f (get old (key v))) (values new)
     given_then =
         let p = contains_key old in

@@ -35,7 +35,7 @@ module _ {X : Type 0} where
   has_in (y ∷ ys) x (inl is) = inl (sym is)
   has_in (y ∷ ys) x (inr h) = inr (has_in ys x h)
 
-  -- what stands in a list stands in each order of it
+  -- what is in a list is in each order of it
   has_moved : (xs ys : List X) (x : X) → IsPermutation xs ys → Has xs x → Has ys x
   has_moved xs ys x moved h = has_contained ys x (Contains-permutation xs ys x moved (contains_had xs x h))
 
@@ -186,7 +186,7 @@ row_import xs rows n school h = elim (has_either (flat_map present_of_child xs) 
 
 -- ---- a register that is read
 
--- a child is what is left without its present school, and that school
+-- a child is what remains without its present school, and that school
 whole_child : (c d : Child) → bare_child c ≡ bare_child d → c.present ≡ d.present → c ≡ d
 whole_child c d same at = λ i. with_present (same i) (at i)
 

@@ -13,7 +13,7 @@ use Rattle.adm_schema.specs.Rows.{rows_of}
 use Rattle.adm_schema.specs.declared.version.Version.{Version}
 use Rattle.adm_schema.specs.Schema.{schema_of}
 use Rattle.adm_rows.specs.Reads.{AsksAll, SeesTheSameIn, Holds}
-use Rattle.adm_rows.specs.StandsFor.{HasRows}
+use Rattle.adm_rows.specs.Represents.{HasRows}
 
 -- the trees of the register's tables are few
 pub few_trees : (tree : ℕ) → tree < 16 → nat_le (2 ^ 31) tree ≡ false

@@ -49,7 +49,7 @@ use Rattle.adm_rows.proofs.DrawRows.{draw_from, draw_back, offer_from, offer_bac
 use Rattle.adm_rows.proofs.KnownRows.{code_there, codes_there, number_there}
 use Rattle.adm_rows.proofs.DrawFits.{draws_fit, offers_fit, lots_fit}
 use Rattle.adm_rows.proofs.DrawNumbers.{few_draws}
-use Rattle.adm_rows.specs.StandsFor.{HasRows, HoldsRows, HoldsRegister, IsSaidIn, names_no_feeder, written_in, written_tables}
+use Rattle.adm_rows.specs.Represents.{HasRows, HoldsRows, HoldsRegister, IsSaidIn, names_no_feeder, written_in, written_tables}
 use Rattle.adm_rows.specs.Present.{present_columns}
 use Rattle.adm_rows.specs.Reads.{HoldsFirst, HoldsPresent, HoldsSeason, AreReadBack}
 use Rattle.adm_register.specs.declared.register_rows.Rows.{Rows}

@@ -1,4 +1,4 @@
--- When it may be told that the store failed.
+-- When it may be reported that the store failed.
 use Rattle.std.specs.Prelude.{◌≡◌, ◌≢◌, ◌⊎◌, List, [], ℕ, None, Ok, IsSome, IsTrue}
 use Rattle.sqlite.specs.Clock.{timed}
 use Rattle.sqlite.specs.Effect.{Database, RefusesToRead}

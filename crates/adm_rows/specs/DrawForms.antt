@@ -9,6 +9,7 @@ use Rattle.sqlite.specs.declared.types.Value.TheVariants.{Int, Text}
 use Rattle.sqlite.specs.Order.{Row}
 use Rattle.adm_rows.specs.Forms.{truth_code, school_value}
 
+-- a row of `draw`: the draw's number, its round's number, the school or NULL, and the day
 abbrev pub draw_row : DrawRow → Row
 draw_row r = Int (pos r.draw) ∷ Int (pos r.round) ∷ school_value r.school ∷ Int (pos r.day) ∷ []
 

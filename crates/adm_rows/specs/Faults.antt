@@ -1,4 +1,4 @@
--- The faults that say that the tables hold no register, and when rows are those of no register.
+-- The errors that say that the tables hold no register, and when rows are those of no register.
 use Rattle.std.specs.Prelude.{◌≡◌, ℕ, suc, ◌<◌, ◌^◌, pos, Bool, true, ◌&&◌, nat_lt, List, [], ◌∷◌, Option, Some, None, IsTrue}
 use Rattle.std.specs.List.{list_all}
 use Rattle.std.specs.Str.{IsUtf8, is_utf8}
@@ -25,7 +25,7 @@ use Rattle.adm_rows.specs.declared.fault.OpenFault.{OpenFault}
 use Rattle.adm_rows.specs.declared.fault.OpenFault.TheVariants.{NotOurs, Version, BadRow, Disk, Memory}
 use Rattle.adm_rows.specs.Forms.{phase_code, version_code, criteria_text, criteria_of, codes_text, day_value}
 
--- the faults that say that the tables hold no register
+-- the errors that say that the tables hold no register
 abbrev pub IsNoRegister : OpenFault → Type 0
 IsNoRegister NotOurs = Unit {0}
 IsNoRegister Version = Unit {0}

@@ -1,4 +1,4 @@
--- Which of the faults of an open comes first.
+-- Which of the errors of an open is reported.
 use Rattle.std.specs.Prelude.{◌≡◌, ℕ, zero, suc, pos, Bool, true, false, List, [], ◌∷◌, Ok, Err, None, if◌then◌else◌}
 use Rattle.sqlite.specs.declared.types.Value.{Value}
 use Rattle.sqlite.specs.declared.types.Value.TheVariants.{Int}
@@ -20,7 +20,7 @@ is_known_version (Int (pos (suc zero))) = true
 is_known_version (Int (pos (suc (suc zero)))) = true
 is_known_version other = false
 
--- what is wrong first with a file that stands for no register, by the rows of its table `meta`: there is none; its row names another version than the two; anything else
+-- what is wrong first with a file that represents no register, by the rows of its table `meta`: there is none; its row names another version than the two; anything else
 abbrev pub first_open_fault : List Row → OpenFault
 first_open_fault [] = NotOurs
 first_open_fault (cells ∷ []) = if is_known_version (column cells 1) then BadRow else Version
@@ -38,11 +38,11 @@ IsAnswered db sql rows = (c : Compiled) × (understood db.schema sql ≡ Ok c) �
 abbrev pub IsNotAsked : Database → List ℕ → Type 0
 IsNotAsked db sql = (c : Compiled) → understood db.schema sql ≡ Ok c → c.returning ≡ None → ⊥
 
--- the fault is the first that fits, in the order NotOurs, Version, BadRow
+-- the error is the first that fits, in the order NotOurs, Version, BadRow
 pub record IsFirstFault (db : Database) (fault : OpenFault) : Type 0 where
   -- there is no table `meta` with its columns, by their names
   pub no_table : (why : CompileError) → understood db.schema select_meta ≡ Err why → fault ≡ NotOurs
-  -- else its rows tell
+  -- else its rows decide
   pub by_rows : (c : Compiled) → understood db.schema select_meta ≡ Ok c → c.returning ≡ None → (rows : List Row) × AnswersRows db select_meta c rows × (fault ≡ first_open_fault rows)
   -- in a file with the tables of a register these are the rows of its table `meta`
   pub own_rows : (v : FileVersion) → db.schema ≡ schema_of v → fault ≡ first_open_fault (rows_of meta db.trees)

@@ -24,6 +24,7 @@ use Rattle.sqlite.specs.declared.types.Value.{Value}
 use Rattle.sqlite.specs.declared.types.Value.TheVariants.{Null, Int, Text}
 use Rattle.sqlite.specs.Order.{Row}
 
+-- the number of a phase: 1 primary, 2 secondary
 abbrev pub phase_code : Phase → ℕ
 phase_code Primary = 1
 phase_code Secondary = 2
@@ -32,6 +33,7 @@ phase_code Secondary = 2
 abbrev pub days_text : List ℕ → List ℕ
 days_text days = joined (map decimal days)
 
+-- criteria as one text, with `;` between each two
 abbrev pub criteria_text : List Criterion → List ℕ
 criteria_text criteria = joined (map criterion_text criteria)
 
@@ -44,9 +46,11 @@ version_code Second = 2
 abbrev pub season_row : Version → SeasonFacts → ℕ → Row
 season_row v s draws = Int (pos 1) ∷ Int (pos (version_code v)) ∷ Int (pos (phase_code s.phase)) ∷ Int (pos s.year) ∷ Text (days_text s.holidays) ∷ Int (pos draws) ∷ []
 
+-- a row of `school`: the code, the name, the admission number, the two coordinates, and the criteria
 abbrev pub school_row : School → Row
 school_row s = Text s.code ∷ Text s.name ∷ Int (pos s.pan) ∷ Int (pos s.at.east) ∷ Int (pos s.at.north) ∷ Text (criteria_text s.criteria) ∷ []
 
+-- the number of a truth value: 1 true, 0 false
 abbrev pub truth_code : Bool → ℕ
 truth_code true = 1
 truth_code false = 0
@@ -75,9 +79,11 @@ written = record {
   some_codes = λ codes. Text (codes_text codes);
 }
 
+-- a row of `child`: its number, name and coordinates, whether it is looked after, its flags, and its siblings' schools
 abbrev pub child_row : Child → Row
 child_row c = child_columns written (home_values c)
 
+-- a row of `application`: the child, the day, and the schools of the list
 abbrev pub application_row : Application → Row
 application_row a = application_fields written (application_values a)
 
@@ -96,9 +102,11 @@ state_columns (Offered day reminded) = Int (pos 1) ∷ Int (pos day) ∷ day_val
 state_columns Accepted = Int (pos 2) ∷ Null ∷ Null ∷ []
 state_columns Plan = Int (pos 3) ∷ Null ∷ Null ∷ []
 
+-- a row of `place`: the child, the school, and the columns of the place's state
 abbrev pub place_row : PlaceRow → Row
 place_row p = Int (pos p.child) ∷ Text p.place.school ∷ state_columns p.place.state
 
+-- a row of `left_list`: the child, and the school that it left
 abbrev pub left_row : LeftPair → Row
 left_row p = Int (pos p.child) ∷ Text p.school ∷ []
 
@@ -108,8 +116,10 @@ left_row p = Int (pos p.child) ∷ Text p.school ∷ []
 abbrev pub day_of : List ℕ → Option ℕ
 day_of text = option_and_then (λ n. if is_from first_day last_day n then Some n else None) (plain_of text)
 
+-- the days that a text lists, with `;` between each two, if it lists days
 abbrev pub days_of : List ℕ → Option (List ℕ)
 days_of = items_of day_of
 
+-- the criteria that a text lists, with `;` between each two, if it lists criteria
 abbrev pub criteria_of : List ℕ → Option (List Criterion)
 criteria_of = items_of criterion_of

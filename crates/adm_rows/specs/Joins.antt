@@ -14,7 +14,7 @@ use Rattle.adm_types.specs.declared.rows.PresentRow.{PresentRow}
 abbrev pub import_no : ImportRow → ℕ
 import_no row = row.child.no
 
--- no number stands twice
+-- no number occurs twice
 abbrev pub IsOnceEach : List ℕ → Type 0
 IsOnceEach = IsDistinct (eq_by_cmp nat_cmp)
 
@@ -26,11 +26,11 @@ pub record IsJoin (children : List Child) (imported : List ImportRow) (rows : Li
   pub once : IsOnceEach (map (λ c. c.no) joined)
   pub once_imported : IsOnceEach (map import_no joined_imports)
 
--- the row of the school that is left at a key
+-- the row of the school that remains at a key
 abbrev pub present_left_at : (ℕ × Bool) × List ℕ → PresentRow
 present_left_at entry = record { child = entry.0.0; is_imported = entry.0.1; school = entry.1 }
 
--- the rows that are left
+-- the rows that remain
 abbrev pub left_rows : BTreeMap (ℕ × Bool) (List ℕ) → List PresentRow
 left_rows left = map present_left_at left.entries
 

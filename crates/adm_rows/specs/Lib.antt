@@ -2,7 +2,7 @@ pub mod Forms
 pub mod Present
 pub mod Joins
 pub mod DrawForms
-pub mod StandsFor
+pub mod Represents
 pub mod Reads
 pub mod Faults
 pub mod FirstFault

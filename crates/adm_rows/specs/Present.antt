@@ -24,6 +24,7 @@ moved_key child = Int (pos child) ∷ Int (pos (truth_code false)) ∷ []
 abbrev pub was_present : FinMap nat_cmp Child → ℕ → Option (List ℕ)
 was_present children child = option_and_then (λ (c : Child). c.present) (get children child)
 
+-- whether two present schools are the same, or both are missing
 abbrev pub is_same_present : Option (List ℕ) → Option (List ℕ) → Bool
 is_same_present = option_eq bytes_eq
 
@@ -32,19 +33,22 @@ abbrev pub moved_from : Option (List ℕ) → Child → List ℕ
 moved_from None child = []
 moved_from (Some school) child = if is_same_present (Some school) child.present then [] else child.no ∷ []
 
-abbrev pub present_gone_by : FinMap nat_cmp Child → Child → List ℕ
-present_gone_by before child = moved_from (was_present before child.no) child
+-- the child's number, if it had a present school, and has another one or none now
+abbrev pub present_removed_by : FinMap nat_cmp Child → Child → List ℕ
+present_removed_by before child = moved_from (was_present before child.no) child
 
 -- a child has a present school that it had not: its row
 abbrev pub arrived_from : Option (List ℕ) → Child → List PresentRow
 arrived_from before child = if is_same_present before child.present then [] else present_of_child child
 
-abbrev pub present_come_by : FinMap nat_cmp Child → Child → List PresentRow
-present_come_by before child = arrived_from (was_present before child.no) child
+-- the child's row of `present`, if it has a present school, and had another one or none before
+abbrev pub present_added_by : FinMap nat_cmp Child → Child → List PresentRow
+present_added_by before child = arrived_from (was_present before child.no) child
 
 -- of the children that changed, those whose row goes, and the rows that come; those of imported rows only come
-abbrev pub present_gone_of : FinMap nat_cmp Child → List Child → List ℕ
-present_gone_of before = flat_map (present_gone_by before)
+abbrev pub present_removed_of : FinMap nat_cmp Child → List Child → List ℕ
+present_removed_of before = flat_map (present_removed_by before)
 
-abbrev pub present_come_of : FinMap nat_cmp Child → List Child → List ImportRow → List PresentRow
-present_come_of before children imported = flat_map (present_come_by before) children ++ flat_map present_of_import imported
+-- the rows of `present` that are inserted: those of changed children with a new present school, and those of new imported rows
+abbrev pub present_added_of : FinMap nat_cmp Child → List Child → List ImportRow → List PresentRow
+present_added_of before children imported = flat_map (present_added_by before) children ++ flat_map present_of_import imported

@@ -20,9 +20,9 @@ use Rattle.std.specs.FinMap.{values}
 use Rattle.adm_types.specs.Seasons.{SeasonFacts}
 use Rattle.adm_register.specs.State.{State as Register}
 use Rattle.adm_rows.specs.Faults.{IsReadAgain, AreReadAgain, IsImportReadAgain}
-use Rattle.adm_rows.specs.StandsFor.{HasRows, HoldsRegister, written_in, written_tables}
+use Rattle.adm_rows.specs.Represents.{HasRows, HoldsRegister, written_in, written_tables}
 
--- in a file of this version the text asks for each row of the table, column by column
+-- in a file of this version the text queries each row of the table, column by column
 pub record AsksAll (v : Version) (table : Table) (text : List ℕ) : Type 0 where
   pub project : List Term
   pub order : List (Term × Key)
@@ -31,12 +31,12 @@ pub record AsksAll (v : Version) (table : Table) (text : List ℕ) : Type 0 wher
   pub few : table.tree < 16
 
 -- on a clean disk, where the connection had the tables of this version, this is so of the trees that it saw
-abbrev pub FindsIn : Version → (Trees → Type 0) → State → State → Type 0
-FindsIn v P old new = HasCleanDisk new → old.now.schema ≡ schema_of v → P old.now.trees
+abbrev pub ReadsIn : Version → (Trees → Type 0) → State → State → Type 0
+ReadsIn v P old new = HasCleanDisk new → old.now.schema ≡ schema_of v → P old.now.trees
 
 -- the same of each version
 abbrev pub Finds : (Trees → Type 0) → State → State → Type 0
-Finds P old new = (v : Version) → FindsIn v P old new
+Finds P old new = (v : Version) → ReadsIn v P old new
 
 -- and it sees what it saw
 abbrev pub SeesTheSameIn : Version → State → State → Type 0
@@ -68,15 +68,15 @@ IsOfSeason season draws r = (r.season ≡ season) × (length (values r.draws) �
 
 -- no register of this season, with so many draws, is found
 abbrev pub FindsNone : Version → SeasonFacts → ℕ → State → State → Type 0
-FindsNone v season draws old new = (r : Register) → IsOfSeason season draws r → FindsIn v (λ db. ¬ HoldsRegister v db r) old new
+FindsNone v season draws old new = (r : Register) → IsOfSeason season draws r → ReadsIn v (λ db. ¬ HoldsRegister v db r) old new
 
 -- the same where `meta` names the version, the season and so many draws
 abbrev pub FindsNoneNamed : Version → SeasonFacts → ℕ → State → State → Type 0
-FindsNoneNamed v season draws old new = (r : Register) → IsOfSeason season draws r → FindsIn v (λ db. HoldsSeason v season draws db → ¬ HoldsRegister v db r) old new
+FindsNoneNamed v season draws old new = (r : Register) → IsOfSeason season draws r → ReadsIn v (λ db. HoldsSeason v season draws db → ¬ HoldsRegister v db r) old new
 
 -- no register at all is found where the tables that were there from the first version on have these rows
 abbrev pub FindsNoneWith : Version → Rows → State → State → Type 0
-FindsNoneWith v rows old new = (r : Register) → FindsIn v (λ db. HoldsFirst v rows db → ¬ HoldsRegister v db r) old new
+FindsNoneWith v rows old new = (r : Register) → ReadsIn v (λ db. HoldsFirst v rows db → ¬ HoldsRegister v db r) old new
 
 -- each of these is what its row is read as
 pub record AreReadBack (rows : Rows) : Type 0 where

@@ -1,7 +1,7 @@
-// The law that a file stands for one register at most.
-ghost use Rattle.adm_rows.specs.StandsFor.{OneRegister};
+// The law that a file represents one register at most.
+ghost use Rattle.adm_rows.specs.Represents.{OneRegister};
 
-/// A file stands for at most one register.
+/// A file represents at most one register.
 pub fn one_register()
     ensures { OneRegister }
 {}

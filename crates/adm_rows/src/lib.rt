@@ -1,4 +1,4 @@
-//! The rows of a register as the tables of a SQLite file hold them: their forms, which register a file stands for, and how it is read.
+//! The rows of a register as the tables of a SQLite file hold them: their forms, which register a file represents, and how it is read.
 #![tactic(auto)]
 
 mod fault;

@@ -7,8 +7,8 @@ ghost use Rattle.adm_schema.specs.declared.version.Version.{Version as FileVersi
 ghost use Rattle.adm_schema.specs.declared.version.Version.TheVariants.{First, Second};
 ghost use Rattle.adm_schema.specs.Schema.{schema_of};
 ghost use Rattle.std.specs.List.{list_all};
-ghost use Rattle.adm_rows.specs.StandsFor.{HoldsRows, HoldsRegister, is_feeder, names_no_feeder};
-ghost use Rattle.adm_rows.specs.Reads.{FindsIn, SeesTheSame, HoldsFirst, HoldsSeason, AreReadBack, FindsNone, FindsNoneNamed, FindsNoneWith};
+ghost use Rattle.adm_rows.specs.Represents.{HoldsRows, HoldsRegister, is_feeder, names_no_feeder};
+ghost use Rattle.adm_rows.specs.Reads.{ReadsIn, SeesTheSame, HoldsFirst, HoldsSeason, AreReadBack, FindsNone, FindsNoneNamed, FindsNoneWith};
 ghost use Rattle.adm_rows.specs.FirstFault.{IsFirstFault};
 ghost use Rattle.adm_rows.specs.Faults.{IsNoRegister};
 ghost use Rattle.adm_rows.specs.Causes.{DiskFailed, DiskFailedIn, HasDiskCause};
@@ -67,7 +67,7 @@ fn first_tables<S: Alter>(
 ) -> Result<Rows, OpenFault>
     ensures same_reference { tx.new.conn.ghost_name ≡ tx.old.conn.ghost_name }
     ensures season { IfOk result (λ rows. rows.season ≡ first.season) }
-    ensures ok { IfOk result (λ rows. FindsIn first.version (λ db. HoldsSeason first.version first.season first.draws db → HoldsFirst first.version rows db) (state S.Store tx.old.conn.now) (state S.Store tx.new.conn.now)) }
+    ensures ok { IfOk result (λ rows. ReadsIn first.version (λ db. HoldsSeason first.version first.season first.draws db → HoldsFirst first.version rows db) (state S.Store tx.old.conn.now) (state S.Store tx.new.conn.now)) }
     ensures same { OnOk result (SeesTheSame (state S.Store tx.old.conn.now) (state S.Store tx.new.conn.now)) }
     ensures again { IfOk result AreReadBack }
     ensures bad { IfErr result (λ e. IsNoRegister e → FindsNone first.version first.season first.draws (state S.Store tx.old.conn.now) (state S.Store tx.new.conn.now)) }
@@ -150,7 +150,7 @@ fn with_presents<S: Alter>(
 ) -> Result<Rows, OpenFault>
     ensures same_reference { tx.new.conn.ghost_name ≡ tx.old.conn.ghost_name }
     ensures season { IfOk result (λ all. all.season ≡ rows.season) }
-    ensures ok { IfOk result (λ all. FindsIn version (λ db. HoldsFirst version rows db → HoldsRows version db all) (state S.Store tx.old.conn.now) (state S.Store tx.new.conn.now)) }
+    ensures ok { IfOk result (λ all. ReadsIn version (λ db. HoldsFirst version rows db → HoldsRows version db all) (state S.Store tx.old.conn.now) (state S.Store tx.new.conn.now)) }
     ensures again { AreReadBack rows → IfOk result AreReadBack }
     ensures bad { IfErr result (λ e. IsNoRegister e → AreReadBack rows → FindsNoneWith version rows (state S.Store tx.old.conn.now) (state S.Store tx.new.conn.now)) }
     ensures first { HasCleanDisk (state S.Store tx.new.conn.now) → IfErr result (λ e. IsNoRegister e → e ≡ OpenFault.BadRow) }
@@ -198,7 +198,7 @@ fn rows_in<S: Alter>(
 ) -> Result<Rows, OpenFault>
     ensures same_reference { tx.new.conn.ghost_name ≡ tx.old.conn.ghost_name }
     ensures season { IfOk result (λ rows. rows.season ≡ first.season) }
-    ensures ok { IfOk result (λ rows. FindsIn first.version (λ db. HoldsSeason first.version first.season first.draws db → HoldsRows first.version db rows) (state S.Store tx.old.conn.now) (state S.Store tx.new.conn.now)) }
+    ensures ok { IfOk result (λ rows. ReadsIn first.version (λ db. HoldsSeason first.version first.season first.draws db → HoldsRows first.version db rows) (state S.Store tx.old.conn.now) (state S.Store tx.new.conn.now)) }
     ensures again { IfOk result AreReadBack }
     ensures bad { IfErr result (λ e. IsNoRegister e → FindsNoneNamed first.version first.season first.draws (state S.Store tx.old.conn.now) (state S.Store tx.new.conn.now)) }
     ensures first { HasCleanDisk (state S.Store tx.new.conn.now) → IfErr result (λ e. IsNoRegister e → e ≡ OpenFault.BadRow) }
@@ -211,8 +211,8 @@ fn rows_in<S: Alter>(
     Ok(all)
 }
 
-/// Rows that are no register's are a bad row, and want of memory is want of memory.
-fn fault_of(fault: RowsFault) -> OpenFault
+/// Rows that are no register's are BadRow, and out of memory stays Memory.
+fn rows_fault(fault: RowsFault) -> OpenFault
     ensures { ((fault ≡ RowsFault.BadRow) × (result ≡ OpenFault.BadRow)) ⊎ ((fault ≡ RowsFault.Memory) × (result ≡ OpenFault.Memory)) }
 {
     match fault {
@@ -230,8 +230,8 @@ pub fn register_in<S: Alter>(
     requires tables { IfSome version (λ v. (state S.Store tx.old.conn.now).now.schema ≡ schema_of v) }
     requires none { version ≡ None → (v : FileVersion) → (state S.Store tx.old.conn.now).now.schema ≡ schema_of v → ⊥ }
     ensures same_reference { tx.new.conn.ghost_name ≡ tx.old.conn.ghost_name }
-    ensures ok { IfOk result (λ it. FindsIn it.0 (λ db. HoldsRegister it.0 db it.1) (state S.Store tx.old.conn.now) (state S.Store tx.new.conn.now)) }
-    ensures bad { IfErr result (λ e. IsNoRegister e → (r : RegisterFacts) (v : FileVersion) → FindsIn v (λ db. ¬ HoldsRegister v db r) (state S.Store tx.old.conn.now) (state S.Store tx.new.conn.now)) }
+    ensures ok { IfOk result (λ it. ReadsIn it.0 (λ db. HoldsRegister it.0 db it.1) (state S.Store tx.old.conn.now) (state S.Store tx.new.conn.now)) }
+    ensures bad { IfErr result (λ e. IsNoRegister e → (r : RegisterFacts) (v : FileVersion) → ReadsIn v (λ db. ¬ HoldsRegister v db r) (state S.Store tx.old.conn.now) (state S.Store tx.new.conn.now)) }
     ensures tables { IfOk result (λ it. (state S.Store tx.old.conn.now).now.schema ≡ schema_of it.0) }
     ensures first { HasCleanDisk (state S.Store tx.new.conn.now) → IfErr result (λ e. IsNoRegister e → IsFirstFault (state S.Store tx.old.conn.now).now e) }
     ensures disk { IfErr result (λ e. e ≡ OpenFault.Disk → HasDiskCause (state S.Store tx.old.conn.now) (state S.Store tx.new.conn.now)) }
@@ -247,6 +247,6 @@ pub fn register_in<S: Alter>(
     let rows = rows_in(alloc, tx, first)?;
     match Register::from_rows(alloc, rows) {
         Ok(register) => Ok((version, register)),
-        Err(fault) => Err(fault_of(fault)),
+        Err(fault) => Err(rows_fault(fault)),
     }
 }

@@ -1,4 +1,4 @@
--- One row that is found by a test and taken out by its rowid, in a table whose key is no integer.
+-- One row that is found by a test and deleted by its rowid, in a table whose key is no integer.
 use Rattle.std.proofs.Common.{◌≡◌, inl, inr, ℕ, ℤ, ◌^◌, List, [], ◌∷◌, length, map, filter, slice_get, Bool, true, false, not, nat_le, arith, Some, Ok, refl, sym, ap, subst, ◌∙◌}
 use Rattle.std.specs.List.{list_all}
 use Rattle.std.specs.List.Sorted.{IsPermutation}
@@ -29,7 +29,7 @@ use Rattle.sqlite_rules.specs.Lists.{Has}
 use Rattle.sqlite_rules.specs.Calls.{ids_of}
 use Rattle.sqlite_rules.proofs.ListLemmas.{has_filtered, has_kept}
 use Rattle.adm_schema.specs.Queries.{query_of, program_of}
-use Rattle.adm_schema.specs.RowTexts.{has_key, is_present, has_code, find_present, find_school, cut_present, cut_school, insert_present, present_terms}
+use Rattle.adm_schema.specs.RowTexts.{has_key, is_present, has_code, find_present, find_school, delete_present, delete_school, insert_present, present_terms}
 use Rattle.adm_schema.specs.Effects.{WritesOnly, AddsRow, DropsRow, begins_with, drop_of}
 use Rattle.adm_schema.specs.Rows.{columns_of, rows_of}
 use Rattle.adm_schema.specs.Schema.{present, school, register_schema}
@@ -138,7 +138,7 @@ module _ (schema : Schema) (table : Table) (at : ℕ) (found : slice_get schema.
       let asked = answers_some table.tree tests (col 1 0 ∷ []) old.now params [] low (reads_as sql params old new schema has (Select (program_of (query_of table.tree tests (col 1 0 ∷ []) [])) names) is plain unlisted [] h) in
       no_source (λ (r : Row). eval_all (col 1 0 ∷ []) (params ∷ r ∷ [])) (filter (passing tests params) (old.now.trees table.tree)) asked
 
-  -- a DELETE by that rowid takes one row out: no other row had it, and the rows that do not pass the tests are left
+  -- a DELETE by that rowid deletes one row: no other row had it, and the rows that do not pass the tests remain
   pub cuts_found : (tests : List Term) (params : Row) (sql : List ℕ) (k : ℤ) (x : Row) (old new : State) → filter (passing tests params) (old.now.trees table.tree) ≡ x ∷ [] → rowid x ≡ Int k
       → command_of (understood schema sql) ≡ Delete at (program_of (query_of table.tree has_key (col 1 0 ∷ []) [])) → IsPlain (understood schema sql) → old.now.schema ≡ schema → ExecutesInside 0 sql (Int k ∷ []) old new (Ok 1)
       → WritesOnly table old new × (new.now.trees table.tree ≡ filter (λ r. not (passing tests params r)) (old.now.trees table.tree))
@@ -183,12 +183,12 @@ present_test child imported r = λ i. equal_int (column r 1) child i && (equal_i
 pub school_test : (code : List ℕ) (r : Row) → passing has_code (Text code ∷ []) r ≡ begins_with (Text code ∷ []) (columns_of school r)
 school_test code r = λ i. equal_text (column r 1) code i && true
 
--- the row of a child, or of an imported row, is found and taken out
+-- the row of a child, or of an imported row, is found and deleted
 pub drops_present : (child imported k : ℤ) (shown : Row) (old mid new : State) → old.now.schema ≡ register_schema → mid.now ≡ old.now → column shown 0 ≡ Int k → Shown find_present (Int child ∷ Int imported ∷ []) old mid (shown ∷ [])
-    → ExecutesInside 0 cut_present (Int k ∷ []) mid new (Ok 1) → DropsRow present (Int child ∷ Int imported ∷ []) mid new
+    → ExecutesInside 0 delete_present (Int k ∷ []) mid new (Ok 1) → DropsRow present (Int child ∷ Int imported ∷ []) mid new
 drops_present child imported k shown old mid new has same number found h =
     let it = finds_one register_schema present 10 refl refl refl (λ _ _. refl) refl is_present find_present finds_present.0 (Int child ∷ Int imported ∷ []) shown k old mid finds_present.1 finds_present.2 finds_present.3 has number found in
-    drops_found register_schema present 10 refl refl refl (λ _ _. refl) refl is_present (Int child ∷ Int imported ∷ []) (Int child ∷ Int imported ∷ []) cut_present k it.0 mid new (present_test child imported)
+    drops_found register_schema present 10 refl refl refl (λ _ _. refl) refl is_present (Int child ∷ Int imported ∷ []) (Int child ∷ Int imported ∷ []) delete_present k it.0 mid new (present_test child imported)
     (ap (λ (d : Database). filter (passing is_present (Int child ∷ Int imported ∷ [])) (d.trees present.tree)) same ∙ it.1) it.2 cuts_present.0 cuts_present.1 (ap (λ (d : Database). d.schema) same ∙ has) h
 
 -- it is not found, and there is none
@@ -197,12 +197,12 @@ no_present child imported old new has found =
     drops_none present is_present (Int child ∷ Int imported ∷ []) (Int child ∷ Int imported ∷ []) (old.now.trees present.tree) (present_test child imported)
     (finds_none register_schema present 10 refl refl refl (λ _ _. refl) refl is_present find_present finds_present.0 (Int child ∷ Int imported ∷ []) old new finds_present.1 finds_present.2 finds_present.3 has found)
 
--- the row of a school is found and taken out
+-- the row of a school is found and deleted
 pub drops_school : (code : List ℕ) (k : ℤ) (shown : Row) (old mid new : State) → old.now.schema ≡ register_schema → mid.now ≡ old.now → column shown 0 ≡ Int k → Shown find_school (Text code ∷ []) old mid (shown ∷ [])
-    → ExecutesInside 0 cut_school (Int k ∷ []) mid new (Ok 1) → DropsRow school (Text code ∷ []) mid new
+    → ExecutesInside 0 delete_school (Int k ∷ []) mid new (Ok 1) → DropsRow school (Text code ∷ []) mid new
 drops_school code k shown old mid new has same number found h =
     let it = finds_one register_schema school 1 refl refl refl (λ _ _. refl) refl has_code find_school finds_school.0 (Text code ∷ []) shown k old mid finds_school.1 finds_school.2 finds_school.3 has number found in
-    drops_found register_schema school 1 refl refl refl (λ _ _. refl) refl has_code (Text code ∷ []) (Text code ∷ []) cut_school k it.0 mid new (school_test code)
+    drops_found register_schema school 1 refl refl refl (λ _ _. refl) refl has_code (Text code ∷ []) (Text code ∷ []) delete_school k it.0 mid new (school_test code)
     (ap (λ (d : Database). filter (passing has_code (Text code ∷ [])) (d.trees school.tree)) same ∙ it.1) it.2 cuts_school.0 cuts_school.1 (ap (λ (d : Database). d.schema) same ∙ has) h
 
 -- ---- a row that is added

@@ -1,4 +1,4 @@
--- One row that is put or taken out by its key, an integer in the first column.
+-- One row that is put or deleted by its key, an integer in the first column.
 use Rattle.std.proofs.Common.{◌≡◌, inl, inr, ℕ, ℤ, ◌/◌, ◌^◌, List, [], ◌∷◌, ◌++◌, length, map, drop, filter, flat_map, slice_get, Bool, true, false, not, cond, nat_le, Some, None, Ok, refl, sym, ap, subst, subst₂, ◌∙◌}
 use Rattle.std.specs.Prelude.{◌&&◌, ◌||◌}
 use Rattle.std.specs.List.{list_any, list_all}
@@ -42,7 +42,7 @@ use Rattle.sqlite.specs.Effect.{Database, Answers}
 use Rattle.adm_lists.proofs.Orders.{same_key}
 use Rattle.adm_schema.specs.Queries.{query_of, program_of}
 use Rattle.adm_schema.specs.RowTexts.{has_key}
-use Rattle.adm_schema.specs.Effects.{PutsRow, CutsRow, integer_key}
+use Rattle.adm_schema.specs.Effects.{PutsRow, DeletesRow, integer_key}
 use Rattle.adm_schema.proofs.Statements.{replaced, replaced_rows, Replaces, deleted}
 use Rattle.sqlite_rules.specs.Calls.{ids_of}
 use Rattle.sqlite_rules.specs.Keys.{AreConflicts, conflicts, shares}
@@ -211,7 +211,7 @@ module _ (schema : Schema) (table : Table) (at : ℕ) (found : slice_get schema.
 
   -- a DELETE of the row of one key
   pub cuts_row : (sql : List ℕ) (k : ℤ) (old new : State) (count : ℕ) → command_of (understood schema sql) ≡ Delete at (program_of (query_of table.tree has_key (col 1 0 ∷ []) [])) → IsPlain (understood schema sql)
-      → nat_le (2 ^ 31) table.tree ≡ false → old.now.schema ≡ schema → ExecutesInside 0 sql (Int k ∷ []) old new (Ok count) → CutsRow table k old new
+      → nat_le (2 ^ 31) table.tree ≡ false → old.now.schema ≡ schema → ExecutesInside 0 sql (Int k ∷ []) old new (Ok count) → DeletesRow table k old new
   cuts_row sql k old new count is plain low has h =
       let some = deleted schema table at found uncounted unstamped alone (program_of (query_of table.tree has_key (col 1 0 ∷ []) [])) sql (Int k ∷ []) old new count is plain has h in
       let rows = old.now.trees table.tree in

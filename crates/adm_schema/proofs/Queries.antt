@@ -84,7 +84,7 @@ module _ {schema : Schema} {sql : List ℕ} {tree : ℕ} {project : List Term} {
       ]
   never_refused old new e why has text (inr h) = absurd (let wrong = sym h.4 ∙ text in cc)
 
-  -- without a limit on its steps it fails only for memory, or where the store told why
+  -- without a limit on its steps it fails only for memory, or where the store gives the reason
   pub fails_alone : (old new : State) (e : Error) → old.now.schema ≡ schema → old.step_limit ≡ None → ((why : CompileError) → e ≡ SqlInputError why → ⊥) → FailsToQuery sql [] old new e ⊎ IsTooLate sql [] old new e → Fails old new ⊥ e
   unfolding FailsToQuery IsNotRun
   fails_alone old new e has unlimited other (inl (inl (inl h))) = elim h.0 [

@@ -1,4 +1,4 @@
--- What each text that writes, adds or takes out one row means under the register's schema.
+-- What each text that writes, adds or deletes one row means under the register's schema.
 use Rattle.std.proofs.Common.{◌≡◌, refl, ℕ, List, false}
 use Rattle.std.specs.Prelude.{[], ◌∷◌, suc, length}
 use Rattle.sqlite.specs.Term.{col}
@@ -25,11 +25,11 @@ pub puts_place : (command_of (understood register_schema text.put_place) ≡ Ins
 unfolding understood everything
 puts_place = (refl, (refl, refl))
 
-pub cuts_application : (command_of (understood register_schema text.cut_application) ≡ Delete 3 (program_of (query_of 4 text.has_key (col 1 0 ∷ []) []))) × IsPlain (understood register_schema text.cut_application)
+pub cuts_application : (command_of (understood register_schema text.delete_application) ≡ Delete 3 (program_of (query_of 4 text.has_key (col 1 0 ∷ []) []))) × IsPlain (understood register_schema text.delete_application)
 unfolding understood everything
 cuts_application = (refl, (refl, refl))
 
-pub cuts_place : (command_of (understood register_schema text.cut_place) ≡ Delete 4 (program_of (query_of 5 text.has_key (col 1 0 ∷ []) []))) × IsPlain (understood register_schema text.cut_place)
+pub cuts_place : (command_of (understood register_schema text.delete_place) ≡ Delete 4 (program_of (query_of 5 text.has_key (col 1 0 ∷ []) []))) × IsPlain (understood register_schema text.delete_place)
 unfolding understood everything
 cuts_place = (refl, (refl, refl))
 
@@ -49,7 +49,7 @@ pub finds_present : (names : List (List ℕ)) × (command_of (understood registe
 unfolding understood everything
 finds_present = (_, refl, (refl, refl), refl)
 
-pub cuts_present : (command_of (understood register_schema text.cut_present) ≡ Delete 10 (program_of (query_of 15 text.has_key (col 1 0 ∷ []) []))) × IsPlain (understood register_schema text.cut_present)
+pub cuts_present : (command_of (understood register_schema text.delete_present) ≡ Delete 10 (program_of (query_of 15 text.has_key (col 1 0 ∷ []) []))) × IsPlain (understood register_schema text.delete_present)
 unfolding understood everything
 cuts_present = (refl, (refl, refl))
 
@@ -57,6 +57,6 @@ pub finds_school : (names : List (List ℕ)) × (command_of (understood register
 unfolding understood everything
 finds_school = (_, refl, (refl, refl), refl)
 
-pub cuts_school : (command_of (understood register_schema text.cut_school) ≡ Delete 1 (program_of (query_of 1 text.has_key (col 1 0 ∷ []) []))) × IsPlain (understood register_schema text.cut_school)
+pub cuts_school : (command_of (understood register_schema text.delete_school) ≡ Delete 1 (program_of (query_of 1 text.has_key (col 1 0 ∷ []) []))) × IsPlain (understood register_schema text.delete_school)
 unfolding understood everything
 cuts_school = (refl, (refl, refl))

@@ -1,4 +1,4 @@
--- What each fixed text means: one that asks, under the schema of each version, and one that writes, under that which is written.
+-- What each fixed text means: one that queries, under the schema of each version, and one that writes, under that which is written.
 use Rattle.std.proofs.Common.{◌≡◌, refl, arith}
 use Rattle.std.specs.Prelude.{[], suc, length}
 use Rattle.sqlite.specs.Command.TheVariants.{Insert, Update}

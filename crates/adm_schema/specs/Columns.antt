@@ -29,12 +29,15 @@ columns = record {
   some_codes = (Text, true);
 }
 
+-- the columns of the table `child`, one for each field
 abbrev pub child_columns : List Column
 child_columns = fields.child_columns columns
 
+-- the columns of the table `application`, one for each field
 abbrev pub application_columns : List Column
 application_columns = application_fields columns
 
+-- the columns of the table `imported`, one for each field
 abbrev pub imported_columns : List Column
 imported_columns = fields.import_columns columns
 

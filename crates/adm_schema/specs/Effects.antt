@@ -64,7 +64,7 @@ put_in row rows = row ∷ without_rowid (integer_key row) rows
 abbrev pub put_each : List Row → List Row → List Row
 put_each = fold (λ rows row. put_in row rows)
 
--- where each row has an integer as its key, this table has the rows that come of the old ones so, in some order, and each has an integer as its key
+-- where each row has an integer as its key, this table has the rows that result from the old ones so, in some order, and each has an integer as its key
 pub record Turns (table : Table) (change : List Row → List Row) (old new : State) : Type 0 where
   pub only : WritesOnly table old new
   pub rows : IsTrue (have_rowids (rows_of table old.now.trees)) → IsPermutation (change (rows_of table old.now.trees)) (rows_of table new.now.trees)
@@ -75,8 +75,8 @@ abbrev pub PutsRow : Table → Row → State → State → Type 0
 PutsRow table row = Turns table (put_in row)
 
 -- this table has no row of this key
-abbrev pub CutsRow : Table → ℤ → State → State → Type 0
-CutsRow table key = Turns table (without_rowid key)
+abbrev pub DeletesRow : Table → ℤ → State → State → Type 0
+DeletesRow table key = Turns table (without_rowid key)
 
 -- ---- a table whose key is no integer
 

@@ -37,7 +37,7 @@ abbrev pub IsWhole : List ℕ → Result Compiled CompileError → Type 0
 IsWhole sql (Ok c) = (length sql ≤ c.tail) × (c.names ≡ [])
 IsWhole sql (Err why) = ⊥
 
--- under the schema the text asks for these columns of each row of one table, which is never refused
+-- under the schema the text queries these columns of each row of one table, which is never refused
 pub record Asks (schema : Schema) (sql : List ℕ) (tree : ℕ) (project : List Term) (order : List (Term × Key)) : Type 0 where
   pub names : List (List ℕ)
   pub command : command_of (understood schema sql) ≡ Select (program_of (query_of tree [] project order)) names

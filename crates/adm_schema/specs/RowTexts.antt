@@ -1,4 +1,4 @@
--- The fixed texts that write and take out one row of a table by its key, and those that only add one.
+-- The fixed texts that write and delete one row of a table by its key, and those that only add one.
 use Rattle.std.specs.Prelude.{ℕ, List, [], ◌∷◌, codes}
 use Rattle.sqlite.specs.declared.types.Value.TheVariants.{Null}
 use Rattle.sqlite.specs.Collation.TheVariants.{Binary}
@@ -20,11 +20,11 @@ put_place = codes "INSERT OR REPLACE INTO place (child, school, kind, day, remin
 abbrev pub place_terms : List Term
 place_terms = col 0 0 ∷ lit Null ∷ col 0 1 ∷ col 0 2 ∷ col 0 3 ∷ col 0 4 ∷ []
 
-abbrev pub cut_application : List ℕ
-cut_application = codes "DELETE FROM application WHERE child = ?1"
+abbrev pub delete_application : List ℕ
+delete_application = codes "DELETE FROM application WHERE child = ?1"
 
-abbrev pub cut_place : List ℕ
-cut_place = codes "DELETE FROM place WHERE child = ?1"
+abbrev pub delete_place : List ℕ
+delete_place = codes "DELETE FROM place WHERE child = ?1"
 
 -- the rowid is the parameter
 abbrev pub has_key : List Term
@@ -51,7 +51,7 @@ insert_present = codes "INSERT INTO present (child, imported, school) VALUES (?1
 abbrev pub present_terms : List Term
 present_terms = lit Null ∷ col 0 0 ∷ col 0 1 ∷ col 0 2 ∷ []
 
--- ---- a row whose key is no integer is found by its key, and taken out by its rowid
+-- ---- a row whose key is no integer is found by its key, and deleted by its rowid
 
 abbrev pub find_present : List ℕ
 find_present = codes "SELECT rowid FROM present WHERE child = ?1 AND imported = ?2"
@@ -60,8 +60,8 @@ find_present = codes "SELECT rowid FROM present WHERE child = ?1 AND imported = 
 abbrev pub is_present : List Term
 is_present = op2 (Compare Eq Binary) (col 1 1) (col 0 0) ∷ op2 (Compare Eq Binary) (col 1 2) (col 0 1) ∷ []
 
-abbrev pub cut_present : List ℕ
-cut_present = codes "DELETE FROM present WHERE rowid = ?1"
+abbrev pub delete_present : List ℕ
+delete_present = codes "DELETE FROM present WHERE rowid = ?1"
 
 abbrev pub find_school : List ℕ
 find_school = codes "SELECT rowid FROM school WHERE code = ?1"
@@ -70,5 +70,5 @@ find_school = codes "SELECT rowid FROM school WHERE code = ?1"
 abbrev pub has_code : List Term
 has_code = op2 (Compare Eq Binary) (col 1 1) (col 0 0) ∷ []
 
-abbrev pub cut_school : List ℕ
-cut_school = codes "DELETE FROM school WHERE rowid = ?1"
+abbrev pub delete_school : List ℕ
+delete_school = codes "DELETE FROM school WHERE rowid = ?1"

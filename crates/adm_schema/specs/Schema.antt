@@ -81,59 +81,77 @@ new_present = record (table_of (codes "present") (column_of (codes "child") Inte
 
 -- ---- with their trees
 
+-- the table of the season, with one row
 abbrev pub meta : Table
 meta = new_meta
 
+-- the table of schools, by their codes
 abbrev pub school : Table
 school = record new_school { tree = 1 }
 
+-- the table of children, by their numbers
 abbrev pub child : Table
 child = record new_child { tree = 3 }
 
+-- the table of applications, by the child's number
 abbrev pub application : Table
 application = record new_application { tree = 4 }
 
+-- the table of places, by the child's number
 abbrev pub place : Table
 place = record new_place { tree = 5 }
 
+-- the table of children and the schools that they left
 abbrev pub left_list : Table
 left_list = record new_left_list { tree = 6 }
 
+-- the table of draws, by their numbers
 abbrev pub draw : Table
 draw = record new_draw { tree = 8 }
 
+-- the table of the outcomes of draws
 abbrev pub offer : Table
 offer = record new_offer { tree = 9 }
 
+-- the table of the lots of draws
 abbrev pub lot : Table
 lot = record new_lot { tree = 11 }
 
+-- the table of imported rows, by the child's number
 abbrev pub imported : Table
 imported = record new_imported { tree = 14 }
 
+-- the table of present schools, of children and of imported rows
 abbrev pub present : Table
 present = record new_present { tree = 15 }
 
+-- the automatic index of `school`: no code is repeated
 abbrev pub school_index : Index
 school_index = index_of (codes "sqlite_autoindex_school_1") 2 1 (1 ∷ [])
 
+-- the automatic index of `left_list`: no child is repeated at a school
 abbrev pub left_list_index : Index
 left_list_index = index_of (codes "sqlite_autoindex_left_list_1") 7 6 (1 ∷ 2 ∷ [])
 
+-- the automatic index of `offer`: no child is repeated in a draw
 abbrev pub offer_index : Index
 offer_index = index_of (codes "sqlite_autoindex_offer_1") 10 9 (1 ∷ 2 ∷ [])
 
+-- the first automatic index of `lot`: no child is repeated at a school in a draw
 abbrev pub lot_index_1 : Index
 lot_index_1 = index_of (codes "sqlite_autoindex_lot_1") 12 11 (1 ∷ 2 ∷ 3 ∷ [])
 
+-- the second automatic index of `lot`: no lot is repeated at a school in a draw
 abbrev pub lot_index_2 : Index
 lot_index_2 = index_of (codes "sqlite_autoindex_lot_2") 13 11 (1 ∷ 2 ∷ 4 ∷ [])
 
+-- the automatic index of `present`: no child is repeated among children, nor among imported rows
 abbrev pub present_index : Index
 present_index = index_of (codes "sqlite_autoindex_present_1") 16 15 (1 ∷ 2 ∷ [])
 
 -- ---- the schemas
 
+-- the schema of a file without a table, an index or a view
 abbrev pub no_schema : Schema
 no_schema = record { tables = []; indexes = []; views = [] }
 
@@ -171,6 +189,7 @@ abbrev pub later_tables : Version → List Table
 later_tables First = []
 later_tables Second = present ∷ []
 
+-- the indexes that a version has beyond those of version 1
 abbrev pub later_indexes : Version → List Index
 later_indexes First = []
 later_indexes Second = present_index ∷ []

@@ -26,6 +26,7 @@ insert_school = codes "INSERT INTO school (code, name, pan, east, north, criteri
 abbrev pub school_terms : List Term
 school_terms = lit Null ∷ col 0 0 ∷ col 0 1 ∷ col 0 2 ∷ col 0 3 ∷ col 0 4 ∷ col 0 5 ∷ []
 
+-- the query of the row of `meta`, by the names of its columns
 abbrev pub select_meta : List ℕ
 select_meta = codes "SELECT one, version, phase, year, holidays, draws FROM meta"
 

@@ -19,7 +19,7 @@ pub same_where : {X : Type 0} (p q : X → Bool) (xs : List X) → ((x : X) → 
 same_where p q [] same = refl
 same_where p q (x ∷ xs) same = λ i. cond (same x (inl refl) i) (x ∷ same_where p q xs (λ y h. same y (inr h)) i) (same_where p q xs (λ y h. same y (inr h)) i)
 
--- the values at the keys that pass a test, where each row stands at its own key
+-- the values at the keys that pass a test, where each row is at its own key
 module _ {K V : Type 0} (R : K → K → Ordering) (key : V → K) where
   pub filter_values : (p : K → Bool) (es : List (K × V)) → ((e : K × V) → Has es e → key e.1 ≡ e.0) → filter (λ v. p (key v)) (map (λ (e : K × V). e.1) es) ≡ map (λ (e : K × V). e.1) (where_key R p es)
   filter_values p [] at = refl
@@ -32,7 +32,7 @@ module _ {K V : Type 0} (R : K → K → Ordering) (key : V → K) where
       go false true is rest = absurd (cc)
       go false false is rest = rest
 
--- where each row stands at its own key, and each of the old ones is in the new map as it was
+-- where each row is at its own key, and each of the old ones is in the new map as it was
 module _ {K V : Type 0} {R : K → K → Ordering} (total : IsTotalOrder R) (same : IsAntisymmetric R) (key : V → K) (old new : FinMap R V)
     (own : (k : K) (v : V) → get new k ≡ Some v → key v ≡ k) (kept : (k : K) (v : V) → get old k ≡ Some v → get new k ≡ Some v) where
   -- the entries of the new map at the keys of the old one are the old one's

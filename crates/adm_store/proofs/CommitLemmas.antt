@@ -47,7 +47,7 @@ use Rattle.adm_rows.specs.Forms.{season_row, child_row, application_row, place_r
 use Rattle.adm_rows.specs.DrawForms.{draw_row, offer_row, lot_row}
 use Rattle.adm_rows.specs.Present.{present_columns, moved_key}
 use Rattle.adm_store.specs.Schools.{code_row}
-use Rattle.adm_rows.specs.StandsFor.{StandsAs, HasRows, HoldsRegister, LeavesOnly, LeavesEither, written_in, written_tables}
+use Rattle.adm_rows.specs.Represents.{RepresentsIn, HasRows, HoldsRegister, LeavesOnly, LeavesEither, written_in, written_tables}
 use Rattle.adm_store.specs.Changes.{IsStep, written_school, written_child, written_application, written_imported, written_count, last_draw, draw_count}
 use Rattle.adm_store.specs.Writes.{Write, Sets, Leaves, Writes, changed, after_writes, are_keyed, count_of, key_row, writes_of}
 use Rattle.adm_store.specs.declared.rows.Changes.{Changes}
@@ -61,7 +61,7 @@ use Rattle.adm_store.proofs.TurnLemmas.{put_over, cut_and_put}
 use Rattle.adm_store.proofs.PresentWrites.{presents_written}
 use Rattle.adm_store.proofs.SchoolWrites.{schools_written}
 
--- outside a transaction, what a connection sees of a file that stands for a register
+-- outside a transaction, what a connection sees of a file that represents a register
 pub holds_now : (s : State) (r : Register) → LeavesOnly r s → (IsTrue s.is_open → s.may_leave s.committed.trees) → (IsTrue s.is_open → s.now ≡ s.committed) → IsLive s
     → HasCleanDisk s → IsTrue s.is_open → (s.now.schema ≡ register_schema) × HoldsRegister Second s.now.trees r
 holds_now s r before stays settled live clean is_open =
@@ -107,8 +107,8 @@ Becomes was now old new changes t =
     HasRows t (written_in (written_tables Second (rows_in_order old)) t) was → (IsTrue (are_keyed t (rows_of t was)) → IsPermutation (after_writes t (writes_of changes) (rows_of t was)) (rows_of t now))
     → HasRows t (written_in (written_tables Second (rows_in_order new)) t) now
 
--- trees that come of those of the old register by these changes
-new_trees : (was now : Trees) (old new : Register) (changes : Changes) → IsStep old new changes → HoldsRegister Second was old → IsSound register_schema now → Moves (writes_of changes) was now → StandsAs Second now new
+-- trees that result from those of the old register by these changes
+new_trees : (was now : Trees) (old new : Register) (changes : Changes) → IsStep old new changes → HoldsRegister Second was old → IsSound register_schema now → Moves (writes_of changes) was now → RepresentsIn Second now new
 new_trees was now old new changes step held sound moves = let are = step.changes_are in let differs = are.differs in record {
   sound = sound;
   holds = record {
@@ -159,7 +159,7 @@ new_trees was now old new changes step held sound moves = let are = step.changes
 }
 
 pub stands : (start end : State) (old new : Register) (changes : Changes) → IsStep old new changes → (start.now.schema ≡ register_schema) × HoldsRegister Second start.now.trees old
-    → Leaves (writes_of changes) start end → StandsAs Second end.now.trees new
+    → Leaves (writes_of changes) start end → RepresentsIn Second end.now.trees new
 stands start end old new changes step held wrote = new_trees start.now.trees end.now.trees old new changes step held.1 (subst (λ s. IsSound s end.now.trees) (wrote.schema ∙ held.0) wrote.sound) wrote.rows
 
 -- a commit leaves what it wrote, or what was there
@@ -172,11 +172,11 @@ pub on_ok : {X E : Type 0} (r : Result X E) (P Q : Type 0) → (P → Q) → OnO
 on_ok (Ok x) P Q f h = f h
 on_ok (Err e) P Q f h = tt
 
--- what the transaction wrote stands for the new register
+-- what the transaction wrote represents the new register
 pub wrote : {S : Type 0} (g : store.Ghosts S) (start begun : Held S) (last : State) (old new : Register) (changes : Changes) → begun ≡ record start { in_transaction = true }
     → (IsTrue (state g start).is_open → (state g start).may_leave (state g start).committed.trees) → (IsTrue (state g start).is_open → (state g start).now ≡ (state g start).committed) → IsLive (state g start)
     → IsStep old new changes → LeavesOnly old (state g start) → doubt (state g begun).is_clean ≤ doubt last.is_clean
-    → 0 < count_of (writes_of changes) → Writes (writes_of changes) (state g begun) last → HasCleanDisk last → StandsAs Second last.now.trees new
+    → 0 < count_of (writes_of changes) → Writes (writes_of changes) (state g begun) last → HasCleanDisk last → RepresentsIn Second last.now.trees new
 wrote g start begun last old new changes is stays settled live step before clean some writes late =
     let holds : HasCleanDisk (state g begun) → IsTrue (state g begun).is_open → ((state g begun).now.schema ≡ register_schema) × HoldsRegister Second (state g begun).now.trees old =
     subst (λ h. HasCleanDisk (state g h) → IsTrue (state g h).is_open → ((state g h).now.schema ≡ register_schema) × HoldsRegister Second (state g h).now.trees old) (sym is) (holds_now (state g start) old before stays settled live) in
@@ -190,12 +190,12 @@ wrote g start begun last old new changes is stays settled live step before clean
 pub count_is : (c : Changes) → count_of (writes_of c) ≡ length c.replaced + (length c.schools + length c.children + length c.applications + length c.places + length c.left + length c.imported + length c.present + draw_count c) + (length c.ended + length c.vacated + length c.moved)
 count_is c = omega (arith, length-map c.replaced code_row, length-map c.schools written_school, length-map c.children written_child, length-map c.applications written_application, length-map c.places place_row, length-map c.left left_row, length-map c.draws draw_row, length-map c.offers offer_row, length-map c.lots lot_row, length-map c.imported written_imported, length-map (last_draw c.draws) written_count, length-map c.ended key_row, length-map c.vacated key_row, length-map c.moved moved_key, length-map c.present present_columns)
 
--- a file that stands for the old register stands for the new one, where nothing changed
-pub no_change : (old new : Register) (changes : Changes) → IsStep old new changes → count_of (writes_of changes) ≡ 0 → (db : Trees) → StandsAs Second db old → StandsAs Second db new
+-- a file that represents the old register represents the new one, where nothing changed
+pub no_change : (old new : Register) (changes : Changes) → IsStep old new changes → count_of (writes_of changes) ≡ 0 → (db : Trees) → RepresentsIn Second db old → RepresentsIn Second db new
 no_change old new changes step none db file = new_trees db db old new changes step file.holds file.sound (λ t _ _. subst (λ rows. IsPermutation rows (rows_of t db)) (sym (after_none t (writes_of changes) (rows_of t db) none)) (IsPermutation-refl _))
 
 -- what is known of a commit that may not have happened
-pub either : (start end : State) (old new : Register) → Survives start end (λ db. StandsAs Second db new) → LeavesOnly old start → LeavesEither old new end
+pub either : (start end : State) (old new : Register) → Survives start end (λ db. RepresentsIn Second db new) → LeavesOnly old start → LeavesEither old new end
 either start end old new survives before clean db may = elim (survives.crash clean db may) [ inl was ↦ inl (before (omega (arith, survives.clean, clean)) db was) | inr now ↦ inr now ]
 
 pub commits_file : (last end : State) (P : Trees → Type 0) → P last.now.trees → Shows last end last.now last.now false → IsTrue end.is_open × P end.committed.trees

@@ -1,4 +1,4 @@
--- The file of a new register: it stands for the register that has its season alone.
+-- The file of a new register: it represents the register that has its season alone.
 use Rattle.std.proofs.Common.{◌≡◌, ◌≤◌, true, inl, [], ◌∷◌, map, flat_map, refl, sym, ap, ◌∙◌, subst, arith, IsTrue}
 use Rattle.std.specs.List.Sorted.{IsPermutation}
 use Rattle.std.specs.declared.cmp.Ordering.{Ordering}
@@ -29,7 +29,7 @@ use Rattle.adm_register.specs.declared.register_rows.Rows.{Rows}
 use Rattle.adm_draws.specs.Draws.{row_of, offer_rows_of, lot_rows_of}
 use Rattle.adm_store.specs.declared.rows.SeasonRow.{SeasonRow}
 use Rattle.adm_store.specs.Changes.{IsRowOf, written_season}
-use Rattle.adm_rows.specs.StandsFor.{StandsAs, HasRows, written_in, written_tables}
+use Rattle.adm_rows.specs.Represents.{RepresentsIn, HasRows, written_in, written_tables}
 use Rattle.adm_store.specs.Writes.{Adds, Leaves, Writes, write_of, after_writes, are_keyed}
 use Rattle.adm_store.proofs.LogLemmas.{keyed_none}
 use Rattle.adm_rows.proofs.RegisterRows.{each_table}
@@ -63,8 +63,8 @@ season_alone season = record { season = season; schools = []; children = []; app
 only_rows : (season : SeasonFacts) → rows_in_order (only_season season) ≡ season_alone season
 only_rows season = λ k. record { season = season; schools = values-empty code_cmp _ k; children = values-empty nat_cmp _ k; applications = values-empty nat_cmp _ k; places = values-empty nat_cmp _ k; left = values-empty left_cmp _ k; draws = map row_of (values-empty nat_cmp _ k); offers = flat_map offer_rows_of (values-empty nat_cmp _ k); lots = flat_map lot_rows_of (values-empty nat_cmp _ k); imported = values-empty nat_cmp _ k }
 
-pub stands_for_new : (made last : State) (season : SeasonFacts) (row : SeasonRow) → IsRowOf season row → SeesNoRows register_schema made → Leaves (write_of Adds meta written_season (row ∷ []) ∷ []) made last → StandsAs Second last.now.trees (only_season season)
-stands_for_new made last season row it none wrote = record {
+pub represents_new : (made last : State) (season : SeasonFacts) (row : SeasonRow) → IsRowOf season row → SeesNoRows register_schema made → Leaves (write_of Adds meta written_season (row ∷ []) ∷ []) made last → RepresentsIn Second last.now.trees (only_season season)
+represents_new made last season row it none wrote = record {
   sound = subst (λ s. IsSound s last.now.trees) (wrote.schema ∙ none.schema_is) wrote.sound;
   holds = record {
     rows = record { said = tt; each = λ t listed. subst (λ rows. HasRows t (written_in (written_tables Second rows) t) last.now.trees) (sym (only_rows season)) (table t listed) };
@@ -82,11 +82,11 @@ stands_for_new made last season row it none wrote = record {
         written : (t : Table) → Has register_schema.tables t → after_writes t (write_of Adds meta written_season (row ∷ []) ∷ []) [] ≡ written_in (written_tables Second (season_alone season)) t
         written = each_table Second (λ t. after_writes t (write_of Adds meta written_season (row ∷ []) ∷ []) [] ≡ written_in (written_tables Second (season_alone season)) t) (ap (λ cells. cells ∷ []) it.written, (refl, (refl, (refl, (refl, (refl, (refl, (refl, (refl, (refl, (refl, tt)))))))))))
 
--- what the transaction of a creation leaves stands for the new register
+-- what the transaction of a creation leaves represents the new register
 pub created : {S : Type 0} (g : store.Ghosts S) (start begun : Held S) (made last : State) (season : SeasonFacts) (row : SeasonRow) → IsRowOf season row → begun ≡ record start { in_transaction = true } → start.schema ≡ no_schema → IsLive (state g start)
     → doubt (state g begun).is_clean ≤ doubt made.is_clean → doubt made.is_clean ≤ doubt last.is_clean
     → (HasCleanDisk made → (IsTrue (state g begun).is_open → SeesNoRows no_schema (state g begun)) → IsTrue made.is_open → SeesNoRows register_schema made)
-    → Writes (write_of Adds meta written_season (row ∷ []) ∷ []) made last → HasCleanDisk last → StandsAs Second last.now.trees (only_season season)
+    → Writes (write_of Adds meta written_season (row ∷ []) ∷ []) made last → HasCleanDisk last → RepresentsIn Second last.now.trees (only_season season)
 created g start begun made last season row it is empty live clean1 clean2 makes writes clean =
     let early : HasCleanDisk made = omega (arith, clean2, clean) in
     let lively : IsLive (state g begun) = subst (λ h. IsLive (state g h)) (sym is) live in
@@ -94,4 +94,4 @@ created g start begun made last season row it is empty live clean1 clean2 makes 
     let none = makes early sees in
     let writing = writes clean (λ c o. (none o).schema_is) (λ c o. (none o).sound) in
     let wrote = writing.1 (writing.0 (inl (omega (arith)))) in
-    stands_for_new made last season row it (none wrote.was_open) wrote
+    represents_new made last season row it (none wrote.was_open) wrote

@@ -24,7 +24,7 @@ module _ {K V : Type 0} (row_of : V → Row) (key_of : K → Row) where
       ap (λ xs. drop_each xs (map key_of keys)) (filter-map (λ row. not (begins_with (key_of key) row)) row_of vs)
       ∙ drops keys (filter one vs) ∙ ap (map row_of) (filter_twice (left_by keys) one vs)
 
--- of rows in another order the same are left
+-- of rows in another order the same remain
 pub drops_moved : (keys xs ys : List Row) → IsPermutation xs ys → IsPermutation (drop_each xs keys) (drop_each ys keys)
 drops_moved [] xs ys moved = moved
 drops_moved (key ∷ keys) xs ys moved = drops_moved keys (drop_of key xs) (drop_of key ys) (IsPermutation-filter (λ row. not (begins_with key row)) xs ys moved)

@@ -1,4 +1,4 @@
--- What two statements do that find a row by its key, and take it out by its rowid.
+-- What two statements do that find a row by its key, and delete it by its rowid.
 use Rattle.std.proofs.Common.{◌≡◌, ◌∙◌, ℕ, ℤ, ◌≤◌, List, [], ◌∷◌, false, Some, None, Ok, sym, ap, subst, arith, IsTrue}
 use Rattle.std.specs.Prelude.{is_some}
 use Rattle.std.specs.List.Sorted.{IsPermutation}
@@ -17,7 +17,7 @@ use Rattle.sqlite_rules.specs.Lists.{Has}
 use Rattle.adm_schema.specs.Effects.{DropsRow, drop_of}
 use Rattle.adm_schema.specs.Rows.{rows_of}
 use Rattle.adm_schema.specs.Schema.{register_schema}
-use Rattle.adm_store.specs.Found.{CutsFound}
+use Rattle.adm_store.specs.Found.{DeletesFound}
 use Rattle.adm_store.specs.Writes.{Drops, Writes}
 use Rattle.adm_store.proofs.LogLemmas.{drop_one}
 
@@ -52,10 +52,10 @@ module _ (table : Table) (listed : Has register_schema.tables table) (unkeyed : 
       let bare = subst IsPlain (sym known) plain in
       (rw bare.0 at h.2).3
 
-  -- the row is found, and taken out
+  -- the row is found, and deleted
   pub found_and_cut : (cut : List ℕ) (old mid new : State) (shown : Row) → doubt old.is_clean ≤ doubt mid.is_clean → doubt mid.is_clean ≤ doubt new.is_clean
       → ((k : ℤ) → old.now.schema ≡ register_schema → mid.now ≡ old.now → column shown 0 ≡ Int k → Shown find key old mid (shown ∷ []) → ExecutesInside 0 cut (Int k ∷ []) mid new (Ok 1) → DropsRow table key mid new)
-      → (HasCleanDisk mid → Shown find key old mid (shown ∷ [])) → (HasCleanDisk new → CutsFound cut shown mid new) → Writes (record { kind = Drops; table = table; rows = key ∷ [] } ∷ []) old new
+      → (HasCleanDisk mid → Shown find key old mid (shown ∷ [])) → (HasCleanDisk new → DeletesFound cut shown mid new) → Writes (record { kind = Drops; table = table; rows = key ∷ [] } ∷ []) old new
   found_and_cut cut old mid new shown first second drops search cuts = drop_one table listed old new (omega (arith, first, second)) unkeyed key (λ clean sees sound.
       let middle : HasCleanDisk mid = omega (arith, second, clean) in
       let early : HasCleanDisk old = omega (arith, first, middle) in
@@ -66,7 +66,7 @@ module _ (table : Table) (listed : Has register_schema.tables table) (unkeyed : 
       let same = (search_alone old mid (shown ∷ []) has it).0.now_is in
       drops_before table key old mid new live same (drops one.0 has same one.1 it one.2))
 
-  -- it is not found, and nothing is taken out
+  -- it is not found, and nothing is deleted
   pub found_none : (old new : State) → doubt old.is_clean ≤ doubt new.is_clean → (old.now.schema ≡ register_schema → Shown find key old new [] → drop_of key (rows_of table old.now.trees) ≡ rows_of table old.now.trees)
       → (HasCleanDisk new → Shown find key old new []) → Writes (record { kind = Drops; table = table; rows = key ∷ [] } ∷ []) old new
   found_none old new later none search = drop_one table listed old new later unkeyed key (λ clean sees sound.

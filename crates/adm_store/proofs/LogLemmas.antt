@@ -18,7 +18,7 @@ use Rattle.sqlite_trees.specs.View.{doubt}
 use Rattle.sqlite_rules.specs.Lists.{Has}
 use Rattle.sqlite_rules.proofs.ListLemmas.{test_has}
 use Rattle.adm_schema.specs.Rows.{columns_of, rows_of}
-use Rattle.adm_schema.specs.Effects.{Sees, SeesDatabase, StaysOpen, WritesOnly, AddsRow, PutsRow, CutsRow, DropsRow, SetsDraws, integer_key, put_in, begins_with, drop_of, with_draws}
+use Rattle.adm_schema.specs.Effects.{Sees, SeesDatabase, StaysOpen, WritesOnly, AddsRow, PutsRow, DeletesRow, DropsRow, SetsDraws, integer_key, put_in, begins_with, drop_of, with_draws}
 use Rattle.adm_schema.specs.Schema.{meta, register_schema}
 use Rattle.adm_schema.proofs.Listed.{has_meta}
 use Rattle.sqlite.specs.declared.types.Value.TheVariants.{Int}
@@ -218,8 +218,8 @@ module _ (table : Table) (listed : Has register_schema.tables table) (old new : 
             (p.rows own, subst (λ b. IsTrue (if b then have_rowids (rows_of table new.now.trees) else true)) (sym has_key) (p.keyed own))),
       )
 
-  -- a key that is taken out
-  pub cut_one : is_some table.key ≡ true → (key : ℕ) → (HasCleanDisk new → Sees register_schema old → CutsRow table (pos key) old new) → Writes (record { kind = Cuts; table = table; rows = key_row key ∷ [] } ∷ []) old new
+  -- a key that is deleted
+  pub cut_one : is_some table.key ≡ true → (key : ℕ) → (HasCleanDisk new → Sees register_schema old → DeletesRow table (pos key) old new) → Writes (record { kind = Cuts; table = table; rows = key_row key ∷ [] } ∷ []) old new
   cut_one has_key key cuts clean sees sound =
       let p = cuts clean sees in
       let early : HasCleanDisk old = omega (arith, monotone, clean) in (
@@ -229,7 +229,7 @@ module _ (table : Table) (listed : Has register_schema.tables table) (old new : 
             (p.rows own, subst (λ b. IsTrue (if b then have_rowids (rows_of table new.now.trees) else true)) (sym has_key) (p.keyed own))),
       )
 
-  -- a row that is taken out of a table without such a key, by its first values
+  -- a row that is deleted from a table without such a key, by its first values
   pub drop_one : is_some table.key ≡ false → (key : Row) → (HasCleanDisk new → Sees register_schema old → SeesDatabase old → DropsRow table key old new) → Writes (record { kind = Drops; table = table; rows = key ∷ [] } ∷ []) old new
   drop_one no_key key drops clean sees sound =
       let p = drops clean sees sound in

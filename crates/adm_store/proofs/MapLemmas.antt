@@ -54,7 +54,7 @@ turned true x y = refl
 turned false x y = refl
 
 module _ {V : Type 0} where
-  -- where each key is above, none is taken out
+  -- where each key is above, none is deleted
   all_above : (k : ℕ) (es : List (ℕ × V)) → ((e : ℕ × V) → Has es e → nat_cmp k e.0 ≡ Less) → where_key nat_cmp (apart k) es ≡ es
   all_above k [] above = refl
   all_above k (e ∷ es) above = rw (not_tied k e.0 (above e (inl refl))) (ap (λ xs. e ∷ xs) (all_above k es (λ x h. above x (inr h))))
@@ -153,7 +153,7 @@ module _ {V : Type 0} (key : V → ℕ) (row_of : V → Row) (own_rowid : (v : V
       go false true same rest = absurd (cc)
       go false false same rest = rest
 
-  -- the rows of a map from which a key is taken out, and of one into which a value is put
+  -- the rows of a map from which a key is removed, and of one into which a value is put
   cut_rows : (m : FinMap nat_cmp V) (k : ℕ) → Own m → map row_of (values (remove m k)) ≡ without_rowid (pos k) (map row_of (values m))
   cut_rows m k own = ap (λ es. map row_of (map (λ e. e.1) es)) (entries-remove m k) ∙ rows_left k (entries m) (own_entry number_total nat_cmp-IsAntisymmetric key m own)
 
@@ -177,7 +177,7 @@ module _ {V : Type 0} (key : V → ℕ) (row_of : V → Row) (own_rowid : (v : V
       go true tie here = ap key (sym (same_Some x v here)) ∙ sym (same_key nat_cmp-IsAntisymmetric q (key x) tie)
       go false tie here = own q v here
 
-  -- the map with each of these values put in, and with each of these keys taken out
+  -- the map with each of these values put in, and with each of these keys deleted
   abbrev pub with_each : FinMap nat_cmp V → List V → FinMap nat_cmp V
   with_each m [] = m
   with_each m (v ∷ vs) = with_each (insert m (key v) v) vs

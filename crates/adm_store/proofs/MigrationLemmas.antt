@@ -29,13 +29,13 @@ use Rattle.adm_schema.proofs.Listed.{meta_in, school_in, child_in, application_i
 use Rattle.adm_rows.specs.Forms.{season_row}
 use Rattle.adm_rows.specs.Present.{present_columns}
 use Rattle.adm_store.specs.Migration.{MakesPresent, MakesSecond, IsMigrated}
-use Rattle.adm_rows.specs.StandsFor.{IsStarted, StandsAs, StandsNow, StandsFor, LeavesAll, HasRows, HoldsRegister, written_in, written_tables}
+use Rattle.adm_rows.specs.Represents.{IsStarted, RepresentsIn, RepresentsNow, Represents, LeavesAll, HasRows, HoldsRegister, written_in, written_tables}
 use Rattle.adm_rows.proofs.FaultLemmas.{apart}
 use Rattle.adm_rows.proofs.RegisterRows.{each_table}
 use Rattle.adm_rows.proofs.RowLemmas.{recursion_had}
 
--- outside a transaction, what a connection sees of a file that stands for a register in this version
-pub holds_in : (v : Version) (s : State) (r : Register) → ((db : Trees) → s.may_leave db → StandsAs v db r) → (IsTrue s.is_open → s.may_leave s.committed.trees) → (IsTrue s.is_open → s.now ≡ s.committed) → IsLive s
+-- outside a transaction, what a connection sees of a file that represents a register in this version
+pub holds_in : (v : Version) (s : State) (r : Register) → ((db : Trees) → s.may_leave db → RepresentsIn v db r) → (IsTrue s.is_open → s.may_leave s.committed.trees) → (IsTrue s.is_open → s.now ≡ s.committed) → IsLive s
     → IsTrue s.is_open → (s.now.schema ≡ schema_of v) × HoldsRegister v s.now.trees r
 holds_in v s r before stays settled live is_open =
     let file = before s.committed.trees (stays is_open) in
@@ -64,8 +64,8 @@ module _ (begun mid last : State) (adds : AddsTable (schema_of First) register_s
   none_there : (rows : List Row) → rows ≡ [] → HasRows present rows last.now.trees
   none_there rows none = subst (λ xs. IsPermutation xs (rows_of present last.now.trees)) (sym none) (subst (λ xs. IsPermutation [] (map (columns_of present) xs)) (sym (after_made present has_present (λ e. absurd (omega (arith, e))) ∙ adds.none)) (IsPermutation-refl []))
 
-  -- a file of the first version is one of the second then, and stands for the same register
-  pub second_file : (r : Register) → HoldsRegister First begun.now.trees r → StandsAs Second last.now.trees r
+  -- a file of the first version is one of the second then, and represents the same register
+  pub second_file : (r : Register) → HoldsRegister First begun.now.trees r → RepresentsIn Second last.now.trees r
   second_file r held = record {
     sound = subst (λ s. IsSound s last.now.trees) (marks.only.schema ∙ adds.schema) marks.only.sound;
     holds = record {
@@ -104,11 +104,11 @@ module _ (begun mid last : State) (adds : AddsTable (schema_of First) register_s
     };
   }
 
--- what the transaction of a migration leaves stands for the same register
+-- what the transaction of a migration leaves represents the same register
 pub migrated : {S : Type 0} (g : store.Ghosts S) (start begun : Held S) (mid last : State) (r : Register) → begun ≡ record start { in_transaction = true }
     → (IsTrue (state g start).is_open → (state g start).may_leave (state g start).committed.trees) → (IsTrue (state g start).is_open → (state g start).now ≡ (state g start).committed) → IsLive (state g start)
     → LeavesAll First r (state g start) → doubt (state g begun).is_clean ≤ doubt mid.is_clean → doubt mid.is_clean ≤ doubt last.is_clean
-    → (HasCleanDisk mid → MakesPresent (state g begun) mid) → (HasCleanDisk last → MakesSecond mid last) → HasCleanDisk last → StandsAs Second last.now.trees r
+    → (HasCleanDisk mid → MakesPresent (state g begun) mid) → (HasCleanDisk last → MakesSecond mid last) → HasCleanDisk last → RepresentsIn Second last.now.trees r
 migrated g start begun mid last r is stays settled live before clean1 clean2 makes marks late =
     let middle : HasCleanDisk mid = omega (arith, clean2, late) in
     let early : HasCleanDisk (state g begun) = omega (arith, clean1, middle) in
@@ -120,18 +120,18 @@ migrated g start begun mid last r is stays settled live before clean1 clean2 mak
 
 -- ---- a file that was read, and then brought to the second version
 
-module _ (v : Version) (r : Register) (start mid : State) (started : IsStarted start) (kept : Survives start mid (λ _. ⊥)) (stands : HasCleanDisk mid → IsTrue start.is_open → (db : Trees) → start.may_leave db → StandsAs v db r) where
+module _ (v : Version) (r : Register) (start mid : State) (started : IsStarted start) (kept : Survives start mid (λ _. ⊥)) (stands : HasCleanDisk mid → IsTrue start.is_open → (db : Trees) → start.may_leave db → RepresentsIn v db r) where
   pub leaves_read : LeavesAll v r mid
   leaves_read clean db may =
       let early : HasCleanDisk start = omega (arith, kept.clean, clean) in
       elim (kept.crash clean db may) [ inl was ↦ stands clean (started early) db was | inr none ↦ absurd none ]
 
-  pub brought : (end : State) → Survives mid end (λ db. (v ≡ First) × StandsAs Second db r) → Survives start end (IsMigrated start)
-  brought end later = survives_then start mid end (λ _. ⊥) (λ db. (v ≡ First) × StandsAs Second db r) (IsMigrated start) (λ _ db none. absurd none)
+  pub brought : (end : State) → Survives mid end (λ db. (v ≡ First) × RepresentsIn Second db r) → Survives start end (IsMigrated start)
+  brought end later = survives_then start mid end (λ _. ⊥) (λ db. (v ≡ First) × RepresentsIn Second db r) (IsMigrated start) (λ _ db none. absurd none)
       (λ clean db it.
       let middle : HasCleanDisk mid = omega (arith, later.clean, clean) in
       let early : HasCleanDisk start = omega (arith, kept.clean, middle) in
-      record { register = r; was = λ w may. subst (λ u. StandsAs u w r) it.0 (stands middle (started early) w may); is = it.1 }) kept later
+      record { register = r; was = λ w may. subst (λ u. RepresentsIn u w r) it.0 (stands middle (started early) w may); is = it.1 }) kept later
 
 -- what may be committed may be said more weakly
 pub weaker : (start end : State) (P Q : Trees → Type 0) → ((db : Trees) → P db → Q db) → Survives start end P → Survives start end Q
@@ -147,8 +147,8 @@ later_ok (Ok v) C A Q h f = f h
 later_ok (Err e) C A Q h f = tt
 
 -- a file of the second version is not migrated
-pub not_migrated : (old : State) (db was : Trees) (r : Register) → IsMigrated old db → old.may_leave was → StandsAs Second was r → ⊥
+pub not_migrated : (old : State) (db was : Trees) (r : Register) → IsMigrated old db → old.may_leave was → RepresentsIn Second was r → ⊥
 not_migrated old db was r it may stands = apart (lists_once (was catalog_tree) (schema_of First) (schema_of Second) (it.was was may).sound.lists stands.sound.lists)
 
-pub stands_for : (db : Trees) (r : Register) → StandsNow db r → StandsFor db r
-stands_for db r stands = record { version = Second; stands = stands }
+pub represents_register : (db : Trees) (r : Register) → RepresentsNow db r → Represents db r
+represents_register db r stands = record { version = Second; stands = stands }

@@ -28,7 +28,7 @@ use Rattle.adm_types.specs.declared.rows.PresentRow.{PresentRow}
 use Rattle.adm_schema.specs.Effects.{begins_with, drop_of}
 use Rattle.adm_register.specs.Difference.{AreNew}
 use Rattle.adm_rows.specs.Forms.{truth_code}
-use Rattle.adm_rows.specs.Present.{present_columns, moved_key, was_present, is_same_present, moved_from, present_gone_by, present_come_by, present_gone_of, present_come_of}
+use Rattle.adm_rows.specs.Present.{present_columns, moved_key, was_present, is_same_present, moved_from, present_removed_by, present_added_by, present_removed_of, present_added_of}
 use Rattle.adm_rows.proofs.Entries.{value_at}
 use Rattle.adm_store.proofs.AddedRows.{old_and_new}
 use Rattle.adm_store.proofs.DroppedRows.{left_by, drop_each, drops, drops_moved}
@@ -93,7 +93,7 @@ abbrev kept_by : FinMap nat_cmp Child → Child → List PresentRow
 kept_by before child = if is_same_present (was_present before child.no) child.present then present_row child.no false (was_present before child.no) else []
 
 -- with the row that comes it is the row of the child
-kept_and_arrived : (before : FinMap nat_cmp Child) (child : Child) → kept_by before child ++ present_come_by before child ≡ present_of_child child
+kept_and_arrived : (before : FinMap nat_cmp Child) (child : Child) → kept_by before child ++ present_added_by before child ≡ present_of_child child
 kept_and_arrived before child = go (is_same_present (was_present before child.no) child.present) refl
   where
     go : (b : Bool) → is_same_present (was_present before child.no) child.present ≡ b
@@ -107,7 +107,7 @@ none_moved None child is = refl
 none_moved (Some s) child is = ap (λ b. if b then [] else child.no ∷ []) is
 
 -- and brings none
-none_arrived : (before : FinMap nat_cmp Child) (child : Child) → is_same_present (was_present before child.no) child.present ≡ true → present_come_by before child ≡ []
+none_arrived : (before : FinMap nat_cmp Child) (child : Child) → is_same_present (was_present before child.no) child.present ≡ true → present_added_by before child ≡ []
 none_arrived before child is = ap (λ b. if b then [] else present_of_child child) is
 
 -- what moves is the child's own number, and only where the school is another one
@@ -139,25 +139,25 @@ module _ (old new : FinMap nat_cmp Child) (own_old : (k : ℕ) (c : Child) → g
 
   -- the numbers that move, of all children
   abbrev moved : List ℕ
-  moved = flat_map (present_gone_by old) (values new)
+  moved = flat_map (present_removed_by old) (values new)
 
   -- a child whose present school is as it was has no number that moves
   not_moved : (c : Child) → Has (values new) c → is_same_present (was_present old c.no) c.present ≡ true → Has moved c.no → ⊥
   not_moved c there as_was h =
-      let it = from_given (present_gone_by old) (values new) c.no h in
+      let it = from_given (present_removed_by old) (values new) c.no h in
       let by = own_moved (was_present old it.0.no) it.0 c.no it.2 in
       let one = value_at nat_cmp_total nat_cmp-IsAntisymmetric (λ (w : Child). w.no) new own_new c there in
       let other = value_at nat_cmp_total nat_cmp-IsAntisymmetric (λ (w : Child). w.no) new own_new it.0 it.1 in
       let is : c ≡ it.0 = same_Some c it.0 (sym one ∙ ap (get new) by.0 ∙ other) in
       false≢true (sym by.1 ∙ ap (λ (w : Child). is_same_present (was_present old w.no) w.present) (sym is) ∙ as_was)
 
-  -- the row that a child had is left just where it keeps it
+  -- the row that a child had remains just where it keeps it
   left_row : (c : Child) → Has (values new) c → filter (is_left moved) (old_row c) ≡ kept_by old c
   left_row c there = go (was_present old c.no) refl
     where
       left : (s : List ℕ) → was_present old c.no ≡ Some s → (b : Bool) → is_same_present (Some s) c.present ≡ b → is_left moved (record { child = c.no; is_imported = false; school = s }) ≡ b
       left s was true is = left_child moved c.no s (not_moved c there (ap (λ o. is_same_present o c.present) was ∙ is))
-      left s was false is = gone_child moved c.no s (is_given (present_gone_by old) (values new) c c.no there
+      left s was false is = gone_child moved c.no s (is_given (present_removed_by old) (values new) c c.no there
           (subst (λ o. Has (moved_from o c) c.no) (sym was) (subst (λ b. Has (if b then [] else c.no ∷ []) c.no) (sym is) (inl refl))))
 
       none : (o : Option (List ℕ)) → (if is_same_present None o then present_row c.no false None else []) ≡ []
@@ -184,14 +184,14 @@ module _ (old new : FinMap nat_cmp Child) (own_old : (k : ℕ) (c : Child) → g
             absurd (false≢true (sym is ∙ (differ.decides c here).1 (λ was. false≢true (sym other ∙ ap (λ o. is_same_present (option_and_then (λ (w : Child). w.present) o) c.present) was ∙ present_itself c.present))))
 
     -- so the numbers that move are those of the changed children
-    moved_are : present_gone_of old news ≡ moved
-    moved_are = ap (flat_map (present_gone_by old)) differ.rows_are ∙ flat_map_where (present_gone_by old) differ.is_new (values new) (λ c there is. none_moved (was_present old c.no) c (as_it_was c there is))
+    moved_are : present_removed_of old news ≡ moved
+    moved_are = ap (flat_map (present_removed_by old)) differ.rows_are ∙ flat_map_where (present_removed_by old) differ.is_new (values new) (λ c there is. none_moved (was_present old c.no) c (as_it_was c there is))
 
     -- and so are the rows that come
-    arrived_are : flat_map (present_come_by old) news ≡ flat_map (present_come_by old) (values new)
-    arrived_are = ap (flat_map (present_come_by old)) differ.rows_are ∙ flat_map_where (present_come_by old) differ.is_new (values new) (λ c there is. none_arrived old c (as_it_was c there is))
+    arrived_are : flat_map (present_added_by old) news ≡ flat_map (present_added_by old) (values new)
+    arrived_are = ap (flat_map (present_added_by old)) differ.rows_are ∙ flat_map_where (present_added_by old) differ.is_new (values new) (λ c there is. none_arrived old c (as_it_was c there is))
 
-  -- what is left of the rows, before rows of imported rows
+  -- what remains of the rows, before rows of imported rows
   left_rows : (imported : List ImportRow) → filter (is_left moved) (presents_of (values old) imported) ≡ flat_map (kept_by old) (values new) ++ flat_map present_of_import imported
   left_rows imported =
       filter-append (is_left moved) (flat_map present_of_child (values old)) (flat_map present_of_import imported)
@@ -203,21 +203,21 @@ module _ (old new : FinMap nat_cmp Child) (own_old : (k : ℕ) (c : Child) → g
       at k (Some s) = let row : PresentRow = record { child = k; is_imported = true; school = s } in ap (λ b. cond b (row ∷ []) []) (left_import moved k s)
 
   -- what children keep and what comes are their rows
-  rows_now : IsPermutation (flat_map present_of_child (values new)) (flat_map (kept_by old) (values new) ++ flat_map (present_come_by old) (values new))
+  rows_now : IsPermutation (flat_map present_of_child (values new)) (flat_map (kept_by old) (values new) ++ flat_map (present_added_by old) (values new))
   rows_now =
-      subst (λ l. IsPermutation l (flat_map (kept_by old) (values new) ++ flat_map (present_come_by old) (values new))) (flat_map_same_on (λ c. kept_by old c ++ present_come_by old c) present_of_child (kept_and_arrived old) (values new))
-      (flat_map_both (kept_by old) (present_come_by old) (values new))
+      subst (λ l. IsPermutation l (flat_map (kept_by old) (values new) ++ flat_map (present_added_by old) (values new))) (flat_map_same_on (λ c. kept_by old c ++ present_added_by old c) present_of_child (kept_and_arrived old) (values new))
+      (flat_map_both (kept_by old) (present_added_by old) (values new))
 
   -- a table that had the rows of the old present schools has those of the new ones, once those that moved are dropped and those that come are added
   pub presents_written : (news : List Child) → AreNew (λ (c : Child). c.no) old new news
       → (iold inew : FinMap nat_cmp ImportRow) → ((k : ℕ) (r : ImportRow) → get inew k ≡ Some r → r.child.no ≡ k) → ((k : ℕ) (r : ImportRow) → get iold k ≡ Some r → get inew k ≡ Some r)
       → (inews : List ImportRow) → AreNew (λ (r : ImportRow). r.child.no) iold inew inews
       → (was now : List Row) → IsPermutation (map present_columns (presents_of (values old) (values iold))) was
-      → IsPermutation (fold (λ rows key. drop_of key rows) was (map moved_key (present_gone_of old news)) ++ map present_columns (present_come_of old news inews)) now
+      → IsPermutation (fold (λ rows key. drop_of key rows) was (map moved_key (present_removed_of old news)) ++ map present_columns (present_added_of old news inews)) now
       → IsPermutation (map present_columns (presents_of (values new) (values inew))) now
   presents_written news differ iold inew own_inew kept inews idiffer was now held writes =
       let stays = flat_map (kept_by old) (values new) in
-      let comes = flat_map (present_come_by old) (values new) in
+      let comes = flat_map (present_added_by old) (values new) in
       let before = flat_map present_of_import (values iold) in
       let more = flat_map present_of_import inews in
       let imports : IsPermutation (flat_map present_of_import (values inew)) (before ++ more) =
@@ -225,9 +225,9 @@ module _ (old new : FinMap nat_cmp Child) (own_old : (k : ℕ) (c : Child) → g
       (IsPermutation-flat_map present_of_import _ _ (IsPermutation-sym _ _ (old_and_new nat_cmp_total nat_cmp-IsAntisymmetric (λ (r : ImportRow). r.child.no) iold inew own_inew kept inews idiffer))) in
       let rows = IsPermutation-trans _ _ _ (IsPermutation-append _ _ _ _ rows_now imports) (middle_turned stays comes before more) in
       let put = subst (IsPermutation _) (map-append present_columns (stays ++ before) (comes ++ more)) (IsPermutation-map present_columns _ _ rows) in
-      let left : drop_each (map present_columns (presents_of (values old) (values iold))) (map moved_key (present_gone_of old news)) ≡ map present_columns (stays ++ before) =
+      let left : drop_each (map present_columns (presents_of (values old) (values iold))) (map moved_key (present_removed_of old news)) ≡ map present_columns (stays ++ before) =
       ap (λ ks. drop_each (map present_columns (presents_of (values old) (values iold))) (map moved_key ks)) (moved_are news differ) ∙ drops present_columns moved_key moved (presents_of (values old) (values iold)) ∙ ap (map present_columns) (left_rows (values iold)) in
-      let dropped = subst (λ l. IsPermutation l (drop_each was (map moved_key (present_gone_of old news)))) left (drops_moved (map moved_key (present_gone_of old news)) _ _ held) in
+      let dropped = subst (λ l. IsPermutation l (drop_each was (map moved_key (present_removed_of old news)))) left (drops_moved (map moved_key (present_removed_of old news)) _ _ held) in
       let added = ap (λ l. map present_columns (l ++ more)) (arrived_are news differ) in
-      let write = subst (λ l. IsPermutation (drop_each was (map moved_key (present_gone_of old news)) ++ l) now) added writes in
+      let write = subst (λ l. IsPermutation (drop_each was (map moved_key (present_removed_of old news)) ++ l) now) added writes in
       IsPermutation-trans _ _ _ put (IsPermutation-trans _ _ _ (IsPermutation-append_left (map present_columns (comes ++ more)) _ _ dropped) write)

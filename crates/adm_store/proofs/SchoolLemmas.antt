@@ -9,7 +9,7 @@ use Rattle.sqlite.specs.State.{State, HasCleanDisk, Shown, ExecutesInside}
 use Rattle.adm_schema.specs.Rows.{columns_of}
 use Rattle.sqlite_trees.specs.View.{doubt}
 use Rattle.adm_schema.specs.Schema.{school, register_schema}
-use Rattle.adm_schema.specs.RowTexts.{find_school, cut_school}
+use Rattle.adm_schema.specs.RowTexts.{find_school, delete_school}
 use Rattle.adm_schema.specs.Texts.{insert_school, school_terms}
 use Rattle.adm_schema.proofs.Listed.{has_school}
 use Rattle.adm_schema.proofs.Casts.{cast_null, cast_int}
@@ -19,7 +19,7 @@ use Rattle.adm_schema.proofs.Statements.{inserted, adds}
 use Rattle.adm_schema.proofs.Texts.{inserts_school}
 use Rattle.adm_store.specs.declared.rows.SchoolRow.{SchoolRow}
 use Rattle.adm_store.specs.Changes.{written_school}
-use Rattle.adm_store.specs.Found.{CutsFound}
+use Rattle.adm_store.specs.Found.{DeletesFound}
 use Rattle.adm_store.specs.Schools.{code_row}
 use Rattle.adm_store.specs.Writes.{Adds, Drops, Writes, write_of}
 use Rattle.adm_store.proofs.FoundStatements.{found_and_cut}
@@ -35,8 +35,8 @@ adds_school old new count it later ran = add_one school has_school old new later
     adds register_schema school 1 refl refl refl (λ _ _. refl) old new (Null ∷ written_school it) (written_school it) (λ rows. ap (columns_of school) (stored_school it rows))
     (inserted register_schema school 1 refl refl refl (λ _ _. refl) school_terms 7 insert_school (written_school it) (Null ∷ written_school it) old new count inserts_school.0 inserts_school.1 refl (sees early h.1.was_open) h))
 
--- the row of a school is found, and taken out
+-- the row of a school is found, and deleted
 pub drops_school_row : (old mid new : State) (code : List ℕ) (shown : Row) → doubt old.is_clean ≤ doubt mid.is_clean → doubt mid.is_clean ≤ doubt new.is_clean → (HasCleanDisk mid → Shown find_school (code_row code) old mid (shown ∷ []))
-    → (HasCleanDisk new → CutsFound cut_school shown mid new) → Writes (write_of Drops school code_row (code ∷ []) ∷ []) old new
-drops_school_row old mid new code shown first second search cuts = found_and_cut school has_school refl find_school finds_school.2 (code_row code) cut_school old mid new shown first second
+    → (HasCleanDisk new → DeletesFound delete_school shown mid new) → Writes (write_of Drops school code_row (code ∷ []) ∷ []) old new
+drops_school_row old mid new code shown first second search cuts = found_and_cut school has_school refl find_school finds_school.2 (code_row code) delete_school old mid new shown first second
     (λ k has same number found h. drops_school code k shown old mid new has same number found h) search cuts

@@ -1,4 +1,4 @@
--- A table of rows by their numbers, which a commit writes over and takes out.
+-- A table of rows by their numbers, which a commit overwrites and deletes.
 use Rattle.std.proofs.Common.{◌≡◌, ◌∙◌, ℕ, true, false, not, pos, List, [], ◌∷◌, map, filter, Option, Some, None, refl, sym, ap, subst, IsTrue}
 use Rattle.std.specs.Prelude.{is_some}
 use Rattle.std.specs.Ordering.{nat_cmp}
@@ -35,7 +35,7 @@ module _ {V : Type 0} (key : V → ℕ) (row_of : V → Row) (own_rowid : (v : V
       still q none None is = is
       still q none (Some v) is = absurd (let wrong : true ≡ false = sym (stay q (ap is_some is)) ∙ ap is_some none in cc)
 
-  -- where the keys that are gone are taken out first
+  -- where the keys that are gone are deleted first
   pub cut_and_put : (keys : List ℕ) → keys ≡ map key (filter (λ v. not (contains_key new (key v))) (values old))
       → (IsTrue (have_rowids was) → IsPermutation (put_each (without_all was (map integer_key (map key_row keys))) written) now) → IsPermutation (map row_of (values new)) now
   cut_and_put keys are turns =

@@ -70,11 +70,11 @@ writes_application old new it later ran = put_one application has_application ol
     puts_row register_schema application 3 refl refl refl (λ _ _. refl) (λ _. refl) (given_terms application_columns) (suc (length application_columns)) text.put_application (written_application it) (stored (written_application it)) (written_application it) (pos it.columns.0) old new (ran clean).0 (λ _ _. refl)
     puts_application.0 puts_application.1 refl (stored_application it) (stored_application it) refl refl (sees early h.1.was_open) h)
 
-pub cuts_application_out : (old new : State) (count : ℕ) (number : ℕ) → doubt old.is_clean ≤ doubt new.is_clean → (HasCleanDisk new → ExecutesInside 0 text.cut_application (key_row number) old new (Ok count)) → Writes (write_of Cuts application key_row (number ∷ []) ∷ []) old new
+pub cuts_application_out : (old new : State) (count : ℕ) (number : ℕ) → doubt old.is_clean ≤ doubt new.is_clean → (HasCleanDisk new → ExecutesInside 0 text.delete_application (key_row number) old new (Ok count)) → Writes (write_of Cuts application key_row (number ∷ []) ∷ []) old new
 cuts_application_out old new count number later ran = cut_one application has_application old new later refl number (λ clean sees.
     let early : HasCleanDisk old = omega (arith, later, clean) in
     let h = ran clean in
-    cuts_row register_schema application 3 refl refl refl (λ _ _. refl) (λ _. refl) text.cut_application (pos number) old new count cuts_application.0 cuts_application.1 refl (sees early h.1.was_open) h)
+    cuts_row register_schema application 3 refl refl refl (λ _ _. refl) (λ _. refl) text.delete_application (pos number) old new count cuts_application.0 cuts_application.1 refl (sees early h.1.was_open) h)
 
 mended_place : (it : PlaceRow) → mended Replace place (stored (place_row it)) ≡ stored (place_row it)
 mended_place it = go it.place.state
@@ -119,11 +119,11 @@ writes_place old new count it later ran = put_one place has_place old new later 
     puts_row register_schema place 4 refl refl refl (λ _ _. refl) (λ _. refl) text.place_terms 6 text.put_place (place_row it) (stored (place_row it)) (place_row it) (pos it.child) old new count (λ _ _. refl)
     puts_place.0 puts_place.1 (given_place it) (ap (cast_row place) (mended_place it) ∙ stored_place it) (stored_place it) refl (shown_place it) (sees early h.1.was_open) h)
 
-pub cuts_place_out : (old new : State) (count : ℕ) (number : ℕ) → doubt old.is_clean ≤ doubt new.is_clean → (HasCleanDisk new → ExecutesInside 0 text.cut_place (key_row number) old new (Ok count)) → Writes (write_of Cuts place key_row (number ∷ []) ∷ []) old new
+pub cuts_place_out : (old new : State) (count : ℕ) (number : ℕ) → doubt old.is_clean ≤ doubt new.is_clean → (HasCleanDisk new → ExecutesInside 0 text.delete_place (key_row number) old new (Ok count)) → Writes (write_of Cuts place key_row (number ∷ []) ∷ []) old new
 cuts_place_out old new count number later ran = cut_one place has_place old new later refl number (λ clean sees.
     let early : HasCleanDisk old = omega (arith, later, clean) in
     let h = ran clean in
-    cuts_row register_schema place 4 refl refl refl (λ _ _. refl) (λ _. refl) text.cut_place (pos number) old new count cuts_place.0 cuts_place.1 refl (sees early h.1.was_open) h)
+    cuts_row register_schema place 4 refl refl refl (λ _ _. refl) (λ _. refl) text.delete_place (pos number) old new count cuts_place.0 cuts_place.1 refl (sees early h.1.was_open) h)
 
 given_left : (it : LeftPair) (rows : List Row) → with_rowid Chosen rows (cast_row left_list (Null ∷ left_row it)) ≡ Int (next_rowid rows) ∷ left_row it
 given_left it rows = rw (cast_null, cast_int (pos it.child))

@@ -22,14 +22,15 @@ use Rattle.adm_store.specs.declared.rows.Changes.{Changes}
 use Rattle.adm_rows.specs.Forms.{phase_code, season_row, school_row, child_row, application_row, imported_row, truth_code}
 use Rattle.adm_schema.specs.declared.version.Version.TheVariants.{Second}
 use Rattle.sqlite.specs.Tree.{Trees}
-use Rattle.adm_rows.specs.Present.{present_gone_of, present_come_of}
+use Rattle.adm_rows.specs.Present.{present_removed_of, present_added_of}
 use Rattle.adm_store.specs.Schools.{replaced_of}
-use Rattle.adm_rows.specs.StandsFor.{StandsAs, LeavesOnly, LeavesEither}
+use Rattle.adm_rows.specs.Represents.{RepresentsIn, LeavesOnly, LeavesEither}
 
 -- the rows as they are written
 abbrev pub written_season : SeasonRow → Row
 written_season r = Int (pos 1) ∷ Int (pos 2) ∷ Int (pos (phase_code r.phase)) ∷ Int (pos r.year) ∷ Text r.holidays ∷ Int (pos 0) ∷ []
 
+-- a row of `school`, as its values are written
 abbrev pub written_school : SchoolRow → Row
 written_school r = Text r.code ∷ Text r.name ∷ Int (pos r.pan) ∷ Int (pos r.east) ∷ Int (pos r.north) ∷ Text r.criteria ∷ []
 
@@ -37,6 +38,7 @@ written_school r = Text r.code ∷ Text r.name ∷ Int (pos r.pan) ∷ Int (pos 
 abbrev pub HomeRow : Type 0 → Type 0
 HomeRow Others = ℕ × (List ℕ × (ℕ × (ℕ × (Bool × (ℕ × (List ℕ × Others))))))
 
+-- the columns of a child as a row, and then others
 abbrev pub home_row : {Others : Type 0} → (Others → Row) → HomeRow Others → Row
 home_row others r =
     Int (pos r.0) ∷ Text r.1.0 ∷ Int (pos r.1.1.0) ∷ Int (pos r.1.1.1.0) ∷ Int (pos (truth_code r.1.1.1.1.0)) ∷ Int (pos r.1.1.1.1.1.0) ∷ Text r.1.1.1.1.1.1.0 ∷ others r.1.1.1.1.1.1.1
@@ -45,15 +47,19 @@ home_row others r =
 abbrev pub WishRow : Type 0
 WishRow = ℕ × (List ℕ × Unit {0})
 
+-- the day and the preferences of an application as a row
 abbrev pub wish_row : WishRow → Row
 wish_row r = Int (pos r.0) ∷ Text r.1.0 ∷ []
 
+-- a row of `child`, as its values are written
 abbrev pub written_child : ChildRow → Row
 written_child r = home_row (λ _. []) r.columns
 
+-- a row of `application`, as its values are written
 abbrev pub written_application : ApplicationRow → Row
 written_application r = Int (pos r.columns.0) ∷ wish_row r.columns.1
 
+-- a row of `imported`, as its values are written
 abbrev pub written_imported : ImportedRow → Row
 written_imported r = home_row wish_row r.columns
 
@@ -74,9 +80,9 @@ pub record IsRowOf (season : SeasonFacts) (row : SeasonRow) : Type 0 where
   pub season_is : IsSeason season
   pub written : written_season row ≡ season_row Second season 0
 
--- the trees stand for the season of this row, and no other row
-abbrev pub StandsForNew : SeasonRow → Trees → Type 0
-StandsForNew row db = (season : SeasonFacts) → IsRowOf season row → StandsAs Second db (only_season season)
+-- the trees represent the season of this row, and no other row
+abbrev pub RepresentsNew : SeasonRow → Trees → Type 0
+RepresentsNew row db = (season : SeasonFacts) → IsRowOf season row → RepresentsIn Second db (only_season season)
 
 -- the changes are just the rows of the new register that the old one has not, and the keys of the old one that the new one has not
 pub record IsChanges (old new : Register) (changes : Changes) : Type 0 where
@@ -92,8 +98,8 @@ pub record IsChanges (old new : Register) (changes : Changes) : Type 0 where
   pub offers : changes.offers ≡ flat_map offer_rows_of difference.draws
   pub lots : changes.lots ≡ flat_map lot_rows_of difference.draws
   pub imported : map written_imported changes.imported ≡ map imported_row difference.imported
-  pub moved : changes.moved ≡ present_gone_of old.children difference.children
-  pub present : changes.present ≡ present_come_of old.children difference.children difference.imported
+  pub moved : changes.moved ≡ present_removed_of old.children difference.children
+  pub present : changes.present ≡ present_added_of old.children difference.children difference.imported
   pub ended : changes.ended ≡ difference.ended
   pub vacated : changes.vacated ≡ difference.vacated
 
@@ -103,14 +109,14 @@ pub record IsStep (old new : Register) (changes : Changes) : Type 0 where
   pub extends : Extends old new
   pub formed : WellFormed new
 
--- where all that a crash could leave stood for a register, this is so of each one to which these changes are the step
+-- where all that a crash could leave represented a register, this is so of each one to which these changes are the step
 abbrev pub AtNext : Changes → State → (Register → Type 0) → Type 0
 AtNext changes before P = (old new : Register) → IsStep old new changes → LeavesOnly old before → P new
 
--- where all that a crash could leave stood for the old register, all that it may leave now stands for the new one
+-- where all that a crash could leave represented the old register, all that it may leave now represents the new one
 abbrev pub Commits : Changes → State → State → Type 0
 Commits changes before after = AtNext changes before (λ new. LeavesOnly new after)
 
--- then each thing that it may leave stands for the old or the new one
+-- then each thing that it may leave represents the old or the new one
 abbrev pub CommitsOrNot : Changes → State → State → Type 0
 CommitsOrNot changes before after = (old new : Register) → IsStep old new changes → LeavesOnly old before → LeavesEither old new after

@@ -1,4 +1,4 @@
--- The table `school`: which of its rows are taken out, to be added as they are now.
+-- The table `school`: which of its rows are deleted, to be added as they are now.
 use Rattle.std.specs.Prelude.{ℕ, List, [], ◌∷◌, if◌then◌else◌}
 use Rattle.std.specs.List.{flat_map}
 use Rattle.std.specs.FinMap.{FinMap, contains_key}

@@ -17,7 +17,7 @@ use Rattle.adm_rows.specs.DrawForms.{draw_row, offer_row, lot_row}
 use Rattle.adm_rows.specs.Present.{present_columns, moved_key}
 use Rattle.adm_store.specs.Schools.{code_row}
 
--- rows that are more, rows in place of those of their keys, keys alone, of which no row is left, the first values of rows of which none is left, or counts of draws, each in place of the one before
+-- rows that are more, rows in place of those of their keys, keys alone, of which no row remains, the first values of rows of which none remains, or counts of draws, each in place of the one before
 pub data Kind : Type 0 where
   Adds : Kind
   Puts : Kind

@@ -1,4 +1,4 @@
-// The table `application`. A row that changed is written over the one of the same child, and one that ended is taken out.
+// The table `application`. A row that changed replaces the one of the same child, and one that ended is deleted.
 ghost use Rattle.adm_schema.specs.Schema.{application};
 ghost use Rattle.adm_store.specs.Changes.{written_application};
 ghost use Rattle.adm_store.specs.Writes.{Puts, Cuts, key_row};
@@ -6,7 +6,7 @@ ghost use Rattle.adm_store.specs.Writes.{Puts, Cuts, key_row};
 use crate::rows::ApplicationRow;
 use crate::statement::Statement;
 use crate::written::run_row;
-use adm_schema::tables::applications::{cut_application, put_application};
+use adm_schema::tables::applications::{delete_application, put_application};
 use adm_types::ChildNo;
 use sqlite::{Alter, Error, Transaction, params};
 
@@ -26,9 +26,9 @@ impl Statement for PutApplication {
     }
 }
 
-pub(crate) struct CutApplication;
+pub(crate) struct DeleteApplication;
 
-impl Statement for CutApplication {
+impl Statement for DeleteApplication {
     type Item = ChildNo;
 
     ghost kind = { Cuts };
@@ -39,7 +39,7 @@ impl Statement for CutApplication {
 
     fn run<S: Alter>(tx: &mut Transaction<'_, S>, child: &ChildNo) -> Result<(), Error> {
         let number = child.get();
-        tx.execute(cut_application(), params![number])?;
+        tx.execute(delete_application(), params![number])?;
         Ok(())
     }
 }

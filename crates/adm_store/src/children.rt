@@ -1,4 +1,4 @@
-// The table `child`. A row that changed is written over the one of the same child; none is taken out.
+// The table `child`. A row that changed replaces the one of the same child; none is deleted.
 ghost use Rattle.adm_schema.specs.Schema.{child};
 ghost use Rattle.adm_store.specs.Changes.{written_child};
 ghost use Rattle.adm_store.specs.Writes.{Puts};

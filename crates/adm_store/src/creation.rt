@@ -5,7 +5,7 @@ ghost use Rattle.sqlite.specs.State.{HasCleanDisk, Survives};
 ghost use Rattle.adm_schema.specs.Effects.{SeesNone};
 ghost use Rattle.adm_schema.specs.Schema.{no_schema, register_schema};
 ghost use Rattle.adm_schema.specs.Creations.{creations};
-ghost use Rattle.adm_store.specs.Changes.{StandsForNew};
+ghost use Rattle.adm_store.specs.Changes.{RepresentsNew};
 ghost use Rattle.adm_store.specs.Creating.{MakesATable};
 
 use crate::rows::SeasonRow;
@@ -77,8 +77,8 @@ pub(crate) fn build<S: Alter>(conn: &mut Connection<S>, row: &SeasonRow) -> Resu
     requires ended { conn.old.in_transaction ≡ false }
     requires empty { conn.old.schema ≡ no_schema }
     ensures ended { conn.new.in_transaction ≡ false }
-    ensures committed { HasCleanDisk (state S.Store conn.new) → OnOk result (IsTrue (state S.Store conn.new).is_open × StandsForNew row.now (state S.Store conn.new).committed.trees) }
-    ensures survives { Survives (state S.Store conn.old) (state S.Store conn.new) (StandsForNew row.now) }
+    ensures committed { HasCleanDisk (state S.Store conn.new) → OnOk result (IsTrue (state S.Store conn.new).is_open × RepresentsNew row.now (state S.Store conn.new).committed.trees) }
+    ensures survives { Survives (state S.Store conn.old) (state S.Store conn.new) (RepresentsNew row.now) }
 {
     // that the connection sees a database, a call of it says
     let _tables = conn.schema();

@@ -6,7 +6,7 @@ ghost use Rattle.adm_types.specs.Children.{present_row, present_of_import};
 ghost use Rattle.adm_register.specs.State.{State as Facts};
 ghost use Rattle.adm_register.specs.Difference.{IsDifference};
 ghost use Rattle.adm_store.specs.Changes.{IsChanges};
-ghost use Rattle.adm_rows.specs.Present.{was_present, moved_from, present_gone_of, arrived_from, present_come_by};
+ghost use Rattle.adm_rows.specs.Present.{was_present, moved_from, present_removed_of, arrived_from, present_added_by};
 ghost use Rattle.adm_store.specs.Schools.{replaced_of};
 
 use crate::rows::Changes;
@@ -82,7 +82,7 @@ fn moved(
     old: &Register,
     children: &[Shared<Child>],
 ) -> Result<Vec<ChildNo>, AllocError>
-    ensures { IfOk result (λ moved. moved.items ≡ present_gone_of old.now.children children.now) }
+    ensures { IfOk result (λ moved. moved.items ≡ present_removed_of old.now.children children.now) }
 {
     let mut moved = Vec::new(alloc);
     'children: for row in children {
@@ -112,7 +112,7 @@ fn arrived(
     old: &Register,
     children: &[Shared<Child>],
 ) -> Result<Vec<PresentRow>, AllocError>
-    ensures { IfOk result (λ rows. rows.items ≡ flat_map (present_come_by old.now.children) children.now) }
+    ensures { IfOk result (λ rows. rows.items ≡ flat_map (present_added_by old.now.children) children.now) }
 {
     let mut rows = Vec::new(alloc);
     'children: for row in children {

@@ -1,4 +1,4 @@
-// The table `left_list`. No command takes out a pair, so its rows are only added.
+// The table `left_list`. No command deletes a pair, so its rows are only added.
 ghost use Rattle.adm_schema.specs.Schema.{left_list};
 ghost use Rattle.adm_rows.specs.Forms.{left_row};
 ghost use Rattle.adm_store.specs.Writes.{Adds};

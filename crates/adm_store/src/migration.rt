@@ -5,7 +5,7 @@ ghost use Rattle.sqlite.specs.State.{HasCleanDisk, Survives};
 ghost use Rattle.adm_register.specs.State.{State as RegisterFacts};
 ghost use Rattle.adm_schema.specs.declared.version.Version.TheVariants.{First, Second};
 ghost use Rattle.adm_store.specs.Migration.{MakesPresent, MakesSecond, Migrates};
-ghost use Rattle.adm_rows.specs.StandsFor.{StandsAs, LeavesAll};
+ghost use Rattle.adm_rows.specs.Represents.{RepresentsIn, LeavesAll};
 
 use adm_schema::tables::meta::mark_version;
 use adm_schema::tables::present::create_present;
@@ -31,13 +31,13 @@ fn mark_second<S: Alter>(tx: &mut Transaction<'_, S>) -> Result<(), Error>
     Ok(())
 }
 
-/// Makes a file of the first version one of the second, which stands for the same register, in one transaction.
-/// What it costs does not grow.
+/// Makes a file of the first version one of the second, which represents the same register, in one
+/// transaction. What it costs does not grow.
 pub(crate) fn migrate<S: Alter>(conn: &mut Connection<S>) -> Result<(), Error>
     requires ended { conn.old.in_transaction ≡ false }
     ensures ended { conn.new.in_transaction ≡ false }
     ensures committed { HasCleanDisk (state S.Store conn.new) → OnOk result (Migrates (state S.Store conn.old) (state S.Store conn.new)) }
-    ensures survives { (r : RegisterFacts) → LeavesAll First r (state S.Store conn.old) → Survives (state S.Store conn.old) (state S.Store conn.new) (λ db. StandsAs Second db r) }
+    ensures survives { (r : RegisterFacts) → LeavesAll First r (state S.Store conn.old) → Survives (state S.Store conn.old) (state S.Store conn.new) (λ db. RepresentsIn Second db r) }
 {
     let at_rest = conn.is_autocommit();
     prove!(at_rest);

@@ -1,4 +1,4 @@
-// The table `place`. A row that changed is written over the one of the same child, and one that ended is taken out.
+// The table `place`. A row that changed replaces the one of the same child, and one that ended is deleted.
 ghost use Rattle.std.specs.Prelude.{◌≡◌, [], ◌∷◌, pos};
 ghost use Rattle.sqlite.specs.declared.types.Value.TheVariants.{Int};
 ghost use Rattle.sqlite.specs.Values.{or_null};
@@ -8,7 +8,7 @@ ghost use Rattle.adm_store.specs.Writes.{Puts, Cuts, key_row};
 
 use crate::rows::number_of;
 use crate::statement::Statement;
-use adm_schema::tables::places::{cut_place, put_place};
+use adm_schema::tables::places::{delete_place, put_place};
 use adm_types::{ChildNo, Day, PlaceRow, PlaceState};
 use sqlite::{Alter, Error, Transaction, params};
 
@@ -52,9 +52,9 @@ impl Statement for PutPlace {
     }
 }
 
-pub(crate) struct CutPlace;
+pub(crate) struct DeletePlace;
 
-impl Statement for CutPlace {
+impl Statement for DeletePlace {
     type Item = ChildNo;
 
     ghost kind = { Cuts };
@@ -65,7 +65,7 @@ impl Statement for CutPlace {
 
     fn run<S: Alter>(tx: &mut Transaction<'_, S>, child: &ChildNo) -> Result<(), Error> {
         let number = child.get();
-        tx.execute(cut_place(), params![number])?;
+        tx.execute(delete_place(), params![number])?;
         Ok(())
     }
 }

@@ -1,4 +1,4 @@
-// The table `present`, whose key is two columns: a row that goes is found first, and taken out by its rowid.
+// The table `present`, whose key is two columns: a row that goes is found first, and deleted by its rowid.
 ghost use Rattle.std.specs.Prelude.{◌≡◌, IfOk};
 ghost use Rattle.sqlite.specs.Held.{state};
 ghost use Rattle.sqlite.specs.State.{HasCleanDisk, Shown, Survives};
@@ -9,7 +9,7 @@ ghost use Rattle.adm_store.specs.Writes.{Adds, Drops};
 
 use crate::found::cut_found;
 use crate::statement::Statement;
-use adm_schema::tables::present::{cut_present, find_present, insert_present};
+use adm_schema::tables::present::{delete_present, find_present, insert_present};
 use adm_types::{ChildNo, PresentRow};
 use sqlite::{Alter, Error, Row, Transaction, params};
 
@@ -24,9 +24,9 @@ fn found<S: Alter>(tx: &mut Transaction<'_, S>, child: ChildNo) -> Result<Vec<Ro
     Ok(rows)
 }
 
-pub(crate) struct CutPresent;
+pub(crate) struct DeletePresent;
 
-impl Statement for CutPresent {
+impl Statement for DeletePresent {
     type Item = ChildNo;
 
     ghost kind = { Drops };
@@ -39,7 +39,7 @@ impl Statement for CutPresent {
         let rows = found(tx, *child)?;
         match rows.as_slice().split_first() {
             None => Ok(()),
-            Some((row, others)) if others.is_empty() => cut_found(tx, cut_present(), row),
+            Some((row, others)) if others.is_empty() => cut_found(tx, delete_present(), row),
             Some(_) => Err(Error::QueryReturnedNoRows),
         }
     }

@@ -61,7 +61,7 @@ pub struct ImportedRow {
 /// one that the new one has not.
 pub struct Changes {
     pub schools: Seq<SchoolRow>,
-    /// Those of these schools that were there: their rows are taken out before.
+    /// Those of these schools that were there: their rows are deleted before.
     pub replaced: Seq<SchoolCode>,
     pub children: Seq<ChildRow>,
     pub applications: Seq<ApplicationRow>,

@@ -1,4 +1,4 @@
-// The table `school`. A school whose admission number was raised has its row taken out and added again.
+// The table `school`. A school whose admission number was raised has its row deleted and added again.
 ghost use Rattle.std.specs.Prelude.{◌≡◌, IfOk};
 ghost use Rattle.sqlite.specs.Held.{state};
 ghost use Rattle.sqlite.specs.State.{HasCleanDisk, Shown, Survives};
@@ -11,7 +11,7 @@ ghost use Rattle.adm_store.specs.Writes.{Adds, Drops};
 use crate::found::cut_found;
 use crate::rows::SchoolRow;
 use crate::statement::Statement;
-use adm_schema::tables::schools::{cut_school, find_school, insert_school};
+use adm_schema::tables::schools::{delete_school, find_school, insert_school};
 use adm_types::SchoolCode;
 use sqlite::{Alter, Error, Row, Transaction, params};
 
@@ -26,9 +26,9 @@ fn found<S: Alter>(tx: &mut Transaction<'_, S>, school: SchoolCode) -> Result<Ve
     Ok(rows)
 }
 
-pub(crate) struct CutSchool;
+pub(crate) struct DeleteSchool;
 
-impl Statement for CutSchool {
+impl Statement for DeleteSchool {
     type Item = SchoolCode;
 
     ghost kind = { Drops };
@@ -40,7 +40,7 @@ impl Statement for CutSchool {
     fn run<S: Alter>(tx: &mut Transaction<'_, S>, code: &SchoolCode) -> Result<(), Error> {
         let rows = found(tx, *code)?;
         match rows.as_slice().split_first() {
-            Some((row, others)) if others.is_empty() => { cut_found(tx, cut_school(), row) }
+            Some((row, others)) if others.is_empty() => { cut_found(tx, delete_school(), row) }
             _ => Err(Error::QueryReturnedNoRows),
         }
     }

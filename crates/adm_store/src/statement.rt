@@ -6,7 +6,7 @@ ghost use Rattle.adm_store.specs.Writes.{write_of, Writes};
 
 use sqlite::{Alter, Error, Transaction};
 
-/// A statement that writes one row of a table, or takes one out.
+/// A statement that writes one row of a table, or deletes one.
 pub(crate) trait Statement {
     ghost use Rattle.sqlite.specs.Order.{Row};
     ghost use Rattle.sqlite.specs.Table.{Table};

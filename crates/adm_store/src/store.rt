@@ -7,14 +7,14 @@ ghost use Rattle.adm_schema.specs.declared.version.Version.TheVariants.{First, S
 ghost use Rattle.sqlite.specs.Tree.{Trees};
 ghost use Rattle.adm_register.specs.State.{State as Facts, only_season};
 ghost use Rattle.adm_store.specs.Changes.{AtNext, Commits, CommitsOrNot};
-ghost use Rattle.adm_rows.specs.StandsFor.{IsStarted, StandsAs, StandsForNone, LeavesAll, LeavesOnly, LeavesOldOrNew, LeavesNone};
+ghost use Rattle.adm_rows.specs.Represents.{IsStarted, RepresentsIn, RepresentsNone, LeavesAll, LeavesOnly, LeavesOldOrNew, LeavesNone};
 ghost use Rattle.adm_store.specs.Migration.{IsMigrated};
 ghost use Rattle.adm_rows.specs.Faults.{IsNoRegister};
 ghost use Rattle.adm_rows.specs.FirstFault.{IsFirstFault};
 ghost use Rattle.adm_rows.specs.Causes.{HasDiskCause};
 ghost use Rattle.adm_store.specs.Writes.{count_of, base_writes, place_writes, draw_writes, import_writes, writes_of, Writes};
 
-use crate::applications::{CutApplication, PutApplication};
+use crate::applications::{DeleteApplication, PutApplication};
 use crate::children::PutChild;
 use crate::draws::AddDraw;
 use crate::imported::AddImported;
@@ -22,10 +22,10 @@ use crate::left_list::AddLeft;
 use crate::lots::AddLot;
 use crate::migration::migrate;
 use crate::offers::AddOffer;
-use crate::places::{CutPlace, PutPlace};
-use crate::present::{AddPresent, CutPresent};
+use crate::places::{DeletePlace, PutPlace};
+use crate::present::{AddPresent, DeletePresent};
 use crate::rows::{Changes, last_draw};
-use crate::schools::{AddSchool, CutSchool};
+use crate::schools::{AddSchool, DeleteSchool};
 use crate::season::SetDraws;
 use crate::statement::run_each;
 use crate::to_rows::ToRow;
@@ -39,7 +39,7 @@ use std::alloc::Global;
 use std::marker::Model;
 
 /// Memory only where `sqlite` has none.
-fn fault_of(error: Error) -> CreateFault
+fn create_fault(error: Error) -> CreateFault
     ensures memory { (result ≡ CreateFault.Memory) ↔ (error ≡ Error.SqliteFailure ErrorCode.OutOfMemory) }
     ensures other { result ≢ CreateFault.InUse }
 {
@@ -75,7 +75,7 @@ pub fn create<S: Alter>(
     };
     match creation::build(conn, &row) {
         Ok(()) => Ok(()),
-        Err(error) => Err(fault_of(error)),
+        Err(error) => Err(create_fault(error)),
     }
 }
 
@@ -83,9 +83,9 @@ pub fn create<S: Alter>(
 fn read<S: Alter>(alloc: Global, conn: &mut Connection<S>) -> Result<(Version, Register), OpenFault>
     requires { conn.old.in_transaction ≡ false }
     ensures ended { conn.new.in_transaction ≡ false }
-    ensures ok { HasCleanDisk (state S.Store conn.new) → IsTrue (state S.Store conn.old).is_open → IfOk result (λ it. (db : Trees) → (state S.Store conn.old).may_leave db → StandsAs it.0 db it.1) }
+    ensures ok { HasCleanDisk (state S.Store conn.new) → IsTrue (state S.Store conn.old).is_open → IfOk result (λ it. (db : Trees) → (state S.Store conn.old).may_leave db → RepresentsIn it.0 db it.1) }
     ensures tables { IfOk result (λ it. conn.old.schema ≡ schema_of it.0) }
-    ensures bad { HasCleanDisk (state S.Store conn.new) → IsTrue (state S.Store conn.old).is_open → IfErr result (λ e. IsNoRegister e → (db : Trees) → (state S.Store conn.old).may_leave db → StandsForNone db) }
+    ensures bad { HasCleanDisk (state S.Store conn.new) → IsTrue (state S.Store conn.old).is_open → IfErr result (λ e. IsNoRegister e → (db : Trees) → (state S.Store conn.old).may_leave db → RepresentsNone db) }
     ensures first { HasCleanDisk (state S.Store conn.new) → IfErr result (λ e. IsNoRegister e → IsFirstFault (state S.Store conn.old).now e) }
     ensures disk { IfErr result (λ e. e ≡ OpenFault.Disk → HasDiskCause (state S.Store conn.old) (state S.Store conn.new)) }
     ensures survives { Survives (state S.Store conn.old) (state S.Store conn.new) (λ _. ⊥) }
@@ -103,7 +103,7 @@ fn read<S: Alter>(alloc: Global, conn: &mut Connection<S>) -> Result<(Version, R
 }
 
 /// Why a file of the first version did not become one of the second.
-fn fault_in(error: Error) -> OpenFault
+fn migration_fault(error: Error) -> OpenFault
     ensures memory { (result ≡ OpenFault.Memory) ↔ (error ≡ Error.SqliteFailure ErrorCode.OutOfMemory) }
     ensures other { IsNoRegister result → ⊥ }
 {
@@ -119,7 +119,7 @@ fn bring_up<S: Alter>(conn: &mut Connection<S>, version: Version) -> Result<(), 
     ensures ended { conn.new.in_transaction ≡ false }
     ensures first { OnErr result (version ≡ First) }
     ensures ok { OnOk result ((r : Facts) → LeavesAll version r (state S.Store conn.old) → LeavesOnly r (state S.Store conn.new)) }
-    ensures survives { (r : Facts) → LeavesAll version r (state S.Store conn.old) → Survives (state S.Store conn.old) (state S.Store conn.new) (λ db. (version ≡ First) × StandsAs Second db r) }
+    ensures survives { (r : Facts) → LeavesAll version r (state S.Store conn.old) → Survives (state S.Store conn.old) (state S.Store conn.new) (λ db. (version ≡ First) × RepresentsIn Second db r) }
 {
     match version {
         Version::First => migrate(conn),
@@ -127,8 +127,8 @@ fn bring_up<S: Alter>(conn: &mut Connection<S>, version: Version) -> Result<(), 
     }
 }
 
-/// Opens the register that the file stands for, and brings the file to the second version. What it costs grows with
-/// the register's rows.
+/// Opens the register that the file represents, and brings the file to the second version. What it
+/// costs grows with the register's rows.
 pub fn open<S: Alter>(
     alloc: Global,
     mut conn: Connection<S>,
@@ -149,7 +149,7 @@ pub fn open<S: Alter>(
     };
     match bring_up(&mut conn, version) {
         Ok(()) => Ok((Store { conn }, register)),
-        Err(error) => Err((fault_in(error), conn)),
+        Err(error) => Err((migration_fault(error), conn)),
     }
 }
 
@@ -203,26 +203,26 @@ impl<S: Alter> Store<S> {
     }
 }
 
-/// Writes the schools, the children and their applications; takes out the rows of schools that changed, and the applications that ended.
+/// Writes the schools, the children and their applications; deletes the rows of schools that changed, and the applications that ended.
 fn write_base<S: Alter>(tx: &mut Transaction<'_, S>, changes: &Changes) -> Result<(), Error>
     ensures same_reference { tx.new.conn.ghost_name ≡ tx.old.conn.ghost_name }
     ensures writes { OnOk result (Writes (base_writes changes.now) (state S.Store tx.old.conn.now) (state S.Store tx.new.conn.now)) }
     ensures survives { Survives (state S.Store tx.old.conn.now) (state S.Store tx.new.conn.now) (λ _. ⊥) }
 {
-    run_each::<CutSchool, S>(tx, changes.replaced.as_slice())?;
+    run_each::<DeleteSchool, S>(tx, changes.replaced.as_slice())?;
     run_each::<AddSchool, S>(tx, changes.schools.as_slice())?;
     run_each::<PutChild, S>(tx, changes.children.as_slice())?;
-    run_each::<CutApplication, S>(tx, changes.ended.as_slice())?;
+    run_each::<DeleteApplication, S>(tx, changes.ended.as_slice())?;
     run_each::<PutApplication, S>(tx, changes.applications.as_slice())
 }
 
-/// Writes the places and the schools that children left; takes out the places that ended.
+/// Writes the places and the schools that children left; deletes the places that ended.
 fn write_places<S: Alter>(tx: &mut Transaction<'_, S>, changes: &Changes) -> Result<(), Error>
     ensures same_reference { tx.new.conn.ghost_name ≡ tx.old.conn.ghost_name }
     ensures writes { OnOk result (Writes (place_writes changes.now) (state S.Store tx.old.conn.now) (state S.Store tx.new.conn.now)) }
     ensures survives { Survives (state S.Store tx.old.conn.now) (state S.Store tx.new.conn.now) (λ _. ⊥) }
 {
-    run_each::<CutPlace, S>(tx, changes.vacated.as_slice())?;
+    run_each::<DeletePlace, S>(tx, changes.vacated.as_slice())?;
     run_each::<PutPlace, S>(tx, changes.places.as_slice())?;
     run_each::<AddLeft, S>(tx, changes.left.as_slice())
 }
@@ -239,14 +239,14 @@ fn write_draws<S: Alter>(tx: &mut Transaction<'_, S>, changes: &Changes) -> Resu
     run_each::<SetDraws, S>(tx, last_draw(changes.draws.as_slice()))
 }
 
-/// Writes the imported rows and the present schools; takes out those that changed.
+/// Writes the imported rows and the present schools; deletes those that changed.
 fn write_imported<S: Alter>(tx: &mut Transaction<'_, S>, changes: &Changes) -> Result<(), Error>
     ensures same_reference { tx.new.conn.ghost_name ≡ tx.old.conn.ghost_name }
     ensures writes { OnOk result (Writes (import_writes changes.now) (state S.Store tx.old.conn.now) (state S.Store tx.new.conn.now)) }
     ensures survives { Survives (state S.Store tx.old.conn.now) (state S.Store tx.new.conn.now) (λ _. ⊥) }
 {
     run_each::<AddImported, S>(tx, changes.imported.as_slice())?;
-    run_each::<CutPresent, S>(tx, changes.moved.as_slice())?;
+    run_each::<DeletePresent, S>(tx, changes.moved.as_slice())?;
     run_each::<AddPresent, S>(tx, changes.present.as_slice())
 }
 
@@ -266,8 +266,8 @@ fn write<S: Alter>(conn: &mut Connection<S>, changes: &Changes) -> Result<(), Er
     requires ended { conn.old.in_transaction ≡ false }
     requires some { 0 < count_of (writes_of changes.now) }
     ensures ended { conn.new.in_transaction ≡ false }
-    ensures committed { HasCleanDisk (state S.Store conn.new) → OnOk result (IsTrue (state S.Store conn.new).is_open × AtNext changes.now (state S.Store conn.old) (StandsAs Second (state S.Store conn.new).committed.trees)) }
-    ensures survives { AtNext changes.now (state S.Store conn.old) (λ new. Survives (state S.Store conn.old) (state S.Store conn.new) (λ db. StandsAs Second db new)) }
+    ensures committed { HasCleanDisk (state S.Store conn.new) → OnOk result (IsTrue (state S.Store conn.new).is_open × AtNext changes.now (state S.Store conn.old) (RepresentsIn Second (state S.Store conn.new).committed.trees)) }
+    ensures survives { AtNext changes.now (state S.Store conn.old) (λ new. Survives (state S.Store conn.old) (state S.Store conn.new) (λ db. RepresentsIn Second db new)) }
 {
     let at_rest = conn.is_autocommit();
     prove!(at_rest);

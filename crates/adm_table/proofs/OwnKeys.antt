@@ -22,7 +22,7 @@ none_of None e = refl
 none_of (Some x) e = cc
 
 module _ {K V : Type 0} (R : K → K → Ordering) where
-  -- an entry whose key is new comes to the others
+  -- an entry whose key is new joins the others
   pub new_entry : (es : List (K × V)) (k : K) (v : V) → lookup (is_at (R k)) es ≡ None → IsPermutation (v ∷ values_of es) (values_of (insert_entry R es k v))
   new_entry [] k v none = IsPermutation-refl (v ∷ [])
   new_entry (e ∷ es) k v none =
@@ -34,7 +34,7 @@ module _ {K V : Type 0} (R : K → K → Ordering) where
             IsPermutation-trans _ _ _ (IsPermutation-sym _ _ (IsPermutation-middle (e.1 ∷ []) v (values_of es))) (IsPermutation-cons e.1 _ _ rest)
       ] refl
 
-  -- and stands at its own key, as they do
+  -- and is at its own key, as they do
   pub own_keys : (key : V → K) (es : List (K × V)) (v : V) → lookup (is_at (R (key v))) es ≡ None → map key (values_of es) ≡ keys_of es
       → map key (values_of (insert_entry R es (key v) v)) ≡ keys_of (insert_entry R es (key v) v)
   own_keys key [] v none keyed = refl

@@ -85,7 +85,7 @@ module _ {K V : Type 0} {R : K → K → Ordering} (total : IsTotalOrder R) (pla
             (sorted-after R (keys_of (rows_of_pieces (take place pieces))) piece.first (keys-at place pieces piece within at are.starts).0 in_order),
       )
 
--- where a search ends, no row is left between the place and the end
+-- where a search ends, no row remains between the place and the end
 pub rows-past : {K V : Type 0} (R : K → K → Ordering) (place end : ℕ) (pieces : List (Piece K V)) (key : K) → place ≤ end → end ≤ length pieces → (0 < length pieces → place < end) → end ≤ place + 1
     → AllByRecursion (λ other. R key other ≡ Less) (keys_of (rows_of_pieces (drop end pieces))) → AllByRecursion (λ other. R key other ≡ Less) (keys_of (rows_of_pieces (drop (place + 1) pieces)))
 rows-past R place end [] key ordered within apart next above = subst (λ ps. AllByRecursion (λ other. R key other ≡ Less) (keys_of (rows_of_pieces ps))) (sym (drop_all (place + 1) [] (omega arith))) tt
@@ -148,7 +148,7 @@ module _ {K V : Type 0} {R : K → K → Ordering} (total : IsTotalOrder R) (pla
 lengths : {A : Type 0} (xs ys zs : List A) → length (xs ++ (ys ++ zs)) ≡ length xs + (length ys + length zs)
 lengths xs ys zs = length-append xs (ys ++ zs) ∙ ap (λ n. length xs + n) (length-append ys zs)
 
--- the piece at a place was taken out, and rows were put in there
+-- the piece at a place was removed, and rows were put in there
 pub record IsChanged {K V : Type 0} (place : ℕ) (old others new : List (Piece K V)) (taken put : List (K × V)) : Type 0 where
   pub room : place ≤ length old
   pub without : others ≡ take place old ++ drop (place + 1) old
@@ -187,7 +187,7 @@ module _ {K V : Type 0} (place : ℕ) (old others new : List (Piece K V)) (taken
         ∙ insert-at total place old key lower higher row in
         (rows, record { sorted = subst (λ rows. IsStrictlySortedBy R (keys_of rows)) (sym rows) (sorted-inserted total (rows_of_pieces old) key row are.sorted); starts = starts-changed })
 
-    -- and one taken out of it is taken out of the rows
+    -- and one removed from it is removed from the rows
     pub cut-changed : put ≡ remove_entry (is_at (R key)) taken → (rows_of_pieces new ≡ remove_entry (is_at (R key)) (rows_of_pieces old)) × ArePieces R new
     cut-changed done =
         let rows : rows_of_pieces new ≡ remove_entry (is_at (R key)) (rows_of_pieces old) =

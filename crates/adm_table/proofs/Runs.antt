@@ -77,7 +77,7 @@ module _ {K : Type 0} {R : K → K → Ordering} (total : IsTotalOrder R) where
   not_at_above r e = ap is_eq e
 
   module _ {V : Type 0} (k : K) where
-    -- rows whose keys are below k come before what is looked up, put or taken out at k
+    -- rows whose keys are below k come before what is looked up, put or removed at k
     pub lookup-after : (xs ys : List (K × V)) → AllByRecursion (λ x. R x k ≡ Less) (keys_of xs) → lookup (is_at (R k)) (xs ++ ys) ≡ lookup (is_at (R k)) ys
     lookup-after [] ys all = refl
     lookup-after (x ∷ xs) ys all = ap (λ b. cond b (Some x.1) (lookup (is_at (R k)) (xs ++ ys))) (not_at_above _ (above x.0 k all.0)) ∙ lookup-after xs ys all.1
@@ -179,7 +179,7 @@ module _ {K : Type 0} {R : K → K → Ordering} (total : IsTotalOrder R) where
   greater_is_not Greater greater equal = cc
 
   module _ {V : Type 0} where
-    -- what stands at each key after a row was put
+    -- what is at each key after a row was put
     pub lookup-inserted : (es : List (K × V)) (k : K) (v : V) (q : K) → lookup (is_at (R q)) (insert_entry R es k v) ≡ cond (is_at (R k) q) (Some v) (lookup (is_at (R q)) es)
     lookup-inserted [] k v q = ap (λ b. cond b (Some v) None) ((eq_by_cmp_equiv total).symm q k)
     lookup-inserted (e ∷ es) k v q =

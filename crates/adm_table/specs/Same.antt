@@ -1,4 +1,4 @@
--- Tests that tell whether two rows are the same, and which rows a table has not.
+-- Tests that decide whether two rows are the same, and which rows a table has not.
 use Rattle.std.specs.Prelude.{◌&&◌, not, nat_eq, Bool, true, Option, Some, None}
 use mathlib.Core.Bool.{beq}
 use Rattle.std.specs.Option.{option_eq}
@@ -36,6 +36,7 @@ equality = record {
   some_codes = pointwise (pointwise nat_eq);
 }
 
+-- whether two children are equal in all their values
 abbrev pub is_same_child : Child → Child → Bool
 is_same_child x y = child_fields equality (child_values x) (child_values y)
 
@@ -52,6 +53,7 @@ abbrev pub is_same_draw : Draw → Draw → Bool
 is_same_draw x y =
     nat_eq x.number y.number && (nat_eq x.round y.round && (option_eq (pointwise nat_eq) x.school y.school && (nat_eq x.day y.day && (pointwise outcome_eq.it x.outcomes y.outcomes && pointwise lot_eq.it x.lots y.lots))))
 
+-- whether two imported rows are equal in all their values
 abbrev pub is_same_import : ImportRow → ImportRow → Bool
 is_same_import x y = is_same_child x.child y.child && (nat_eq x.day y.day && pointwise (pointwise nat_eq) x.preferences y.preferences)
 

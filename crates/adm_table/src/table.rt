@@ -220,7 +220,7 @@ impl<K: Ord + Drop, V> Table<K, V> {
     }
 }
 
-/// Copies of the rows of a map come to the others, in the order of its keys.
+/// Copies of the rows of a map join the others, in the order of its keys.
 fn push_copies<K: Ord, V: Exact>(
     copies: &mut Vec<V>,
     rows: &BTreeMap<K, V>,

@@ -1,6 +1,6 @@
 // Tests of what no command of the program shows.
-// The days of a season, a list's items, places at a school that is not there, the ranks of worked children, rows and
-// streams in pieces or interrupted, texts of answers, and words read.
+// The days of a season, a list's items, places at a school that is not there, the ranks of worked
+// children, rows and streams in pieces or interrupted, texts of answers, and arguments read.
 #![tactic(auto)]
 
 #[cfg(test)]

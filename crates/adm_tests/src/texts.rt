@@ -1,4 +1,4 @@
-// The texts of answers: replies, refusals and faults, to the byte.
+// The texts of answers: replies, refusals and errors, to the byte.
 use adm_types::{ChildNo, Refusal, Reply};
 use adm_wire::{WireFault, failed_text, fault_text, memory_text, refusal_text, reply_text};
 use std::test::Fail;

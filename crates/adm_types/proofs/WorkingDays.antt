@@ -18,7 +18,7 @@ weekday_number-pos day = refl
 day_after : (n : ℕ) → ((n % 7 < 6) → (n + 1) % 7 ≡ n % 7 + 1) × ((n % 7 ≡ 6) → (n + 1) % 7 ≡ 0)
 day_after n = (λ early. omega arith, λ last. omega arith)
 
--- how many holidays are left from the day on
+-- how many holidays remain from the day on
 abbrev pub holidays_from : List ℕ → ℕ → ℕ
 holidays_from [] day = 0
 holidays_from (holiday ∷ holidays) day = cond (nat_le day holiday) 1 0 + holidays_from holidays day

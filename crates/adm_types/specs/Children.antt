@@ -29,9 +29,11 @@ abbrev pub present_row : ℕ → Bool → Option (List ℕ) → List PresentRow
 present_row child is_imported None = []
 present_row child is_imported (Some school) = record { child = child; is_imported = is_imported; school = school } ∷ []
 
+-- the row for the present school of a child, if it has one
 abbrev pub present_of_child : Child → List PresentRow
 present_of_child child = present_row child.no false child.present
 
+-- the row for the present school of an imported row's child, if it has one
 abbrev pub present_of_import : ImportRow → List PresentRow
 present_of_import row = present_row row.child.no true row.child.present
 

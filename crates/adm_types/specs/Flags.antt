@@ -6,12 +6,12 @@ use Rattle.std.specs.List.{list_any}
 unfoldable pub flag_of : ℕ → Option ℕ
 flag_of n = if nat_le n 15 then Some n else None
 
--- the number with the bit of each of these flags, where a flag that comes twice counts once
+-- the number with the bit of each of these flags, where a flag that is repeated counts once
 abbrev pub bits_of : List ℕ → ℕ
 bits_of [] = 0
 bits_of (flag ∷ flags) = bit_or (2 ^ flag) (bits_of flags)
 
--- whether the bit of a flag stands among the flags
+-- whether the bit of a flag is among the flags
 abbrev pub has_flag : ℕ → ℕ → Bool
 has_flag bits flag = bits / 2 ^ flag % 2 == 1
 

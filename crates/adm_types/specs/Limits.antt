@@ -18,6 +18,7 @@ use Rattle.adm_types.specs.declared.rows.Child.{Child}
 abbrev pub most_schools : ℕ
 most_schools = 200
 
+-- the most children that a register has
 abbrev pub most_children : ℕ
 most_children = 2000
 
@@ -29,6 +30,7 @@ most_preferences = 10
 abbrev pub most_draws : ℕ
 most_draws = 10000
 
+-- the most lots that all draws of a register have together
 abbrev pub most_lots : ℕ
 most_lots = 1000000
 
@@ -64,7 +66,7 @@ code_cmp = slice_cmp nat_cmp
 abbrev pub is_listed : List (List ℕ) → List ℕ → Bool
 is_listed codes code = list_any (λ other. pointwise nat_eq other code) codes
 
--- no code comes twice
+-- no code is repeated
 abbrev pub is_without_repeat : List (List ℕ) → Bool
 is_without_repeat [] = true
 is_without_repeat (code ∷ codes) = not (is_listed codes code) && is_without_repeat codes

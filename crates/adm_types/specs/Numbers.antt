@@ -5,10 +5,11 @@ use Rattle.std.specs.Prelude.{ℕ, Bool, ◌&&◌, nat_le, Option, Some, None, i
 abbrev pub highest_child : ℕ
 highest_child = 9999999
 
--- the first day that is told from others, 1990-01-01, and the last, 2110-12-31, counted from 1970-01-01
+-- the first day of the range, 1990-01-01, and the last, 2110-12-31, counted from 1970-01-01
 abbrev pub first_day : ℕ
 first_day = 7305
 
+-- the last day of the range, 2110-12-31, in days since 1970-01-01
 abbrev pub last_day : ℕ
 last_day = 51498
 

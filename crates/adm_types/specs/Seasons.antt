@@ -38,6 +38,7 @@ abbrev pub closing_of : Phase → ℕ → ℕ
 closing_of Primary year = day_number year 1 15
 closing_of Secondary year = day_number (year - 1) 10 31
 
+-- the closing date of a season: an application by this day takes part in the first round
 abbrev pub closing : SeasonFacts → ℕ
 closing season = closing_of season.phase season.year
 

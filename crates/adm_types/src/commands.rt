@@ -1,4 +1,4 @@
-// What a register is asked to do, what it answers, and why it refuses.
+// The commands of a register, its replies, and why it refuses.
 use crate::{Application, Child, ChildNo, Day, ImportRow, School, SchoolCode, Seq};
 
 /// A command to the register.
@@ -39,7 +39,7 @@ pub enum Command {
         child: ChildNo,
         school: SchoolCode,
     },
-    /// Reminds, on a day, of an offer that was not answered, and tells that it may be withdrawn.
+    /// Reminds, on a day, of an offer that was not answered, and warns that it may be withdrawn.
     Remind {
         child: ChildNo,
         school: SchoolCode,
@@ -67,7 +67,7 @@ pub enum Command {
         lots: Seq<u32>,
     },
     /// Adds children with their applications, all of them or none. A row that was imported before
-    /// is known, and adds nothing.
+    /// is known, and changes nothing.
     Import(Seq<ImportRow>),
 }
 

@@ -1,7 +1,7 @@
-// Draws of lots, and what they came to: the rows of rounds and fills.
+// Draws of lots, and their outcomes: the rows of rounds and fills.
 use crate::{ChildNo, Day, Exact, SchoolCode, Seq};
 
-/// What a round or a fill came to for one child: the school that it was allotted, if one, and
+/// The outcome of a round or a fill for one child: the school that it was allotted, if one, and
 /// whether that was not its place before.
 #[derive(Clone, Copy, PartialEq, Eq, Debug)]
 pub struct Outcome {
@@ -18,7 +18,7 @@ pub struct Lot {
     pub lot: u32,
 }
 
-/// A draw of lots for a round or a fill, and what that came to.
+/// A draw of lots for a round or a fill, and its outcomes.
 #[derive(Clone)]
 pub struct Draw {
     /// From 1, over rounds and fills together.

@@ -35,7 +35,7 @@ fn are_digits(text: &[u8]) -> bool
 impl Criterion {
     /// The criterion that a text writes: `sibling`, or `within:` and a plain number of metres, or
     /// `flag:` and a plain number, or `feeder:` and the code of a school. Whether the number is in
-    /// the criterion's range is not asked here. It takes no memory.
+    /// the criterion's range is not tested here. It takes no memory.
     #[tactic(auto, unfolding(crate::specs::Fields::criterion_of))]
     pub fn read(text: &str) -> Option<Criterion>
         ensures { result ≡ criterion_of text.now }

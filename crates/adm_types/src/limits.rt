@@ -104,7 +104,7 @@ pub fn is_listed(codes: &[SchoolCode], code: &SchoolCode) -> bool
     codes.iter().any(|other| other == code)
 }
 
-/// Whether no code comes twice.
+/// Whether no code is repeated.
 pub fn is_without_repeat(codes: &[SchoolCode]) -> bool
     ensures { result ≡ is_without_repeat codes.now }
 {

@@ -19,7 +19,7 @@ use Rattle.adm_types.specs.declared.rows.School.{School}
 use Rattle.adm_types.specs.declared.rows.Child.{Child}
 use Rattle.adm_waiting.specs.declared.lists.Waiting.{Waiting}
 use Rattle.adm_waiting.specs.declared.ranks.Rank.{Rank}
-use Rattle.adm_waiting.specs.Waiting.{number_of_child, entry_of, comes_before, waiting_list, IsEntryFor}
+use Rattle.adm_waiting.specs.Waiting.{number_of_child, entry_of, is_listed_before, waiting_list, IsEntryFor}
 use Rattle.adm_waiting.specs.Ranks.{rank_of, rank_cmp, is_rank_ahead, entry_among, IsRankInRange}
 use Rattle.adm_waiting.proofs.Sorting.{child_of, only_order}
 
@@ -54,7 +54,7 @@ ahead_chain x y z h k = grind (arith, nat_tests)
 far : (xs : List Rank) → IsSorted rank_cmp xs → (i j : ℕ) (d : Rank) → i ≤ j → j < length xs → before (get_or xs j d) (get_or xs i d) ≡ false
 far xs up i j d l m = sorted_far before (ranks_by rank_total (λ (r : Rank). r)) xs up i j d l m
 
--- of ranks in order, those that are ahead of one stand in front
+-- of ranks in order, those that are ahead of one are in front
 pub ahead_in_front : (xs : List Rank) (one : Rank) → IsSorted rank_cmp xs → (i j : ℕ) (d : Rank) → i ≤ j → j < length xs → is_rank_ahead (get_or xs j d) one ≡ true → is_rank_ahead (get_or xs i d) one ≡ true
 ahead_in_front xs one up i j d l m h = ahead_too (get_or xs i d) (get_or xs j d) one (far xs up i j d l m) h
 
@@ -182,7 +182,7 @@ by_position a b c d h = grind (arith, nat_tests)
 by_number : (a b c d : ℕ) → a ≡ c → b < d → (nat_lt a c || (a == c && nat_lt b d)) ≡ true
 by_number a b c d h k = grind (arith, nat_tests)
 
-entry_rises : (all : List Rank) (x y : Rank) → In x all → before x y ≡ true → comes_before (entry_among all x) (entry_among all y) ≡ true
+entry_rises : (all : List Rank) (x y : Rank) → In x all → before x y ≡ true → is_listed_before (entry_among all x) (entry_among all y) ≡ true
 entry_rises all x y there h = elim (ahead_or_tied x y h) [
   | inl ahead ↦
       let less : count_by (λ other. is_rank_ahead other x) all < count_by (λ other. is_rank_ahead other y) all =
@@ -193,15 +193,15 @@ entry_rises all x y there h = elim (ahead_or_tied x y h) [
       (λ i. 1 + count_by (λ (other : Rank). nat_lt other.class (tied.0 i) || (other.class == tied.0 i && nat_lt other.metres (tied.1 i))) all) tied.2
 ]
 
-entries_rise : (all xs : List Rank) → ((x : Rank) → In x xs → In x all) → rises before xs ≡ true → rises comes_before (map (entry_among all) xs) ≡ true
+entries_rise : (all xs : List Rank) → ((x : Rank) → In x xs → In x all) → rises before xs ≡ true → rises is_listed_before (map (entry_among all) xs) ≡ true
 entries_rise all [] among up = refl
 entries_rise all (x ∷ xs) among up =
     let parts = and_parts (list_all (before x) xs) (rises before xs) up in
-    let first : list_all (comes_before (entry_among all x)) (map (entry_among all) xs) ≡ true =
-    list_all_in (comes_before (entry_among all x)) (map (entry_among all) xs) (λ w there.
+    let first : list_all (is_listed_before (entry_among all x)) (map (entry_among all) xs) ≡ true =
+    list_all_in (is_listed_before (entry_among all x)) (map (entry_among all) xs) (λ w there.
     let f = from_map (entry_among all) xs w there in
-    ap (comes_before (entry_among all x)) (sym f.2) ∙ entry_rises all x f.0 (among x (inl refl)) (passes_in (before x) xs f.0 parts.0 f.1)) in
-    and_from (list_all (comes_before (entry_among all x)) (map (entry_among all) xs)) (rises comes_before (map (entry_among all) xs)) first
+    ap (is_listed_before (entry_among all x)) (sym f.2) ∙ entry_rises all x f.0 (among x (inl refl)) (passes_in (before x) xs f.0 parts.0 f.1)) in
+    and_from (list_all (is_listed_before (entry_among all x)) (map (entry_among all) xs)) (rises is_listed_before (map (entry_among all) xs)) first
     (entries_rise all xs (λ z there. among z (inr there)) parts.1)
 
 -- one more entry of a walk over the ranks
@@ -242,7 +242,7 @@ module _ (school : School) (children : List Child) (sorted : List Rank) (same : 
   same_entries up numbers =
       let entries : List Waiting = map (entry_of school children) children in
       let apart : IsDistinct same_child sorted = IsDistinct-IsPermutation same_child swap rows sorted same (distinct_ranks school children numbers) in
-      let rise : rises comes_before (map (entry_among rows) sorted) ≡ true =
+      let rise : rises is_listed_before (map (entry_among rows) sorted) ≡ true =
       entries_rise rows sorted (λ z there. in_moved sorted rows z (IsPermutation-sym rows sorted same) there) (far_rises sorted (far sorted up) apart) in
       let numbers' : IsStrictlySortedBy nat_cmp (map child_of entries) = subst (IsStrictlySortedBy nat_cmp) (mapped (entry_of school children) child_of number_of_child (λ _. refl) children) numbers in
       let moved : IsPermutation entries (map (entry_among rows) sorted) =
@@ -254,7 +254,7 @@ module _ (school : School) (children : List Child) (sorted : List Rank) (same : 
   as_many [] = refl
   as_many (child ∷ list) = ap suc (as_many list)
 
-  -- the entry of a rank that stands among them
+  -- the entry of a rank that is among them
   entry_for : (one : Rank) → In one sorted → IsRankInRange one → IsEntryFor children (entry_among sorted one)
   entry_for one there range =
       let g = from_map (rank_of school) children one (in_moved sorted rows one (IsPermutation-sym rows sorted same) there) in

@@ -1,4 +1,4 @@
--- Entries in order: the same entries, and where no number comes twice, each before all that follow.
+-- Entries in order: the same entries, and where no number is repeated, each before all that follow.
 use Rattle.std.proofs.Common.{◌≡◌, ℕ, List, [], ◌∷◌, map, Bool, true, false, cond, inl, inr, refl, sym, ap, ◌∙◌, subst, arith}
 use Rattle.std.specs.Prelude.{IsPermutation}
 use Rattle.std.specs.declared.cmp.Ordering.TheVariants.{Less}
@@ -12,24 +12,24 @@ use Rattle.adm_lists.proofs.Members.{In, in_moved, passes_in, list_all_in}
 use Rattle.adm_lists.proofs.Rising.{rises, same_list}
 use Rattle.adm_lists.proofs.Orders.{less_apart}
 use Rattle.adm_waiting.specs.declared.lists.Waiting.{Waiting}
-use Rattle.adm_waiting.specs.Waiting.{comes_before, put_in_order, in_order}
+use Rattle.adm_waiting.specs.Waiting.{is_listed_before, put_in_order, in_order}
 
 -- ---- the order of entries
 
-irreflexive : (x : Waiting) → comes_before x x ≡ false
+irreflexive : (x : Waiting) → is_listed_before x x ≡ false
 irreflexive x = grind (arith, nat_tests)
 
-transitive : (x y z : Waiting) → comes_before x y ≡ true → comes_before y z ≡ true → comes_before x z ≡ true
+transitive : (x y z : Waiting) → is_listed_before x y ≡ true → is_listed_before y z ≡ true → is_listed_before x z ≡ true
 transitive x y z h k = grind (arith, nat_tests)
 
-other_way : (x y : Waiting) → (x.child ≡ y.child → ⊥) → comes_before x y ≡ false → comes_before y x ≡ true
+other_way : (x y : Waiting) → (x.child ≡ y.child → ⊥) → is_listed_before x y ≡ false → is_listed_before y x ≡ true
 other_way x y apart h = grind (arith, nat_tests)
 
 -- ---- the same entries
 
 put_same : (x : Waiting) (ys : List Waiting) → IsPermutation (x ∷ ys) (put_in_order x ys)
 put_same x [] = IsPermutation-refl (x ∷ [])
-put_same x (y ∷ ys) = elim (cases_Bool (comes_before x y)) [
+put_same x (y ∷ ys) = elim (cases_Bool (is_listed_before x y)) [
   | inl hit ↦
       subst (IsPermutation (x ∷ y ∷ ys)) (sym (ap (λ b. cond b (x ∷ y ∷ ys) (y ∷ put_in_order x ys)) hit)) (IsPermutation-refl (x ∷ y ∷ ys))
   | inr miss ↦
@@ -53,22 +53,22 @@ all_put p x ys h all = list_all_in p (put_in_order x ys) (λ z there.
       | inr later ↦ passes_in p ys z all later
     ])
 
-put_rises : (x : Waiting) (ys : List Waiting) → ((z : Waiting) → In z ys → x.child ≡ z.child → ⊥) → rises comes_before ys ≡ true → rises comes_before (put_in_order x ys) ≡ true
+put_rises : (x : Waiting) (ys : List Waiting) → ((z : Waiting) → In z ys → x.child ≡ z.child → ⊥) → rises is_listed_before ys ≡ true → rises is_listed_before (put_in_order x ys) ≡ true
 put_rises x [] apart up = refl
 put_rises x (y ∷ ys) apart up =
-    let parts = and_parts (list_all (comes_before y) ys) (rises comes_before ys) up in
-    elim (cases_Bool (comes_before x y)) [
+    let parts = and_parts (list_all (is_listed_before y) ys) (rises is_listed_before ys) up in
+    elim (cases_Bool (is_listed_before x y)) [
       | inl hit ↦
-          let all : list_all (comes_before x) (y ∷ ys) ≡ true = list_all_in (comes_before x) (y ∷ ys) (λ z there. elim there [
-            | inl same ↦ ap (comes_before x) (sym same) ∙ hit
-            | inr later ↦ transitive x y z hit (passes_in (comes_before y) ys z parts.0 later)
+          let all : list_all (is_listed_before x) (y ∷ ys) ≡ true = list_all_in (is_listed_before x) (y ∷ ys) (λ z there. elim there [
+            | inl same ↦ ap (is_listed_before x) (sym same) ∙ hit
+            | inr later ↦ transitive x y z hit (passes_in (is_listed_before y) ys z parts.0 later)
           ]) in
-          ap (λ b. rises comes_before (cond b (x ∷ y ∷ ys) (y ∷ put_in_order x ys))) hit
-          ∙ and_from (list_all (comes_before x) (y ∷ ys)) (rises comes_before (y ∷ ys)) all up
+          ap (λ b. rises is_listed_before (cond b (x ∷ y ∷ ys) (y ∷ put_in_order x ys))) hit
+          ∙ and_from (list_all (is_listed_before x) (y ∷ ys)) (rises is_listed_before (y ∷ ys)) all up
       | inr miss ↦
-          ap (λ b. rises comes_before (cond b (x ∷ y ∷ ys) (y ∷ put_in_order x ys))) miss
-          ∙ and_from (list_all (comes_before y) (put_in_order x ys)) (rises comes_before (put_in_order x ys))
-          (all_put (comes_before y) x ys (other_way x y (apart y (inl refl)) miss) parts.0)
+          ap (λ b. rises is_listed_before (cond b (x ∷ y ∷ ys) (y ∷ put_in_order x ys))) miss
+          ∙ and_from (list_all (is_listed_before y) (put_in_order x ys)) (rises is_listed_before (put_in_order x ys))
+          (all_put (is_listed_before y) x ys (other_way x y (apart y (inl refl)) miss) parts.0)
           (put_rises x ys (λ z there. apart z (inr there)) parts.1)
     ]
 
@@ -83,7 +83,7 @@ below_all number (x ∷ xs) all z there = elim there [
   | inr later ↦ below_all number xs all.1 z later
 ]
 
-in_order_rises : (xs : List Waiting) → IsStrictlySortedBy nat_cmp (map child_of xs) → rises comes_before (in_order xs) ≡ true
+in_order_rises : (xs : List Waiting) → IsStrictlySortedBy nat_cmp (map child_of xs) → rises is_listed_before (in_order xs) ≡ true
 unfolding IsStrictlySortedBy
 in_order_rises [] sorted = refl
 in_order_rises (x ∷ xs) sorted =
@@ -91,9 +91,9 @@ in_order_rises (x ∷ xs) sorted =
     (λ z there. below_all x.child xs sorted.0 z (in_moved (in_order xs) xs z (IsPermutation-sym xs (in_order xs) (in_order_same xs)) there))
     (in_order_rises xs sorted.1)
 
--- where no number comes twice, an order of the entries in which each comes before all that follow is the only one
-pub only_order : (xs ys : List Waiting) → IsStrictlySortedBy nat_cmp (map child_of xs) → IsPermutation xs ys → rises comes_before ys ≡ true → ys ≡ in_order xs
+-- where no number is repeated, an order of the entries in which each comes before all that follow is the only one
+pub only_order : (xs ys : List Waiting) → IsStrictlySortedBy nat_cmp (map child_of xs) → IsPermutation xs ys → rises is_listed_before ys ≡ true → ys ≡ in_order xs
 only_order xs ys sorted same up =
-    same_list comes_before irreflexive transitive ys (in_order xs) up (in_order_rises xs sorted)
+    same_list is_listed_before irreflexive transitive ys (in_order xs) up (in_order_rises xs sorted)
     (λ z there. in_moved xs (in_order xs) z (in_order_same xs) (in_moved ys xs z (IsPermutation-sym xs ys same) there))
     (λ z there. in_moved xs ys z same (in_moved (in_order xs) xs z (IsPermutation-sym xs (in_order xs) (in_order_same xs)) there))

@@ -10,7 +10,7 @@ use Rattle.adm_rank.specs.Class.{class_of}
 use Rattle.adm_rank.specs.Ranking.{key_of, precedes}
 use Rattle.adm_waiting.specs.declared.lists.Waiting.{Waiting}
 use Rattle.adm_waiting.specs.declared.ranks.Rank.{Rank}
-use Rattle.adm_waiting.specs.declared.vacancies.Drawn.{Drawn}
+use Rattle.adm_waiting.specs.declared.vacancies.RankedChild.{RankedChild}
 
 -- the child by its class and distance at the school
 abbrev pub rank_of : School → Child → Rank
@@ -32,20 +32,20 @@ abbrev pub entry_among : List Rank → Rank → Waiting
 entry_among all one = record { position = 1 + count_by (λ other. is_rank_ahead other one) all; child = one.child; class = one.class; metres = one.metres }
 
 -- the child with its key by its lot
-abbrev pub drawn_of : School → Child × ℕ → Drawn
-drawn_of school one = record { child = one.0.no; key = key_of school one.0 one.1 }
+abbrev pub ranked_child_of : School → Child × ℕ → RankedChild
+ranked_child_of school one = record { child = one.0.no; key = key_of school one.0 one.1 }
 
 -- the one that ranks first, of the one so far and the next; of several
-abbrev pub better : Option Drawn → Drawn → Drawn
+abbrev pub better : Option RankedChild → RankedChild → RankedChild
 better None next = next
 better (Some best) next = if precedes next.key best.key then next else best
 
-abbrev pub best_of : List Drawn → Option Drawn
+abbrev pub best_of : List RankedChild → Option RankedChild
 best_of all = fold (λ best next. Some (better best next)) None all
 
 -- the other one is the same child, or the one ranks before it; so it is with each other one
-abbrev pub is_before : Drawn → Drawn → Bool
+abbrev pub is_before : RankedChild → RankedChild → Bool
 is_before one other = nat_eq other.child one.child || precedes one.key other.key
 
-abbrev pub is_before_others : List Drawn → Drawn → Bool
+abbrev pub is_before_others : List RankedChild → RankedChild → Bool
 is_before_others all one = list_all (is_before one) all

@@ -9,6 +9,7 @@ use Rattle.adm_rank.specs.Class.{class_of}
 use Rattle.adm_rank.specs.Ranking.{key_of, precedes}
 use Rattle.adm_waiting.specs.declared.lists.Waiting.{Waiting}
 
+-- the number of a child
 abbrev pub number_of_child : Child → ℕ
 number_of_child child = child.no
 
@@ -32,14 +33,15 @@ entry_of school waiting child = record {
 }
 
 -- whether an entry has a smaller position than the other one, or the same and a smaller number
-abbrev pub comes_before : Waiting → Waiting → Bool
-comes_before one other = nat_lt one.position other.position || (one.position == other.position && nat_lt one.child other.child)
+abbrev pub is_listed_before : Waiting → Waiting → Bool
+is_listed_before one other = nat_lt one.position other.position || (one.position == other.position && nat_lt one.child other.child)
 
 -- an entry before the first that it comes before; entries in their order
 abbrev pub put_in_order : Waiting → List Waiting → List Waiting
 put_in_order one [] = one ∷ []
-put_in_order one (other ∷ others) = if comes_before one other then one ∷ other ∷ others else other ∷ put_in_order one others
+put_in_order one (other ∷ others) = if is_listed_before one other then one ∷ other ∷ others else other ∷ put_in_order one others
 
+-- the entries sorted by position, and then by the child's number
 abbrev pub in_order : List Waiting → List Waiting
 in_order [] = []
 in_order (one ∷ others) = put_in_order one (in_order others)

@@ -1,4 +1,4 @@
-// Children by what their positions at a school come from.
+// Children by what determines their positions at a school.
 ghost use Rattle.std.specs.Prelude.{◌≡◌, IfOk, IsTrue, true, map, All};
 ghost use Rattle.adm_types.specs.Limits.{is_school_in_range, is_child_in_range};
 ghost use Rattle.adm_waiting.specs.Ranks.{rank_of, is_rank_ahead, IsRankInRange};

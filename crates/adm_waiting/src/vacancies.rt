@@ -5,7 +5,7 @@ ghost use Rattle.std.specs.List.Sorted.{IsStrictlySortedBy};
 ghost use Rattle.std.specs.Ordering.{nat_cmp};
 ghost use Rattle.adm_types.specs.Limits.{is_school_in_range, is_child_in_range};
 ghost use Rattle.adm_waiting.specs.Waiting.{number_of_child, first_by_lot, repeats};
-ghost use Rattle.adm_waiting.specs.Ranks.{drawn_of, better, best_of, is_before, is_before_others};
+ghost use Rattle.adm_waiting.specs.Ranks.{ranked_child_of, better, best_of, is_before, is_before_others};
 
 use adm_rank::{RankKey, key};
 use adm_table::Shared;
@@ -13,25 +13,25 @@ use adm_types::{Child, ChildNo, School};
 
 /// A child with its key by its lot.
 #[derive(Clone, Copy)]
-struct Drawn {
+struct RankedChild {
     child: ChildNo,
     key: RankKey,
 }
 
 /// The child with its key by its lot.
-fn drawn_of(school: &School, child: &Child, lot: u32) -> Drawn
+fn ranked_child_of(school: &School, child: &Child, lot: u32) -> RankedChild
     requires school { IsTrue (is_school_in_range school.now) }
     requires child { IsTrue (is_child_in_range child.now) }
-    ensures { result ≡ drawn_of school.now (child.now, lot) }
+    ensures { result ≡ ranked_child_of school.now (child.now, lot) }
 {
-    Drawn {
+    RankedChild {
         child: child.no,
         key: key(school, child, lot),
     }
 }
 
 /// The one that ranks first, of the one so far and the next.
-fn better(best: Option<Drawn>, next: Drawn) -> Drawn
+fn better(best: Option<RankedChild>, next: RankedChild) -> RankedChild
     ensures { result ≡ better best next }
 {
     match best {
@@ -41,34 +41,39 @@ fn better(best: Option<Drawn>, next: Drawn) -> Drawn
 }
 
 /// The child before which none ranks, with its key; of several, the one with the smallest number.
-fn best_of(school: &School, children: &[Shared<Child>], lots: &[u32]) -> Option<Drawn>
+fn best_of(school: &School, children: &[Shared<Child>], lots: &[u32]) -> Option<RankedChild>
     requires school { IsTrue (is_school_in_range school.now) }
     requires children { All (λ child. is_child_in_range child ≡ true) children.now }
-    ensures { result ≡ best_of (map (drawn_of school.now) (zip children.now lots.now)) }
+    ensures { result ≡ best_of (map (ranked_child_of school.now) (zip children.now lots.now)) }
 {
     let mut best = None;
     for index in 0..children.len().min(lots.len()) {
-        let next = drawn_of(school, children[index].as_ref(), lots[index]);
+        let next = ranked_child_of(school, children[index].as_ref(), lots[index]);
         best = Some(better(best, next));
     }
     best
 }
 
 /// Whether the other one is the same child, or the one ranks before it.
-fn is_before(one: &Drawn, other: &Drawn) -> bool
+fn is_before(one: &RankedChild, other: &RankedChild) -> bool
     ensures { result ≡ is_before one.now other.now }
 {
     other.child == one.child || one.key.ranks_before(other.key)
 }
 
 /// Whether the child ranks before all others.
-fn is_before_others(school: &School, children: &[Shared<Child>], lots: &[u32], one: &Drawn) -> bool
+fn is_before_others(
+    school: &School,
+    children: &[Shared<Child>],
+    lots: &[u32],
+    one: &RankedChild,
+) -> bool
     requires school { IsTrue (is_school_in_range school.now) }
     requires children { All (λ child. is_child_in_range child ≡ true) children.now }
-    ensures { result ≡ is_before_others (map (drawn_of school.now) (zip children.now lots.now)) one.now }
+    ensures { result ≡ is_before_others (map (ranked_child_of school.now) (zip children.now lots.now)) one.now }
 {
     for index in 0..children.len().min(lots.len()) {
-        let other = drawn_of(school, children[index].as_ref(), lots[index]);
+        let other = ranked_child_of(school, children[index].as_ref(), lots[index]);
         if !is_before(one, &other) {
             return false;
         }

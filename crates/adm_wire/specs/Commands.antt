@@ -1,4 +1,4 @@
--- What bytes say: a command, or the first fault.
+-- What bytes say: a command, or the first error.
 use Rattle.std.specs.Prelude.{ℕ, List, codes, Option, None, Result, Ok, Err, if◌then◌else◌}
 use Rattle.std.specs.Str.{bytes_eq, is_utf8}
 use Rattle.serde_json.specs.Data.{Data}
@@ -18,9 +18,11 @@ use Rattle.adm_wire.specs.Reading.{◌>>=◌, some_or, field_at}
 
 -- ---- the fields of commands, in the order in which they are tested
 
+-- the fields of a school, in the order in which they are tested
 abbrev pub school_fields : ObjectFields (List ℕ × (List ℕ × (ℕ × (ℕ × (ℕ × (List Criterion × Unit {0}))))))
 school_fields = school_and (name_and json (pan_and (point_and json (criteria_and no_fields))))
 
+-- the school with these values of its fields
 abbrev pub school_of : List ℕ × (List ℕ × (ℕ × (ℕ × (ℕ × (List Criterion × Unit {0}))))) → School
 school_of v = record { code = v.0; name = v.1.0; pan = v.1.1.0; at = record { east = v.1.1.1.0; north = v.1.1.1.1.0 }; criteria = v.1.1.1.1.1.0 }
 

@@ -12,9 +12,11 @@ pub record ObjectFields (A : Type 0) : Type 0 where
   pub names : List (List ℕ)
   pub form : Data → Result A WireFault
 
+-- an object with no more fields
 abbrev pub no_fields : ObjectFields (Unit {0})
 no_fields = record { names = []; form = λ d. Ok tt }
 
+-- an object with a field of this name and kind, and then others; the field may be omitted where there is a value for that case
 abbrev pub field_and : {A B : Type 0} → List ℕ → Option A → (Data → Option A) → ObjectFields B → ObjectFields (A × B)
 field_and name otherwise kind others = record { names = name ∷ others.names; form = before (field_in otherwise kind name) others.form }
 
@@ -43,6 +45,7 @@ of_command fields d = fields.form d >>= λ v. only (codes "cmd" ∷ fields.names
 
 -- ---- fields that only commands have
 
+-- the field `school`, the code of a school, and then others
 abbrev pub school_and : {Others : Type 0} → ObjectFields Others → ObjectFields (List ℕ × Others)
 school_and others = must json (codes "school") a_code others
 
@@ -50,6 +53,7 @@ school_and others = must json (codes "school") a_code others
 abbrev pub pan_and : {Others : Type 0} → ObjectFields Others → ObjectFields (ℕ × Others)
 pan_and others = must json (codes "pan") a_number others
 
+-- the field `criteria`, a list of oversubscription criteria, and then others
 abbrev pub criteria_and : {Others : Type 0} → ObjectFields Others → ObjectFields (List Criterion × Others)
 criteria_and others = must json (codes "criteria") (a_list a_criterion) others
 
@@ -57,5 +61,6 @@ criteria_and others = must json (codes "criteria") (a_list a_criterion) others
 abbrev pub draw_and : {Others : Type 0} → ObjectFields Others → ObjectFields (ℕ × Others)
 draw_and others = must json (codes "draw") a_number others
 
+-- the field `lots`, a list of numbers, and then others
 abbrev pub lots_and : {Others : Type 0} → ObjectFields Others → ObjectFields (List ℕ × Others)
 lots_and others = must json (codes "lots") (a_list a_number) others

@@ -66,13 +66,16 @@ some_flags d = option_map bits_of (a_list a_flag d)
 
 -- ---- the keys of an object
 
+-- the keys of the members, in their order
 abbrev pub member_keys : Members → List (List ℕ)
 member_keys no_members = []
 member_keys (member k d ms) = k ∷ member_keys ms
 
+-- the keys of an object, in their order; data that is no object has none
 abbrev pub keys_of : Data → List (List ℕ)
 keys_of d = unwrap_or (option_map member_keys (as_object d)) []
 
+-- whether the key is one of these
 abbrev pub is_one_of : List (List ℕ) → List ℕ → Bool
 is_one_of known key = list_any (λ k. bytes_eq k key) known
 

@@ -8,8 +8,8 @@ use Rattle.adm_types.specs.declared.commands.Refusal.{Refusal}
 use Rattle.adm_types.specs.declared.commands.Refusal.TheVariants as r
 
 -- how many of a round's outcomes were fresh offers, kept places and children without a place
-abbrev pub round_text : ℕ → ℕ → ℕ → ℕ → List ℕ
-round_text round offers kept unplaced =
+abbrev pub round_reply_text : ℕ → ℕ → ℕ → ℕ → List ℕ
+round_reply_text round offers kept unplaced =
     codes "{\"done\":true,\"kept\":" ++ (decimal kept ++ (codes ",\"offers\":" ++ (decimal offers ++ (codes ",\"round\":" ++ (decimal round ++ (codes ",\"unplaced\":" ++ (decimal unplaced ++ codes "}")))))))
 
 -- the child to which a fill offered the vacancy
@@ -23,7 +23,7 @@ imported_text added known = codes "{\"added\":" ++ (decimal added ++ (codes ",\"
 -- what an accepted command answers
 abbrev pub reply_text : Reply → List ℕ
 reply_text Done = codes "{\"done\":true}"
-reply_text (Round round offers kept unplaced) = round_text round offers kept unplaced
+reply_text (Round round offers kept unplaced) = round_reply_text round offers kept unplaced
 reply_text (Filled child) = filled_text child
 reply_text (Imported added known) = imported_text added known
 
@@ -89,7 +89,7 @@ row_text name refused row = codes "{\"name\":\"" ++ (name ++ (codes "\",\"refuse
 abbrev pub refusal_text : Refusal → ℕ → List ℕ
 refusal_text refusal row = if row == 0 then named_text (name_of_refusal refusal) (refusal_number refusal) else row_text (name_of_refusal refusal) (refusal_number refusal) row
 
--- the text of an answer for want of memory
+-- the text of an answer where memory ran out
 abbrev pub memory_text : List ℕ
 memory_text = codes "{\"memory\":true}"
 
@@ -97,7 +97,7 @@ memory_text = codes "{\"memory\":true}"
 abbrev pub failed_text : List ℕ
 failed_text = codes "{\"failed\":true}"
 
--- faults 1 to 5 by their numbers and names; want of memory, the sixth, has the text of that answer
+-- errors 1 to 5 by their numbers and names; Memory, the sixth, has the text of that answer
 abbrev pub fault_text : WireFault → List ℕ
 fault_text f.NotJson = codes "{\"fault\":1,\"name\":\"NotJson\"}"
 fault_text f.UnknownCommand = codes "{\"fault\":2,\"name\":\"UnknownCommand\"}"

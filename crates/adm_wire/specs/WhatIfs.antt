@@ -1,4 +1,4 @@
--- What bytes say: a question what a child would be allotted by another list, or the first fault.
+-- What bytes say: a question what a child would be allotted by another list, or the first error.
 use Rattle.std.specs.Prelude.{ℕ, List, Result, Ok}
 use Rattle.serde_json.specs.Data.{Data}
 use Rattle.serde_json.specs.Find.{as_object}
@@ -14,13 +14,13 @@ use Rattle.adm_wire.specs.Reading.{◌>>=◌, some_or}
 unfoldable pub what_if_form : Data → Result WhatIf WireFault
 what_if_form d = alone (child_and json (lots_and (preferences_and json no_fields))) d >>= λ v. Ok (record { child = v.0; lots = v.1.0; preferences = v.1.1.0 })
 
--- what JSON data ask
+-- the question of JSON data
 unfoldable pub what_if_in : Data → Result WhatIf WireFault
 what_if_in d = do
   ms ← some_or WrongKind (as_object d)
   what_if_form d
 
--- what bytes ask
+-- the question of bytes
 unfoldable pub what_if_of : List ℕ → Result WhatIf WireFault
 what_if_of bytes = do
   d ← some_or NotJson (json_of bytes)

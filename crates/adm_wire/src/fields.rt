@@ -10,7 +10,7 @@ ghost use Rattle.adm_wire.specs.Reading.{Gives, field_at, field_in};
 
 use crate::WireFault;
 use crate::command_fields::Cmd;
-use crate::kinds::Kind;
+use crate::kinds::JsonKind;
 use adm_fields::{Field, Fields};
 use adm_types::Text;
 use serde_json::{Map, Value};
@@ -19,7 +19,7 @@ use std::alloc::Global;
 /// The value of a field of an object.
 fn field<F: Field>(alloc: Global, object: &Value) -> Result<F::Value, WireFault>
 where
-    F::Value: Kind,
+    F::Value: JsonKind,
     ensures { Gives result (field_in F.otherwise F.Value.kind F.name (view object.now)) }
 {
     match object.get(F::name()) {
@@ -54,7 +54,7 @@ impl JsonFields for () {
 
 impl<F: Field, Others: JsonFields> JsonFields for (F, Others)
 where
-    F::Value: Kind,
+    F::Value: JsonKind,
 {
     ghost fields = { field_and F.name F.otherwise F.Value.kind Others.fields };
 

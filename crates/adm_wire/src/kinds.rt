@@ -12,7 +12,7 @@ use serde_json::Value;
 use std::alloc::Global;
 
 /// A kind of value that a field of a command may have.
-pub(crate) trait Kind: Drop {
+pub(crate) trait JsonKind: Drop {
     // What JSON data says, where it is of the kind.
     ghost kind: { Data → Option Self };
 
@@ -20,7 +20,7 @@ pub(crate) trait Kind: Drop {
         ensures { Gives result (some_or WrongKind (kind (view value.now))) };
 }
 
-impl Kind for u32 {
+impl JsonKind for u32 {
     ghost kind = { kinds.a_number };
 
     fn read(_alloc: Global, value: &Value) -> Result<u32, WireFault> {
@@ -29,7 +29,7 @@ impl Kind for u32 {
     }
 }
 
-impl Kind for bool {
+impl JsonKind for bool {
     ghost kind = { kinds.a_truth };
 
     fn read(_alloc: Global, value: &Value) -> Result<bool, WireFault> {
@@ -37,7 +37,7 @@ impl Kind for bool {
     }
 }
 
-impl Kind for ChildNo {
+impl JsonKind for ChildNo {
     ghost kind = { kinds.a_child };
 
     fn read(alloc: Global, value: &Value) -> Result<ChildNo, WireFault> {
@@ -46,7 +46,7 @@ impl Kind for ChildNo {
     }
 }
 
-impl Kind for Flag {
+impl JsonKind for Flag {
     ghost kind = { kinds.a_flag };
 
     fn read(alloc: Global, value: &Value) -> Result<Flag, WireFault> {
@@ -55,7 +55,7 @@ impl Kind for Flag {
     }
 }
 
-impl Kind for SchoolCode {
+impl JsonKind for SchoolCode {
     ghost kind = { kinds.a_code };
 
     fn read(_alloc: Global, value: &Value) -> Result<SchoolCode, WireFault> {
@@ -65,7 +65,7 @@ impl Kind for SchoolCode {
 }
 
 /// Flags, as the bits of a number.
-impl Kind for u16 {
+impl JsonKind for u16 {
     ghost kind = { kinds.some_flags };
 
     fn read(alloc: Global, value: &Value) -> Result<u16, WireFault> {
@@ -75,7 +75,7 @@ impl Kind for u16 {
 }
 
 /// A code, or the empty text for no school.
-impl Kind for Option<SchoolCode> {
+impl JsonKind for Option<SchoolCode> {
     ghost kind = { kinds.a_code_or_none };
 
     fn read(_alloc: Global, value: &Value) -> Result<Option<SchoolCode>, WireFault> {
@@ -84,7 +84,7 @@ impl Kind for Option<SchoolCode> {
     }
 }
 
-impl Kind for Day {
+impl JsonKind for Day {
     ghost kind = { kinds.a_day };
 
     fn read(_alloc: Global, value: &Value) -> Result<Day, WireFault> {
@@ -93,7 +93,7 @@ impl Kind for Day {
     }
 }
 
-impl Kind for Criterion {
+impl JsonKind for Criterion {
     ghost kind = { kinds.a_criterion };
 
     fn read(_alloc: Global, value: &Value) -> Result<Criterion, WireFault> {
@@ -102,7 +102,7 @@ impl Kind for Criterion {
     }
 }
 
-impl Kind for Text {
+impl JsonKind for Text {
     ghost kind = { kinds.a_text };
 
     fn read(alloc: Global, value: &Value) -> Result<Text, WireFault> {
@@ -111,7 +111,7 @@ impl Kind for Text {
     }
 }
 
-impl<T: Kind> Kind for Seq<T> {
+impl<T: JsonKind> JsonKind for Seq<T> {
     ghost kind = { kinds.a_list T.kind };
 
     fn read(alloc: Global, value: &Value) -> Result<Seq<T>, WireFault> {
@@ -120,7 +120,7 @@ impl<T: Kind> Kind for Seq<T> {
     }
 }
 
-fn read_each<T: Kind>(alloc: Global, items: &[Value]) -> Result<Seq<T>, WireFault>
+fn read_each<T: JsonKind>(alloc: Global, items: &[Value]) -> Result<Seq<T>, WireFault>
     ensures { Gives result (some_or WrongKind (kinds.each T.kind (items_view items.now))) }
 {
     let mut list = Vec::new(alloc);

@@ -1,5 +1,5 @@
 // Commands, answers and streams as bytes: what comes in at the desk's door and what goes out.
-//! Commands and answers as JSON, and readers and writers that tell whether they failed.
+//! Commands and answers as JSON, and readers and writers that report whether they failed.
 #![tactic(auto)]
 
 mod command_fields;

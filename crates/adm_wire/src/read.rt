@@ -139,12 +139,12 @@ pub(crate) fn json(alloc: Global, bytes: &[u8]) -> Result<Value, WireFault>
 /// The command that bytes say, as one JSON object in the written form of the command that its
 /// `cmd` names.
 ///
-/// The fault is the first in the order of the tests; Memory may come at any point. What a JSON
+/// The error is the first in the order of the tests; Memory is possible at any point. What a JSON
 /// text is, how deep it may nest (127 levels) and which of two equal keys counts (the last) is as
 /// `serde_json` reads a value. It costs what the length of the bytes costs.
 #[tactic(auto, unfolding(crate::specs::Commands::command_of))]
 pub fn read_command(alloc: Global, bytes: &[u8]) -> Result<Command, WireFault>
-    // The command or the fault is the one that the bytes say, unless memory runs out.
+    // The command or the error is the one that the bytes say, unless memory runs out.
     ensures { Gives result (command_of bytes.now) }
 {
     let value = json(alloc, bytes)?;

@@ -1,4 +1,4 @@
-// Readers and writers that tell whether they failed.
+// Readers and writers that report whether they failed.
 ghost use Rattle.std.specs.Prelude.{◌≡◌, ℕ, ◌<◌, ◌≤◌, ◌||◌, List, Option, Bool, false, length, take, is_err, IfOk, OnErr, MatchResult};
 ghost use Rattle.std.specs.Io.KnownBytes.{Appends, Keeps, ReadConsumes};
 
@@ -15,7 +15,7 @@ pub struct ReadFailed;
 #[error("the writer failed")]
 pub struct WriteFailed;
 
-/// A reader that tells whether it failed.
+/// A reader that reports whether it failed.
 pub trait Input {
     // The bytes that reads will give from here on, where they are known.
     ghost remaining: { Self → Option (List ℕ) };
@@ -23,7 +23,7 @@ pub trait Input {
     // Whether a read has failed.
     ghost has_failed: { Self → Bool };
 
-    /// Reads some bytes into the front of the buffer, and tells how many: none only at the end of
+    /// Reads some bytes into the front of the buffer, and returns how many: none only at the end of
     /// the input, or where the buffer has no room.
     fn read_some(&mut self, buffer: &mut [u8]) -> Result<usize, ReadFailed>
         ensures bound { IfOk result (λ n. n ≤ length buffer.new) }
@@ -31,7 +31,7 @@ pub trait Input {
         ensures fails { has_failed self.new ≡ (has_failed self.old || is_err result) };
 }
 
-/// A writer that tells whether it failed.
+/// A writer that reports whether it failed.
 pub trait Output {
     // The bytes that the writer holds, where they are known.
     ghost contents: { Self → Option (List ℕ) };

@@ -1,12 +1,12 @@
 // The texts of answers: compact JSON, to the byte.
 ghost use Rattle.std.specs.Prelude.{◌≡◌, IfOk, string_bytes};
-ghost use Rattle.adm_wire.specs.Texts.{reply_text, round_text, filled_text, imported_text, named_text, row_text, refusal_text, fault_text, memory_text, failed_text, name_of_refusal};
+ghost use Rattle.adm_wire.specs.Texts.{reply_text, round_reply_text, filled_text, imported_text, named_text, row_text, refusal_text, fault_text, memory_text, failed_text, name_of_refusal};
 
 use crate::WireFault;
 use adm_types::{ChildNo, Refusal, Reply};
 use std::alloc::{AllocError, Global};
 
-/// The text of a reply, without LF. The `Err` is want of memory.
+/// The text of a reply, without LF. The `Err` means out of memory.
 pub fn reply_text(alloc: Global, reply: &Reply) -> Result<String, AllocError>
     ensures { IfOk result (λ s. string_bytes s ≡ reply_text reply.now) }
 {
@@ -17,20 +17,20 @@ pub fn reply_text(alloc: Global, reply: &Reply) -> Result<String, AllocError>
             offers,
             kept,
             unplaced,
-        } => round_text(alloc, round, offers, kept, unplaced),
+        } => round_reply_text(alloc, round, offers, kept, unplaced),
         Reply::Filled(child) => filled_text(alloc, child),
         Reply::Imported { added, known } => imported_text(alloc, added, known),
     }
 }
 
-fn round_text(
+fn round_reply_text(
     alloc: Global,
     round: u32,
     offers: u32,
     kept: u32,
     unplaced: u32,
 ) -> Result<String, AllocError>
-    ensures { IfOk result (λ s. string_bytes s ≡ round_text round offers kept unplaced) }
+    ensures { IfOk result (λ s. string_bytes s ≡ round_reply_text round offers kept unplaced) }
 {
     format!(in alloc;
         "{{\"done\":true,\"kept\":{kept},\"offers\":{offers},\"round\":{round},\"unplaced\":{unplaced}}}"
@@ -51,7 +51,7 @@ fn imported_text(alloc: Global, added: u64, known: u64) -> Result<String, AllocE
 }
 
 /// The text of a refusal, without LF, with the row of an import that was refused, or without a row
-/// where it is 0. The `Err` is want of memory.
+/// where it is 0. The `Err` means out of memory.
 pub fn refusal_text(alloc: Global, refusal: Refusal, row: u64) -> Result<String, AllocError>
     ensures { IfOk result (λ s. string_bytes s ≡ refusal_text refusal row) }
 {
@@ -76,7 +76,7 @@ fn row_text(alloc: Global, name: &str, number: u8, row: u64) -> Result<String, A
     format!(in alloc; "{{\"name\":\"{name}\",\"refused\":{number},\"row\":{row}}}")
 }
 
-/// The text of a fault, without LF. The `Err` is want of memory.
+/// The text of an error, without LF. The `Err` means out of memory.
 pub fn fault_text(alloc: Global, fault: WireFault) -> Result<String, AllocError>
     ensures { IfOk result (λ s. string_bytes s ≡ fault_text fault) }
 {
@@ -91,14 +91,14 @@ pub fn fault_text(alloc: Global, fault: WireFault) -> Result<String, AllocError>
     String::from_str(alloc, text)
 }
 
-/// The text of an answer that was not made for want of memory, without LF. It takes no memory.
+/// The text of an answer that was not made because memory ran out, without LF. It takes no memory.
 pub fn memory_text() -> &'static str
     ensures { result.now ≡ memory_text }
 {
     "{\"memory\":true}"
 }
 
-/// The text of a command that came to a desk that had failed, without LF. It takes no memory.
+/// The text of the answer to a command of a desk that had failed, without LF. It takes no memory.
 pub fn failed_text() -> &'static str
     ensures { result.now ≡ failed_text }
 {

@@ -45,14 +45,14 @@ fn what_if_in(alloc: Global, value: &Value) -> Result<WhatIf, WireFault>
     question(alloc, value)
 }
 
-/// The question that bytes ask, as one JSON object with just the keys `child`, `lots` and
+/// The question that bytes hold, as one JSON object with just the keys `child`, `lots` and
 /// `preferences`.
 ///
-/// The fault is the first in the order of the tests, as of a command, and never that of an unknown
+/// The error is the first in the order of the tests, as of a command, and never that of an unknown
 /// command; Memory may come at any point. It costs what the length of the bytes costs.
 #[tactic(auto, unfolding(crate::specs::WhatIfs::what_if_of))]
 pub fn read_what_if(alloc: Global, bytes: &[u8]) -> Result<WhatIf, WireFault>
-    // The question or the fault is the one that the bytes say, unless memory runs out.
+    // The question or the error is the one that the bytes say, unless memory runs out.
     ensures { Gives result (what_if_of bytes.now) }
 {
     let value = json(alloc, bytes)?;

@@ -1,4 +1,4 @@
--- Arguments that take one value: in words without a fault each required one has a value, which passes.
+-- Arguments that take one value: in arguments without an error each required one has a value, which passes.
 use Rattle.std.proofs.Common.{◌≡◌, ◌∙◌, ℕ, Bool, true, false, true≢false, refl, ap, List, [], ◌∷◌, length, Option, Some, None}
 use Rattle.std.specs.Prelude.{if◌then◌else◌, ◌&&◌, not}
 use Rattle.std.specs.Str.{bytes_eq}
@@ -24,7 +24,7 @@ single id long index required p = record (new_rule id) { long = long; index = in
 abbrev pub taken : Text → ℕ → ValueParser → Rule
 taken id i p = single id None (Some i) true p
 
--- an option that may be left out
+-- an option that may be omitted
 abbrev pub optional : Text → ValueParser → Rule
 optional id p = single id (Some id) None false p
 
@@ -61,7 +61,7 @@ pub given_if : (b : Bool) → not b ≡ false → b ≡ true
 given_if true e = refl
 given_if false e = absurd (true≢false e)
 
--- a required argument of a level without a fault has a value, which passes
+-- a required argument of a level without an error has a value, which passes
 abbrev pub HasValue : Text → ValueParser → List Row → Type 0
 HasValue id p rows = (v : Text) × (first_of id rows ≡ Some v) × (accepts false p v ≡ true)
 

@@ -1,4 +1,4 @@
--- In words without a fault, the first value of an argument passes its parser.
+-- In arguments without an error, the first value of an argument passes its parser.
 use Rattle.std.proofs.Common.{◌≡◌, ◌∙◌, ℕ, Bool, true, false, true≢false, cond, zero, suc, refl, sym, ap, subst, List, [], ◌∷◌, length, Option, Some, None, inl, inr, ◌⊎◌}
 use Rattle.std.specs.Prelude.{if◌then◌else◌, ◌&&◌, is_some, find, fold, option_and_then, slice_get, drop, encode_utf8}
 use Rattle.std.specs.Option.{option_map_or}
@@ -189,8 +189,8 @@ module _ (s : Shape) (a : Rule) (each : Each (IsItOr a) s.rules) (uses : UsesWel
           let parts = both_empty (f.word_fault s names at.is_trailing at.waiting word at.held) _ n in
           step_good word at met.0 met.1 parts.1 (word_good names at.is_trailing at.waiting at.position word at.held parts.0 good)
 
-  pub walk_good : (names : Names) (at : Walk) (words : List Text) → f.walk_fault s names at words ≡ [] → Good a at.held.rows
-      → Good a (fold (w.walked s.rules names) at words).held.rows
+  pub walk_good : (names : Names) (at : Walk) (arguments : List Text) → f.walk_fault s names at arguments ≡ [] → Good a at.held.rows
+      → Good a (fold (w.walked s.rules names) at arguments).held.rows
   unfolding f.walk_fault
   walk_good names at [] none good = good
   walk_good names at (word ∷ rest) none good =
@@ -211,18 +211,18 @@ undefaulted (a ∷ rest) rows none = ap (λ r. fold w.with_default r rest) (one 
     one true defaults e = refl
     one false defaults e = ap (λ d. w.default_rows a.id (w.reading_by a) d rows) e
 
--- a level without a fault leaves a first value that passes, and finds no argument missing
+-- a level without an error leaves a first value that passes, and finds no argument missing
 pub level_good : (s : Shape) (a : Rule) → Each (IsItOr a) s.rules → UsesWell s.args_override_self a → HasNoDefaults s.rules
-    → (names : Names) (words : List Text) (has_subcommand : Bool) (below : Kinds)
-    → f.level_fault s names w.nothing_held words has_subcommand below ≡ []
-    → Good a (w.rows_after s.rules names words) × (f.check_fault s (w.rows_after s.rules names words) has_subcommand ≡ [])
-level_good s a each uses no_defaults names words has_subcommand below none =
-    let end = (w.walk s.rules names w.nothing_held words).held in
-    let walk = both_empty (f.walk_fault s names (w.walk_from w.nothing_held) words) _ none in
+    → (names : Names) (arguments : List Text) (has_subcommand : Bool) (below : Kinds)
+    → f.level_fault s names w.nothing_held arguments has_subcommand below ≡ []
+    → Good a (w.rows_after s.rules names arguments) × (f.check_fault s (w.rows_after s.rules names arguments) has_subcommand ≡ [])
+level_good s a each uses no_defaults names arguments has_subcommand below none =
+    let end = (w.walk s.rules names w.nothing_held arguments).held in
+    let walk = both_empty (f.walk_fault s names (w.walk_from w.nothing_held) arguments) _ none in
     let inner = both_empty below _ walk.1 in
     let settle = both_empty (f.settle_fault s.rules s.args_override_self end) _ inner.1 in
     let defaults = both_empty (f.defaults_fault (w.settled s.rules end).rows s.rules) _ settle.1 in
-    let good = settle_good s a each uses end settle.0 (walk_good s a each uses names (w.walk_from w.nothing_held) words walk.0 refl) in
+    let good = settle_good s a each uses end settle.0 (walk_good s a each uses names (w.walk_from w.nothing_held) arguments walk.0 refl) in
     (subst (Good a) (sym (undefaulted s.rules (w.settled s.rules end).rows no_defaults)) good, defaults.1)
 
 -- the first value of a row

@@ -1,4 +1,4 @@
--- In words that clap takes, the program's line is one of its lines, and has all of its values.
+-- In arguments that clap accepts, the program's line is one of its lines, and has all of its values.
 use Rattle.std.proofs.Common.{◌≡◌, ◌∙◌, ℕ, Bool, true, false, true≢false, cond, refl, sym, ap, subst, arith, List, [], Option, Some, None, inl, inr}
 use Rattle.std.specs.Prelude.{◌||◌, not, codes, pos, option_and_then, option_map, is_some}
 use Rattle.std.specs.List.{list_any}
@@ -16,7 +16,7 @@ use Rattle.clap.proofs.WalkLemmas.{list_any-map}
 use Rattle.adm_types.specs.declared.seasons.Phase.{Phase}
 use Rattle.adm_types.specs.declared.seasons.Phase.TheVariants.{Primary, Secondary}
 use Rattle.adm_words.specs.Program.{IsPhases, program_app}
-use Rattle.adm_words.specs.Lines.{IsLine, init_line, do_line, what_if_line, phase_of, year_of, init_of, init_in, do_in, what_if_words_in, holidays_in, line_in}
+use Rattle.adm_words.specs.Lines.{IsLine, init_line, do_line, what_if_line, phase_of, year_of, init_of, init_in, do_in, what_if_line_in, holidays_in, line_in}
 use Rattle.adm_words.proofs.Arguments.{HasValue, taken, taken_uses, wanted, given_if, init_shape, do_shape, what_if_shape, import_shape, serve_shape, letter_shape, list_shape, report_shape, pairs_shape, help_of}
 use Rattle.adm_words.proofs.FoundRows.{both_empty, either_false}
 use Rattle.adm_words.proofs.PairLines.{import_there, letter_there, list_there, report_there, pairs_there}
@@ -48,52 +48,52 @@ made : (file : Option Text) (phase : Option Phase) (year : Option ℕ) (holidays
 made file phase year holidays a b c f p y =
     (init_line a b c holidays, ap (λ o. init_of o phase year holidays) f ∙ ap (λ o. init_of (Some a) o year holidays) p ∙ ap (λ o. init_of (Some a) (Some b) o holidays) y)
 
-init_values : (phases : ValueParser) (words : List Text) → level_fault (init_shape phases) [] nothing_held words false [] ≡ []
-    → let rows = rows_after (init_shape phases).rules [] words in
+init_values : (phases : ValueParser) (arguments : List Text) → level_fault (init_shape phases) [] nothing_held arguments false [] ≡ []
+    → let rows = rows_after (init_shape phases).rules [] arguments in
     HasValue (codes "file") parser.String rows × HasValue (codes "phase") phases rows × HasValue (codes "year") (parser.Signed (pos 2000) (pos 2100)) rows
-init_values phases words none =
-    let rows = rows_after (init_shape phases).rules [] words in
+init_values phases arguments none =
+    let rows = rows_after (init_shape phases).rules [] arguments in
     let file_rule = taken (codes "file") 1 parser.String in
     let phase_rule = taken (codes "phase") 2 phases in
     let year_rule = taken (codes "year") 3 (parser.Signed (pos 2000) (pos 2100)) in
     let file = level_good (init_shape phases) file_rule (inl refl, (inr refl, (inr refl, (inr refl, (inr refl, tt))))) (taken_uses (codes "file") 1 parser.String refl)
-    (refl, (refl, (refl, (refl, (refl, tt))))) [] words false [] none in
+    (refl, (refl, (refl, (refl, (refl, tt))))) [] arguments false [] none in
     let phase = level_good (init_shape phases) phase_rule (inr refl, (inl refl, (inr refl, (inr refl, (inr refl, tt))))) (taken_uses (codes "phase") 2 phases refl)
-    (refl, (refl, (refl, (refl, (refl, tt))))) [] words false [] none in
+    (refl, (refl, (refl, (refl, (refl, tt))))) [] arguments false [] none in
     let year = level_good (init_shape phases) year_rule (inr refl, (inr refl, (inl refl, (inr refl, (inr refl, tt))))) (taken_uses (codes "year") 3 (parser.Signed (pos 2000) (pos 2100)) refl)
-    (refl, (refl, (refl, (refl, (refl, tt))))) [] words false [] none in
+    (refl, (refl, (refl, (refl, (refl, tt))))) [] arguments false [] none in
     let missing = wanted _ file.1 in
     let first = either_false (not (is_given (codes "file") rows)) _ missing in
     let second = either_false (not (is_given (codes "phase") rows)) _ first.1 in
     let third = either_false (not (is_given (codes "year") rows)) _ second.1 in
     (given_first file_rule rows file.0 (given_if _ first.0), given_first phase_rule rows phase.0 (given_if _ second.0), given_first year_rule rows year.0 (given_if _ third.0))
 
-init_there : (phases : ValueParser) → IsPhases phases → (words : List Text) → level_fault (init_shape phases) [] nothing_held words false [] ≡ []
-    → IsLine (init_in (rows_after (init_shape phases).rules [] words))
-init_there phases is words none =
-    let rows = rows_after (init_shape phases).rules [] words in
-    let values = init_values phases words none in
+init_there : (phases : ValueParser) → IsPhases phases → (arguments : List Text) → level_fault (init_shape phases) [] nothing_held arguments false [] ≡ []
+    → IsLine (init_in (rows_after (init_shape phases).rules [] arguments))
+init_there phases is arguments none =
+    let rows = rows_after (init_shape phases).rules [] arguments in
+    let values = init_values phases arguments none in
     let phase = phase_named phases is values.1.0 values.1.2 in
     let year = number_named 2000 2100 (omega arith) (omega arith) values.2.0 values.2.2 in
     made _ _ _ (holidays_in rows) values.0.0 phase.0 year.0 values.0.1
     (ap (option_and_then phase_of) values.1.1 ∙ phase.1) (ap (option_and_then year_of) values.2.1 ∙ year.1)
 
-do_there : (phases : ValueParser) (words : List Text) → level_fault (do_shape phases) [] nothing_held words false [] ≡ []
-    → IsLine (do_in (rows_after (do_shape phases).rules [] words))
-do_there phases words none =
-    let rows = rows_after (do_shape phases).rules [] words in
+do_there : (phases : ValueParser) (arguments : List Text) → level_fault (do_shape phases) [] nothing_held arguments false [] ≡ []
+    → IsLine (do_in (rows_after (do_shape phases).rules [] arguments))
+do_there phases arguments none =
+    let rows = rows_after (do_shape phases).rules [] arguments in
     let file_rule = taken (codes "file") 1 parser.String in
-    let file = level_good (do_shape phases) file_rule (inl refl, (inr refl, tt)) (taken_uses (codes "file") 1 parser.String refl) (refl, (refl, tt)) [] words false [] none in
+    let file = level_good (do_shape phases) file_rule (inl refl, (inr refl, tt)) (taken_uses (codes "file") 1 parser.String refl) (refl, (refl, tt)) [] arguments false [] none in
     let missing = either_false (not (is_given (codes "file") rows)) _ (wanted _ file.1) in
     let value = given_first file_rule rows file.0 (given_if _ missing.0) in
     (do_line value.0, ap (option_map do_line) value.1)
 
-what_if_there : (phases : ValueParser) (words : List Text) → level_fault (what_if_shape phases) [] nothing_held words false [] ≡ []
-    → IsLine (what_if_words_in (rows_after (what_if_shape phases).rules [] words))
-what_if_there phases words none =
-    let rows = rows_after (what_if_shape phases).rules [] words in
+what_if_there : (phases : ValueParser) (arguments : List Text) → level_fault (what_if_shape phases) [] nothing_held arguments false [] ≡ []
+    → IsLine (what_if_line_in (rows_after (what_if_shape phases).rules [] arguments))
+what_if_there phases arguments none =
+    let rows = rows_after (what_if_shape phases).rules [] arguments in
     let file_rule = taken (codes "file") 1 parser.String in
-    let file = level_good (what_if_shape phases) file_rule (inl refl, (inr refl, tt)) (taken_uses (codes "file") 1 parser.String refl) (refl, (refl, tt)) [] words false [] none in
+    let file = level_good (what_if_shape phases) file_rule (inl refl, (inr refl, tt)) (taken_uses (codes "file") 1 parser.String refl) (refl, (refl, tt)) [] arguments false [] none in
     let missing = either_false (not (is_given (codes "file") rows)) _ (wanted _ file.1) in
     let value = given_first file_rule rows file.0 (given_if _ missing.0) in
     (what_if_line value.0, ap (option_map what_if_line) value.1)
@@ -143,12 +143,12 @@ entered_line phases plain name rows (Some q) no_help none found =
     go false false false false false false false false false true apart well is = absurd (true≢false apart)
     go false false false false false false false false false false apart well is = absurd (true≢false (sym (ap is_some is)))
 
--- words that clap takes are those of a line
-pub has_line : (phases : ValueParser) → IsPhases phases → (words : List Text) (name : Text) (rows : List Row) → fault_of (program_app phases) words ≡ []
-    → subcommand_of (program_app phases) words ≡ Some (name, rows) → IsLine (line_in name rows)
-has_line phases is words name rows none found =
+-- arguments that clap accepts are those of a line
+pub has_line : (phases : ValueParser) → IsPhases phases → (arguments : List Text) (name : Text) (rows : List Row) → fault_of (program_app phases) arguments ≡ []
+    → subcommand_of (program_app phases) arguments ≡ Some (name, rows) → IsLine (line_in name rows)
+has_line phases is arguments name rows none found =
     let app = built (program_app phases) in
-    let after = argument_words (program_app phases) words in
+    let after = argument_words (program_app phases) arguments in
     let stop = (walk app.top.rules (names_of app) nothing_held after).stopped in
     let parts = both_empty (walk_fault app.top (names_of app) (walk_from nothing_held) after) _ none in
     let inner = both_empty (entered_fault app stop) _ parts.1 in

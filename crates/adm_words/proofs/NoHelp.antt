@@ -1,4 +1,4 @@
--- In words without a fault, no subcommand `help` is met.
+-- In arguments without an error, no subcommand `help` is met.
 use Rattle.std.proofs.Common.{◌≡◌, ℕ, Bool, true, false, refl, List, [], ◌∷◌, Option, Some, None}
 use Rattle.std.specs.Prelude.{if◌then◌else◌, ◌&&◌, not, codes, is_some, fold}
 use Rattle.std.specs.Str.{bytes_eq}
@@ -83,8 +83,8 @@ module _ (s : Shape) (has_help : s.disable_help_subcommand ≡ false) where
           let parts = both_empty (f.word_fault s names at.is_trailing at.waiting word at.held) _ n in
           step_stop word at met.0 met.1 (word_step names at.is_trailing at.waiting at.position word at.held parts.0) before
 
-  pub no_help_met : (names : Names) (at : Walk) (words : List Text) → f.walk_fault s names at words ≡ [] → IsNoHelp at.stopped
-      → IsNoHelp (fold (w.walked s.rules names) at words).stopped
+  pub no_help_met : (names : Names) (at : Walk) (arguments : List Text) → f.walk_fault s names at arguments ≡ [] → IsNoHelp at.stopped
+      → IsNoHelp (fold (w.walked s.rules names) at arguments).stopped
   unfolding f.walk_fault
   no_help_met names at [] none apart = apart
   no_help_met names at (word ∷ rest) none apart =

@@ -1,4 +1,4 @@
--- In words that clap takes, the line `serve` has a file and a port, and a number of connections or none.
+-- In arguments that clap accepts, the line `serve` has a file and a port, and a number of connections or none.
 use Rattle.std.proofs.Common.{◌≡◌, ◌∙◌, ℕ, true, false, refl, ap, arith, List, [], Option, Some, None, inl, inr, ◌⊎◌}
 use Rattle.std.specs.Prelude.{codes, not, pos, option_and_then}
 use Rattle.std.specs.Option.{option_map_or}
@@ -31,19 +31,19 @@ counted o (inr h) =
     let n = number_named 1 1000000 (omega arith) (omega arith) h.0 h.2 in
     (n.0, ap (λ t. option_map_or connections_of t (Some 1000000)) h.1 ∙ n.1)
 
-pub serve_there : (phases : ValueParser) (words : List Text) → level_fault (serve_shape phases) [] nothing_held words false [] ≡ []
-    → IsLine (serve_in (rows_after (serve_shape phases).rules [] words))
-serve_there phases words none =
-    let rows = rows_after (serve_shape phases).rules [] words in
+pub serve_there : (phases : ValueParser) (arguments : List Text) → level_fault (serve_shape phases) [] nothing_held arguments false [] ≡ []
+    → IsLine (serve_in (rows_after (serve_shape phases).rules [] arguments))
+serve_there phases arguments none =
+    let rows = rows_after (serve_shape phases).rules [] arguments in
     let file_rule = taken (codes "file") 1 parser.String in
     let port_rule = taken (codes "port") 2 ports in
     let count_rule = optional (codes "count") counts in
     let file = level_good (serve_shape phases) file_rule (inl refl, (inr refl, (inr refl, (inr refl, tt)))) (taken_uses (codes "file") 1 parser.String refl)
-    (refl, (refl, (refl, (refl, tt)))) [] words false [] none in
+    (refl, (refl, (refl, (refl, tt)))) [] arguments false [] none in
     let port = level_good (serve_shape phases) port_rule (inr refl, (inl refl, (inr refl, (inr refl, tt)))) (taken_uses (codes "port") 2 ports refl)
-    (refl, (refl, (refl, (refl, tt)))) [] words false [] none in
+    (refl, (refl, (refl, (refl, tt)))) [] arguments false [] none in
     let count = level_good (serve_shape phases) count_rule (inr refl, (inr refl, (inl refl, (inr refl, tt)))) (optional_uses (codes "count") counts refl)
-    (refl, (refl, (refl, (refl, tt)))) [] words false [] none in
+    (refl, (refl, (refl, (refl, tt)))) [] arguments false [] none in
     let first = either_false (not (is_given (codes "file") rows)) _ (wanted _ file.1) in
     let second = either_false (not (is_given (codes "port") rows)) _ first.1 in
     let a = given_first file_rule rows file.0 (given_if _ first.0) in

@@ -16,8 +16,8 @@ use Rattle.clap.specs.declared.error.kind.ErrorKind.{ErrorKind}
 use Rattle.adm_words.specs.Program.{IsPhases, program_app}
 use Rattle.adm_words.specs.declared.actions.Action.{Action}
 use Rattle.adm_words.specs.declared.actions.Action.TheVariants as action
-use Rattle.adm_words.specs.declared.faults.WordsFault.{WordsFault}
-use Rattle.adm_words.specs.declared.faults.WordsFault.TheVariants.{Words, BadDate, BadWord, Memory}
+use Rattle.adm_words.specs.declared.faults.ArgumentsFault.{ArgumentsFault}
+use Rattle.adm_words.specs.declared.faults.ArgumentsFault.TheVariants.{Usage, BadDate, BadWord, Memory}
 
 -- a line, with its holidays, and the number or the code after its file, as texts; a port and a count are numbers
 pub data Line : Type 0 where
@@ -41,7 +41,7 @@ phase_of text = if bytes_eq text (codes "primary") then Some Primary else (if by
 abbrev pub digits_number : List ℕ → Option ℕ
 digits_number digits = if nat_lt 0 (length digits) && (list_all is_ascii_digit digits && nat_lt (digits_value 10 digits) (2 ^ 32)) then Some (digits_value 10 digits) else None
 
--- a plus may stand before the digits
+-- a plus may precede the digits
 abbrev pub number_in : Text → Option ℕ
 number_in text = digits_number (without_leading_plus text)
 
@@ -68,7 +68,7 @@ connections_of text = number_from 1 1000000 text
 -- the school of a code, if a code is written
 abbrev pub school_named : Option Text → Option (Option Text)
 school_named None = Some None
-school_named (Some word) = option_map Some (code_of word)
+school_named (Some argument) = option_map Some (code_of argument)
 
 -- ---- the lines
 
@@ -76,19 +76,23 @@ school_named (Some word) = option_map Some (code_of word)
 abbrev pub file_in : List Row → Option Text
 file_in rows = first_of (codes "file") rows
 
+-- the value of PHASE, if `clap` found one that is a phase
 abbrev pub phase_in : List Row → Option Phase
 phase_in rows = option_and_then phase_of (first_of (codes "phase") rows)
 
+-- the value of YEAR, if `clap` found one from 2000 to 2100
 abbrev pub year_in : List Row → Option ℕ
 year_in rows = option_and_then year_of (first_of (codes "year") rows)
 
+-- the value of PORT, if `clap` found one from 1 to 65535
 abbrev pub port_in : List Row → Option ℕ
 port_in rows = option_and_then port_of (first_of (codes "port") rows)
 
--- 1,000,000 connections where their number is left out
+-- 1,000,000 connections where their number is omitted
 abbrev pub count_in : List Row → Option ℕ
 count_in rows = option_map_or connections_of (first_of (codes "count") rows) (Some 1000000)
 
+-- all values of HOLIDAY that `clap` found, in their order, as texts
 abbrev pub holidays_in : List Row → List Text
 holidays_in rows = unwrap_or (all_of (codes "holiday") rows) []
 
@@ -97,38 +101,47 @@ abbrev pub init_of : Option Text → Option Phase → Option ℕ → List Text �
 init_of (Some file) (Some phase) (Some year) holidays = Some (init_line file phase year holidays)
 init_of file phase year holidays = None
 
+-- the line of `init` by the values that `clap` found; none where one is missing
 abbrev pub init_in : List Row → Option Line
 init_in rows = init_of (file_in rows) (phase_in rows) (year_in rows) (holidays_in rows)
 
+-- the line of `do` by the value that `clap` found; none where it is missing
 abbrev pub do_in : List Row → Option Line
 do_in rows = option_map do_line (file_in rows)
 
-abbrev pub what_if_words_in : List Row → Option Line
-what_if_words_in rows = option_map what_if_line (file_in rows)
+-- the line of `what-if` by the value that `clap` found; none where it is missing
+abbrev pub what_if_line_in : List Row → Option Line
+what_if_line_in rows = option_map what_if_line (file_in rows)
 
+-- the line of `serve` with these values; none where one is missing
 abbrev pub serve_of : Option Text → Option ℕ → Option ℕ → Option Line
 serve_of (Some file) (Some port) (Some count) = Some (serve_line file port count)
 serve_of file port count = None
 
+-- the line of `serve` by the values that `clap` found; none where one is missing
 abbrev pub serve_in : List Row → Option Line
 serve_in rows = serve_of (file_in rows) (port_in rows) (count_in rows)
 
--- a file, and one more word
-abbrev pub file_and_word : (Text → Text → Line) → Option Text → Option Text → Option Line
-file_and_word line (Some file) (Some word) = Some (line file word)
-file_and_word line file word = None
+-- a file, and one more argument
+abbrev pub file_and_argument : (Text → Text → Line) → Option Text → Option Text → Option Line
+file_and_argument line (Some file) (Some argument) = Some (line file argument)
+file_and_argument line file argument = None
 
+-- the line of `import` by the values that `clap` found; none where one is missing
 abbrev pub import_in : List Row → Option Line
-import_in rows = file_and_word import_line (file_in rows) (first_of (codes "csv") rows)
+import_in rows = file_and_argument import_line (file_in rows) (first_of (codes "csv") rows)
 
+-- the line of `letter` by the values that `clap` found; none where one is missing
 abbrev pub letter_in : List Row → Option Line
-letter_in rows = file_and_word letter_line (file_in rows) (first_of (codes "child") rows)
+letter_in rows = file_and_argument letter_line (file_in rows) (first_of (codes "child") rows)
 
+-- the line of `list` by the values that `clap` found; none where one is missing
 abbrev pub list_in : List Row → Option Line
-list_in rows = file_and_word list_line (file_in rows) (first_of (codes "school") rows)
+list_in rows = file_and_argument list_line (file_in rows) (first_of (codes "school") rows)
 
+-- the line of `round-report` by the values that `clap` found; none where one is missing
 abbrev pub report_in : List Row → Option Line
-report_in rows = file_and_word report_line (file_in rows) (first_of (codes "round") rows)
+report_in rows = file_and_argument report_line (file_in rows) (first_of (codes "round") rows)
 
 -- a file, and a school or none
 abbrev pub pairs_in : List Row → Option Line
@@ -144,10 +157,10 @@ reading_in name rows =
 abbrev pub line_in : Text → List Row → Option Line
 line_in name rows =
     if bytes_eq name (codes "init") then init_in rows else (if bytes_eq name (codes "do") then do_in rows else (
-    if bytes_eq name (codes "what-if") then what_if_words_in rows else (if bytes_eq name (codes "import") then import_in rows else (
+    if bytes_eq name (codes "what-if") then what_if_line_in rows else (if bytes_eq name (codes "import") then import_in rows else (
     if bytes_eq name (codes "serve") then serve_in rows else reading_in name rows))))
 
--- ---- what a line asks for
+-- ---- what a line says
 
 -- the texts are those of the days, in their order
 abbrev pub AreDays : List Text → List ℕ → Type 0
@@ -161,35 +174,35 @@ HasNoDay [] = ⊥
 HasNoDay (t ∷ ts) = ((day : ℕ) → IsDayText t day → ⊥) ⊎ HasNoDay ts
 
 -- the days of the texts, or BadDate where one is that of no day
-abbrev pub ReadsDays : List Text → Result (List ℕ) WordsFault → Type 0
+abbrev pub ReadsDays : List Text → Result (List ℕ) ArgumentsFault → Type 0
 ReadsDays texts (Ok days) = AreDays texts days
-ReadsDays texts (Err (Words e)) = ⊥
+ReadsDays texts (Err (Usage e)) = ⊥
 ReadsDays texts (Err BadDate) = HasNoDay texts
 ReadsDays texts (Err BadWord) = ⊥
 ReadsDays texts (Err Memory) = Unit {0}
 
--- what a word is read as, or BadWord where it is not of its kind, for a private clause
-abbrev pub ReadsWord : {A : Type 0} → Option A → Result A WordsFault → Type 0
-ReadsWord read (Ok value) = read ≡ Some value
-ReadsWord read (Err BadWord) = read ≡ None
-ReadsWord read (Err fault) = ⊥
+-- what an argument is read as, or BadWord where it is not of its kind, for a private clause
+abbrev pub ReadsArgument : {A : Type 0} → Option A → Result A ArgumentsFault → Type 0
+ReadsArgument read (Ok value) = read ≡ Some value
+ReadsArgument read (Err BadWord) = read ≡ None
+ReadsArgument read (Err fault) = ⊥
 
--- what the line asks for, or BadDate where a holiday is no day, or BadWord where a number or a code is none
-abbrev pub Reads : Line → Result Action WordsFault → Type 0
+-- the action of the line, or BadDate where a holiday is no day, or BadWord where a number or a code is none
+abbrev pub Reads : Line → Result Action ArgumentsFault → Type 0
 Reads (init_line file phase year texts) (Ok (action.Init f p y days)) = (f.now ≡ file) × (p ≡ phase) × (y ≡ year) × AreDays texts days
 Reads (do_line file) (Ok (action.Do f)) = f.now ≡ file
 Reads (what_if_line file) (Ok (action.WhatIf f)) = f.now ≡ file
 Reads (import_line file csv) (Ok (action.Import f c)) = (f.now ≡ file) × (c.now ≡ csv)
 Reads (serve_line file port count) (Ok (action.Serve f p n)) = (f.now ≡ file) × (p ≡ port) × (n ≡ count)
-Reads (letter_line file word) (Ok (action.Letter f child)) = (f.now ≡ file) × (child_named word ≡ Some child)
-Reads (list_line file word) (Ok (action.List f school)) = (f.now ≡ file) × (code_of word ≡ Some school)
-Reads (report_line file word) (Ok (action.RoundReport f round)) = (f.now ≡ file) × (plain_of word ≡ Some round)
-Reads (pairs_line file word) (Ok (action.Pairs f school)) = (f.now ≡ file) × (school_named word ≡ Some school)
+Reads (letter_line file argument) (Ok (action.Letter f child)) = (f.now ≡ file) × (child_named argument ≡ Some child)
+Reads (list_line file argument) (Ok (action.List f school)) = (f.now ≡ file) × (code_of argument ≡ Some school)
+Reads (report_line file argument) (Ok (action.RoundReport f round)) = (f.now ≡ file) × (plain_of argument ≡ Some round)
+Reads (pairs_line file argument) (Ok (action.Pairs f school)) = (f.now ≡ file) × (school_named argument ≡ Some school)
 Reads (init_line file phase year texts) (Err BadDate) = HasNoDay texts
-Reads (letter_line file word) (Err BadWord) = child_named word ≡ None
-Reads (list_line file word) (Err BadWord) = code_of word ≡ None
-Reads (report_line file word) (Err BadWord) = plain_of word ≡ None
-Reads (pairs_line file word) (Err BadWord) = school_named word ≡ None
+Reads (letter_line file argument) (Err BadWord) = child_named argument ≡ None
+Reads (list_line file argument) (Err BadWord) = code_of argument ≡ None
+Reads (report_line file argument) (Err BadWord) = plain_of argument ≡ None
+Reads (pairs_line file argument) (Err BadWord) = school_named argument ≡ None
 Reads line (Err Memory) = Unit {0}
 Reads line result = ⊥
 
@@ -197,25 +210,25 @@ Reads line result = ⊥
 abbrev pub IsLine : Option Line → Type 0
 IsLine found = (line : Line) × (found ≡ Some line)
 
--- there is a line, and this is what it asks for
-abbrev pub ReadsLine : Option Line → Result Action WordsFault → Type 0
+-- there is a line, and this is its action
+abbrev pub ReadsLine : Option Line → Result Action ArgumentsFault → Type 0
 ReadsLine found result = (line : Line) × (found ≡ Some line) × Reads line result
 
--- clap takes the words, and this is what the line that it found asks for
-abbrev pub TakesWords : List Text → Result Action WordsFault → Type 0
-TakesWords words result = (phases : ValueParser) × IsPhases phases × (fault_of (program_app phases) words ≡ []) × (name : Text) × (rows : List Row) × (subcommand_of (program_app phases) words ≡ Some (name, rows)) × ReadsLine (line_in name rows) result
+-- clap accepts the arguments, and this is the action of the line that it found
+abbrev pub TakesArguments : List Text → Result Action ArgumentsFault → Type 0
+TakesArguments arguments result = (phases : ValueParser) × IsPhases phases × (fault_of (program_app phases) arguments ≡ []) × (name : Text) × (rows : List Row) × (subcommand_of (program_app phases) arguments ≡ Some (name, rows)) × ReadsLine (line_in name rows) result
 
--- clap refuses the words, and this is the kind of its error
+-- clap refuses the arguments, and this is the kind of its error
 abbrev pub Refuses : List Text → ErrorKind → Type 0
-Refuses words kind = (phases : ValueParser) × IsPhases phases × IsAmong kind (fault_of (program_app phases) words)
+Refuses arguments kind = (phases : ValueParser) × IsPhases phases × IsAmong kind (fault_of (program_app phases) arguments)
 
--- what the words ask for, or that clap refuses them, unless memory ran out
-abbrev pub ReadsWords : List Text → Result Action WordsFault → Type 0
-ReadsWords words (Ok a) = TakesWords words (Ok a)
-ReadsWords words (Err (Words e)) = Refuses words (kind_of e)
-ReadsWords words (Err BadDate) = TakesWords words (Err BadDate)
-ReadsWords words (Err BadWord) = TakesWords words (Err BadWord)
-ReadsWords words (Err Memory) = Unit {0}
+-- the action of the arguments, or that clap refuses them, unless memory ran out
+abbrev pub ReadsArguments : List Text → Result Action ArgumentsFault → Type 0
+ReadsArguments arguments (Ok a) = TakesArguments arguments (Ok a)
+ReadsArguments arguments (Err (Usage e)) = Refuses arguments (kind_of e)
+ReadsArguments arguments (Err BadDate) = TakesArguments arguments (Err BadDate)
+ReadsArguments arguments (Err BadWord) = TakesArguments arguments (Err BadWord)
+ReadsArguments arguments (Err Memory) = Unit {0}
 
 -- a season's year is from 2000 to 2100, a port from 1 to 65535, and a number of connections from 1 to 1,000,000
 abbrev pub IsInRange : Action → Type 0
@@ -223,9 +236,9 @@ IsInRange (action.Init f p y days) = (2000 ≤ y) × (y ≤ 2100)
 IsInRange (action.Serve f p n) = ((1 ≤ p) × (p ≤ 65535)) × ((1 ≤ n) × (n ≤ 1000000))
 IsInRange action = Unit {0}
 
--- `fault: `, a fault's name and LF. The text of clap is its own.
-abbrev pub IsFaultText : WordsFault → List ℕ → Type 0
-IsFaultText (Words e) text = Unit {0}
+-- `fault: `, an error's name and LF. The text of clap is its own.
+abbrev pub IsFaultText : ArgumentsFault → List ℕ → Type 0
+IsFaultText (Usage e) text = Unit {0}
 IsFaultText BadDate text = text ≡ codes "fault: BadDate\n"
 IsFaultText BadWord text = text ≡ codes "fault: BadWord\n"
 IsFaultText Memory text = text ≡ codes "fault: Memory\n"

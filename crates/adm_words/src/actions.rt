@@ -1,7 +1,7 @@
-// What the words may ask for.
+// What the arguments may request.
 use adm_types::{ChildNo, Day, Phase, SchoolCode, Seq};
 
-/// What the words ask for.
+/// The action that the arguments name.
 #[derive(Drop)]
 pub enum Action<'a> {
     /// Make the register of a season in this file: its phase, its entry year from 2000 to 2100,

@@ -15,7 +15,7 @@ use crate::subcommands::{
 use clap::Command;
 use std::alloc::{AllocError, Global};
 
-/// The version that `--version` tells.
+/// The version that `--version` prints.
 const VERSION: &str = "0.1.0";
 
 /// The program with the subcommand that makes the register, and with those that answer the standard

@@ -1,17 +1,17 @@
-// Why words ask for nothing, and what is printed then.
+// Why arguments are not read, and what is printed then.
 ghost use Rattle.std.specs.Prelude.{◌≡◌, IfOk, string_bytes};
 ghost use Rattle.adm_words.specs.Lines.{IsFaultText};
-ghost use Rattle.adm_words.specs.declared.faults.WordsFault.TheVariants.{Memory};
+ghost use Rattle.adm_words.specs.declared.faults.ArgumentsFault.TheVariants.{Memory};
 
 use std::alloc::{AllocError, AllocFailed, Global};
 use thiserror::Error;
 
-/// Why the words ask for nothing.
+/// Why the arguments are not read.
 #[derive(Debug, Drop, Error)]
-pub enum WordsFault {
-    /// `clap` refuses the words, or they ask for help: this is what it says.
+pub enum ArgumentsFault {
+    /// `clap` refuses the arguments, or they request help: this is its text.
     #[error("{0}")]
-    Words(clap::Error),
+    Usage(clap::Error),
     /// A holiday is no day.
     #[error("BadDate")]
     BadDate,
@@ -23,31 +23,31 @@ pub enum WordsFault {
     Memory,
 }
 
-impl From<AllocError> for WordsFault {
+impl From<AllocError> for ArgumentsFault {
     ghost from_gives = { λ _ fault. fault ≡ Memory };
 
-    fn from(_error: AllocError) -> WordsFault {
-        WordsFault::Memory
+    fn from(_error: AllocError) -> ArgumentsFault {
+        ArgumentsFault::Memory
     }
 }
 
-impl<T: Drop> From<AllocFailed<T>> for WordsFault {
+impl<T: Drop> From<AllocFailed<T>> for ArgumentsFault {
     ghost from_gives = { λ _ fault. fault ≡ Memory };
 
-    fn from(_error: AllocFailed<T>) -> WordsFault {
-        WordsFault::Memory
+    fn from(_error: AllocFailed<T>) -> ArgumentsFault {
+        ArgumentsFault::Memory
     }
 }
 
-/// What the standard error is to get: the text of `clap`, or `fault: `, the fault's name and LF.
-/// The `Err` is want of memory.
-pub fn fault_text(alloc: Global, fault: &WordsFault) -> Result<String, AllocError>
+/// What is printed on the standard error: the text of `clap`, or `fault: `, the error's name and
+/// LF. The `Err` means out of memory.
+pub fn fault_text(alloc: Global, fault: &ArgumentsFault) -> Result<String, AllocError>
     ensures { IfOk result (λ text. IsFaultText fault.now (string_bytes text)) }
 {
     match fault {
-        WordsFault::Words(error) => format!(in alloc; "{error}"),
-        WordsFault::BadDate => String::from_str(alloc, "fault: BadDate\n"),
-        WordsFault::BadWord => String::from_str(alloc, "fault: BadWord\n"),
-        WordsFault::Memory => String::from_str(alloc, "fault: Memory\n"),
+        ArgumentsFault::Usage(error) => format!(in alloc; "{error}"),
+        ArgumentsFault::BadDate => String::from_str(alloc, "fault: BadDate\n"),
+        ArgumentsFault::BadWord => String::from_str(alloc, "fault: BadWord\n"),
+        ArgumentsFault::Memory => String::from_str(alloc, "fault: Memory\n"),
     }
 }

@@ -1,5 +1,5 @@
-// The program's command line: the words, read as what they ask for.
-//! What the words of a command line ask for.
+// The program's command line: its arguments, read as actions.
+//! The actions of a command line, from its arguments.
 #![tactic(auto)]
 
 mod actions;
@@ -15,5 +15,5 @@ mod serving;
 mod subcommands;
 
 pub use actions::Action;
-pub use faults::{WordsFault, fault_text};
+pub use faults::{ArgumentsFault, fault_text};
 pub use reading::action;

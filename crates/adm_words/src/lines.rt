@@ -1,11 +1,11 @@
 // One line of the command line, read from the values that clap found.
 ghost use Rattle.std.specs.Prelude.{◌≡◌, ◌≤◌, map, option_map, IfOk, IfSome};
 ghost use Rattle.clap.specs.Words.{first_of, all_of, found_of, rows_of};
-ghost use Rattle.adm_words.specs.Lines.{IsLine, ReadsLine, ReadsDays, IsInRange, phase_of, number_in, number_from, year_of, phase_in, year_in, holidays_in, init_in, do_in, what_if_words_in, line_in};
+ghost use Rattle.adm_words.specs.Lines.{IsLine, ReadsLine, ReadsDays, IsInRange, phase_of, number_in, number_from, year_of, phase_in, year_in, holidays_in, init_in, do_in, what_if_line_in, line_in};
 
 use crate::pairs::{import, reading};
 use crate::serving::serve;
-use crate::{Action, WordsFault};
+use crate::{Action, ArgumentsFault};
 use adm_types::{Day, Phase, Seq};
 use clap::ArgMatches;
 use std::alloc::Global;
@@ -89,27 +89,27 @@ fn year_in(found: &ArgMatches<'_>) -> Option<u32>
 }
 
 /// The days that texts name.
-fn read_days(alloc: Global, texts: &[&str]) -> Result<Seq<Day>, WordsFault>
+fn read_days(alloc: Global, texts: &[&str]) -> Result<Seq<Day>, ArgumentsFault>
     ensures { ReadsDays (map (λ t. t.now) texts.now) result }
 {
     let mut days = Vec::new(alloc);
     for text in texts {
         match Day::parse(text) {
             Some(day) => days.push(day)?,
-            None => return Err(WordsFault::BadDate),
+            None => return Err(ArgumentsFault::BadDate),
         }
     }
     Ok(Seq::from_vec(days))
 }
 
-fn holidays_in(alloc: Global, found: &ArgMatches<'_>) -> Result<Seq<Day>, WordsFault>
+fn holidays_in(alloc: Global, found: &ArgMatches<'_>) -> Result<Seq<Day>, ArgumentsFault>
     ensures { ReadsDays (holidays_in (rows_of (found_of found.now))) result }
 {
     read_days(alloc, texts_of(found, "holiday").unwrap_or(&[]))
 }
 
 /// The line `init`, whose values are there.
-fn init<'a>(alloc: Global, found: &ArgMatches<'a>) -> Result<Action<'a>, WordsFault>
+fn init<'a>(alloc: Global, found: &ArgMatches<'a>) -> Result<Action<'a>, ArgumentsFault>
     requires { IsLine (init_in (rows_of (found_of found.now))) }
     ensures reads { ReadsLine (init_in (rows_of (found_of found.now))) result }
     ensures in_range { IfOk result IsInRange }
@@ -135,7 +135,7 @@ fn init<'a>(alloc: Global, found: &ArgMatches<'a>) -> Result<Action<'a>, WordsFa
 }
 
 /// The line `do`, whose file is there.
-fn do_lines<'a>(found: &ArgMatches<'a>) -> Result<Action<'a>, WordsFault>
+fn do_lines<'a>(found: &ArgMatches<'a>) -> Result<Action<'a>, ArgumentsFault>
     requires { IsLine (do_in (rows_of (found_of found.now))) }
     ensures reads { ReadsLine (do_in (rows_of (found_of found.now))) result }
     ensures in_range { IfOk result IsInRange }
@@ -147,9 +147,9 @@ fn do_lines<'a>(found: &ArgMatches<'a>) -> Result<Action<'a>, WordsFault>
 }
 
 /// The line `what-if`, whose file is there.
-fn what_if<'a>(found: &ArgMatches<'a>) -> Result<Action<'a>, WordsFault>
-    requires { IsLine (what_if_words_in (rows_of (found_of found.now))) }
-    ensures reads { ReadsLine (what_if_words_in (rows_of (found_of found.now))) result }
+fn what_if<'a>(found: &ArgMatches<'a>) -> Result<Action<'a>, ArgumentsFault>
+    requires { IsLine (what_if_line_in (rows_of (found_of found.now))) }
+    ensures reads { ReadsLine (what_if_line_in (rows_of (found_of found.now))) result }
     ensures in_range { IfOk result IsInRange }
 {
     match text_of(found, "file") {
@@ -158,12 +158,12 @@ fn what_if<'a>(found: &ArgMatches<'a>) -> Result<Action<'a>, WordsFault>
     }
 }
 
-/// What the line of this name asks for, with the values that clap found.
+/// The action of the line of this name, with the values that clap found.
 pub(crate) fn read_line<'a>(
     alloc: Global,
     name: &str,
     found: &ArgMatches<'a>,
-) -> Result<Action<'a>, WordsFault>
+) -> Result<Action<'a>, ArgumentsFault>
     requires { IsLine (line_in name.now (rows_of (found_of found.now))) }
     ensures reads { ReadsLine (line_in name.now (rows_of (found_of found.now))) result }
     ensures in_range { IfOk result IsInRange }

@@ -1,16 +1,16 @@
-// Lines of a file and one more word, or none, read from the values that clap found.
+// Lines of a file and one more argument, or none, read from the values that clap found.
 ghost use Rattle.std.specs.Prelude.{◌≡◌, IfOk, option_map};
 ghost use Rattle.clap.specs.Words.{found_of, rows_of};
 ghost use Rattle.adm_types.specs.Fields.{child_named};
-ghost use Rattle.adm_words.specs.Lines.{IsLine, ReadsLine, ReadsWord, IsInRange, school_named, import_in, letter_in, list_in, report_in, pairs_in, reading_in};
+ghost use Rattle.adm_words.specs.Lines.{IsLine, ReadsLine, ReadsArgument, IsInRange, school_named, import_in, letter_in, list_in, report_in, pairs_in, reading_in};
 
 use crate::lines::text_of;
-use crate::{Action, WordsFault};
+use crate::{Action, ArgumentsFault};
 use adm_types::{ChildNo, SchoolCode, plain};
 use clap::ArgMatches;
 
 /// The line `import`, whose values are there.
-pub(crate) fn import<'a>(found: &ArgMatches<'a>) -> Result<Action<'a>, WordsFault>
+pub(crate) fn import<'a>(found: &ArgMatches<'a>) -> Result<Action<'a>, ArgumentsFault>
     requires { IsLine (import_in (rows_of (found_of found.now))) }
     ensures reads { ReadsLine (import_in (rows_of (found_of found.now))) result }
     ensures in_range { IfOk result IsInRange }
@@ -24,11 +24,11 @@ pub(crate) fn import<'a>(found: &ArgMatches<'a>) -> Result<Action<'a>, WordsFaul
     Ok(Action::Import { file, csv })
 }
 
-/// What a word is read as; BadWord where it is not of its kind.
-fn value<T>(read: Option<T>) -> Result<T, WordsFault>
-    ensures { ReadsWord read result }
+/// What an argument is read as; BadWord where it is not of its kind.
+fn value<T>(read: Option<T>) -> Result<T, ArgumentsFault>
+    ensures { ReadsArgument read result }
 {
-    read.ok_or(WordsFault::BadWord)
+    read.ok_or(ArgumentsFault::BadWord)
 }
 
 /// The child number that a text writes.
@@ -39,7 +39,7 @@ fn read_child(text: &str) -> Option<ChildNo>
 }
 
 /// The line `letter`, whose values are there.
-fn letter<'a>(found: &ArgMatches<'a>) -> Result<Action<'a>, WordsFault>
+fn letter<'a>(found: &ArgMatches<'a>) -> Result<Action<'a>, ArgumentsFault>
     requires { IsLine (letter_in (rows_of (found_of found.now))) }
     ensures reads { ReadsLine (letter_in (rows_of (found_of found.now))) result }
     ensures in_range { IfOk result IsInRange }
@@ -47,17 +47,17 @@ fn letter<'a>(found: &ArgMatches<'a>) -> Result<Action<'a>, WordsFault>
     let Some(file) = text_of(found, "file") else {
         unreachable!()
     };
-    let Some(word) = text_of(found, "child") else {
+    let Some(argument) = text_of(found, "child") else {
         unreachable!()
     };
-    match value(read_child(word)) {
+    match value(read_child(argument)) {
         Ok(child) => Ok(Action::Letter { file, child }),
         Err(fault) => Err(fault),
     }
 }
 
 /// The line `list`, whose values are there.
-fn list<'a>(found: &ArgMatches<'a>) -> Result<Action<'a>, WordsFault>
+fn list<'a>(found: &ArgMatches<'a>) -> Result<Action<'a>, ArgumentsFault>
     requires { IsLine (list_in (rows_of (found_of found.now))) }
     ensures reads { ReadsLine (list_in (rows_of (found_of found.now))) result }
     ensures in_range { IfOk result IsInRange }
@@ -65,17 +65,17 @@ fn list<'a>(found: &ArgMatches<'a>) -> Result<Action<'a>, WordsFault>
     let Some(file) = text_of(found, "file") else {
         unreachable!()
     };
-    let Some(word) = text_of(found, "school") else {
+    let Some(argument) = text_of(found, "school") else {
         unreachable!()
     };
-    match value(SchoolCode::new(word)) {
+    match value(SchoolCode::new(argument)) {
         Ok(school) => Ok(Action::List { file, school }),
         Err(fault) => Err(fault),
     }
 }
 
 /// The line `round-report`, whose values are there.
-fn report<'a>(found: &ArgMatches<'a>) -> Result<Action<'a>, WordsFault>
+fn report<'a>(found: &ArgMatches<'a>) -> Result<Action<'a>, ArgumentsFault>
     requires { IsLine (report_in (rows_of (found_of found.now))) }
     ensures reads { ReadsLine (report_in (rows_of (found_of found.now))) result }
     ensures in_range { IfOk result IsInRange }
@@ -83,22 +83,22 @@ fn report<'a>(found: &ArgMatches<'a>) -> Result<Action<'a>, WordsFault>
     let Some(file) = text_of(found, "file") else {
         unreachable!()
     };
-    let Some(word) = text_of(found, "round") else {
+    let Some(argument) = text_of(found, "round") else {
         unreachable!()
     };
-    match value(plain(word)) {
+    match value(plain(argument)) {
         Ok(round) => Ok(Action::RoundReport { file, round }),
         Err(fault) => Err(fault),
     }
 }
 
 /// The school of a code, if a code is written.
-fn read_school(word: Option<&str>) -> Option<Option<SchoolCode>>
-    ensures { result ≡ school_named (option_map (λ s. s.now) word.entry) }
+fn read_school(argument: Option<&str>) -> Option<Option<SchoolCode>>
+    ensures { result ≡ school_named (option_map (λ s. s.now) argument.entry) }
 {
-    match word {
+    match argument {
         None => Some(None),
-        Some(word) => match SchoolCode::new(word) {
+        Some(argument) => match SchoolCode::new(argument) {
             Some(school) => Some(Some(school)),
             None => None,
         },
@@ -106,7 +106,7 @@ fn read_school(word: Option<&str>) -> Option<Option<SchoolCode>>
 }
 
 /// The line `pairs`, whose file is there.
-fn pairs<'a>(found: &ArgMatches<'a>) -> Result<Action<'a>, WordsFault>
+fn pairs<'a>(found: &ArgMatches<'a>) -> Result<Action<'a>, ArgumentsFault>
     requires { IsLine (pairs_in (rows_of (found_of found.now))) }
     ensures reads { ReadsLine (pairs_in (rows_of (found_of found.now))) result }
     ensures in_range { IfOk result IsInRange }
@@ -121,7 +121,7 @@ fn pairs<'a>(found: &ArgMatches<'a>) -> Result<Action<'a>, WordsFault>
 }
 
 /// A line that reads a register, by its name.
-pub(crate) fn reading<'a>(name: &str, found: &ArgMatches<'a>) -> Result<Action<'a>, WordsFault>
+pub(crate) fn reading<'a>(name: &str, found: &ArgMatches<'a>) -> Result<Action<'a>, ArgumentsFault>
     requires { IsLine (reading_in name.now (rows_of (found_of found.now))) }
     ensures reads { ReadsLine (reading_in name.now (rows_of (found_of found.now))) result }
     ensures in_range { IfOk result IsInRange }

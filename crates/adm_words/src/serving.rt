@@ -4,10 +4,10 @@ ghost use Rattle.clap.specs.Words.{found_of, rows_of};
 ghost use Rattle.adm_words.specs.Lines.{IsLine, ReadsLine, IsInRange, port_of, port_in, count_in, serve_in};
 
 use crate::lines::{read_from, text_of};
-use crate::{Action, WordsFault};
+use crate::{Action, ArgumentsFault};
 use clap::ArgMatches;
 
-/// How many connections are served where the words do not say it.
+/// How many connections are served where the arguments do not say it.
 const MOST_CONNECTIONS: u32 = 1_000_000;
 
 /// The port that a text writes, from 1 to 65535.
@@ -42,7 +42,7 @@ fn count_in(found: &ArgMatches<'_>) -> Option<u32>
 }
 
 /// The line `serve`, whose values are there.
-pub(crate) fn serve<'a>(found: &ArgMatches<'a>) -> Result<Action<'a>, WordsFault>
+pub(crate) fn serve<'a>(found: &ArgMatches<'a>) -> Result<Action<'a>, ArgumentsFault>
     requires { IsLine (serve_in (rows_of (found_of found.now))) }
     ensures reads { ReadsLine (serve_in (rows_of (found_of found.now))) result }
     ensures in_range { IfOk result IsInRange }

@@ -13,14 +13,14 @@ use std::alloc::{AllocError, Global};
 /// The help of a file that is there.
 const REGISTER: &str = "The file of the register";
 
-/// A line of the register's file and one more word: its name, its line in the help and what its own
-/// help says more, and the id, the name and the line in the help of the word.
+/// A line of the register's file and one more argument: its name, its line in the help and what its
+/// own help says more, and the id, the name and the line in the help of the argument.
 pub(crate) struct Pair<'a> {
     name: &'a str,
     about: &'a str,
     more: &'a str,
     id: &'a str,
-    word: &'a str,
+    argument: &'a str,
     help: &'a str,
 }
 
@@ -29,7 +29,7 @@ pub(crate) static IMPORT: Pair<'static> = Pair {
     about: "Adds the children and applications of a CSV file",
     more: help::IMPORT,
     id: "csv",
-    word: "CSV",
+    argument: "CSV",
     help: "The file of rows",
 };
 
@@ -38,7 +38,7 @@ pub(crate) static LETTER: Pair<'static> = Pair {
     about: "Prints the letter of a child",
     more: help::LETTER,
     id: "child",
-    word: "CHILD",
+    argument: "CHILD",
     help: "The number of the child",
 };
 
@@ -47,7 +47,7 @@ pub(crate) static LIST: Pair<'static> = Pair {
     about: "Prints the waiting list of a school",
     more: help::LIST,
     id: "school",
-    word: "SCHOOL",
+    argument: "SCHOOL",
     help: "The code of the school",
 };
 
@@ -56,7 +56,7 @@ pub(crate) static ROUND_REPORT: Pair<'static> = Pair {
     about: "Prints the report of a round",
     more: help::ROUND_REPORT,
     id: "round",
-    word: "ROUND",
+    argument: "ROUND",
     help: "The number of the round",
 };
 
@@ -74,14 +74,14 @@ fn file_command<'a>(
     with_arg(Ok(named(alloc, name, about, more)), file(alloc, help))
 }
 
-/// The command of a line of the register's file and one more word.
+/// The command of a line of the register's file and one more argument.
 pub(crate) fn pair_command<'a>(alloc: Global, pair: &Pair<'a>) -> Result<Command<'a>, AllocError>
     ensures { Builds (pair_app pair.now.name.now pair.now.id.now) result }
 {
-    let word = required(alloc, pair.id, pair.word, pair.help);
+    let argument = required(alloc, pair.id, pair.argument, pair.help);
     with_arg(
         file_command(alloc, pair.name, pair.about, pair.more, REGISTER),
-        word,
+        argument,
     )
 }
 

@@ -1,8 +1,8 @@
-// The program: it takes its words and the streams of its process, and runs on real files.
+// The program: it takes its arguments and the streams of its process, and runs on real files.
 #![tactic(auto)]
 
-use adm_files::{FileRows, tell_memory};
-use adm_program::run_words;
+use adm_files::{FileRows, print_memory_fault};
+use adm_program::run_arguments;
 use adm_wire::Watched;
 use sqlite::Unknown;
 use std::io::ErrorKind;
@@ -13,27 +13,27 @@ fn main(rt: HostRuntime) -> io::Result<ExitCode> {
     match run(&rt) {
         Ok(status) => Ok(ExitCode::from(status)),
         Err(error) if error.kind() == ErrorKind::OutOfMemory => {
-            let status = tell_memory(&mut Watched::new(rt.stderr()));
+            let status = print_memory_fault(&mut Watched::new(rt.stderr()));
             Ok(ExitCode::from(status))
         }
         Err(error) => Err(error),
     }
 }
 
-/// Reads the words, and does what they ask for. The `Err` is why they were not read: want of memory,
-/// or a word that is not UTF-8.
+/// Reads the arguments, and does what they say. The `Err` is why they were not read: out of memory,
+/// or an argument that is not UTF-8.
 fn run(rt: &HostRuntime) -> io::Result<u8> {
     let mut given = Vec::new(rt.alloc());
-    for word in env::args(rt)? {
-        given.push(word)?;
+    for argument in env::args(rt)? {
+        given.push(argument)?;
     }
-    let mut words = Vec::new(rt.alloc());
-    for word in &given {
-        words.push(word.as_str())?;
+    let mut arguments = Vec::new(rt.alloc());
+    for argument in &given {
+        arguments.push(argument.as_str())?;
     }
-    Ok(run_words(
+    Ok(run_arguments(
         rt,
-        words.as_slice(),
+        arguments.as_slice(),
         Unknown,
         &mut FileRows::new(),
         &mut Watched::new(rt.stdin()),

@@ -1,7 +1,7 @@
 // An act as work over a database, and how far it came where a disk stopped.
 ghost use Rattle.std.specs.Prelude.{◌≡◌, false};
 ghost use Rattle.sqlite.specs.Held.{state};
-ghost use Rattle.adm_rows.specs.StandsFor.{IsStarted};
+ghost use Rattle.adm_rows.specs.Represents.{IsStarted};
 
 use crate::desks::{asked, given_back, opened};
 use adm_desk::{Answer, Desk};

@@ -1,6 +1,6 @@
 // A run of commands over disks that stop, a crash of both, and what the start after it finds.
 
-use adm_desk::{Answer, Restarted, run_until_stopped};
+use adm_desk::{Answer, Restarted, run_until_crash};
 use adm_register::{Register, Rows};
 use adm_rows::OpenFault;
 use adm_types::Command;
@@ -38,7 +38,7 @@ fn run(
     commands: &[Command],
 ) -> Option<Ran> {
     if files.may_be_used() {
-        Some(run_until_stopped(alloc, files, log_calls, db_calls, commands))
+        Some(run_until_crash(alloc, files, log_calls, db_calls, commands))
     } else {
         None
     }
@@ -65,7 +65,7 @@ fn print_found(rt: &impl Print, alloc: Global, rows: Option<Rows>) -> io::Result
     }
 }
 
-/// Prints why the first start failed, and the register that the files stand for still, as a loss of power leaves them.
+/// Prints why the first start failed, and the register that the files represent still, as a loss of power leaves them.
 fn print_left(
     rt: &impl Print,
     alloc: Global,

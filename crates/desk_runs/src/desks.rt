@@ -1,7 +1,7 @@
 // A desk over a database. Each call gives the connection back.
 ghost use Rattle.std.specs.Prelude.{◌≡◌, false};
 ghost use Rattle.sqlite.specs.Held.{state};
-ghost use Rattle.adm_rows.specs.StandsFor.{IsStarted};
+ghost use Rattle.adm_rows.specs.Represents.{IsStarted};
 
 use adm_desk::{Answer, Desk, Run, RunFault};
 use adm_rows::OpenFault;

@@ -1,7 +1,7 @@
 //! Runs of a desk over disks in memory, step by step as the input says.
 //!
-//! Each line of the input is a step, a remark (`#`) or empty; it is printed as it stands, and below it, set in,
-//! what the step came to.
+//! Each line of the input is a step, a remark (`#`) or empty; it is printed as it is, and below it,
+//! set in, what the step came to.
 #![tactic(auto)]
 
 mod acts;

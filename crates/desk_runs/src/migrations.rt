@@ -34,8 +34,8 @@ struct Stop {
     synced: Kept,
 }
 
-/// Whether an open that came so far may leave this. What was opened is of the second version; a disk that stops is told as Disk, and as no
-/// other fault.
+/// Whether an open that came so far may leave this. What was opened is of the second version; a
+/// disk that stops is reported as Disk, and as no other error.
 fn may_leave(came: Came, left: Kept) -> bool {
     match (came, left) {
         (Came::Opened, Kept::Second) => true,

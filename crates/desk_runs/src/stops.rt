@@ -75,8 +75,8 @@ impl Turns {
     }
 }
 
-/// Whether an act that came so far may leave this. Done is kept; what failed was done or was not. A disk that
-/// stops is told as Disk, and as no other fault.
+/// Whether an act that came so far may leave this. Done is kept; what failed was done or was not. A
+/// disk that stops is reported as Disk, and as no other error.
 fn may_leave(came: Came, left: Left) -> bool {
     match (came, left) {
         (Came::Created | Came::Done(_), Left::After) => true,

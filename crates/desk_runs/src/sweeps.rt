@@ -1,5 +1,5 @@
 // The lines of an input over a reader or a writer that stops at each of its calls in turn.
-// What is left is compared with a run that nothing stops, and with runs of the first lines alone.
+// What remains is compared with a run that nothing stops, and with runs of the first lines alone.
 use crate::desks::Ran;
 use crate::lines::{Outcome, outcome_of};
 use adm_desk::RunFault;
@@ -85,7 +85,7 @@ fn after_each(
     Ok(after)
 }
 
-/// Whether a run ended by a fault of this stream.
+/// Whether a run ended by an error of this stream.
 fn is_fault_of(side: Side, ran: Ran) -> bool {
     match (side, ran) {
         (Side::Reader, Ran::Stopped(RunFault::Read)) => true,

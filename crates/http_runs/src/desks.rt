@@ -9,7 +9,7 @@ use std::io;
 
 pub(crate) type MemoryDesk = Desk<MemStore>;
 
-/// A desk over the register of secondary 2025, to which nothing was done yet. `None` for want of memory.
+/// A desk over the register of secondary 2025, to which nothing was done yet. `None` where memory ran out.
 fn opened(alloc: Global) -> Option<MemoryDesk> {
     let Ok(season) = Season::new(alloc, Phase::Secondary, 2025, &[]) else {
         return None;

@@ -1,7 +1,7 @@
 //! Requests over HTTP, answered by a desk over a database in memory, step by step as the input says.
 //!
-//! Each line of the input is a step, a remark (`#`) or empty; it is printed as it stands, and below it, set in,
-//! what the step came to.
+//! Each line of the input is a step, a remark (`#`) or empty; it is printed as it is, and below it,
+//! set in, what the step came to.
 //!
 //! `do COMMAND`, `request TEXT` and `connection TEXT` change the register. The other steps leave it as it is: each of them has desks of
 //! its own, over registers that the commands of `do` so far are done to once more, whatever the requests did.

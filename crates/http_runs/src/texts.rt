@@ -1,9 +1,9 @@
 // Bytes as the steps write them, with escapes and repetitions.
-// `\r`, `\n` and `\xHH` are a byte each, `<N*TEXT>` is the text N times, and any other character stands for itself.
+// `\r`, `\n` and `\xHH` are a byte each, `<N*TEXT>` is the text N times, and any other character represents itself.
 use std::alloc::Global;
 use std::io::{self, ErrorKind};
 
-/// The bytes that a text writes. The `Err` is a text that writes none, or want of memory.
+/// The bytes that a text writes. The `Err` is a text that writes none, or out of memory.
 pub(crate) fn bytes_of(alloc: Global, text: &str) -> io::Result<Vec<u8>> {
     let mut bytes = Vec::new(alloc);
     for part in text.split('<') {

@@ -119,8 +119,8 @@ impl Counts {
         }
     }
 
-    /// Counts where a stable allocation fills a school otherwise than what the program gives, or than
-    /// the number that it tells of the first school.
+    /// Counts where a stable allocation fills a school otherwise than what the program gives, or
+    /// than the number that it prints of the first school.
     pub fn count_filled(&mut self, table: &Table, stable: &[Given], given: Given, taken: usize) {
         for other in stable {
             for school in 1..5 {

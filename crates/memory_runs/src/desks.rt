@@ -1,7 +1,7 @@
 // A desk over disks in memory, from the season on. Each call is in a function of its own, of which no clause speaks.
 ghost use Rattle.std.specs.Prelude.{◌≡◌, false, IfOk};
 ghost use Rattle.sqlite.specs.Files.{file_state};
-ghost use Rattle.adm_rows.specs.StandsFor.{IsStarted};
+ghost use Rattle.adm_rows.specs.Represents.{IsStarted};
 
 use crate::script::Script;
 use crate::trace::{Event, Trace};

@@ -7,7 +7,7 @@
 //! - `command JSON`: a command.
 //! - `row TEXT`: a line of the file that is imported after the commands.
 //!
-//! The others run it, each on new disks, and print the register that is left on them:
+//! The others run it, each on new disks, and print the register that remains on them:
 //!
 //! - `steps REFUSAL`: every call by itself, from the season to a letter to child 1.
 //! - `lines REFUSAL`: the commands as the input of one `run_lines`.

@@ -33,8 +33,8 @@ fn of_command(alloc: Global, register: &Register, command: &Command) -> Option<C
 }
 
 impl Counts {
-    /// What a command writes over the register that disks have. `None` where there is none, where the register refuses it, for want of memory,
-    /// and for an act that is no command.
+    /// What a command writes over the register that disks have. `None` where there is none, where
+    /// the register refuses it, where memory ran out, and for an act that is no command.
     pub fn of(alloc: Global, disks: &Disks, act: &Act) -> io::Result<Option<Counts>> {
         let register = disks.register(alloc)?;
         Ok(match (&register, act) {

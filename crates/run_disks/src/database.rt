@@ -1,7 +1,7 @@
 // A database over files of any disk. Each call gives the files back.
 ghost use Rattle.std.specs.Prelude.{◌≡◌, false, IfOk};
 ghost use Rattle.sqlite.specs.Files.{file_state};
-ghost use Rattle.adm_rows.specs.StandsFor.{IsStarted};
+ghost use Rattle.adm_rows.specs.Represents.{IsStarted};
 
 use crate::work::Work;
 use sqlite::{Connection, FileStore, Files, Options};

@@ -1,7 +1,7 @@
 // What is done with a database over any store. Each call gives the connection back.
 ghost use Rattle.std.specs.Prelude.{◌≡◌, false};
 ghost use Rattle.sqlite.specs.Held.{state};
-ghost use Rattle.adm_rows.specs.StandsFor.{IsStarted};
+ghost use Rattle.adm_rows.specs.Represents.{IsStarted};
 
 use adm_register::Register;
 use adm_rows::OpenFault;
@@ -13,7 +13,7 @@ use std::alloc::Global;
 
 /// What is done with a database that was opened.
 pub trait Work {
-    /// What it comes to.
+    /// Its result.
     type Came: Drop;
 
     /// Does it.

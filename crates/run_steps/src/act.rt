@@ -68,7 +68,7 @@ fn rows_of(alloc: Global, file: Result<Vec<u8>, AllocError>) -> Option<Vec<Impor
     }
 }
 
-/// An import of rows as they stand in its file, with `|` between each two.
+/// An import of rows as they are in its file, with `|` between each two.
 pub(crate) fn importing(alloc: Global, rows: &str) -> Option<Act> {
     match rows_of(alloc, file_of(alloc, rows)) {
         Some(rows) => Some(Act::Handle(Command::Import(Seq::from_vec(rows)))),

@@ -48,7 +48,7 @@ fn print_rows(rt: &impl Print, register: &Register, rows: &Rows) -> io::Result<(
     print_schools(rt, register, rows.schools.as_slice())
 }
 
-/// Prints how many rows a register has, and its schools with the places that are left.
+/// Prints how many rows a register has, and its schools with the places that remain.
 pub fn print_register(rt: &impl Print, alloc: Global, register: &Register) -> io::Result<()> {
     let rows = register.rows(alloc)?;
     print_rows(rt, register, &rows)

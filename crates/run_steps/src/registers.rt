@@ -53,7 +53,7 @@ fn handled(alloc: Global, register: &Register, command: &Command) -> Option<Regi
     }
 }
 
-/// The register that an act makes of this one. `None` where there is none, or for want of memory.
+/// The register that an act makes of this one. `None` where there is none, or where memory ran out.
 pub fn after(alloc: Global, before: &Option<Register>, act: &Act) -> Option<Register> {
     match (before, act) {
         (None, Act::Create(season)) => created(season),

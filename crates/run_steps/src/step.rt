@@ -22,7 +22,7 @@ pub enum Step<'a> {
     Back,
     /// `create PHASE YEAR`: the register of a season on the disks.
     Create(Act),
-    /// `import ROWS`: an import of rows as they stand in its file, with `|` between each two.
+    /// `import ROWS`: an import of rows as they are in its file, with `|` between each two.
     Import(Act),
     /// `sql TEXT`: a text that is run on the database by hand.
     Sql(&'a str),
@@ -167,7 +167,7 @@ fn import<'a>(alloc: Global, rows: &str) -> Option<Step<'a>> {
 }
 
 impl<'a> Step<'a> {
-    /// The step of a line. `None` where it is none, or for want of memory.
+    /// The step of a line. `None` where it is none, or where memory ran out.
     pub fn read(alloc: Global, line: &'a str) -> Option<Step<'a>> {
         let (word, rest) = line.split_once(' ').unwrap_or((line, ""));
         match word {

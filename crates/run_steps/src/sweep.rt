@@ -17,7 +17,7 @@ pub struct Sweep {
     bytes: usize,
     /// How many interrupted calls come before each.
     interrupts: usize,
-    /// The bytes of a call by which it is judged what is left.
+    /// The bytes of a call by which it is judged what remains.
     judged_by: usize,
 }
 

@@ -30,10 +30,11 @@ use Rattle.adm_commands.specs.Rules.{Rules, by_tests}
 abbrev pub fill_pairs : State → List ℕ → List Pair
 fill_pairs s code = map (λ child. record { school = code; child = child.no }) (waiting_at s code)
 
+-- the lots of a fill: the numbers that were drawn, in turn, for the children that wait at the school
 abbrev pub fill_lots : State → List ℕ → List ℕ → List Lot
 fill_lots s code numbers = lots_of (fill_pairs s code) numbers
 
--- whether a place is left
+-- whether a place remains
 abbrev pub is_vacant : Option ℕ → Bool
 is_vacant None = false
 is_vacant (Some places) = nat_lt 0 places
@@ -58,6 +59,7 @@ abbrev pub draw_of_fill : ℕ → List ℕ → ℕ → ℕ → List Lot → Draw
 draw_of_fill number school day child lots =
     record { number = number; round = 0; school = Some school; day = day; outcomes = record { child = child; school = Some school; fresh = true } ∷ []; lots = lots }
 
+-- the draw of a fill, from the numbers that were drawn and the child that is offered the vacancy
 abbrev pub filled_draw : State → ℕ → List ℕ → ℕ → List ℕ → ℕ → Draw
 filled_draw old draw school day numbers child = draw_of_fill draw school day child (fill_lots old school numbers)
 

@@ -23,6 +23,7 @@ use Rattle.adm_commands.specs.Rules.{Rules}
 unfoldable pub change_of : List ImportRow → Difference
 change_of added = record no_change { children = map (λ row. row.child) added; applications = map application_of added; imported = added }
 
+-- whether there is an imported row, and it is equal to this one
 abbrev pub is_same_as : Option ImportRow → ImportRow → Bool
 is_same_as None row = false
 is_same_as (Some kept) row = is_same_import kept row
@@ -36,6 +37,7 @@ unfoldable pub row_tests : State → ImportRow → List (Bool × Refusal)
 row_tests s row =
     (not (contains_key s.children row.child.no), RowDiffers) ∷ (add_child.tests s row.child ++ apply.tests (after s (change_of_child row.child)) (application_of row))
 
+-- the refusal of a row by the first of its tests that fails; a known row is never refused
 unfoldable pub refusal_of_row : State → ImportRow → Option Refusal
 refusal_of_row s row = if is_known s row then None else first_failing (row_tests s row)
 
@@ -43,7 +45,7 @@ refusal_of_row s row = if is_known s row then None else first_failing (row_tests
 unfoldable pub with_row : State → ImportRow → State
 with_row s row = after s (change_of (row ∷ []))
 
--- the register that the next row sees: a known row adds nothing
+-- the register that the next row sees: a known row changes nothing
 unfoldable pub after_row : State → ImportRow → State
 after_row s row = if is_known s row then s else with_row s row
 

@@ -46,8 +46,8 @@ applicant_of s application =
     else None
 
 -- who takes part, by their numbers
-abbrev pub entrants : State → List Applicant
-entrants s = filter_map (applicant_of s) (values s.applications)
+abbrev pub round_applicants : State → List Applicant
+round_applicants s = filter_map (applicant_of s) (values s.applications)
 
 -- how many places at the school are those of a plan
 abbrev pub plans_at : FinMap nat_cmp PlaceRow → List ℕ → ℕ
@@ -63,13 +63,15 @@ sites s = map (λ school. record { school = school; quota = quota s school }) (v
 
 -- for whom lots are drawn, in their order
 abbrev pub round_pairs : State → List Pair
-round_pairs s = pairs (sites s) (entrants s)
+round_pairs s = pairs (sites s) (round_applicants s)
 
+-- the lots of a round: the numbers that were drawn, in turn, for its pairs
 abbrev pub round_lots : State → List ℕ → List Lot
 round_lots s numbers = lots_of (round_pairs s) numbers
 
+-- the problem of a round, with the lots of these numbers
 abbrev pub round_market : State → List ℕ → Market
-round_market s numbers = market_of_round (sites s) (entrants s) (round_lots s numbers)
+round_market s numbers = market_of_round (sites s) (round_applicants s) (round_lots s numbers)
 
 -- ---- the command
 
@@ -95,7 +97,7 @@ tests old draw day numbers =
 
 -- the outcomes are those of the child-optimal stable allocation
 abbrev pub AreOutcomes : State → List ℕ → List Outcome → Type 0
-AreOutcomes old numbers outcomes = AreBest (round_market old numbers) (entrants old) outcomes
+AreOutcomes old numbers outcomes = AreBest (round_market old numbers) (round_applicants old) outcomes
 
 -- what is offered: the school of a fresh outcome
 abbrev pub offer_of : ℕ → Outcome → Option PlaceRow
@@ -104,6 +106,7 @@ offer_of day outcome =
     then option_map (λ school. record { child = outcome.child; place = record { school = school; state = Offered day None } }) outcome.school
     else None
 
+-- the places that fresh outcomes offer on this day
 abbrev pub offers_on : ℕ → List Outcome → List PlaceRow
 offers_on day outcomes = filter_map (offer_of day) outcomes
 

@@ -4,10 +4,10 @@ ghost use Rattle.adm_commands.specs.Tests.{first_failing};
 ghost use Rattle.adm_commands.specs.Rules.{Follows};
 ghost use Rattle.adm_commands.specs.Commands.Accept.{rules, tests};
 
+use crate::command_result::{CommandResult, done, refused};
 use crate::failing::first_failing;
 use crate::offered::offer_at;
 use crate::one_row::one_place;
-use crate::tried::{Tried, done, refused};
 use adm_register::{Difference, Tables};
 use adm_types::{ChildNo, PlaceState, Refusal, SchoolCode};
 use std::alloc::{AllocError, Global};
@@ -26,12 +26,12 @@ fn refusal_of(old: &Tables, child: ChildNo, school: SchoolCode) -> Option<Refusa
 
 /// The place is put again, as an accepted one.
 #[tactic(auto, unfolding(crate::specs::Commands::Accept::change_of))]
-pub(crate) fn tried(
+pub(crate) fn evaluate(
     old: &Tables,
     alloc: Global,
     child: ChildNo,
     school: SchoolCode,
-) -> Result<Tried, AllocError>
+) -> Result<CommandResult, AllocError>
     ensures { IfOk result (Follows (rules child school) old.now) }
 {
     if let Some(refusal) = refusal_of(old, child, school) {

@@ -5,8 +5,8 @@ ghost use Rattle.adm_commands.specs.Rules.{Follows};
 ghost use Rattle.adm_commands.specs.Commands.AddChild.{rules, tests};
 
 use crate::child_values::put_child;
+use crate::command_result::{CommandResult, done, refused};
 use crate::failing::first_failing;
-use crate::tried::{Tried, done, refused};
 use adm_register::Tables;
 use adm_types::limits::{MOST_CHILDREN, is_child_in_range, is_name};
 use adm_types::{Child, Refusal};
@@ -30,7 +30,11 @@ pub(crate) fn refusal_of(old: &Tables, child: &Child) -> Option<Refusal>
 }
 
 /// The child is put.
-pub(crate) fn tried(old: &Tables, alloc: Global, child: &Child) -> Result<Tried, AllocError>
+pub(crate) fn evaluate(
+    old: &Tables,
+    alloc: Global,
+    child: &Child,
+) -> Result<CommandResult, AllocError>
     ensures { IfOk result (Follows (rules child.now) old.now) }
 {
     match refusal_of(old, child) {

@@ -4,9 +4,9 @@ ghost use Rattle.adm_commands.specs.Tests.{first_failing};
 ghost use Rattle.adm_commands.specs.Rules.{Follows};
 ghost use Rattle.adm_commands.specs.Commands.AddSchool.{rules, tests};
 
+use crate::command_result::{CommandResult, done, refused};
 use crate::failing::first_failing;
 use crate::one_row::one;
-use crate::tried::{Tried, done, refused};
 use adm_register::{Difference, Tables};
 use adm_table::Shared;
 use adm_types::limits::{MOST_SCHOOLS, is_name, is_school_in_range};
@@ -28,7 +28,11 @@ fn refusal_of(old: &Tables, school: &School) -> Option<Refusal>
 
 /// The school is put.
 #[tactic(auto, unfolding(crate::specs::Commands::AddSchool::change_of))]
-pub(crate) fn tried(old: &Tables, alloc: Global, school: &School) -> Result<Tried, AllocError>
+pub(crate) fn evaluate(
+    old: &Tables,
+    alloc: Global,
+    school: &School,
+) -> Result<CommandResult, AllocError>
     ensures { IfOk result (Follows (rules school.now) old.now) }
 {
     if let Some(refusal) = refusal_of(old, school) {

@@ -5,8 +5,8 @@ ghost use Rattle.adm_commands.specs.Rules.{Follows};
 ghost use Rattle.adm_commands.specs.Commands.Amend.{rules, tests};
 
 use crate::child_values::put_child;
+use crate::command_result::{CommandResult, done, refused};
 use crate::failing::first_failing;
-use crate::tried::{Tried, done, refused};
 use adm_register::Tables;
 use adm_types::limits::{is_child_in_range, is_name};
 use adm_types::{Child, Refusal};
@@ -29,7 +29,11 @@ fn refusal_of(old: &Tables, child: &Child) -> Option<Refusal>
 }
 
 /// The child's data are put, in place of those that were there.
-pub(crate) fn tried(old: &Tables, alloc: Global, child: &Child) -> Result<Tried, AllocError>
+pub(crate) fn evaluate(
+    old: &Tables,
+    alloc: Global,
+    child: &Child,
+) -> Result<CommandResult, AllocError>
     ensures { IfOk result (Follows (rules child.now) old.now) }
 {
     match refusal_of(old, child) {

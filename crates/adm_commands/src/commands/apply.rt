@@ -5,9 +5,9 @@ ghost use Rattle.adm_commands.specs.Tests.{first_failing};
 ghost use Rattle.adm_commands.specs.Rules.{Follows};
 ghost use Rattle.adm_commands.specs.Commands.Apply.{rules, tests, further_tests};
 
+use crate::command_result::{CommandResult, done, refused};
 use crate::failing::first_failing;
 use crate::one_row::one;
-use crate::tried::{Tried, done, refused};
 use adm_register::{Difference, Tables};
 use adm_table::Shared;
 use adm_types::limits::{MOST_PREFERENCES, is_without_repeat};
@@ -59,11 +59,11 @@ fn is_preference_list(list: &[SchoolCode]) -> bool
 
 /// The application is put.
 #[tactic(auto, unfolding(crate::specs::Commands::Apply::change_of))]
-pub(crate) fn tried(
+pub(crate) fn evaluate(
     old: &Tables,
     alloc: Global,
     application: &Application,
-) -> Result<Tried, AllocError>
+) -> Result<CommandResult, AllocError>
     ensures { IfOk result (Follows (rules application.now) old.now) }
 {
     if let Some(refusal) = refusal_of(old, application) {

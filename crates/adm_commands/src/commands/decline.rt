@@ -4,9 +4,9 @@ ghost use Rattle.adm_commands.specs.Tests.{first_failing};
 ghost use Rattle.adm_commands.specs.Rules.{Follows};
 ghost use Rattle.adm_commands.specs.Commands.Decline.{rules, tests, change_of};
 
+use crate::command_result::{CommandResult, done, refused};
 use crate::failing::first_failing;
 use crate::one_row::one;
-use crate::tried::{Tried, done, refused};
 use adm_register::{Difference, Tables};
 use adm_types::{ChildNo, LeftPair, Refusal, SchoolCode};
 use std::alloc::{AllocError, Global};
@@ -38,13 +38,13 @@ pub(crate) fn change_of(
     Ok(change)
 }
 
-/// What comes of it.
-pub(crate) fn tried(
+/// What results from it.
+pub(crate) fn evaluate(
     old: &Tables,
     alloc: Global,
     child: ChildNo,
     school: SchoolCode,
-) -> Result<Tried, AllocError>
+) -> Result<CommandResult, AllocError>
     ensures { IfOk result (Follows (rules child school) old.now) }
 {
     match refusal_of(old, child, school) {

@@ -12,14 +12,14 @@ ghost use Rattle.adm_commands.specs.Rules.{Follows};
 ghost use Rattle.adm_register.specs.Rows.{vacancies};
 ghost use Rattle.adm_commands.specs.Commands.Fill.{rules, tests, is_vacant, fill_lots, draw_of_fill};
 
+use crate::command_result::{CommandResult, refused};
 use crate::failing::first_failing;
 use crate::one_row::{one, one_place};
 use crate::pairs::pairs_for;
-use crate::tried::{Tried, refused};
 use adm_draws::has_repeated_lot;
 use adm_register::draws_so_far::{DrawsSoFar, is_due};
 use adm_register::{Difference, Tables};
-use adm_round::drawn;
+use adm_round::assign_lots;
 use adm_table::Shared;
 use adm_types::limits::{MOST_DRAWS, MOST_LOTS};
 use adm_types::{
@@ -64,7 +64,7 @@ fn refusal_of(
 /// once, for the tests and for the change. They take memory for a pointer to each application, and
 /// for each lot. What it costs grows with the applications and the places, and with the lots, times
 /// their logarithm; not with the draws before, which `so_far` counts.
-pub(crate) fn tried(
+pub(crate) fn evaluate(
     old: &Tables,
     so_far: &DrawsSoFar,
     alloc: Global,
@@ -72,7 +72,7 @@ pub(crate) fn tried(
     school: SchoolCode,
     day: Day,
     lots: &Seq<u32>,
-) -> Result<Tried, AllocError>
+) -> Result<CommandResult, AllocError>
     requires well_formed { WellFormed old.now }
     requires draws { so_far.now ≡ draws_so_far old.now }
     requires within { IsWithin so_far.now }
@@ -134,7 +134,7 @@ fn lots_for(
     ensures { IfOk result (λ lots. lots.items ≡ lots_of (map (λ child. record { school = school; child = child.no }) children.now) numbers.now) }
 {
     let pairs = pairs_for(alloc, school, children)?;
-    drawn(alloc, pairs, numbers)
+    assign_lots(alloc, pairs, numbers)
 }
 
 /// The draw by which the child was moved to the school, as the one row that is put.

@@ -7,15 +7,15 @@ ghost use Rattle.adm_commands.specs.Commands.Import.{rules, change_of, is_known,
 ghost use Rattle.adm_commands.specs.Rules.{Follows};
 ghost use Rattle.adm_register.specs.State.{application_of};
 
+use crate::command_result::CommandResult;
 use crate::commands::{add_child, apply};
 use crate::one_row::one;
-use crate::tried::Tried;
 use adm_register::{Difference, Tables};
 use adm_table::{Same, Shared, Table};
 use adm_types::{Application, Child, ImportRow, Refusal, Reply, Seq};
 use std::alloc::{AllocError, Global};
 
-/// What comes of the rows of an import, one after another.
+/// What results from the rows of an import, one after another.
 struct Walked {
     /// The first refusal, with the number of its row.
     why: Option<(Refusal, u64)>,
@@ -26,7 +26,11 @@ struct Walked {
 /// The rows that are new, in the order of their children's numbers, and how many there are beside
 /// those that were known; or the first row that is refused, with its number from 1. What it costs
 /// grows with the rows, and for each that is new with the pieces of three tables.
-pub(crate) fn tried(old: &Tables, alloc: Global, rows: &[ImportRow]) -> Result<Tried, AllocError>
+pub(crate) fn evaluate(
+    old: &Tables,
+    alloc: Global,
+    rows: &[ImportRow],
+) -> Result<CommandResult, AllocError>
     ensures { IfOk result (Follows (rules rows.now) old.now) }
 {
     let Walked { why, added } = walk(old, alloc, rows)?;
@@ -110,7 +114,7 @@ fn after_row(
     Shared::new(alloc, seen.after(alloc, &change)?)
 }
 
-/// The register with a row that is new, which comes to those that were added.
+/// The register with a row that is new, which joins those that were added.
 fn with_row(
     seen: &Tables,
     alloc: Global,

@@ -4,10 +4,10 @@ ghost use Rattle.adm_commands.specs.Tests.{first_failing};
 ghost use Rattle.adm_commands.specs.Rules.{Follows};
 ghost use Rattle.adm_commands.specs.Commands.Lapse.{rules, tests};
 
+use crate::command_result::{CommandResult, done, refused};
 use crate::commands::decline::change_of;
 use crate::failing::first_failing;
 use crate::offered::{is_after_reminder, is_reminded, offer_at};
-use crate::tried::{Tried, done, refused};
 use adm_register::Tables;
 use adm_types::{ChildNo, Day, Refusal, SchoolCode};
 use std::alloc::{AllocError, Global};
@@ -28,13 +28,13 @@ fn refusal_of(old: &Tables, child: ChildNo, school: SchoolCode, day: Day) -> Opt
 }
 
 /// The place is cut as by declining it.
-pub(crate) fn tried(
+pub(crate) fn evaluate(
     old: &Tables,
     alloc: Global,
     child: ChildNo,
     school: SchoolCode,
     day: Day,
-) -> Result<Tried, AllocError>
+) -> Result<CommandResult, AllocError>
     ensures { IfOk result (Follows (rules child school day) old.now) }
 {
     match refusal_of(old, child, school, day) {

@@ -4,9 +4,9 @@ ghost use Rattle.adm_commands.specs.Tests.{first_failing};
 ghost use Rattle.adm_commands.specs.Rules.{Follows};
 ghost use Rattle.adm_commands.specs.Commands.LeaveList.{rules, tests};
 
+use crate::command_result::{CommandResult, done, refused};
 use crate::failing::first_failing;
 use crate::one_row::one;
-use crate::tried::{Tried, done, refused};
 use adm_register::{Difference, Tables};
 use adm_types::{ChildNo, LeftPair, Refusal, SchoolCode};
 use std::alloc::{AllocError, Global};
@@ -25,12 +25,12 @@ fn refusal_of(old: &Tables, child: ChildNo, school: SchoolCode) -> Option<Refusa
 
 /// The school is one that the child left.
 #[tactic(auto, unfolding(crate::specs::Commands::LeaveList::change_of))]
-pub(crate) fn tried(
+pub(crate) fn evaluate(
     old: &Tables,
     alloc: Global,
     child: ChildNo,
     school: SchoolCode,
-) -> Result<Tried, AllocError>
+) -> Result<CommandResult, AllocError>
     ensures { IfOk result (Follows (rules child school) old.now) }
 {
     if let Some(refusal) = refusal_of(old, child, school) {

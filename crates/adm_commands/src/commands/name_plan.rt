@@ -4,9 +4,9 @@ ghost use Rattle.adm_commands.specs.Tests.{first_failing};
 ghost use Rattle.adm_commands.specs.Rules.{Follows};
 ghost use Rattle.adm_commands.specs.Commands.NamePlan.{rules, tests};
 
+use crate::command_result::{CommandResult, done, refused};
 use crate::failing::first_failing;
 use crate::one_row::{one, one_place};
-use crate::tried::{Tried, done, refused};
 use adm_register::{Difference, Tables};
 use adm_types::{ChildNo, PlaceState, Refusal, SchoolCode};
 use std::alloc::{AllocError, Global};
@@ -25,12 +25,12 @@ fn refusal_of(old: &Tables, child: ChildNo, school: SchoolCode) -> Option<Refusa
 
 /// The place of the plan is put, and the child's application is cut.
 #[tactic(auto, unfolding(crate::specs::Commands::NamePlan::change_of))]
-pub(crate) fn tried(
+pub(crate) fn evaluate(
     old: &Tables,
     alloc: Global,
     child: ChildNo,
     school: SchoolCode,
-) -> Result<Tried, AllocError>
+) -> Result<CommandResult, AllocError>
     ensures { IfOk result (Follows (rules child school) old.now) }
 {
     if let Some(refusal) = refusal_of(old, child, school) {

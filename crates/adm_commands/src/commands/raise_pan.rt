@@ -4,9 +4,9 @@ ghost use Rattle.adm_commands.specs.Tests.{first_failing};
 ghost use Rattle.adm_commands.specs.Rules.{Follows};
 ghost use Rattle.adm_commands.specs.Commands.RaisePan.{rules, may_have, tests, with_pan};
 
+use crate::command_result::{CommandResult, done, refused};
 use crate::failing::first_failing;
 use crate::one_row::one;
-use crate::tried::{Tried, done, refused};
 use adm_register::{Difference, Tables};
 use adm_table::Shared;
 use adm_types::limits::is_pan;
@@ -52,12 +52,12 @@ fn with_pan(
 
 /// The school has the number.
 #[tactic(auto, unfolding(crate::specs::Commands::RaisePan::change_of))]
-pub(crate) fn tried(
+pub(crate) fn evaluate(
     old: &Tables,
     alloc: Global,
     school: SchoolCode,
     pan: u32,
-) -> Result<Tried, AllocError>
+) -> Result<CommandResult, AllocError>
     ensures { IfOk result (Follows (rules school pan) old.now) }
 {
     if let Some(refusal) = refusal_of(old, school, pan) {

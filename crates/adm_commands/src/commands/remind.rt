@@ -4,10 +4,10 @@ ghost use Rattle.adm_commands.specs.Tests.{first_failing};
 ghost use Rattle.adm_commands.specs.Rules.{Follows};
 ghost use Rattle.adm_commands.specs.Commands.Remind.{rules, tests};
 
+use crate::command_result::{CommandResult, done, refused};
 use crate::failing::first_failing;
 use crate::offered::{is_after_offer, is_reminded, offer_at};
 use crate::one_row::one_place;
-use crate::tried::{Tried, done, refused};
 use adm_register::{Difference, Tables};
 use adm_types::{ChildNo, Day, PlaceState, Refusal, SchoolCode};
 use std::alloc::{AllocError, Global};
@@ -29,13 +29,13 @@ fn refusal_of(old: &Tables, child: ChildNo, school: SchoolCode, day: Day) -> Opt
 
 /// The offer is put again, with the day of its reminder.
 #[tactic(auto, unfolding(crate::specs::Commands::Remind::change_of))]
-pub(crate) fn tried(
+pub(crate) fn evaluate(
     old: &Tables,
     alloc: Global,
     child: ChildNo,
     school: SchoolCode,
     day: Day,
-) -> Result<Tried, AllocError>
+) -> Result<CommandResult, AllocError>
     ensures { IfOk result (Follows (rules child school day) old.now) }
 {
     if let Some(refusal) = refusal_of(old, child, school, day) {

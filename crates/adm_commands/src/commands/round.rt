@@ -8,10 +8,10 @@ ghost use Rattle.adm_register.specs.Draws.{IsWithin, draws_so_far};
 ghost use Rattle.adm_commands.specs.Commands.Round.{rules, tests, is_lot_count, are_lots_apart, offer_of, offers_on};
 ghost use Rattle.adm_round.specs.Outcomes.{is_kept};
 
+use crate::command_result::{CommandResult, refused};
 use crate::failing::first_failing;
 use crate::one_row::one;
 use crate::problems::{Parts, parts_of};
-use crate::tried::{Tried, refused};
 use adm_register::draws_so_far::{DrawsSoFar, is_due};
 use adm_register::{Difference, Tables};
 use adm_round::{allot, counts};
@@ -48,19 +48,19 @@ fn refusal_of(
     ])
 }
 
-/// The round's offers and its draw, and how many children it comes to. Who takes part, the schools,
+/// The round's offers and its draw, and the counts of its outcomes. Who takes part, the schools,
 /// and the lots are worked out once, for the tests and for the change. They take memory for each
-/// site, list entry and lot. What it costs grows with the list entries of those who take part, times
-/// their logarithm, with the places, and with the schools times the places of plans; not with the
-/// draws before, which `so_far` counts.
-pub(crate) fn tried(
+/// site, list entry and lot. What it costs grows with the list entries of those who take part,
+/// times their logarithm, with the places, and with the schools times the places of plans; not with
+/// the draws before, which `so_far` counts.
+pub(crate) fn evaluate(
     old: &Tables,
     so_far: &DrawsSoFar,
     alloc: Global,
     draw: u32,
     day: Day,
     lots: &Seq<u32>,
-) -> Result<Tried, AllocError>
+) -> Result<CommandResult, AllocError>
     requires well_formed { WellFormed old.now }
     requires draws { so_far.now ≡ draws_so_far old.now }
     requires within { IsWithin so_far.now }

@@ -12,8 +12,8 @@ use adm_types::{ChildNo, Day, Text};
 use sqlite::types::FromSql;
 use sqlite::{Error, ErrorCode, Row};
 
-/// A value that is not read is none of a register, but where memory was wanting.
-fn fault_of(error: Error) -> OpenFault
+/// A value that is not read is none of a register, unless memory ran out.
+fn column_fault(error: Error) -> OpenFault
     ensures { ((error ≡ Error.SqliteFailure ErrorCode.OutOfMemory) × (result ≡ OpenFault.Memory)) ⊎ ((error ≢ Error.SqliteFailure ErrorCode.OutOfMemory) × (result ≡ OpenFault.BadRow)) }
 {
     match error {
@@ -30,7 +30,7 @@ pub(super) fn value_at<T: FromSql>(row: &Row, at: usize) -> Result<T, OpenFault>
 {
     match row.get(at) {
         Ok(value) => Ok(value),
-        Err(error) => Err(fault_of(error)),
+        Err(error) => Err(column_fault(error)),
     }
 }
 

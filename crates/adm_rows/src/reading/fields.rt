@@ -128,7 +128,7 @@ impl Column for Seq<SchoolCode> {
     }
 }
 
-/// Fields of a record, of which the first stands in a column.
+/// Fields of a record, of which the first is in a column.
 pub(super) trait Columns: Fields {
     ghost count: { ℕ };
 

@@ -17,7 +17,7 @@ use std::collections::BTreeMap;
 type Left = BTreeMap<(ChildNo, bool), SchoolCode>;
 
 /// Gives each child and each imported row its present school, or none where no row says one. A row
-/// that is nobody's, or comes twice, is a bad row, and then some may have been given theirs. Takes
+/// that is nobody's, or is repeated, is a bad row, and then some may have been given theirs. Takes
 /// memory for one school a row, and a search among them for each row, child and imported row.
 pub(super) fn join(
     alloc: Global,
@@ -60,7 +60,7 @@ fn by_child(alloc: Global, rows: &[PresentRow]) -> Result<Left, OpenFault>
     Ok(left)
 }
 
-/// Each child takes its own school out of those that are left.
+/// Each child takes its own school out of those that remain.
 fn give_children(left: &mut Left, children: &mut [Child])
     ensures same { map bare_child children.new ≡ map bare_child children.old }
     ensures given { IsPermutation (left_rows left.old) (flat_map present_of_child children.new ++ left_rows left.new) }
@@ -71,7 +71,7 @@ fn give_children(left: &mut Left, children: &mut [Child])
     }
 }
 
-/// Each imported row takes its own school out of those that are left.
+/// Each imported row takes its own school out of those that remain.
 fn give_imported(left: &mut Left, imported: &mut [ImportRow])
     ensures same { map bare_import imported.new ≡ map bare_import imported.old }
     ensures given { IsPermutation (left_rows left.old) (flat_map present_of_import imported.new ++ left_rows left.new) }

@@ -9,7 +9,7 @@ ghost use Rattle.adm_schema.specs.Schema.{present};
 ghost use Rattle.adm_rows.specs.Present.{present_columns};
 ghost use Rattle.adm_rows.specs.Faults.{IsNoRegister, IsPresentRow};
 ghost use Rattle.adm_rows.specs.Causes.{DiskFailedIn};
-ghost use Rattle.adm_rows.specs.Reads.{FindsIn, Holds, HoldsPresent};
+ghost use Rattle.adm_rows.specs.Reads.{ReadsIn, Holds, HoldsPresent};
 
 use crate::OpenFault;
 use crate::reading::codes::code_at;
@@ -63,8 +63,8 @@ fn read_present<S: Alter>(
     tx: &mut Transaction<'_, S>,
 ) -> Result<Vec<PresentRow>, OpenFault>
     ensures same_reference { tx.new.conn.ghost_name ≡ tx.old.conn.ghost_name }
-    ensures ok { IfOk result (λ all. FindsIn Second (Holds present present_columns all.items) (state S.Store tx.old.conn.now) (state S.Store tx.new.conn.now)) }
-    ensures bad { IfErr result (λ e. IsNoRegister e → (all : List Facts) → AllByRecursion IsPresentRow all → FindsIn Second (λ db. ¬ Holds present present_columns all db) (state S.Store tx.old.conn.now) (state S.Store tx.new.conn.now)) }
+    ensures ok { IfOk result (λ all. ReadsIn Second (Holds present present_columns all.items) (state S.Store tx.old.conn.now) (state S.Store tx.new.conn.now)) }
+    ensures bad { IfErr result (λ e. IsNoRegister e → (all : List Facts) → AllByRecursion IsPresentRow all → ReadsIn Second (λ db. ¬ Holds present present_columns all db) (state S.Store tx.old.conn.now) (state S.Store tx.new.conn.now)) }
     ensures first { HasCleanDisk (state S.Store tx.new.conn.now) → IfErr result (λ e. IsNoRegister e → e ≡ OpenFault.BadRow) }
     ensures disk { IfErr result (λ e. e ≡ OpenFault.Disk → DiskFailedIn Second (state S.Store tx.old.conn.now) (state S.Store tx.new.conn.now)) }
     ensures survives { Survives (state S.Store tx.old.conn.now) (state S.Store tx.new.conn.now) (λ _. ⊥) }
@@ -81,8 +81,8 @@ pub(super) fn presents_in<S: Alter>(
     version: Version,
 ) -> Result<Vec<PresentRow>, OpenFault>
     ensures same_reference { tx.new.conn.ghost_name ≡ tx.old.conn.ghost_name }
-    ensures ok { IfOk result (λ all. FindsIn version (HoldsPresent version all.items) (state S.Store tx.old.conn.now) (state S.Store tx.new.conn.now)) }
-    ensures bad { IfErr result (λ e. IsNoRegister e → (all : List Facts) → AllByRecursion IsPresentRow all → FindsIn version (λ db. ¬ HoldsPresent version all db) (state S.Store tx.old.conn.now) (state S.Store tx.new.conn.now)) }
+    ensures ok { IfOk result (λ all. ReadsIn version (HoldsPresent version all.items) (state S.Store tx.old.conn.now) (state S.Store tx.new.conn.now)) }
+    ensures bad { IfErr result (λ e. IsNoRegister e → (all : List Facts) → AllByRecursion IsPresentRow all → ReadsIn version (λ db. ¬ HoldsPresent version all db) (state S.Store tx.old.conn.now) (state S.Store tx.new.conn.now)) }
     ensures first { HasCleanDisk (state S.Store tx.new.conn.now) → IfErr result (λ e. IsNoRegister e → e ≡ OpenFault.BadRow) }
     ensures disk { IfErr result (λ e. e ≡ OpenFault.Disk → DiskFailedIn version (state S.Store tx.old.conn.now) (state S.Store tx.new.conn.now)) }
     ensures survives { Survives (state S.Store tx.old.conn.now) (state S.Store tx.new.conn.now) (λ _. ⊥) }

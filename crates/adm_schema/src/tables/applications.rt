@@ -2,7 +2,7 @@
 ghost use Rattle.std.specs.Prelude.{◌≡◌};
 ghost use Rattle.adm_schema.specs.Creations.{create_application};
 ghost use Rattle.adm_schema.specs.Texts.{select_applications};
-ghost use Rattle.adm_schema.specs.RowTexts.{put_application, cut_application};
+ghost use Rattle.adm_schema.specs.RowTexts.{put_application, delete_application};
 
 use crate::expected::{KeysAre, TableIs};
 use sqlite_schema::schema::Kind;
@@ -33,8 +33,8 @@ pub fn put_application() -> &'static str
 }
 
 /// Deletes the row of a key.
-pub fn cut_application() -> &'static str
-    ensures { result.now ≡ cut_application }
+pub fn delete_application() -> &'static str
+    ensures { result.now ≡ delete_application }
 {
     "DELETE FROM application WHERE child = ?1"
 }

@@ -2,7 +2,7 @@
 ghost use Rattle.std.specs.Prelude.{◌≡◌};
 ghost use Rattle.adm_schema.specs.Creations.{create_place};
 ghost use Rattle.adm_schema.specs.Texts.{select_places};
-ghost use Rattle.adm_schema.specs.RowTexts.{put_place, cut_place};
+ghost use Rattle.adm_schema.specs.RowTexts.{put_place, delete_place};
 
 use crate::expected::{KeysAre, TableIs};
 use sqlite_schema::schema::Kind;
@@ -35,8 +35,8 @@ pub fn put_place() -> &'static str
 }
 
 /// Deletes the row of a key.
-pub fn cut_place() -> &'static str
-    ensures { result.now ≡ cut_place }
+pub fn delete_place() -> &'static str
+    ensures { result.now ≡ delete_place }
 {
     "DELETE FROM place WHERE child = ?1"
 }

@@ -2,7 +2,7 @@
 ghost use Rattle.std.specs.Prelude.{◌≡◌};
 ghost use Rattle.adm_schema.specs.Creations.{create_present};
 ghost use Rattle.adm_schema.specs.Texts.{select_present};
-ghost use Rattle.adm_schema.specs.RowTexts.{insert_present, find_present, cut_present};
+ghost use Rattle.adm_schema.specs.RowTexts.{insert_present, find_present, delete_present};
 
 use crate::expected::{KeysAre, TableIs};
 use sqlite_schema::schema::Kind;
@@ -40,8 +40,8 @@ pub fn find_present() -> &'static str
 }
 
 /// Deletes the row of a rowid.
-pub fn cut_present() -> &'static str
-    ensures { result.now ≡ cut_present }
+pub fn delete_present() -> &'static str
+    ensures { result.now ≡ delete_present }
 {
     "DELETE FROM present WHERE rowid = ?1"
 }

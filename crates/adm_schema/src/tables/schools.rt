@@ -2,7 +2,7 @@
 ghost use Rattle.std.specs.Prelude.{◌≡◌};
 ghost use Rattle.adm_schema.specs.Creations.{create_school};
 ghost use Rattle.adm_schema.specs.Texts.{insert_school, select_schools};
-ghost use Rattle.adm_schema.specs.RowTexts.{find_school, cut_school};
+ghost use Rattle.adm_schema.specs.RowTexts.{find_school, delete_school};
 
 use crate::expected::{KeysAre, TableIs};
 use sqlite_schema::schema::Kind;
@@ -43,8 +43,8 @@ pub fn find_school() -> &'static str
 }
 
 /// Deletes the row of a rowid.
-pub fn cut_school() -> &'static str
-    ensures { result.now ≡ cut_school }
+pub fn delete_school() -> &'static str
+    ensures { result.now ≡ delete_school }
 {
     "DELETE FROM school WHERE rowid = ?1"
 }

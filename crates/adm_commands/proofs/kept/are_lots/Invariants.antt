@@ -3,7 +3,7 @@ use Rattle.std.specs.Prelude.{nat_lt}
 use Rattle.std.specs.List.{list_all}
 use Rattle.adm_commands.proofs.kept.are_lots.Given as goal
 
--- those that are left decide for all
+-- those that remain decide for all
 abbrev pub invariant-loop-lot : goal.invariant-loop-lot
 invariant-loop-lot l = list_all (λ number. nat_lt number 4294967296) l.rest ≡ list_all (λ number. nat_lt number 4294967296) l.lots
 

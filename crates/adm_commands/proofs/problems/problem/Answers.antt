@@ -2,7 +2,7 @@ use Rattle.std.proofs.Common.{◌≡◌, ◌∙◌, ap, sym, inl, cond, true, fa
 use Rattle.adm_round.specs.Ranks.{market_of_round}
 use Rattle.adm_register.specs.State.{State}
 use Rattle.adm_commands.specs.Problem.{lots_fault}
-use Rattle.adm_commands.specs.Commands.Round.{sites, entrants, round_lots, is_lot_count, are_lots_apart}
+use Rattle.adm_commands.specs.Commands.Round.{sites, round_applicants, round_lots, is_lot_count, are_lots_apart}
 use Rattle.adm_commands.specs.declared.problems.DrawFault.TheVariants.{LotCount, LotsRepeated}
 use Rattle.adm_commands.proofs.Posed.{posed_as}
 use Rattle.adm_commands.proofs.problems.problem.Goals as goal
@@ -32,7 +32,7 @@ problem_of-requires c =
     let apart : are_lots_apart old numbers ≡ true = ap (λ (s : State). are_lots_apart s numbers) (sym same) ∙ sym parts.apart ∙ c.if-not-apart.false in
     let passes : lots_fault old numbers ≡ None = λ i. cond (count i) (cond (apart i) None (Some LotsRepeated)) (Some LotCount) in
     posed_as old numbers c.deref.result.now c.deref-2.result.now c.deref-3.result.now c.tables.ensures.well_formed passes (c.deref.ensures.value ∙ parts.sites ∙ ap sites same)
-    (c.deref-2.ensures.value ∙ parts.applicants ∙ ap entrants same) (c.deref-3.ensures.value ∙ parts.drawn ∙ ap (λ (s : State). round_lots s numbers) same)
+    (c.deref-2.ensures.value ∙ parts.applicants ∙ ap round_applicants same) (c.deref-3.ensures.value ∙ parts.drawn ∙ ap (λ (s : State). round_lots s numbers) same)
 
 pub returns-clause-problem : goal.returns-clause-problem
 returns-clause-problem c =
@@ -40,6 +40,6 @@ returns-clause-problem c =
     let same = c.tables.ensures.value in
     let parts = c.in_ok-sites.ensures in
     let at_sites = c.deref.ensures.value ∙ parts.sites ∙ ap sites same in
-    let at_entrants = c.deref-2.ensures.value ∙ parts.applicants ∙ ap entrants same in
+    let at_entrants = c.deref-2.ensures.value ∙ parts.applicants ∙ ap round_applicants same in
     let at_lots = c.deref-3.ensures.value ∙ parts.drawn ∙ ap (λ (s : State). round_lots s numbers) same in
     c.in_ok-problem_of.ensures ∙ (λ i. market_of_round (at_sites i) (at_entrants i) (at_lots i))

@@ -13,4 +13,4 @@ changed-requires c =
     let made = c.in-Ok in
     let comes = subst (λ (s : State). Follows (rules_of asked) s (Ok (made.whole, made.reply))) c.tables.ensures.value
     (subst (Follows (rules_of asked) c.tables.result.now) made.is c.in_ok-refusal.ensures.follows) in
-    (shows asked).fits old c.tried.ensures.kept c.tables.ensures.well_formed c.allotment_fits.ensures comes.0 made.whole made.reply comes.1
+    (shows asked).fits old c.evaluate.ensures.kept c.tables.ensures.well_formed c.allotment_fits.ensures comes.0 made.whole made.reply comes.1

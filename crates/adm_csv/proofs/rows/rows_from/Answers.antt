@@ -1,6 +1,6 @@
 use Rattle.std.proofs.Common.{◌≡◌, ◌∙◌, ◌+◌, sym, rules, true, subst, arith}
 use Rattle.std.specs.Result.{is_ok}
-use Rattle.adm_csv.specs.Left.{left_of}
+use Rattle.adm_csv.specs.Remaining.{remaining_of}
 use Rattle.adm_csv.proofs.RowLemmas.{HasRows, rows_begin, rows_read, rows_so_far, row_reached, row_fault, rows_end}
 use Rattle.adm_csv.proofs.SourceLemmas.{source_more, source_none}
 use Rattle.adm_csv.proofs.rows.rows_from.Goals as goal
@@ -34,7 +34,7 @@ loop-record-preserved c =
     let items = rw good at c.push.ensures.items in (
       more.1,
       c.in-Ok-row_at.ensures.upper,
-      subst (HasRows c.args.width (left_of c.args.records) (c.loop-record.number + 1) (left_of c.next.new.self)) (sym items)
+      subst (HasRows c.args.width (remaining_of c.args.records) (c.loop-record.number + 1) (remaining_of c.next.new.self)) (sym items)
           (rows_read _ _ _ _ _ _ _ c.in-Ok-row_at.row c.loop-record.invariant.2 more.0 c.in-Ok-row_at.ensures.reads),
     )
 

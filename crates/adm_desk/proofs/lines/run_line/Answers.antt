@@ -5,7 +5,7 @@ use Rattle.std.proofs.lemmas.Result.{on_ok_weaker, on_err_weaker}
 use Rattle.adm_desk.specs.declared.answer.LineAnswer.{LineAnswer}
 use Rattle.adm_desk.specs.declared.run.Run.{Run}
 use Rattle.adm_desk.specs.Lines.{line_text}
-use Rattle.adm_desk.specs.Written.{Answered, Stopped, Counts}
+use Rattle.adm_desk.specs.Written.{Answered, Interrupted, Counts}
 use Rattle.adm_desk.proofs.lines.run_line.Goals as goal
 
 one_answered : {D : Type 0} (runs : D → List ℕ → LineAnswer → D → Type 0) (old new : D) (w v : Option (List ℕ)) (run ran : Run) (line : List ℕ) (a : LineAnswer)
@@ -17,9 +17,9 @@ one_answered runs old new w v run ran line a by counts text = record {
   counted = counts;
 }
 
-one_stopped : {D : Type 0} (runs : D → List ℕ → LineAnswer → D → Type 0) (old new : D) (w v : Option (List ℕ)) (line : List ℕ) (a : LineAnswer)
-    → runs old line a new → (n : ℕ) × Appends w v (take n (line_text a ++ 10 ∷ [])) → Stopped runs old new w v (line ∷ [])
-one_stopped runs old new w v line a by part = record {
+one_interrupted : {D : Type 0} (runs : D → List ℕ → LineAnswer → D → Type 0) (old new : D) (w v : Option (List ℕ)) (line : List ℕ) (a : LineAnswer)
+    → runs old line a new → (n : ℕ) × Appends w v (take n (line_text a ++ 10 ∷ [])) → Interrupted runs old new w v (line ∷ [])
+one_interrupted runs old new w v line a by part = record {
   answers = a ∷ [];
   text = take part.0 (line_text a ++ 10 ∷ []);
   answered = (new, by, refl);
@@ -30,11 +30,11 @@ one_stopped runs old new w v line a by part = record {
 pub returns-clause-answered : goal.returns-clause-answered
 returns-clause-answered g c =
     on_ok_weaker c.write_answer.result
-    (λ text. one_answered g.H.Liner.runs _ _ _ _ _ _ c.args.line.now c.answer-answer.result c.answer-answer.ensures c.count.ensures text)
+    (λ text. one_answered g.H.LineHandler.runs _ _ _ _ _ _ c.args.line.now c.answer-answer.result c.answer-answer.ensures c.count.ensures text)
     c.write_answer.ensures.whole
 
-pub returns-clause-stopped : goal.returns-clause-stopped
-returns-clause-stopped g c =
+pub returns-clause-interrupted : goal.returns-clause-interrupted
+returns-clause-interrupted g c =
     on_err_weaker c.write_answer.result
-    (λ part. one_stopped g.H.Liner.runs _ _ _ _ c.args.line.now c.answer-answer.result c.answer-answer.ensures part)
+    (λ part. one_interrupted g.H.LineHandler.runs _ _ _ _ c.args.line.now c.answer-answer.result c.answer-answer.ensures part)
     c.write_answer.ensures.part

@@ -4,13 +4,13 @@ use Rattle.std.proofs.lemmas.Result.{IfOk-weaker, on_err_weaker}
 use Rattle.adm_desk.specs.declared.run.Run.{Run}
 use Rattle.adm_desk.proofs.Known.{Consumes-nothing, Consumes-then}
 use Rattle.adm_desk.proofs.AnswerLemmas.{Takes-nothing, Takes-then, Takes-breaks}
-use Rattle.adm_desk.proofs.RunLemmas.{Consumes-kept, Consumes-end, too_long, read_has_failed, finished_from, stopped_from, broken_from, read_failed_from, ends_from, writer_left, reader_left}
+use Rattle.adm_desk.proofs.RunLemmas.{Consumes-kept, Consumes-end, too_long, read_has_failed, finished_from, interrupted_from, broken_from, read_failed_from, ends_from, writer_left, reader_left}
 use Rattle.adm_desk.proofs.lines.run_lines.Goals as goal
 
 pub loop-turn-init : goal.loop-turn-init
 loop-turn-init g c =
     rw c.new-pending.ensures.items
-    ([], Consumes-nothing _, Takes-nothing g.H.Liner.runs _ _ _ [], omega arith, refl, refl)
+    ([], Consumes-nothing _, Takes-nothing g.H.LineHandler.runs _ _ _ [], omega arith, refl, refl)
 
 grows : (xs buffer : List ℕ) (turn n : ℕ) → turn ≤ length xs → (n ≡ 0 → ⊥) → n ≤ length buffer → turn + 1 ≤ length (xs ++ take n buffer)
 grows xs buffer turn n bound some within = omega (arith, length-append xs (take n buffer), length-take-le n buffer within)
@@ -24,7 +24,7 @@ loop-turn-preserved g c =
     let i = c.loop-turn.invariant in (
       i.0 ++ take c.in-Ok.count c.read_some.new.buffer,
       Consumes-then _ _ _ i.0 _ i.1 c.in-Ok.ensures.bytes.0,
-      Takes-then g.H.Liner.runs _ _ _ _ _ _ _ _ _ _ _ _ i.0 _ i.2 c.in-Ok-take_bytes.ensures.taken,
+      Takes-then g.H.LineHandler.runs _ _ _ _ _ _ _ _ _ _ _ _ i.0 _ i.2 c.in-Ok-take_bytes.ensures.taken,
       grows i.0 c.read_some.new.buffer c.loop-turn._turn c.in-Ok.count i.3 c.if-count-eq0.false c.in-Ok.ensures.bound,
       c.in-Ok-take_bytes.ensures.writer ∙ i.4,
       goes_on _ _ c.in-Ok.ensures.fails ∙ i.5,
@@ -36,7 +36,7 @@ returns-in-Err-clause-ends g c =
       read_has_failed _ _ _ c.in-Err.ensures.fails,
       i.0,
       Consumes-kept _ _ _ i.0 i.1 c.in-Err.ensures.bytes,
-      read_failed_from g.H.Liner.runs _ _ _ _ _ _ _ i.0 i.2,
+      read_failed_from g.H.LineHandler.runs _ _ _ _ _ _ _ i.0 i.2,
     )
 
 pub returns-then-count-eq0-clause-ends : goal.returns-then-count-eq0-clause-ends
@@ -44,13 +44,13 @@ returns-then-count-eq0-clause-ends g c =
     let i = c.loop-turn.invariant in
     let reads = rw c.if-count-eq0.true at c.in-Ok.ensures.bytes in
     let end = reads.1 (search rules) (search rules) in
-    ends_from g.H.Liner.runs _ _ _ _ _ c.finish.result
+    ends_from g.H.LineHandler.runs _ _ _ _ _ c.finish.result
     (IfOk-weaker c.finish.result _ _
-    (λ ran last. (end, i.0, Consumes-end _ _ _ i.0 i.1 reads.0, finished_from g.H.Liner.runs _ _ _ _ _ _ _ ran _ i.0 i.2 last))
+    (λ ran last. (end, i.0, Consumes-end _ _ _ i.0 i.1 reads.0, finished_from g.H.LineHandler.runs _ _ _ _ _ _ _ ran _ i.0 i.2 last))
     (rw c.as_slice.ensures.value at c.finish.ensures.answered))
     (on_err_weaker c.finish.result
-    (λ last. (i.0, Consumes-end _ _ _ i.0 i.1 reads.0, stopped_from g.H.Liner.runs _ _ _ _ _ _ _ _ _ _ i.0 i.2 last end))
-    (rw c.as_slice.ensures.value at c.finish.ensures.stopped))
+    (λ last. (i.0, Consumes-end _ _ _ i.0 i.1 reads.0, interrupted_from g.H.LineHandler.runs _ _ _ _ _ _ _ _ _ _ i.0 i.2 last end))
+    (rw c.as_slice.ensures.value at c.finish.ensures.interrupted))
     c.finish.ensures.fault
     c.finish.ensures.writer
 
@@ -58,10 +58,10 @@ pub returns-in-Err-take_bytes-clause-ends : goal.returns-in-Err-take_bytes-claus
 returns-in-Err-take_bytes-clause-ends g c =
     let i = c.loop-turn.invariant in
     let bytes = i.0 ++ take c.in-Ok.count c.read_some.new.buffer in
-    ends_from g.H.Liner.runs _ _ _ _ _ (Err c.in-Err-take_bytes.fault) tt (
+    ends_from g.H.LineHandler.runs _ _ _ _ _ (Err c.in-Err-take_bytes.fault) tt (
       bytes,
       Consumes-then _ _ _ i.0 _ i.1 c.in-Ok.ensures.bytes.0,
-      broken_from g.H.Liner.runs _ _ _ _ _ bytes (Takes-breaks g.H.Liner.runs _ _ _ _ _ _ _ _ _ _ i.0 _ i.2 c.in-Err-take_bytes.ensures.broken),
+      broken_from g.H.LineHandler.runs _ _ _ _ _ bytes (Takes-breaks g.H.LineHandler.runs _ _ _ _ _ _ _ _ _ _ i.0 _ i.2 c.in-Err-take_bytes.ensures.broken),
     )
     c.in-Err-take_bytes.ensures.fault
     c.in-Err-take_bytes.ensures.writer
@@ -69,7 +69,7 @@ returns-in-Err-take_bytes-clause-ends g c =
 pub returns-clause-ends : goal.returns-clause-ends
 returns-clause-ends g c =
     let i = c.loop-turn.invariant in
-    (too_long _ _ i.0 c.loop-turn._turn _ i.1 i.3 (omega arith), i.0, i.1, read_failed_from g.H.Liner.runs _ _ _ _ _ _ _ i.0 i.2)
+    (too_long _ _ i.0 c.loop-turn._turn _ i.1 i.3 (omega arith), i.0, i.1, read_failed_from g.H.LineHandler.runs _ _ _ _ _ _ _ i.0 i.2)
 
 pub returns-in-Err-clause-writer : goal.returns-in-Err-clause-writer
 returns-in-Err-clause-writer g c = c.loop-turn.invariant.4

@@ -5,6 +5,6 @@ use Rattle.adm_desk.proofs.lines.run_lines.Given as goal
 
 abbrev pub invariant-loop-turn : goal.invariant-loop-turn
 invariant-loop-turn g l = (read : List ℕ) × Consumes (g.R.Input.remaining l.fn.input) (g.R.Input.remaining l.input) read
-    × Takes g.H.Liner.runs (g.H.Liner.view l.fn.handler) (g.H.Liner.view l.handler) (g.W.Output.contents l.fn.output) (g.W.Output.contents l.output)
+    × Takes g.H.LineHandler.runs (g.H.LineHandler.view l.fn.handler) (g.H.LineHandler.view l.handler) (g.W.Output.contents l.fn.output) (g.W.Output.contents l.output)
     (record { done = 0; refused = 0; failed = false }) l.run [] l.pending.items read × (l._turn ≤ length read)
     × (g.W.Output.has_failed l.output ≡ g.W.Output.has_failed l.fn.output) × (g.R.Input.has_failed l.input ≡ g.R.Input.has_failed l.fn.input)

@@ -1,6 +1,6 @@
 use Rattle.std.proofs.Common.{[], ◌∷◌, refl, rules, ◌++◌, ◌≡◌}
 use Rattle.adm_desk.proofs.CutLemmas.{Cuts-byte}
-use Rattle.adm_desk.proofs.AnswerLemmas.{Answered-nothing, Stopped-nothing}
+use Rattle.adm_desk.proofs.AnswerLemmas.{Answered-nothing, Interrupted-nothing}
 use Rattle.adm_desk.proofs.lines.take_byte.Goals as goal
 
 pub returns-then-is_ok-clause-taken : goal.returns-then-is_ok-clause-taken
@@ -9,7 +9,7 @@ returns-then-is_ok-clause-taken g c =
     rw items record {
       lines = [];
       cut = Cuts-byte c.args.pending.now.items c.args.byte c.if-byte-eq10.false;
-      answered = Answered-nothing g.H.Liner.runs _ _ _;
+      answered = Answered-nothing g.H.LineHandler.runs _ _ _;
     }
 
 pub returns-else-is_ok-clause-broken : goal.returns-else-is_ok-clause-broken
@@ -18,5 +18,5 @@ returns-else-is_ok-clause-broken g c = record {
   more = c.args.pending.now.items ++ c.args.byte ∷ [];
   whole = refl;
   plain = λ _. tt;
-  stopped = Stopped-nothing g.H.Liner.runs _ _;
+  interrupted = Interrupted-nothing g.H.LineHandler.runs _ _;
 }

@@ -8,7 +8,7 @@ use Rattle.adm_desk.proofs.lines.take_bytes.Goals as goal
 pub loop-byte-preserved : goal.loop-byte-preserved
 loop-byte-preserved g c = (
   rw (take_more c.args.bytes.now c.loop-byte.byte-index 0 (omega arith))
-      (Takes-then g.H.Liner.runs _ _ _ _ _ _ _ _ _ _ _ _ _ _ c.loop-byte.invariant.0 c.in-Ok.ensures.taken),
+      (Takes-then g.H.LineHandler.runs _ _ _ _ _ _ _ _ _ _ _ _ _ _ c.loop-byte.invariant.0 c.in-Ok.ensures.taken),
   c.in-Ok.ensures.writer ∙ c.loop-byte.invariant.1,
 )
 
@@ -18,7 +18,7 @@ cut_at xs i within = ap (λ ys. ys ++ drop (i + 1) xs) (sym (take_more xs i 0 wi
 pub returns-in-Err-clause-broken : goal.returns-in-Err-clause-broken
 returns-in-Err-clause-broken g c =
     rw (← cut_at c.args.bytes.now c.loop-byte.byte-index (omega arith))
-    (Breaks-longer g.H.Liner.runs _ _ _ _ _ _ _ (Takes-breaks g.H.Liner.runs _ _ _ _ _ _ _ _ _ _ _ _ c.loop-byte.invariant.0 c.in-Err.ensures.broken))
+    (Breaks-longer g.H.LineHandler.runs _ _ _ _ _ _ _ (Takes-breaks g.H.LineHandler.runs _ _ _ _ _ _ _ _ _ _ _ _ c.loop-byte.invariant.0 c.in-Err.ensures.broken))
 
 pub returns-in-Err-clause-writer : goal.returns-in-Err-clause-writer
 returns-in-Err-clause-writer g c = writer_left {A = Run} (Err c.in-Err.fault) _ _ _ c.loop-byte.invariant.1 c.in-Err.ensures.writer

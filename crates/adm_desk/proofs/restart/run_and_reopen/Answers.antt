@@ -1,7 +1,7 @@
 use Rattle.std.proofs.Common.{◌∙◌, ap, sym, subst, inl, inr, Some, Err}
 use Rattle.std.proofs.lemmas.Option.{IfSome_then}
 use Rattle.sqlite.specs.Held.{Held, state}
-use Rattle.adm_rows.specs.StandsFor.{LeavesOnly}
+use Rattle.adm_rows.specs.Represents.{LeavesOnly}
 use Rattle.adm_desk.specs.DeskState.{DeskState}
 use Rattle.adm_desk.proofs.RestartLemmas.{none_answered}
 use Rattle.adm_desk.proofs.RoundLemmas.{found_rounds, held_or_not}
@@ -27,15 +27,15 @@ returns-in-Err-reopen-clause-kept g c = λ alive.
 pub returns-in-Ok-reopen-clause-rounds : goal.returns-in-Ok-reopen-clause-rounds
 returns-in-Ok-reopen-clause-rounds g c = λ alive clean.
     let keeps = c.in-Ok.ensures.kept alive in
-    found_rounds c.rounds_held.ensures c.rounds_stay.ensures c.args.desk.register c.handle_all.new.self.register c.in-Ok-reopen.desk.register _ _
+    found_rounds c.rounds_are_recorded.ensures c.rounds_stay.ensures c.args.desk.register c.handle_all.new.self.register c.in-Ok-reopen.desk.register _ _
     (c.has_draws_in_order.ensures alive) keeps.run (c.in-Ok-reopen.ensures.finds clean _ _ keeps.leaves)
 
 pub returns-in-Ok-reopen-clause-round : goal.returns-in-Ok-reopen-clause-round
 returns-in-Ok-reopen-clause-round g c = λ alive clean.
     let keeps = c.in-Ok.ensures.kept alive in
     let kept = c.handle_all.new.self.register in
-    let ordered = (c.rounds_held.ensures c.args.desk.register kept _ (c.has_draws_in_order.ensures alive) keeps.run).1 in
-    (kept, keeps.run, held_or_not c.round_held.ensures kept c.in-Ok-reopen.desk.register _ _ ordered keeps.leaves (c.in-Ok-reopen.ensures.finds clean _ _ keeps.leaves))
+    let ordered = (c.rounds_are_recorded.ensures c.args.desk.register kept _ (c.has_draws_in_order.ensures alive) keeps.run).1 in
+    (kept, keeps.run, held_or_not c.round_is_recorded.ensures kept c.in-Ok-reopen.desk.register _ _ ordered keeps.leaves (c.in-Ok-reopen.ensures.finds clean _ _ keeps.leaves))
 
 pub returns-in-Err-clause-run : goal.returns-in-Err-clause-run
 returns-in-Err-clause-run g c =

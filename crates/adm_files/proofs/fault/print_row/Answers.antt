@@ -2,7 +2,7 @@ use Rattle.std.proofs.Common.{ℕ, List, ◌++◌, subst, codes}
 use Rattle.std.specs.Prelude.{decimal}
 use Rattle.std.specs.Io.KnownBytes.{Appends}
 use Rattle.adm_wire.specs.Streams.{Stream}
-use Rattle.adm_files.specs.Told.{IsCut}
+use Rattle.adm_files.specs.Reports.{IsCut}
 use Rattle.adm_files.proofs.Wording.{as_cut, cut_front, cut_more, writes_more}
 use Rattle.adm_files.proofs.fault.print_row.Goals as goal
 

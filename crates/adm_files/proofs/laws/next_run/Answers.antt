@@ -6,8 +6,8 @@ use Rattle.adm_desk.specs.Acknowledged.{LeavesAcknowledged}
 use Rattle.adm_files.proofs.NextRunLemmas.{after_stop, after_close, goes_on}
 use Rattle.adm_files.proofs.laws.next_run.Goals as goal
 
-pub returns-clause-stopped : goal.returns-clause-stopped
-returns-clause-stopped g c = λ r work leaves clean image may.
+pub returns-clause-crashed : goal.returns-clause-crashed
+returns-clause-crashed g c = λ r work leaves clean image may.
     let conn = c.into_connection.result in
     goes_on {h = g.E.Disk} g.met.E.Disk.seen_may_stay c.one_register.ensures image r work
     (after_stop {g = g.D.Disk} conn r work (subst (λ (x : Held (FileStore g.row.D.Denot g.D.Disk)). LeavesAcknowledged r work (file_state x)) (sym c.into_connection.ensures.same) leaves)

@@ -23,7 +23,7 @@ returns-in-Some g c =
     let found = c.in-Some.ensures.lookup in
     rw c.in-Run.is (
       of_answer c.run.result,
-      ran g.A.Answering.runs g.A.Answering.shows c.in-Run.purpose _ _ c.args.rest.now c.in-Some.body.now c.in-Run.length c.run.result found.0.1
+      ran g.A.RequestHandler.runs g.A.RequestHandler.shows c.in-Run.purpose _ _ c.args.rest.now c.in-Some.body.now c.in-Run.length c.run.result found.0.1
           (found.0.2 ∙ front_is c.args.rest.now c.in-Run.length) c.run.ensures,
       c.answer_response.ensures,
     )
@@ -32,4 +32,4 @@ pub returns-in-None : goal.returns-in-None
 returns-in-None g c =
     let missing = c.in-None.ensures.lookup in
     let short : length c.args.rest.now < c.in-Run.length = ⊎_elim (λ h. absurd (omega (arith, h))) (λ h. h) missing.0 in
-    rw c.in-Run.is (bare 400, was_short g.A.Answering.runs g.A.Answering.shows c.in-Run.purpose _ c.args.rest.now c.in-Run.length short, c.bare-in-None.ensures)
+    rw c.in-Run.is (bare 400, was_short g.A.RequestHandler.runs g.A.RequestHandler.shows c.in-Run.purpose _ c.args.rest.now c.in-Run.length short, c.bare-in-None.ensures)

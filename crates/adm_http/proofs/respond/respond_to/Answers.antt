@@ -8,7 +8,7 @@ pub returns-in-Whole : goal.returns-in-Whole
 returns-in-Whole g c =
     let carried = rw c.after.ensures at c.carry.ensures in (
       response_bytes carried.0,
-      responded g.A.Answering.runs g.A.Answering.shows _ _ _ carried.0 c.if-is_empty.ensures
+      responded g.A.RequestHandler.runs g.A.RequestHandler.shows _ _ _ carried.0 c.if-is_empty.ensures
           (Whole c.in-Whole.len c.in-Whole.verdict, (rw c.in-Whole.is at c.requires.judged), carried.1),
       carried.2,
     )
@@ -16,7 +16,7 @@ returns-in-Whole g c =
 pub returns-in-Malformed : goal.returns-in-Malformed
 returns-in-Malformed g c = (
   response_bytes (bare 400),
-  responded g.A.Answering.runs g.A.Answering.shows _ _ _ (bare 400) c.if-is_empty.ensures (Malformed, (rw c.in-Malformed.is at c.requires.judged), (refl, refl)),
+  responded g.A.RequestHandler.runs g.A.RequestHandler.shows _ _ _ (bare 400) c.if-is_empty.ensures (Malformed, (rw c.in-Malformed.is at c.requires.judged), (refl, refl)),
   c.bare.ensures,
 )
 
@@ -24,7 +24,7 @@ pub returns-in-Unfinished : goal.returns-in-Unfinished
 returns-in-Unfinished g c =
     let status = c.unfinished.result in (
       response_bytes (bare status),
-      responded g.A.Answering.runs g.A.Answering.shows _ _ _ (bare status) c.if-is_empty.ensures
+      responded g.A.RequestHandler.runs g.A.RequestHandler.shows _ _ _ (bare status) c.if-is_empty.ensures
           (Unfinished, (rw c.in-Unfinished.is at c.requires.judged), (ap bare c.unfinished.ensures, refl)),
       c.bare-in-Unfinished.ensures,
     )

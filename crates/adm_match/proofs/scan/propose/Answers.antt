@@ -1,4 +1,4 @@
--- The entrant comes to the next school of its list, and the guest there that ranks last leaves.
+-- The entrant proposes to the next school of its list, and the guest there that ranks last leaves.
 use Rattle.std.proofs.Common.{ap, arith}
 use Rattle.std.proofs.lemmas.Option.{slice_get_within}
 use Rattle.adm_match.specs.Market.{market_of}

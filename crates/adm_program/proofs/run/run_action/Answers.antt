@@ -18,5 +18,5 @@ returns-in-Err-clause-err g c =
     let many = λ (e : c.in-Err.fault ≡ season.TooManyHolidays). subst (λ (days : List ℕ). IsTrue (is_from 2000 2100 c.in-Init.year && nat_lt 40 (length days))) c.as_slice.ensures
     (c.in-Err.ensures.too_many.0 (ap Err e)) in
     let why = no_season c.in-Init.file c.in-Init.phase c.in-Init.year c.in-Init.holidays c.in-Err.fault (λ e. c.in-Err.ensures.year_range.0 (ap Err e)) many in
-    let told = subst (λ (f : Fault). IsCauseIn (action.Init c.in-Init.file c.in-Init.phase c.in-Init.year c.in-Init.holidays) f) (sym c.from.ensures) why in
-    subst (λ (a : Action). IsCauseIn a c.from.result) (sym c.in-Init.is) told
+    let reported = subst (λ (f : Fault). IsCauseIn (action.Init c.in-Init.file c.in-Init.phase c.in-Init.year c.in-Init.holidays) f) (sym c.from.ensures) why in
+    subst (λ (a : Action). IsCauseIn a c.from.result) (sym c.in-Init.is) reported

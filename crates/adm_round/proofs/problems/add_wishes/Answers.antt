@@ -4,5 +4,5 @@ use Rattle.adm_round.proofs.problems.add_wishes.Goals as goal
 
 pub loop-index-preserved : goal.loop-index-preserved
 loop-index-preserved c =
-    wishes_more (site_in c.args.sites.now c.args.directory.now) (lot_in c.args.directory.now) c.args.child.now c.args.schools.now c.loop-index.index c.index-schools-index.result
+    wishes_more (site_in c.args.sites.now c.args.round_index.now) (lot_in c.args.round_index.now) c.args.child.now c.args.schools.now c.loop-index.index c.index-schools-index.result
     c.args.wishes.now.items c.loop-index.wishes.items c.add_wish.new.wishes.items c.loop-index-test.true c.index-schools-index.is c.loop-index.invariant c.in_ok-add_wish.ensures

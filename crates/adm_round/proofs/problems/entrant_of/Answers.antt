@@ -11,8 +11,8 @@ use Rattle.adm_round.proofs.problems.entrant_of.Goals as goal
 
 pub returns : goal.returns
 returns c =
-    let site : Code → Option Site = site_in c.args.sites.now c.args.directory.now in
-    let lot : Code → ℕ → ℕ = lot_in c.args.directory.now in
+    let site : Code → Option Site = site_in c.args.sites.now c.args.round_index.now in
+    let lot : Code → ℕ → ℕ = lot_in c.args.round_index.now in
     let a = c.args.applicant.now in
     let own : List Code = option_to_list a.own in
     let child : c.as_ref-child.result.now ≡ a.child = c.as_ref-child.ensures in

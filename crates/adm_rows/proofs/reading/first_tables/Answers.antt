@@ -8,7 +8,7 @@ use Rattle.adm_draws.specs.Draws.{row_of, offer_rows_of, lot_rows_of}
 use Rattle.adm_schema.specs.Schema.{meta}
 use Rattle.adm_schema.proofs.Listed.{school_in, child_in, application_in, place_in, left_list_in, draw_in, offer_in, lot_in, imported_in}
 use Rattle.adm_rows.specs.Forms.{season_row}
-use Rattle.adm_rows.specs.StandsFor.{HasRows}
+use Rattle.adm_rows.specs.Represents.{HasRows}
 use Rattle.adm_rows.proofs.DrawFits.{draws_fit, offers_fit, lots_fit}
 use Rattle.adm_rows.proofs.RegisterRows.{as_many, schools_fit, children_fit, applications_fit, places_fit, left_fit, imported_fit}
 use Rattle.adm_rows.proofs.reading.first_tables.Goals as goal

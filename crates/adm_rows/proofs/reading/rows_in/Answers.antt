@@ -3,7 +3,7 @@ use Rattle.std.proofs.lemmas.Result.{err_from_is_err_and}
 use Rattle.sqlite.specs.Held.{state}
 use Rattle.sqlite.specs.State.{HasCleanDisk}
 use Rattle.adm_rows.specs.Reads.{HoldsFirst}
-use Rattle.adm_rows.specs.StandsFor.{HoldsRegister, HoldsRows}
+use Rattle.adm_rows.specs.Represents.{HoldsRegister, HoldsRows}
 use Rattle.adm_rows.proofs.CauseLemmas.{failed_in}
 use Rattle.adm_rows.proofs.ReadingLemmas.{still, seen_before, seen_after}
 use Rattle.adm_rows.proofs.reading.rows_in.Goals as goal

@@ -9,7 +9,7 @@ use Rattle.adm_types.specs.Children.{bare_child, bare_import, presents_of}
 use Rattle.adm_types.specs.declared.rows.Child.{Child}
 use Rattle.adm_register.specs.declared.register_rows.Rows.{Rows}
 use Rattle.adm_rows.specs.Joins.{import_no}
-use Rattle.adm_rows.specs.StandsFor.{HasRows, names_no_feeder, written_in, written_tables}
+use Rattle.adm_rows.specs.Represents.{HasRows, names_no_feeder, written_in, written_tables}
 use Rattle.adm_rows.proofs.JoinOnce.{once_values}
 use Rattle.adm_rows.proofs.RegisterRows.{bare_children, bare_imports, children_again, imports_again, each_table, first_again, not_said, presents_held, presents_fit, presents_said, presents_written, same_presents, with_later}
 use Rattle.adm_rows.proofs.reading.with_presents.Goals as goal

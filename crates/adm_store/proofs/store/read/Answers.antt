@@ -1,11 +1,11 @@
 use Rattle.std.proofs.Common.{◌≡◌, ◌∙◌, refl, sym, ap, subst, arith, rules}
 use Rattle.sqlite.specs.Held.{Held, state}
 use Rattle.sqlite.specs.State.{HasCleanDisk}
-use Rattle.adm_rows.specs.StandsFor.{HoldsRegister}
+use Rattle.adm_rows.specs.Represents.{HoldsRegister}
 use Rattle.adm_rows.specs.FirstFault.{IsFirstFault}
 use Rattle.adm_rows.specs.Causes.{HasDiskCause}
 use Rattle.adm_rows.proofs.CauseLemmas.{cause_before}
-use Rattle.adm_rows.proofs.FaultLemmas.{stands_now, stands_here}
+use Rattle.adm_rows.proofs.FaultLemmas.{represents_now, stands_here}
 use Rattle.adm_store.proofs.store.read.Goals as goal
 
 pub returns-in-Err-clause-bad : goal.returns-in-Err-clause-bad
@@ -15,7 +15,7 @@ returns-in-Err-clause-bad g c clean live structural db may r file =
     let mid = state g.S.Store c.register_in-found.new.tx.conn.now in
     let late : HasCleanDisk (state g.S.Store c.rollback.new.self.0) = search rules in
     let early : HasCleanDisk mid = omega (arith, c.rollback.ensures.survives.clean) in
-    let it = stands_now (state g.S.Store start) db r file (g.met.S.Store.settled start.store db live may) (c.if-prove.ensures.settled refl live) (c.schema.ensures.live live).0 in
+    let it = represents_now (state g.S.Store start) db r file (g.met.S.Store.settled start.store db live may) (c.if-prove.ensures.settled refl live) (c.schema.ensures.live live).0 in
     c.in-Err.ensures.bad structural r it.0 early (ap (λ (h : Held _). h.schema) begun ∙ it.1) (subst (λ (h : Held _). HoldsRegister it.0 (state g.S.Store h).now.trees r) (sym begun) it.2)
 
 pub returns-in-Err-clause-first : goal.returns-in-Err-clause-first

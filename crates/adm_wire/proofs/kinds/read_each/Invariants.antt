@@ -6,4 +6,4 @@ use Rattle.adm_wire.proofs.kinds.read_each.Given as goal
 
 abbrev pub invariant-loop-item : goal.invariant-loop-item
 invariant-loop-item g l =
-    with_front l.list.items (each g.T.Kind.kind (items_view (drop l.item-index l.items))) ≡ each g.T.Kind.kind (items_view l.items)
+    with_front l.list.items (each g.T.JsonKind.kind (items_view (drop l.item-index l.items))) ≡ each g.T.JsonKind.kind (items_view l.items)

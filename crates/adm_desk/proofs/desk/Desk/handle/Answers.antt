@@ -1,8 +1,8 @@
 use Rattle.std.proofs.Common.{◌≡◌, false, subst, Ok}
 use Rattle.sqlite.specs.Held.{state}
-use Rattle.adm_commands.specs.Outcome.{Step}
+use Rattle.adm_commands.specs.Steps.{Step}
 use Rattle.adm_desk.specs.DeskState.{DeskState}
-use Rattle.adm_desk.proofs.StandingLemmas.{handles}
+use Rattle.adm_desk.proofs.DeskStateLemmas.{handles}
 use Rattle.adm_desk.proofs.desk.Desk.handle.Goals as goal
 
 pub returns-in-Ok : goal.returns-in-Ok

@@ -1,7 +1,7 @@
 use Rattle.std.proofs.Common.{◌≡◌, false, subst}
 use Rattle.std.proofs.lemmas.Result.{IfOk-weaker}
 use Rattle.sqlite.specs.Held.{state}
-use Rattle.adm_rows.specs.StandsFor.{LeavesOnly}
+use Rattle.adm_rows.specs.Represents.{LeavesOnly}
 use Rattle.adm_desk.specs.DeskState.{DeskState}
 use Rattle.adm_desk.proofs.AcknowledgedLemmas.{keeps_commands}
 use Rattle.adm_desk.proofs.desk.Desk.handle_all.Goals as goal

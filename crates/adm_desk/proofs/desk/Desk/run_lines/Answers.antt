@@ -1,6 +1,6 @@
 use Rattle.std.proofs.Common.{◌≡◌, false, subst}
 use Rattle.sqlite.specs.Held.{state}
-use Rattle.adm_rows.specs.StandsFor.{LeavesOnly}
+use Rattle.adm_rows.specs.Represents.{LeavesOnly}
 use Rattle.adm_desk.specs.DeskState.{DeskState}
 use Rattle.adm_desk.proofs.AcknowledgedLemmas.{keeps_lines}
 use Rattle.adm_desk.proofs.desk.Desk.run_lines.Goals as goal

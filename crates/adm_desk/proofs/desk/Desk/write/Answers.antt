@@ -2,7 +2,7 @@ use Rattle.std.proofs.Common.{◌≡◌, false, ap, refl, sym, subst}
 use Rattle.sqlite.specs.Held.{state}
 use Rattle.adm_register.specs.Extends.{Extends}
 use Rattle.adm_store.specs.Changes.{IsChanges}
-use Rattle.adm_rows.specs.StandsFor.{LeavesEither}
+use Rattle.adm_rows.specs.Represents.{LeavesEither}
 use Rattle.adm_desk.specs.DeskState.{DeskState}
 use Rattle.adm_desk.proofs.desk.Desk.write.Goals as goal
 

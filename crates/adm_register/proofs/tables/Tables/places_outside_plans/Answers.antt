@@ -20,14 +20,14 @@ overflow_add-count c =
     let few = count-within at_school (place + 1) pieces in
     let rows = ap length c.pieces-piece-items.ensures.rows in
     let so_far = c.loop-piece.invariant in
-    omega (arith, small, more, few, rows, so_far, c.held_in-count.ensures, c.len-all.ensures.value)
+    omega (arith, small, more, few, rows, so_far, c.count_unplanned-count.ensures, c.len-all.ensures.value)
 
 pub loop-piece-preserved : goal.loop-piece-preserved
 loop-piece-preserved c =
     let pieces = c.pieces-piece-items.result.now in
     let place = c.loop-piece.piece-index in
     let within : place < length pieces = omega (arith, c.loop-piece-test.true) in
-    (λ i. c.loop-piece.invariant i + c.held_in-count.ensures i) ∙ sym (count-more (λ row. is_unplanned_at (Some row) c.args.code) place pieces c.piece-item.result within c.piece-item.is)
+    (λ i. c.loop-piece.invariant i + c.count_unplanned-count.ensures i) ∙ sym (count-more (λ row. is_unplanned_at (Some row) c.args.code) place pieces c.piece-item.result within c.piece-item.is)
 
 pub returns : goal.returns
 returns c =

@@ -11,7 +11,7 @@ use Rattle.adm_rows.specs.declared.fault.OpenFault.TheVariants.{BadRow, Version 
 use Rattle.adm_rows.specs.Forms.{season_row}
 use Rattle.adm_rows.specs.FirstFault.{first_open_fault}
 use Rattle.adm_rows.specs.Reads.{AsksAll}
-use Rattle.adm_rows.specs.StandsFor.{HasRows}
+use Rattle.adm_rows.specs.Represents.{HasRows}
 use Rattle.adm_rows.proofs.FirstFaultLemmas.{first_by_rows, first_refused}
 use Rattle.std.specs.Prelude.{if◌then◌else◌}
 use Rattle.adm_rows.proofs.SeasonRows.{code_known}

@@ -1,7 +1,7 @@
 use Rattle.std.proofs.Common.{arith, sym, subst}
 use Rattle.sqlite.specs.Held.{state}
 use Rattle.adm_schema.specs.declared.version.Version.TheVariants.{Second}
-use Rattle.adm_rows.specs.StandsFor.{StandsAs, LeavesOnly}
+use Rattle.adm_rows.specs.Represents.{RepresentsIn, LeavesOnly}
 use Rattle.adm_store.proofs.CommitLemmas.{count_is, no_change, either}
 use Rattle.adm_store.proofs.store.Store.commit.Goals as goal
 
@@ -9,7 +9,7 @@ pub returns-clause-ok : goal.returns-clause-ok
 returns-clause-ok g c old new step before clean db may =
     let committed = c.in-Ok.ensures.committed clean in
     let early = subst (λ h. LeavesOnly old (state g.S.Store h)) (sym c.self.view_is) before in
-    subst (λ t. StandsAs Second t new) (sym (g.met.S.Store.settled c.write.new.conn.store db committed.0 may)) (committed.1 old new step early)
+    subst (λ t. RepresentsIn Second t new) (sym (g.met.S.Store.settled c.write.new.conn.store db committed.0 may)) (committed.1 old new step early)
 
 pub returns-in_default-clause-err : goal.returns-in_default-clause-err
 returns-in_default-clause-err g c old new step before =

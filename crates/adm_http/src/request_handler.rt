@@ -1,0 +1,57 @@
+// What answers requests: a trait that runs bodies and shows texts, which the desk implements.
+ghost use Rattle.std.specs.Prelude.{◌≡◌, List, ℕ};
+ghost use Rattle.adm_http.specs.Shows.{IsShownAs};
+
+use crate::routes::{Purpose, Resource};
+use adm_desk::LineAnswer;
+use adm_letters::LetterFault;
+use std::alloc::Global;
+
+/// What reading a text gave.
+#[derive(Drop)]
+pub enum Shown {
+    Text(String),
+    /// There is no such child, school or round.
+    Missing,
+    Memory,
+    Failed,
+}
+
+/// What runs bodies and shows texts.
+pub(crate) trait RequestHandler {
+    ghost use Rattle.adm_desk.specs.declared.answer.LineAnswer.{LineAnswer};
+    ghost use Rattle.adm_http.specs.declared.routes.Purpose.{Purpose as Use};
+    ghost use Rattle.adm_http.specs.declared.routes.Resource.{Resource};
+    ghost use Rattle.adm_http.specs.declared.request_handler.Shown.{Shown};
+
+    // The handler, as contracts see it.
+    ghost View: { Type 0 };
+
+    ghost view: { Self → View };
+
+    // What running a body may answer, and what is there then.
+    ghost runs: { Use → View → List ℕ → LineAnswer → View → Type 0 };
+
+    // What reading a text may give.
+    ghost shows: { View → Resource → Shown → Type 0 };
+
+    /// Reads the body as what it is for: runs a command, or answers a question.
+    fn run(&mut self, alloc: Global, purpose: Purpose, body: &[u8]) -> LineAnswer
+        ensures { runs purpose (view self.old) body.now result (view self.new) };
+
+    /// The requested text.
+    fn show(&self, alloc: Global, resource: &Resource) -> Shown
+        ensures { shows (view self.now) resource.now result };
+}
+
+/// What a call that makes a text gave.
+pub(crate) fn given(text: Result<String, LetterFault>) -> Shown
+    ensures { IsShownAs text result }
+{
+    match text {
+        Ok(text) => Shown::Text(text),
+        Err(LetterFault::Memory) => Shown::Memory,
+        Err(LetterFault::UnknownChild | LetterFault::UnknownSchool | LetterFault::NoRound) =>
+            Shown::Missing,
+    }
+}
