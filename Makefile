@@ -7,15 +7,15 @@
 #   make test     every proof, mutants, tests, examples and cases; its last line is 'N passed, M failed'
 #   make reference     the definitions, public functions, clauses, mutants and files, as linked pages and one text, at out/reference; needs python3-jinja2, graphviz
 #   make mutants  the planted bugs that the gate does not try, each of which the proof must reject
-#   make sweep    each request of the built program for memory refused, in turn: what is answered and left then; some minutes
-#   make refusals  the same of a script over disks in memory, judged by rules that share no code with the program, and of the calls that take none
+#   make sweep    each request of the built program for memory refused, in turn: its answers and files are judged; some minutes
+#   make refusals  the same of a script over disks in memory, judged by rules that share no code with the program, and of the calls that need none
 #   make killed-opens  an open after a crash, and opens that are refused, killed at each of their calls to the system; a minute
-#   make audits   admissions-audit on the rounds of 200 random registers, on files that were changed by hand, and on all allocations of small ones
+#   make audits   admissions-audit on the rounds of 200 random registers, on files changed by hand, and on all allocations of small ones
 #   make races    a restore beside which a program starts at 300 random moments; restore and backup with a program started before each operation, killed, failing; some minutes
 #   make costs    the CPU seconds of each crate's proof in the build here, beside a unit of this hour, and the longest chain of crates
-#   make bench    what is aimed at for the costs, beside what they are, in one table; at most ten minutes once the program is built
-#   make bench-more  what commands cost in more tables, beside a baseline in the same run
-#   make deploy-check  what is deployed (site, desk in its own network, page), on this machine alone; needs nginx, openssl, curl, chromium and poppler-utils, no part of test
+#   make bench    the aims for the costs, beside the measured costs, in one table; at most ten minutes once the program is built
+#   make bench-more  the costs of commands in more tables, beside a baseline in the same run
+#   make deploy-check  the deployment (site, desk in its own network, page), on this machine alone; needs nginx, openssl, curl, chromium and poppler-utils; not in test
 #   make install  the program, the office's scripts, the manual page and the office's pages (docs/DEPLOYMENT.md); PREFIX=/usr/local by default
 PREFIX ?= /usr/local
 PROGRAM ?= bin/admissions
@@ -39,7 +39,7 @@ demo: needs-demo build
 cases: needs-cases build
 	@tools/cases bin/admissions $(notdir $(wildcard cases/*))
 
-# Before a build that takes an hour: what the goal needs after it
+# Checked before a build that takes an hour: what the goal needs after it
 needs-demo needs-cases needs-sweep needs-refusals:
 	@tools/needs $(@:needs-%=%)
 

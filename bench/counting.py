@@ -3,9 +3,9 @@ import re
 import subprocess
 
 
-def counted(data, *words):
+def counted(data, *options):
     """The instructions of each function in a file of callgrind's, by its name without its types."""
-    report = subprocess.run(["callgrind_annotate", "--threshold=100", *words, data], stdout=subprocess.PIPE, check=True, text=True).stdout
+    report = subprocess.run(["callgrind_annotate", "--threshold=100", *options, data], stdout=subprocess.PIPE, check=True, text=True).stdout
     found = {}
     for count, name in re.findall(r"^ *([\d,]+) \([^)]*\) +[^:\n]*:(\S.*?)(?: \[[^\]\n]*\])?$", report, re.M):
         name = re.sub(r"::<#[0-9a-f]+>", "", name)
@@ -14,8 +14,8 @@ def counted(data, *words):
 
 
 def grouped(alone, groups):
-    """What functions do by themselves, summed by the first of the groups (a name and a pattern each) that a function's name matches."""
+    """The instructions of functions by themselves, summed by the first of the groups (a name and a pattern each) that a function's name matches."""
     sums = dict.fromkeys((name for name, _ in groups), 0)
     for name, count in alone.items():
-        sums[next(group for group, words in groups if re.search(words, name))] += count
+        sums[next(group for group, pattern in groups if re.search(pattern, name))] += count
     return sums

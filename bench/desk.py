@@ -1,7 +1,7 @@
 """Runs of the program `admissions do`, timed, and the same rows written by Python's sqlite3: for the scripts of bench/.
 
-Each figure is the middle one of three runs. The file lies once on the disk that holds the program and once on a memory file system,
-where there is one, so that what the program itself costs is told apart from what the disk costs.
+Each figure is the median of three runs. The file is once on the disk that holds the program and once on a memory file system, if there
+is one, so that the cost of the program itself can be distinguished from that of the disk.
 """
 import contextlib
 import json
@@ -14,7 +14,7 @@ import tempfile
 import time
 
 DONE = b'{"done":true}\n'
-# a line that changes nothing, and its answer in a register without that school: it tells that the file is open
+# a line that changes nothing, and its answer in a register without that school: it shows that the file is open
 HARMLESS = {"cmd": "raise_pan", "school": "NOSCHOOL", "pan": 1}
 UNKNOWN = '{"name":"UnknownSchool","refused":1}'
 RUNS = 3
@@ -38,7 +38,7 @@ def type_of(folder):
 
 
 def file_systems(program):
-    """The file systems to measure on: the words for each, a folder of it, and the most that a run may cost there."""
+    """The file systems to measure on: the name of each, a folder of it, and the most that a run may cost there."""
     beside = os.path.dirname(program)
     found = [(f"disk ({type_of(beside)})", beside, MOST_ON_DISK)]
     if type_of(MEMORY) == "tmpfs" and os.access(MEMORY, os.W_OK):
@@ -68,7 +68,7 @@ def register(program, room, name, commands):
 
 
 def whole(program, file, commands):
-    """Seconds for one run over these commands, from its start to its end, and of its processor time. Each must be done."""
+    """Wall-clock and CPU seconds for one run over these commands, from its start to its end. Each must be done."""
     given = lines(commands)
     before = resource.getrusage(resource.RUSAGE_CHILDREN)
     start = time.perf_counter()
@@ -89,8 +89,8 @@ def database(room, tables):
     return conn
 
 
-def put(conn, rows):
-    """Inserts rows, which stand in lists by their tables' names, by a statement each."""
+def insert(conn, rows):
+    """Inserts rows, which are in lists by their tables' names, by a statement each."""
     for table, them in rows.items():
         text = f"INSERT INTO {table} VALUES ({', '.join('?' * len(them[0]))})" if them else ""
         for row in them:
@@ -98,7 +98,7 @@ def put(conn, rows):
 
 
 def baseline(room, tables, writes, before=()):
-    """Seconds in which Python's sqlite3 runs these statements on new tables, and of its processor time: each in a transaction of its own, in WAL
+    """Wall-clock and CPU seconds in which Python's sqlite3 runs these statements on new tables: each in a transaction of its own, in WAL
     mode with synchronous=FULL. The statements `before` are run in one transaction, which is not timed."""
     conn = database(room, tables)
     conn.execute("BEGIN")
@@ -122,11 +122,11 @@ def rows_of(file, tables):
 
 
 def at_once(room, tables, rows):
-    """Seconds in which Python's sqlite3 writes these rows into new tables in one transaction, and of its processor time."""
+    """Wall-clock and CPU seconds in which Python's sqlite3 writes these rows into new tables in one transaction."""
     conn = database(room, tables.values())
     start, used = time.perf_counter(), time.process_time()
     conn.execute("BEGIN")
-    put(conn, rows)
+    insert(conn, rows)
     conn.execute("COMMIT")
     seconds, used = time.perf_counter() - start, time.process_time() - used
     conn.close()
@@ -134,7 +134,7 @@ def at_once(room, tables, rows):
 
 
 def spent(process):
-    """Seconds of processor time that a process has used so far."""
+    """CPU seconds that a process has used so far."""
     with open(f"/proc/{process.pid}/schedstat") as it:
         return int(it.read().split()[0]) / 1e9
 
@@ -142,12 +142,12 @@ def spent(process):
 def memory(process):
     """The memory of a process in megabytes: what it has now, and the most that it had."""
     with open(f"/proc/{process.pid}/status") as it:
-        told = dict(line.split(":", 1) for line in it)
-    return tuple(int(told[name].split()[0]) / 1024 for name in ("VmRSS", "VmHWM"))
+        status = dict(line.split(":", 1) for line in it)
+    return tuple(int(status[name].split()[0]) / 1024 for name in ("VmRSS", "VmHWM"))
 
 
 class Desk:
-    """A run of the program, to which commands go some at a time, and which must end with this status."""
+    """A run of the program, which gets some commands at a time and must end with this status."""
 
     def __init__(self, program, file, status=0):
         self.process = subprocess.Popen([program, "do", file], stdin=subprocess.PIPE, stdout=subprocess.PIPE, bufsize=0)
@@ -162,15 +162,15 @@ class Desk:
         assert status == self.status, f"the program ended with {status}, and not with {self.status}"
 
     def take(self, commands):
-        """Hands these commands in and waits for their answers. Each must be done."""
+        """Sends these commands and waits for their answers. Each must be done."""
         are_done(commands, self.answers(commands))
 
     def answers(self, commands):
-        """Hands these commands in and waits for their answers, a line for each. The commands are few enough that the answers find room in a pipe."""
-        return self.said(lines(commands))
+        """Sends these commands and waits for their answers, a line for each. The commands are few enough that the answers fit into a pipe."""
+        return self.answers_to(lines(commands))
 
-    def said(self, given):
-        """The same of lines."""
+    def answers_to(self, given):
+        """The same for lines of input."""
         self.process.stdin.write(given)
         pieces, wanted = [], given.count(b"\n")
         while wanted > 0:
@@ -181,20 +181,20 @@ class Desk:
         return b"".join(pieces).decode().splitlines()
 
     def timed(self, commands):
-        """The answers to these commands, and the seconds of the clock and of the processor from their lines to the last answer."""
+        """The answers to these commands, and the wall-clock and CPU seconds from their lines to the last answer."""
         given = lines(commands)
         used, start = self.spent(), time.perf_counter()
-        found = self.said(given)
+        found = self.answers_to(given)
         return found, (time.perf_counter() - start, self.spent() - used)
 
     def until_open(self):
-        """Waits until the file is open, by a line that is refused; so the run ends with the status of one."""
+        """Waits until the file is open, by a line that is refused; so the run ends with the status for a refused line."""
         answers = self.answers([HARMLESS])
         assert answers == [UNKNOWN], answers
         self.status = self.status or 3
 
     def spent(self):
-        """Seconds of processor time that the run has used so far."""
+        """CPU seconds that the run has used so far."""
         return spent(self.process)
 
     def memory(self):
@@ -202,14 +202,14 @@ class Desk:
         return memory(self.process)
 
     def cost(self, commands):
-        """Seconds of processor time for one of these commands, on the average."""
+        """CPU seconds for one of these commands, on average."""
         before = self.spent()
         self.take(commands)
         return (self.spent() - before) / len(commands)
 
 
 def opening(program, file):
-    """Seconds of the clock and of the processor from the start of a run until its file is open."""
+    """Wall-clock and CPU seconds from the start of a run until its file is open."""
     start = time.perf_counter()
     with Desk(program, file) as run:
         run.until_open()
@@ -217,7 +217,7 @@ def opening(program, file):
 
 
 def within(program, file, commands):
-    """Seconds of the clock and of the processor for these commands in a run that is open, without its start and its end. Each must be done."""
+    """Wall-clock and CPU seconds for these commands in a run that is open, without its start and its end. Each must be done."""
     with Desk(program, file) as run:
         run.until_open()
         answers, cost = run.timed(commands)
@@ -225,13 +225,13 @@ def within(program, file, commands):
     return cost
 
 
-def middle(found):
-    """The middle one of the figures of several runs, each for itself."""
+def medians(found):
+    """The median of each figure over several runs."""
     return tuple(statistics.median(it) for it in zip(*found))
 
 
-def compare(program, words, tables, before, commands, writes):
-    """Prints what these commands cost in a register that has seen the commands `before`, as a multiple of what the writes cost the baseline."""
+def compare(program, what, tables, before, commands, writes):
+    """Prints the cost of these commands in a register that has seen the commands `before`, as a multiple of the baseline's cost of the writes."""
     for where, folder, most in file_systems(program):
         ours, theirs = [], []
         for _ in range(RUNS):
@@ -241,17 +241,17 @@ def compare(program, words, tables, before, commands, writes):
                 if before:
                     whole(program, file, before)
                 ours.append(whole(program, file, commands))
-        (run, used), (least, least_used) = middle(ours), middle(theirs)
+        (run, used), (least, least_used) = medians(ours), medians(theirs)
         print(
-            f"| {words}, {where} | {run / least:.2f} | at most {most} | {used / least_used:.2f} "
+            f"| {what}, {where} | {run / least:.2f} | at most {most} | {used / least_used:.2f} "
             f"| {len(commands) / run:.0f} and {len(writes) / least:.0f} a second |",
             flush=True,
         )
 
 
-def compare_open(program, words, tables, commands, writes):
+def compare_open(program, what, tables, commands, writes):
     """The same on the memory file system, for a run that is open: without the start of the program and the open and the close of its file, as the
-    baseline is told without its own."""
+    baseline is measured without its own."""
     where, folder, most = file_systems(program)[-1]
     ours, theirs, idle = [], [], []
     for _ in range(RUNS):
@@ -262,20 +262,20 @@ def compare_open(program, words, tables, commands, writes):
             ours.append(within(program, file, commands)[0])
     run, least = statistics.median(ours), statistics.median(theirs)
     print(
-        f"| {words}, {where}, in a run that is open (to start, open and close take {statistics.median(idle) * 1000:.0f} milliseconds) "
+        f"| {what}, {where}, in a run that is open (to start, open and close take {statistics.median(idle) * 1000:.0f} milliseconds) "
         f"| {run / least:.2f} | at most {most} | | {len(commands) / run:.0f} and {len(writes) / least:.0f} a second |",
         flush=True,
     )
 
 
-def growth(words, small, large):
-    """Prints how a command's processor time grows, from its seconds in small and in large registers."""
+def growth(what, small, large):
+    """Prints how a command's CPU time grows, from its seconds in small and in large registers."""
     few, many = statistics.median(small), statistics.median(large)
     print(
-        f"| {words} | | at most {MOST_GROWTH} | {many / few:.2f} | {many * 1e6:.0f} and {few * 1e6:.0f} microseconds |",
+        f"| {what} | | at most {MOST_GROWTH} | {many / few:.2f} | {many * 1e6:.0f} and {few * 1e6:.0f} microseconds |",
         flush=True,
     )
 
 
 def head(what, last):
-    print(f"| {what} | Ratio of the times | Target | Ratio of the processor times | {last} |\n|---|---|---|---|---|", flush=True)
+    print(f"| {what} | Ratio of the times | Target | Ratio of the CPU times | {last} |\n|---|---|---|---|---|", flush=True)

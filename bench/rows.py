@@ -3,8 +3,8 @@
 
 It reads each table whole, and then tests what an open tests: that keys are distinct, that codes, names, days and numbers are in their
 ranges, that each child, school and draw that a row names is there, that the lots at one school in one draw are distinct, that draws come
-in order and within their limits, and that places, plans and lists agree with one another. Printed are the seconds of the clock and of the
-processor, without the start of Python. Where the rows are those of no register, it says in which table, and ends with 1.
+in order and within their limits, and that places, plans and lists agree with one another. It prints the wall-clock and
+CPU seconds, without the start of Python. If the rows are those of no register, it reports in which table, and ends with 1.
 """
 import collections
 import contextlib
@@ -179,7 +179,7 @@ class Rows:
         )
 
     def are_lots(self):
-        """No pair comes twice in a draw, and no lot twice at one school in a draw."""
+        """No pair is duplicated in a draw, and no lot at one school in a draw."""
         lots, draws, codes, children = self.rows["lot"], len(self.rows["draw"]), self.codes, self.children
         return (
             len(lots) <= MOST_LOTS
@@ -196,7 +196,7 @@ class Rows:
         present, owners = self.rows["present"], (self.children, {row[0] for row in self.rows["imported"]})
         return len({row[:2] for row in present}) == len(present) and all(which in (0, 1) and child in owners[which] and is_code(code) for child, which, code in present)
 
-    def fault(self):
+    def wrong_rows(self):
         """Which rows are those of no register, or None."""
         tests = {
             "meta": self.has_season, "how many": self.are_few, "school": self.are_schools, "child": self.are_children, "application": self.are_applications,
@@ -208,10 +208,10 @@ class Rows:
 
 def main():
     start, used = time.perf_counter(), time.process_time()
-    fault = Rows(sys.argv[1]).fault()
+    wrong = Rows(sys.argv[1]).wrong_rows()
     seconds, used = time.perf_counter() - start, time.process_time() - used
-    if fault:
-        print(f"{sys.argv[1]} has rows of no register: {fault}", file=sys.stderr)
+    if wrong:
+        print(f"{sys.argv[1]} has rows of no register: {wrong}", file=sys.stderr)
         sys.exit(1)
     print(seconds, used)
 

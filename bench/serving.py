@@ -38,7 +38,7 @@ def post(command):
 
 
 def ask(port, request, is_whole=True):
-    """The whole response to a request, on a connection of its own. Where it is shorter than it says, the client tells that no more bytes come."""
+    """The whole response to a request, on a connection of its own. After a request that is not whole the client closes its sending side."""
     with socket.socket() as it:
         it.connect(("127.0.0.1", port))
         it.sendall(request)
@@ -51,17 +51,17 @@ def ask(port, request, is_whole=True):
 
 
 class Server:
-    """A run of a server, which says when it listens."""
+    """A run of a server, which prints when it listens."""
 
-    def __init__(self, words, count=None):
+    def __init__(self, arguments, count=None):
         with socket.socket() as it:
             it.bind(("127.0.0.1", 0))
             self.port = it.getsockname()[1]
         more = [] if count is None else ["--count", str(count)]
         self.counted = count is not None
-        self.process = subprocess.Popen([*words, str(self.port), *more], stdout=subprocess.PIPE)
-        said = self.process.stdout.readline()
-        assert said == f"serving on 127.0.0.1:{self.port}\n".encode(), said
+        self.process = subprocess.Popen([*arguments, str(self.port), *more], stdout=subprocess.PIPE)
+        printed = self.process.stdout.readline()
+        assert printed == f"serving on 127.0.0.1:{self.port}\n".encode(), printed
 
     def __enter__(self):
         return self
@@ -75,7 +75,7 @@ class Server:
         assert not self.counted or kind is not None or status == 0, status
 
     def asked(self, requests):
-        """The responses, and the seconds of the clock and of the server's processor."""
+        """The responses, and the wall-clock seconds and the CPU seconds of the server."""
         used, start = desk.spent(self.process), time.perf_counter()
         found = [ask(self.port, it) for it in requests]
         return found, time.perf_counter() - start, desk.spent(self.process) - used
@@ -86,21 +86,21 @@ def warm(requests):
     return requests[:50]
 
 
-def answered(words, file, requests, is_counted):
-    """The responses of a server over this file, and the seconds of the clock and of its processor. One that counts connections ends by itself."""
-    with Server([*words, file], len(requests) + len(warm(requests)) if is_counted else None) as server:
+def answered(arguments, file, requests, is_counted):
+    """The responses of a server over this file, and the wall-clock seconds and its CPU seconds. One that counts connections ends by itself."""
+    with Server([*arguments, file], len(requests) + len(warm(requests)) if is_counted else None) as server:
         server.asked(warm(requests))
         return server.asked(requests)
 
 
 def served(program, file, requests):
-    """Our server and the baseline's over copies of a file: for each the seconds of the clock and of the processor. Both must give the same, and
+    """Our server and the baseline's over copies of a file: for each the wall-clock and CPU seconds. Both must give the same responses, and
     leave the same children."""
     found = []
-    for words, is_counted in (([program, "serve"], True), ([sys.executable, BASELINE], False)):
+    for arguments, is_counted in (([program, "serve"], True), ([sys.executable, BASELINE], False)):
         copy = file + ".copy"
         shutil.copyfile(file, copy)
-        found.append((*answered(words, copy, requests, is_counted), desk.rows_of(copy, ["child"])))
+        found.append((*answered(arguments, copy, requests, is_counted), desk.rows_of(copy, ["child"])))
         for name in (copy, copy + "-wal", copy + "-shm"):
             if os.path.exists(name):
                 os.remove(name)

@@ -51,9 +51,9 @@ def schools():
     return [{"cmd": "add_school", "school": f"S{n}", "name": f"School number {n}", "pan": 100, "east": 1000 * n, "north": 0, "criteria": ["sibling"]} for n in range(SCHOOLS)]
 
 
-def child(number, word="add_child", east=None):
+def child(number, command="add_child", east=None):
     return {
-        "cmd": word,
+        "cmd": command,
         "child": number,
         "name": f"Child number {number}",
         "east": 10 * number if east is None else east,
@@ -129,13 +129,13 @@ def a_round(draw, drawn):
     return {"cmd": "round", "draw": draw, "day": FIRST_ROUND, "lots": drawn}
 
 
-# ---- a town that is asked over HTTP: bench/http
+# ---- a town that is queried over HTTP: bench/http
 
 TOWN_SCHOOLS, TOWN_PREFERENCES = 20, 6
 
 
-def resident(number, word, east):
-    return {"cmd": word, "child": number, "name": f"Child {number}", "east": east, "north": 7 * number, "looked_after": number % 50 == 0, "flags": [3], "siblings": [f"S{number % TOWN_SCHOOLS:03}"]}
+def resident(number, command, east):
+    return {"cmd": command, "child": number, "name": f"Child {number}", "east": east, "north": 7 * number, "looked_after": number % 50 == 0, "flags": [3], "siblings": [f"S{number % TOWN_SCHOOLS:03}"]}
 
 
 def town(chance, count):
@@ -167,20 +167,20 @@ def plain_school(code, pan):
     return {"cmd": "add_school", "school": code, "name": f"School {code}", "pan": pan, "east": 0, "north": 0, "criteria": []}
 
 
-def plain_child(number, word="add_child", east=500):
-    return {"cmd": word, "child": number, "name": f"Child {number}", "east": east, "north": number, "looked_after": False, "flags": [], "siblings": []}
+def plain_child(number, command="add_child", east=500):
+    return {"cmd": command, "child": number, "name": f"Child {number}", "east": east, "north": number, "looked_after": False, "flags": [], "siblings": []}
 
 
 def applies_to(number, day, *codes):
     return {"cmd": "apply", "child": number, "day": day, "preferences": list(codes)}
 
 
-def named(word, number, code):
-    return {"cmd": word, "child": number, "school": code}
+def named(command, number, code):
+    return {"cmd": command, "child": number, "school": code}
 
 
 def many_rounds(*others):
-    """All commands before the first round. A and B have no place but for a child with a plan; 50 children list both, of whom 20 are late, and 40
+    """All commands before the first round. A and B have no place except for a child with a plan; 50 children list both, of whom 20 are late, and 40
     list C. The others apply for nothing."""
     commands = [plain_school("A", 1), plain_school("B", 1), plain_school("C", 500)]
     commands += [plain_child(number) for number in (*PLANNED, *HELD, *EARLY, *LATE, *others)]
@@ -210,6 +210,6 @@ def later_held(draw):
 
 
 def hold(run, draws, chance):
-    """Holds these later rounds: the draws that were answered otherwise, each with the answer, and the seconds of the clock and of the processor."""
+    """Holds these later rounds: the draws that were answered otherwise, each with the answer, and the wall-clock and CPU seconds."""
     found, cost = run.timed([one_of_many(draw, chance) for draw in draws])
     return [(draw, answer) for draw, answer in zip(draws, found) if answer != later_held(draw)], cost

@@ -1,6 +1,6 @@
 -- where only the lot decided: who was offered or refused a place with the class and distance of the last that was offered
--- (classes and distances are those of the children's data of today. Who had a place that it wants more was not refused, and is left out; of a child
--- whose application a plan has ended since that cannot be told)
+-- (classes and distances are those of the children's data of today. A child that had a place that it prefers was not refused, and is omitted; for a child
+-- whose application a plan has ended since, that cannot be determined)
 WITH equal AS (
     SELECT ranked.draw, ranked.school, ranked.child, ranked.class, ranked.metres, ranked.lot,
         CASE

@@ -1,5 +1,5 @@
 /* Loaded before the C library, it ends the process by SIGKILL at one of its calls that open, make, lock, change, sync or remove a file: the one of the
-   number KILL_AT, counted from 1, before it is made; with KILL_HALF=1 a write is made by half before. At its end the process writes how many such calls
+   number KILL_AT, counted from 1, before it is made; with KILL_HALF=1 half of a write is done first. At its end the process writes how many such calls
    there were to the file that KILL_COUNT names. tools/killed-opens makes and uses it. */
 #define _GNU_SOURCE
 #include <dlfcn.h>

@@ -1,4 +1,4 @@
-/* Refuses requests for memory in one part of a run. Loaded before the C library, it counts and refuses requests from the line `refuse REFUSAL` on that the program writes to
+/* Refuses requests for memory in one part of a run. Loaded before the C library, it counts and refuses requests after the line `refuse REFUSAL` that the program writes to
    its standard output, up to the line `ample`: with `N` the N-th of them, with `N on` that and all later ones, with `all` each, with `none` none. After `ample` it writes
    there the line `requests R refused M`. tools/refusals makes and uses it. */
 #define _GNU_SOURCE

@@ -1,4 +1,4 @@
-"""What the tools that open a register's file share: its names, its lock, its log, the program, and files that are for their owner alone.
+"""What the tools that open a register's file share: its names, its lock, its log, the program, and files that only their owner can read.
 
 Imported by tools/backup, restore, query, letters and audit; installed as PREFIX/share/admissions/register_files.py.
 """
@@ -17,7 +17,7 @@ import tempfile
 
 # the bytes of a database file that SQLite and the program lock while they have it open
 LOCK_START, LOCK_LENGTH = 1 << 30, 512
-# a log has 41 bytes after a close that succeeded, and below 56 no page
+# a log has 41 bytes after a close that succeeded; one of fewer than 56 bytes has no page
 LEAST_PAGES = 56
 # what SQLite and the program name after a register: the file itself, its log, an index of the log that holds nothing of its own, an older kind of log
 PARTS = ("", "-wal", "-shm", "-journal")
@@ -41,7 +41,7 @@ class InUse(Refused):
 
 
 def say(stream, text):
-    """Prints a line, with names as they were given. Where nobody reads it, what was done is done all the same."""
+    """Prints a line, with names as they were given. If nobody reads it, what was done stays done."""
     with contextlib.suppress(OSError):
         os.write(stream, os.fsencode(text + "\n"))
 
@@ -53,8 +53,8 @@ def warn(tool, name, found):
 
 
 def path_of(name, missing):
-    """The whole path of a name, without links in its folder: the program takes no name with a dash in front for one of its options. `missing` is what is
-    printed where there is no such folder."""
+    """The absolute path of a name, without links in its folder, so that no name that begins with a dash is mistaken for an option. `missing` is
+    what is printed if there is no such folder."""
     if name.endswith("/"):
         raise Refused(f"{name} is the name of a folder")
     folder = os.path.realpath(os.path.dirname(name) or ".")
@@ -72,7 +72,7 @@ def has_content(path):
 
 
 def see_file(name, path):
-    """Refuses what is there and is no regular file, before it is opened: opening a FIFO waits, opening a device acts, and a link may be changed."""
+    """Refuses anything but a regular file, before it is opened: opening a FIFO waits, opening a device acts, and a link may be changed."""
     kind = os.lstat(path).st_mode
     if stat.S_ISLNK(kind):
         real = os.path.realpath(path)
@@ -85,8 +85,8 @@ def see_file(name, path):
 def held(name, path, exclusive=False):
     """A descriptor of a regular file under the lock that the program takes: no program opens the file until this block ends, nor has it open.
 
-    The lock is of the open file and not of the process, so closing another descriptor of the same file does not release it. It is in the way of a program
-    either way; a shared one needs only reading, and other tools may read meanwhile.
+    The lock is of the open file and not of the process, so closing another descriptor of the same file does not release it. Either kind of lock keeps
+    programs out; a shared one needs only read access, and other tools may read meanwhile.
     """
     see_file(name, path)
     fd = os.open(path, (os.O_RDWR if exclusive else os.O_RDONLY) | os.O_NOFOLLOW | os.O_NONBLOCK | os.O_CLOEXEC)
@@ -116,14 +116,14 @@ def write_all(fd, data, at):
 
 
 def pieces_of(fd, at=0):
-    """The pieces of an open file from a byte on, each with where it begins."""
+    """The pieces of an open file from an offset on, each with its offset."""
     while piece := os.pread(fd, CHUNK, at):
         yield at, piece
         at += len(piece)
 
 
 def give_to_owner(fd, found):
-    """Makes a file readable for its owner alone, and gives it the owner and the group of another where this process may."""
+    """Makes a file readable by its owner alone, and gives it the owner and the group of another where this process may."""
     for owner, group in ((-1, found.st_gid), (found.st_uid, -1)):
         with contextlib.suppress(OSError):
             os.fchown(fd, owner, group)
@@ -143,7 +143,7 @@ def copy_to(source, path):
 
 
 def is_equal(one, path, at=0):
-    """Whether an open file and the file at a path have the same bytes, from one on."""
+    """Whether an open file and the file at a path have the same bytes from an offset on."""
     other = os.open(path, os.O_RDONLY | os.O_CLOEXEC)
     try:
         if os.fstat(one).st_size != os.fstat(other).st_size:
@@ -162,7 +162,7 @@ def sync_folder(path):
 
 
 def name_new(old, new):
-    """Renames a file to a name that is free, in one step. FileExistsError where it is not. Disks that cannot do that give it a second name first."""
+    """Renames a file to a name that is free, in one step. FileExistsError where it is not. On disks that cannot do that, it first gets a second name."""
     libc = ctypes.CDLL(None, use_errno=True)
     if libc.renameat2(AT_FDCWD, os.fsencode(old), AT_FDCWD, os.fsencode(new), RENAME_NOREPLACE) == 0:
         return
@@ -203,17 +203,17 @@ def program():
 
 
 def opened(program, file):
-    """Opens a register with the program, and closes it. What was printed where that failed, else nothing."""
+    """Opens a register with the program, and closes it. Returns what was printed if that failed, else an empty text."""
     try:
-        # (the program ignores the signals that this process ignores, as that of a limit of file sizes, and so prints what is wrong)
+        # (the program ignores the signals that this process ignores, such as that of the file size limit, and so prints the error)
         ran = subprocess.run([program, "do", file], stdin=subprocess.DEVNULL, stdout=subprocess.PIPE, stderr=subprocess.STDOUT, restore_signals=False)
     except OSError as error:
         return f"the program does not start: {error.strerror}"
     return "" if ran.returncode == 0 else ", ".join(os.fsdecode(ran.stdout).split("\n")).strip(", ") or f"status {ran.returncode}"
 
 
-def take_in(program, file):
-    """The same, and no log may stay: then the file alone is the register."""
+def merge_log(program, file):
+    """The same, and no log may remain: then the file alone is the register."""
     return opened(program, file) or ("a log stays" if has_content(file + "-wal") else "")
 
 

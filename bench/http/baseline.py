@@ -13,7 +13,7 @@ sys.dont_write_bytecode = True
 from lists import standing
 
 REASONS = {200: "OK", 400: "Bad Request", 404: "Not Found", 409: "Conflict"}
-# those who wait at a school: it stands on their list, above their place where they have one, and they have not left it
+# those who wait at a school: it is on their list, above their place where they have one, and they have not left it
 WAITING = """
 SELECT child.* FROM application JOIN child USING (child) LEFT JOIN place USING (child)
 WHERE instr(';' || preferences || ';', ';' || ?1 || ';')

@@ -212,7 +212,7 @@ class Numbers:
 
 
 def by_truth(own, other):
-    """The entrant's rank at each school: its own where it truly lists the school, and else the other one."""
+    """The entrant's rank at each school: its own if it truly lists the school, and the other one if not."""
     return {school: rank if school in own.list else other[school] for school, rank in own.ranks}
 
 

@@ -1,5 +1,5 @@
 // Deferred acceptance with a heap at each school, on the same markets as crates/match_runs.
-// baseline ENTRANTS WISHES SCHOOLS prints the checksum of what is given, and the microseconds.
+// baseline ENTRANTS WISHES SCHOOLS prints the checksum of the allocation, and the microseconds.
 #include <chrono>
 #include <cstdint>
 #include <cstdio>

@@ -1,7 +1,7 @@
 #!/bin/sh
 # What an allocation costs, beside a plain C++ deferred acceptance with heaps on the same markets: bench/match/run.sh
 #
-# Both programs allot the same markets in the same run, and must give the same. Printed are the microseconds of each,
+# Both programs allot the same markets in the same run, and must give the same. It prints the microseconds of each,
 # their ratio, and how the time grows with the list entries. The times are the least of five runs; the proved program's
 # are those of `Problem::new` and of `offers`.
 set -eu
@@ -13,7 +13,7 @@ trap 'rm -rf "$work"' EXIT
 program=$root/crates/match_runs/out/match_runs
 "${CXX:-clang++}" -O2 -std=c++17 -o "$work/baseline" "$here/baseline.cpp"
 
-# the least of a field over five runs
+# the smallest value of a field over five runs
 least() {
     field=$1
     shift

@@ -13,8 +13,8 @@ def check(world, see):
         (copies / f"nightly-2025-03-0{number}T023000.db").write_text("old")
     before = names()
     see("no backup of a register in use", night(2).returncode, 1)
-    see("and then no copy is taken away", names(), before)
-    see("a number of copies is asked for", [night(word).returncode for word in ("0", "x", "")], [2, 2, 2])
+    see("and then no copy is removed", names(), before)
+    see("a number of copies is required", [night(keep).returncode for keep in ("0", "x", "")], [2, 2, 2])
     letters = lambda: [world.ask(f"/child/{number}/letter", "jane").body for number in range(1, 7)]
 
     world.end(world.desk)

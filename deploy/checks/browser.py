@@ -25,13 +25,13 @@ class Browser:
         take, self.out = os.pipe()
         self.into, give = os.pipe()
         folder = world.room / f"chromium-{who}-{time.monotonic_ns()}"
-        words = ["chromium", "--headless=new", "--remote-debugging-pipe", f"--user-data-dir={folder}", "--disable-gpu", "--disable-dev-shm-usage", "--no-first-run",
+        arguments = ["chromium", "--headless=new", "--remote-debugging-pipe", f"--user-data-dir={folder}", "--disable-gpu", "--disable-dev-shm-usage", "--no-first-run",
                  "--disable-background-networking", "--disable-component-update", "--disable-extensions", "--lang=en-GB", "--no-proxy-server",
                  f"--host-resolver-rules=MAP {NAME} 127.0.0.1:{world.site_port}", f"--ignore-certificate-errors-spki-list={pinned}"]
         if os.getuid() == 0:
-            words.append("--no-sandbox")  # chromium refuses to run as root with one
+            arguments.append("--no-sandbox")  # chromium refuses to run as root with one
         with open(world.room / "log/chromium", "a") as log:
-            self.process = subprocess.Popen(["bash", "-c", f'exec "$@" 3<&{take} 4>&{give}', "bash", *words], pass_fds=(take, give), stdin=subprocess.DEVNULL,
+            self.process = subprocess.Popen(["bash", "-c", f'exec "$@" 3<&{take} 4>&{give}', "bash", *arguments], pass_fds=(take, give), stdin=subprocess.DEVNULL,
                                             stdout=log, stderr=log, env=world.environment)
         world.processes.append(self.process)
         os.close(take)
@@ -52,7 +52,7 @@ class Browser:
         return self.number
 
     def call(self, method, **given):
-        """Sends a request and gives its result; what happens meanwhile is seen to."""
+        """Sends a request and returns its result; events are handled meanwhile."""
         mine, end = self.send(method, **given), time.monotonic() + 150
         while time.monotonic() < end:
             message = self.receive(end)
@@ -127,5 +127,5 @@ class Browser:
         path.write_bytes(base64.b64decode(self.call("Page.captureScreenshot", format="png")["data"]))
 
     def nodes(self):
-        """What a screen reader is given: role and name of each node."""
+        """What a screen reader gets: role and name of each node."""
         return [(node["role"]["value"], node.get("name", {}).get("value", "")) for node in self.call("Accessibility.getFullAXTree")["nodes"] if not node.get("ignored")]

@@ -1,4 +1,4 @@
-"""The desk behind the site: where it can be reached, many clients at once, ones that leave, and a desk that is not well."""
+"""The desk behind the site: where it can be reached, many clients at once, ones that leave, and a desk that fails."""
 
 import concurrent.futures
 import json
@@ -28,8 +28,8 @@ def units(world, see):
     (world.root / "usr/local/bin/admissions").symlink_to(world.program)
     for unit in folder.iterdir():
         unit.write_text(unit.read_text().replace("=/usr/local/", f"={world.root}/usr/local/"))
-    said = world.run("systemd-analyze", "verify", *sorted(folder.iterdir()))
-    see("systemd takes the units, and has nothing to say of them", (said.returncode, said.stdout + said.stderr), (0, ""))
+    verified = world.run("systemd-analyze", "verify", *sorted(folder.iterdir()))
+    see("systemd accepts the units without a remark", (verified.returncode, verified.stdout + verified.stderr), (0, ""))
 
 
 def reach(world, see):
@@ -39,7 +39,7 @@ def reach(world, see):
 
 
 def ask_many(world, count, write=True):
-    """Asks at once, one in four a command, and gives the answers and the seconds of the slowest."""
+    """Sends requests at once, one in four a command, and returns the answers and the seconds of the slowest."""
     gate = threading.Barrier(count)
 
     def one(number):
@@ -64,7 +64,7 @@ def many(world, see):
 
 
 def too_many(world, see):
-    """With a desk that stands still, the queue fills up."""
+    """While the desk is suspended, the queue fills up."""
     world.stop_desk()
     try:
         with concurrent.futures.ThreadPoolExecutor(300) as pool:
@@ -75,12 +75,12 @@ def too_many(world, see):
     finally:
         world.continue_desk()
     busy = [answer for answer in answers if answer.status == 503]
-    see("of 300 at once on a desk that stands still 256 wait and get their answer", [answer.status for answer in answers].count(200), 256)
-    see("and the others are told to come again", {(answer.body, answer.fields.get("retry-after")) for answer in busy}, {('{"busy":true}', "2")})
+    see("of 300 at once on a suspended desk 256 wait and get their answer", [answer.status for answer in answers].count(200), 256)
+    see("and the others are asked to retry", {(answer.body, answer.fields.get("retry-after")) for answer in busy}, {('{"busy":true}', "2")})
 
 
 def leaves(world, see):
-    """A client that leaves when its command is at the desk: it is done, and the log says so."""
+    """A client that leaves when its command is at the desk: it is done, and the log reports it."""
     body = AMEND.format("left")
     logged = lambda: [line["status"] for line in map(json.loads, world.logged().splitlines()) if "Fay Ford left" in line["body"]]
     world.stop_desk()
@@ -88,7 +88,7 @@ def leaves(world, see):
         client = world.connect()
         client.sendall(f"POST /command HTTP/1.1\r\nHost: {NAME}\r\n{world.basic('jane')}\r\nContent-Type: application/json\r\nOrigin: https://{NAME}\r\n"
                        f"Content-Length: {len(body)}\r\n\r\n{body}".encode())
-        until(world.at_desk, "the command before the desk that stands still")
+        until(world.at_desk, "the command before the suspended desk")
         client.close()
         see("a command whose sender leaves was neither answered nor logged before", logged(), [])
     finally:
@@ -98,10 +98,10 @@ def leaves(world, see):
 
 
 def gone(world, see):
-    """A desk that is killed and comes again."""
+    """A desk that is killed and restarted."""
     world.end(world.desk, signal.SIGKILL)
     see("while there is no desk the site says so", (lambda it: (it.status, it.body))(world.ask("/child/1", "jane")), (502, '{"unanswered":true}'))
     see("the log is taken in after a kill", world.run("admissions", "do", world.file).returncode, 0)
     world.start_desk()
-    see("a desk that comes again is found without more", world.ask("/child/1", "jane").status, 200)
+    see("a desk that was restarted is found without more", world.ask("/child/1", "jane").status, 200)
     see("and has what was done before", "Fay Ford left" in world.ask("/child/6/letter", "jane").body)

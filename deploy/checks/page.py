@@ -1,4 +1,4 @@
-"""The page, used in a browser: by keyboard, at 320 pixels, with names that are markup, and with each answer that the desk can give."""
+"""The page, used in a browser: by keyboard, at 320 pixels, with names that are markup, and with each answer of the desk."""
 
 import signal
 
@@ -24,7 +24,7 @@ def check(world, see, picture=None):
     markup(page, see)
     narrow(page, see)
     heard(page, see)
-    told(page, see)
+    shown(page, see)
     other_site(page, see)
     page.open("/")
     failing(world, page, see)
@@ -32,10 +32,10 @@ def check(world, see, picture=None):
 
 
 def strangers(world, see):
-    for who, said in (("", "401 Authorization Required"), ("alpha", "403 Forbidden")):
+    for who, title in (("", "401 Authorization Required"), ("alpha", "403 Forbidden")):
         page = Browser(world, who)
         page.open("/")
-        see(f"the page is not shown to {who or 'who is not signed in'}", page.value("[document.title, document.getElementById('child-form')]"), [said, None])
+        see(f"the page is not shown to {who or 'who is not signed in'}", page.value("[document.title, document.getElementById('child-form')]"), [title, None])
         world.end(page.process)
 
 
@@ -46,7 +46,7 @@ def find(page, number):
 
 
 def act(page, script):
-    """Presses something, and gives the answer in words when it is there; nothing where the page asks first."""
+    """Presses something, and returns the answer as it is shown; nothing if the page asks for confirmation first."""
     page.value("document.getElementById('answer').textContent = ''")
     page.value(script)
     page.wait(f"document.getElementById('sure').open || {ANSWER} && !/^(Asking|Sending)/.test({ANSWER})")
@@ -54,7 +54,7 @@ def act(page, script):
 
 
 def dates(page):
-    """What on the page looks like a day in the form of the register."""
+    """The parts of the page that look like a day in the form of the register."""
     return page.value("document.body.innerText.match(/\\d{4,}-\\d\\d-\\d\\d/g) || []")
 
 
@@ -72,11 +72,11 @@ def found(page, see):
     find(page, 77)
     see("a child that is not there", page.value(ANSWER), "The register has none of this number or code.")
     page.value("document.getElementById('child-number').value = '0'; document.querySelector('#child-form button').click()")
-    see("a number that is none is not asked for", page.value("document.getElementById('child-number').matches(':invalid')"))
+    see("an invalid number is not requested", page.value("document.getElementById('child-number').matches(':invalid')"))
 
 
 def by_keyboard(page, see):
-    """From the top: find child 3, leave its list, first with second thoughts."""
+    """From the top: find child 3, leave its list, after cancelling once."""
     page.open("/")
     page.press("Tab")
     see("the first stop is the child's number", page.value(f"{FOCUS}.id"), "child-number")
@@ -97,7 +97,7 @@ def by_keyboard(page, see):
     page.press("Tab")
     page.press("Enter")
     page.wait(f"{ANSWER}.startsWith('Done')")
-    see("the answer in words", page.value(ANSWER), "Done, and kept. Child 3 has left the waiting list of B Beta.")
+    see("the answer as a text", page.value(ANSWER), "Done, and kept. Child 3 has left the waiting list of B Beta.")
     see("has the focus", page.value(f"{FOCUS}.id"), "answer")
     see("and the child is shown as it is now", "It waits at no school." in page.value(RESULT))
 
@@ -123,20 +123,20 @@ def answers(page, see):
     see("and cannot be noted twice", page.value("document.querySelector('.remind').hidden"))
     find(page, 2)
     see("an offer is accepted", act(page, "document.querySelector('[data-act=accept]').click()"), "Done, and kept. Child 2 has accepted its place at B Beta.")
-    see("an old press is refused in words", act(page, "send({cmd: 'accept', child: 2, school: 'B'}, '')"),
+    see("a stale button is refused with a text", act(page, "send({cmd: 'accept', child: 2, school: 'B'}, '')"),
         "Refused, and nothing has changed. The child has no offer of this school that awaits this answer. Perhaps it was answered already.")
     decline = "document.querySelector('[data-act=decline]').click()"
     page.value(decline)
     page.wait("document.getElementById('sure').open")
     see("a place is declined after a question", page.value("document.getElementById('sure-question').textContent"),
         "Decline the place of child 2, Ben Bell, at B Beta? It is for good: the place is not offered to the child again.")
-    see("and in words", act(page, "document.getElementById('sure-yes').click()"), "Done, and kept. Child 2 has declined its place at B Beta.")
-    see("every refusal has its words", page.value("Object.keys(REFUSALS).length"), 23)
+    see("and with a text", act(page, "document.getElementById('sure-yes').click()"), "Done, and kept. Child 2 has declined its place at B Beta.")
+    see("every refusal has its text", page.value("Object.keys(REFUSALS).length"), 23)
 
 
 def lists(page, see):
-    said = act(page, "document.getElementById('school-code').value = 'a'; document.querySelector('#school-form button').click()")
-    see("a waiting list, also by a code in small letters", said, "The waiting list of A, as it is now.")
+    answer = act(page, "document.getElementById('school-code').value = 'a'; document.querySelector('#school-form button').click()")
+    see("a waiting list, also by a code in small letters", answer, "The waiting list of A, as it is now.")
     sides = "[...document.querySelectorAll('#result tr')].map(row => [...row.cells].map(cell => getComputedStyle(cell).textAlign))"
     table = "[...document.querySelectorAll('#result tr')].map(row => [...row.cells].map(cell => cell.innerText).join(' '))"
     see("as a table", page.value(table), ["Position Child Class Metres", "1 Child 2 1 200"])
@@ -161,7 +161,7 @@ def letter(page, see):
         "Place: C <img src=x onerror=\"document.title='hit'\">, offered 3 March 2025, reminded 20 March 2025",
         "The offer may be withdrawn 14 days after 20 March 2025 if it is not answered.", "Waiting: nowhere"])
     see("and in no other form", dates(page), [])
-    see("its button asks for the printer", page.value("(() => { let asked = 0; window.print = () => asked++; document.querySelector('[data-at=print]').click(); return asked })()"), 1)
+    see("its button opens the print dialog", page.value("(() => { let asked = 0; window.print = () => asked++; document.querySelector('[data-at=print]').click(); return asked })()"), 1)
     act(page, "document.querySelector('[data-at=back]').click()")
     see("and back to the child", page.value(f"{FOCUS}.textContent").startswith("Child 4, "))
 
@@ -172,14 +172,14 @@ def markup(page, see):
     see("a name that is markup is text", "Child 4, <script>document.title='hit'</script>" in page.value(RESULT))
     see("a school's too", "<img src=x onerror=\"document.title='hit'\">" in page.value(RESULT))
     see("and does nothing", (page.value("document.title"), page.value("document.querySelectorAll('img, main script').length")), ("School admissions", 0))
-    # What some fault of the page would let in: the browser is seen to refuse each, by the news of it or by the failure
+    # What an error of the page could let in: the browser must refuse each, which its report or the failure shows
     refused = """new Promise((resolve) => {{
         let it;
         window.hit = undefined;
         document.addEventListener("securitypolicyviolation", (event) => resolve([event.effectiveDirective, window.hit === undefined, document.querySelector("main b") === null]), {{ once: true }});
         try {{ {0} }} catch {{ }}
     }})"""
-    for told, script, rule in (
+    for what, script, rule in (
         ("a script", "it = document.createElement('script'); it.append('window.hit = 1'); document.body.append(it)", "require-trusted-types-for"),
         ("a script of another site", "it = document.createElement('script'); it.setAttribute('src', 'https://evil.example/x.js'); document.body.append(it)", "require-trusted-types-for"),
         ("markup", "document.querySelector('main').innerHTML += '<b>hit</b>'", "require-trusted-types-for"),
@@ -187,7 +187,7 @@ def markup(page, see):
         ("a style", "it = document.createElement('style'); it.append('p {}'); document.body.append(it)", "style-src-elem"),
         ("an image from elsewhere", "it = new Image(); it.onload = () => window.hit = 1; it.src = 'data:image/gif;base64,R0lGODlhAQABAAAAACw='", "img-src"),
     ):
-        see(f"{told} that some fault of the page would let in does nothing", page.value(refused.format(script)), [rule, True, True])
+        see(f"{what} that an error of the page could let in does nothing", page.value(refused.format(script)), [rule, True, True])
     page.errors.clear()
 
 
@@ -206,7 +206,7 @@ def narrow(page, see):
 
 
 def heard(page, see):
-    """What a screen reader is given."""
+    """What a screen reader gets."""
     find(page, 4)
     nodes = page.nodes()
     used = [node for node in nodes if node[0] in ("button", "textbox", "Date", "DateTime", "table", "link", "dialog")]
@@ -214,13 +214,13 @@ def heard(page, see):
     see("the fields by their labels", [name for role, name in nodes if role == "textbox"][:3], ["Child’s number", "School’s code", "Round’s number"])
     roles = [role for role, _ in nodes]
     see("there are a status, headings and a main part", all(role in roles for role in ("status", "heading", "main", "search", "banner")))
-    see("the language is said, and answers are read out", page.value("[document.documentElement.lang, document.getElementById('answer').getAttribute('aria-live')]"), ["en-GB", "polite"])
+    see("the language is declared, and answers are read out", page.value("[document.documentElement.lang, document.getElementById('answer').getAttribute('aria-live')]"), ["en-GB", "polite"])
 
 
-def told(page, see):
-    """Answers that a desk that is well does not give are put in their place here."""
+def shown(page, see):
+    """Answers that a working desk does not give are inserted here in place of its own."""
     accept = "send({cmd: 'accept', child: 1, school: 'A'}, '')"
-    for status, body, said in (
+    for status, body, expected in (
         (503, '{"memory":true}', "The desk had no memory for this. Nothing has changed. Ask again."),
         (503, '{"busy":true}', "Too many asked at once. This was not passed on, and nothing has changed. Ask again."),
         (400, '{"fault":3,"name":"MissingField"}', "The desk could not read this (a field is missing). Nothing has changed."),
@@ -229,7 +229,7 @@ def told(page, see):
         (504, "<html>", "There was no answer. It may be done: look before you send it again."),
     ):
         page.rule = lambda method, path: (status, body) if method == "POST" else None
-        see(f"an answer {status} {body}", act(page, accept), said)
+        see(f"an answer {status} {body}", act(page, accept), expected)
     page.rule = lambda method, path: "broken" if method == "POST" else None
     see("a connection that breaks", act(page, accept), "There was no answer. It may be done: look before you send it again.")
     page.rule = lambda method, path: "broken"
@@ -238,7 +238,7 @@ def told(page, see):
 
 
 def other_site(page, see):
-    """A page of another site, in a browser that is signed in: a form, a script and a script with leave to ask."""
+    """A page of another site, in a browser that is signed in: a form, a script and a script that is allowed to ask."""
     page.rule = lambda method, path: None
     page.open("/child/1")
     before = page.value("document.body.innerText")
@@ -259,7 +259,7 @@ def other_site(page, see):
 
 
 def failing(world, page, see):
-    """The real desk, killed in the middle of a command, and on a disk that takes no more."""
+    """The real desk, killed in the middle of a command, and on a full disk."""
     find(page, 1)
     world.stop_desk()
     page.value("document.getElementById('answer').textContent = ''; void send({cmd: 'accept', child: 1, school: 'A'}, '')")
@@ -272,8 +272,8 @@ def failing(world, page, see):
     find(page, 6)
     size = (world.room / "reg.db").stat().st_size
     world.run("prlimit", "--pid", world.desk.pid, f"--fsize={size}:{size}")
-    said = act(page, "send({cmd: 'amend', child: 6, name: 'F'.repeat(80), east: 1, north: 300, looked_after: false, flags: [], siblings: []}, '')")
-    see("a disk that takes no more", said, "The disk of the register has failed, and the desk does nothing more until it is mended. Tell who runs it. "
+    answer = act(page, "send({cmd: 'amend', child: 6, name: 'F'.repeat(80), east: 1, north: 300, looked_after: false, flags: [], siblings: []}, '')")
+    see("a full disk", answer, "The disk of the register has failed, and the desk does nothing more until it is mended. Tell who runs it. "
         "What you sent may be done or not: look when the desk is back. The child cannot be shown now.")
     world.end(world.desk)
     see("then the log is taken in", world.run("admissions", "do", world.file).returncode, 0)

@@ -21,20 +21,20 @@ def check(world, see):
     names(world, see)
     see("none of these has changed the child", world.ask("/child/1/letter", "jane").body, before)
     see("a command of the office is done", (lambda it: (it.status, it.body))(world.ask("/command", "jane", ACCEPT)), (200, '{"done":true}'))
-    see("and refused when it comes again", (lambda it: (it.status, it.body))(world.ask("/command", "jane", ACCEPT)), (409, '{"name":"NotOffered","refused":15}'))
+    see("and refused when it is repeated", (lambda it: (it.status, it.body))(world.ask("/command", "jane", ACCEPT)), (409, '{"name":"NotOffered","refused":15}'))
     see("a body in chunks is passed on whole", world.ask("/command", "jane", ACCEPT, options=("--header", "Transfer-Encoding: chunked")).body, '{"name":"NotOffered","refused":15}')
     passwords = world.root / "etc/admissions/passwords"
     passwords.write_text("".join(line for line in passwords.read_text().splitlines(True) if not line.startswith("smith:")))
-    see("whose password is taken out is signed in no more", world.ask("/child/1", "smith").status, 401)
+    see("whose password is removed is signed in no more", world.ask("/child/1", "smith").status, 401)
     log = world.logged()
     see("the log has who sent which command, and what it came to", '"who":"jane"' in log and r'"status":"200","desk":"200"' in log and ACCEPT.replace('"', r'\"') in log)
-    see("no password is in the log", any(word in log for word in world.passwords.values()), False)
+    see("no password is in the log", any(password in log for password in world.passwords.values()), False)
 
 
 def sign_in(world, see):
     for path in ("/", "/page.js", "/child/1", "/child/1/letter", "/school/A/waiting", "/round/1", "/nothing"):
         see(f"not signed in: {path}", world.ask(path).status, 401)
-    see("what asks whether somebody may cannot be asked for", world.ask("/may", "jane").status, 404)
+    see("the internal query for a permission cannot be requested", world.ask("/may", "jane").status, 404)
     see("not signed in: a command", world.ask("/command", body=ACCEPT).status, 401)
     see("a wrong password", world.ask("/child/1", "jane", password="wrong").status, 401)
     see("a school's password with the office's name", world.ask("/child/1", "jane", password=world.passwords["alpha"]).status, 401)
@@ -71,9 +71,9 @@ def school(world, see):
 
 def other_pages(world, see):
     """What a page of another site can make a browser send, with the password of who is signed in."""
-    for told, origin in (("another site", "https://evil.example"), ("the same name without TLS", f"http://{NAME}"), ("another port", f"https://{NAME}:8443"),
-                         ("a name that begins alike", f"https://{NAME}.evil.example"), ("nowhere (null)", "null"), ("one that is not told", None)):
-        see(f"a command from {told}", world.ask("/command", "jane", ACCEPT, origin=origin).status, 403)
+    for sender, origin in (("another site", "https://evil.example"), ("the same name without TLS", f"http://{NAME}"), ("another port", f"https://{NAME}:8443"),
+                         ("a name that begins alike", f"https://{NAME}.evil.example"), ("nowhere (null)", "null"), ("one without an origin", None)):
+        see(f"a command from {sender}", world.ask("/command", "jane", ACCEPT, origin=origin).status, 403)
     for kind in ("application/x-www-form-urlencoded", "text/plain", "multipart/form-data; boundary=x", "application/json, text/plain", ""):
         see(f"a command as {kind or 'no type'}", world.ask("/command", "jane", ACCEPT, kind=kind).status, 415)
     see("a question from another site", world.ask("/what-if", "jane", QUESTION, origin="https://evil.example").status, 403)
@@ -90,9 +90,9 @@ def bounds(world, see):
     see("one byte more, in chunks", world.ask("/command", "jane", f"@{body}", options=("--header", "Transfer-Encoding: chunked")).status, 413)
     see("a target that is too long", world.ask("/" + "x" * 8192, "jane").status, 414)
     see("a field that is too long", world.ask("/child/1", "jane", options=("--header", "X: " + "x" * 8192)).status, 400)
-    fields = [word for number in range(40) for word in ("--header", f"X{number}: {'x' * 300}")]
+    fields = [option for number in range(40) for option in ("--header", f"X{number}: {'x' * 300}")]
     see("a head that is too long", world.ask("/child/1", "jane", options=fields).status, 400)
-    many = [word for number in range(100) for word in ("--header", f"X{number}: x")]
+    many = [option for number in range(100) for option in ("--header", f"X{number}: x")]
     see("100 short fields stay here, and the desk does not see them", world.ask("/child/1", "jane", options=many).status, 200)
 
 

@@ -1,4 +1,4 @@
-"""Many slow clients at the site: while they are all open and have no answer, others get theirs. The desk never sees a slow one."""
+"""Many slow clients at the site: while they are all open and have no answer, other clients are served. The desk never sees a slow one."""
 
 import concurrent.futures
 import ssl
@@ -14,14 +14,14 @@ def check(world, see):
     see("beside 20 silent clients and 20 that send a byte at a time, others get their answers", answers, [200] * 8)
     see("and all 40 are still open then, and have no answer", waiting, 40)
     see("a command was among the others", "Fay Ford beside them" in world.ask("/child/6/letter", "jane").body)
-    for told, some in (("silent before TLS", clients[:10]), ("silent after it", clients[10:20]), ("of a slow head", clients[20:30]), ("of a slow body", clients[30:])):
-        ended = [until(client.ended, f"the end of a client {told}") for client in some]
-        see(f"the site gives up each client {told}, without an answer", ended, ["closed"] * 10)
+    for kind, some in (("silent before TLS", clients[:10]), ("silent after it", clients[10:20]), ("of a slow head", clients[20:30]), ("of a slow body", clients[30:])):
+        ended = [until(client.ended, f"the end of a client {kind}") for client in some]
+        see(f"the site gives up each client {kind}, without an answer", ended, ["closed"] * 10)
     see("and the desk has seen none of them", "fault: Read" in (world.room / "log/desk").read_text(), False)
 
 
 class Slow:
-    """A client that sends `first` at once, and of `rest` a byte each time that it is asked to."""
+    """A client that sends `first` at once, and a byte of `rest` at each call."""
 
     def __init__(self, connection, first=b"", rest=b""):
         self.connection, self.rest, self.is_broken = connection, rest, False
@@ -39,7 +39,7 @@ class Slow:
             self.is_broken = True
 
     def ended(self):
-        """Nothing while the site waits for more; else how it ended: 'closed', or what came."""
+        """Nothing while the site waits for more; else how it ended: 'closed', or what was received."""
         try:
             return self.connection.recv(1000) or "closed"
         except (BlockingIOError, ssl.SSLWantReadError):
@@ -58,7 +58,7 @@ def open_slow_ones(world):
 
 def beside_slow_ones(world):
     """The clients, what others were answered meanwhile, and how many of the clients were then open and without an answer. The site closes
-    a slow one after some seconds: where the machine was too slow to answer before that, nothing is seen, and new ones are opened."""
+    a slow one after some seconds: if the machine was too slow to answer before that, the run is void, and new ones are opened."""
     for _ in range(5):
         clients = open_slow_ones(world)
         with concurrent.futures.ThreadPoolExecutor(8) as pool:
@@ -69,7 +69,7 @@ def beside_slow_ones(world):
                 time.sleep(0.05)
         answers, ends = [it.result().status for it in asked], ["closed" if client.is_broken else client.ended() for client in clients]
         waiting = ends.count(None)
-        if waiting == len(clients) or set(ends) - {None, "closed"}:  # one that was answered is a failure, and no matter of time
+        if waiting == len(clients) or set(ends) - {None, "closed"}:  # an answered one is a failure, not a matter of time
             break
         for client in clients:
             client.connection.close()

@@ -38,20 +38,20 @@ REGISTER = r"""
 
 
 def free_port():
-    """A port of 127.0.0.1 that nothing has at this moment: whoever takes it tries another one where it was faster."""
+    """A port of 127.0.0.1 that nothing has at this moment: a caller that finds it taken tries another one."""
     with socket.socket() as it:
         it.bind(("127.0.0.1", 0))
         return it.getsockname()[1]
 
 
-def until(what, told, seconds=120):
-    """Waits until `what()` is true, and gives it. So many seconds are for a machine that is slow: what is waited for is the event."""
+def until(what, name, seconds=120):
+    """Waits until `what()` is true, and returns it. The limit in seconds is for slow machines: the event is what ends the wait."""
     end = time.monotonic() + seconds
     while time.monotonic() < end:
         if value := what():
             return value
         time.sleep(0.02)
-    raise TimeoutError(f"{told}: not within {seconds} seconds")
+    raise TimeoutError(f"{name}: not within {seconds} seconds")
 
 
 class World:
@@ -60,7 +60,7 @@ class World:
     def __init__(self, program, room):
         self.program, self.room, self.processes = str(program), room, []
         self.root, self.file = room / "root", room / "reg.db"
-        self.site_port, self.desk_port = None, free_port()  # the desk's is in a network that it has to itself
+        self.site_port, self.desk_port = None, free_port()  # the desk's port is in a network of its own
         for folder in ("run", "log", "copies", "temp"):
             (room / folder).mkdir()
         self.passwords = {name: os.urandom(9).hex() for name in PEOPLE}
@@ -76,13 +76,13 @@ class World:
         self.start_door()
         self.start_site()
 
-    def run(self, *words, input="", **more):
-        return subprocess.run([str(word) for word in words], input=input, text=True, capture_output=True, env=self.environment, timeout=300, **more)
+    def run(self, *arguments, input="", **more):
+        return subprocess.run([str(it) for it in arguments], input=input, text=True, capture_output=True, env=self.environment, timeout=300, **more)
 
-    def spawn(self, *words, log):
+    def spawn(self, *arguments, log):
         with open(self.room / "log" / log, "a") as out:
-            # Where a write passes the limit of a file's size, the write shall fail and not the process: a disk that fails is made so
-            process = subprocess.Popen([str(word) for word in words], stdin=subprocess.DEVNULL, stdout=out, stderr=out, env=self.environment,
+            # A write beyond the file size limit shall fail without ending the process: this is how a disk is made to fail
+            process = subprocess.Popen([str(it) for it in arguments], stdin=subprocess.DEVNULL, stdout=out, stderr=out, env=self.environment,
                                        preexec_fn=lambda: signal.signal(signal.SIGXFSZ, signal.SIG_IGN), restore_signals=False)
         self.processes.append(process)
         return process
@@ -101,7 +101,7 @@ class World:
             self.end(process)
 
     def install(self):
-        """What deploy/install puts, under the room; the program and its scripts as an install names them."""
+        """What deploy/install installs, under the room; the program and its scripts as an install names them."""
         made = self.run("env", f"DESTDIR={self.root}", HERE / "install")
         if made.returncode != 0:
             raise RuntimeError(made.stderr)
@@ -125,7 +125,7 @@ class World:
 
     def make_people(self):
         folder = self.root / "etc/admissions"
-        hashed = {name: self.run("openssl", "passwd", "-6", word).stdout.strip() for name, word in self.passwords.items()}
+        hashed = {name: self.run("openssl", "passwd", "-6", password).stdout.strip() for name, password in self.passwords.items()}
         (folder / "passwords").write_text("".join(f"{name}:{text}\n" for name, text in hashed.items()))
         (folder / "roles").write_text("".join(f"{name} {role}\n" for name, role in PEOPLE.items() if role))
 
@@ -135,8 +135,8 @@ class World:
         inside = lambda: self.run(*self.inside("ip", "-o", "link", "show", "up")).stdout.count(": lo:")
         until(inside, "the network namespace")
 
-    def inside(self, *words):
-        return ("nsenter", "--target", self.holder.pid, "--user", "--net", "--preserve-credentials", *words)
+    def inside(self, *arguments):
+        return ("nsenter", "--target", self.holder.pid, "--user", "--net", "--preserve-credentials", *arguments)
 
     def start_desk(self):
         log = self.room / "log/desk"
@@ -145,7 +145,7 @@ class World:
         until(lambda: log.read_text().startswith(f"serving on 127.0.0.1:{self.desk_port}\n"), "the desk")
 
     def stop_desk(self):
-        """Lets the desk stand still, as under a load. The process that was started is the desk itself: nsenter becomes what it runs."""
+        """Suspends the desk, as under a load. The process that was started is the desk itself: nsenter becomes what it runs."""
         self.desk.send_signal(signal.SIGSTOP)
 
     def continue_desk(self):
@@ -162,7 +162,7 @@ class World:
         until((self.room / "run/desk.sock").exists, "the door")
 
     def start_site(self):
-        """The site as it is installed, but with the folders and the port of the room. Where another process took the port meanwhile, nginx
+        """The site as it is installed, but with the folders and the port of the room. If another process took the port meanwhile, nginx
         ends, and another port is tried."""
         for _ in range(10):
             self.site_port = free_port()
@@ -188,15 +188,15 @@ class World:
                                               f"events {{ worker_connections 768; }}\nhttp {{ include /etc/nginx/mime.types; {temp} include {self.room}/site.conf; }}\n")
 
     def ask(self, path, who=None, body=None, origin=f"https://{NAME}", kind="application/json", password=None, options=()):
-        """What curl gets, with the site's own name led to the port of the room."""
-        words = ["curl", "--silent", "--cacert", self.certificate, "--connect-to", f"{NAME}:443:127.0.0.1:{self.site_port}", "--path-as-is",
+        """What curl gets, with the site's own name mapped to the port of the room."""
+        arguments = ["curl", "--silent", "--cacert", self.certificate, "--connect-to", f"{NAME}:443:127.0.0.1:{self.site_port}", "--path-as-is",
                  "--write-out", "\n%{http_code}", "--max-time", "150", "--dump-header", "-"]
         if who:
-            words += ["--user", f"{who}:{password or self.passwords[who]}"]
+            arguments += ["--user", f"{who}:{password or self.passwords[who]}"]
         if body is not None:
-            words += ["--data-binary", body, "--header", f"Content-Type: {kind}"]
-            words += ["--header", f"Origin: {origin}"] if origin else []
-        return Answer(self.run(*words, *options, f"https://{NAME}{path}"))
+            arguments += ["--data-binary", body, "--header", f"Content-Type: {kind}"]
+            arguments += ["--header", f"Origin: {origin}"] if origin else []
+        return Answer(self.run(*arguments, *options, f"https://{NAME}{path}"))
 
     def connect(self):
         """A bare TLS connection to the site."""
@@ -208,7 +208,7 @@ class World:
         return socket.create_connection(("127.0.0.1", self.site_port), timeout=120)
 
     def basic(self, who):
-        """The field of a head by which somebody signs in."""
+        """The field of a head that signs somebody in."""
         return "Authorization: Basic " + base64.b64encode(f"{who}:{self.passwords[who]}".encode()).decode()
 
     def logged(self):

@@ -1,7 +1,7 @@
-// The page of the office: asks the desk, and shows its answers in words. What the register holds is shown as text alone (textContent).
+// The page of the office: queries the desk, and shows its answers in plain English. What the register holds is shown as text alone (textContent).
 "use strict";
 
-// What a refusal asks for, by its name
+// What a refusal means, by its name
 const REFUSALS = {
   UnknownSchool: "No school has this code.",
   UnknownChild: "No child has this number.",
@@ -28,7 +28,7 @@ const REFUSALS = {
   NotItsSchools: "The child does not want one of these schools, or one comes twice.",
 };
 
-// What a request that is no command is told as: a fault of this page and not of who uses it
+// What is shown for a request that is no command: an error of this page and not of its user
 const FAULTS = {
   NotJson: "no JSON", UnknownCommand: "an unknown command", MissingField: "a field is missing",
   WrongKind: "a field is of the wrong kind", ExtraField: "a field too many",
@@ -37,18 +37,18 @@ const FAULTS = {
 const MAY_BE_DONE = "There was no answer. It may be done: look before you send it again.";
 const ASK_AGAIN = "There was no answer. Ask again; if there is none then either, tell who runs the desk.";
 
-// An answer that is not the one hoped for, in words. `changes` is whether the request was a command
-function words(status, body, changes) {
-  let said = {};
-  try { said = JSON.parse(body) || {}; } catch { /* a page of the site and not of the desk: its status says it */ }
-  if (status === 409) return "Refused, and nothing has changed. " + (REFUSALS[said.name] || `The reason is ${said.name}.`);
-  if (status === 400 && said.fault) return `The desk could not read this (${FAULTS[said.name] || said.name}). Nothing has changed.`;
-  if (status === 503 && said.failed) {
+// An answer that is not the expected one, in plain English. `changes` is whether the request was a command
+function describe(status, body, changes) {
+  let reply = {};
+  try { reply = JSON.parse(body) || {}; } catch { /* a page of the site and not of the desk: its status says why */ }
+  if (status === 409) return "Refused, and nothing has changed. " + (REFUSALS[reply.name] || `The reason is ${reply.name}.`);
+  if (status === 400 && reply.fault) return `The desk could not read this (${FAULTS[reply.name] || reply.name}). Nothing has changed.`;
+  if (status === 503 && reply.failed) {
     return "The disk of the register has failed, and the desk does nothing more until it is mended. Tell who runs it. "
       + (changes ? "What you sent may be done or not: look when the desk is back." : "What was answered as done before is kept.");
   }
-  if (status === 503 && said.memory) return "The desk had no memory for this. Nothing has changed. Ask again.";
-  if (status === 503 && said.busy) return "Too many asked at once. This was not passed on, and nothing has changed. Ask again.";
+  if (status === 503 && reply.memory) return "The desk had no memory for this. Nothing has changed. Ask again.";
+  if (status === 503 && reply.busy) return "Too many asked at once. This was not passed on, and nothing has changed. Ask again.";
   if (status === 0 || status === 502 || status === 504) return changes ? MAY_BE_DONE : ASK_AGAIN;
   if (status === 401) return "You are not signed in. Nothing has changed.";
   if (status === 403) return "With the name that you signed in with you may not do this. Nothing has changed.";
@@ -56,7 +56,7 @@ function words(status, body, changes) {
   return `The site refused this (status ${status}). Nothing has changed.`;
 }
 
-// Asks, and gives the status and the text; status 0 where no answer came
+// Sends a request, and returns the status and the text; status 0 if no answer came
 async function ask(target, command) {
   const how = { cache: "no-store", redirect: "error", credentials: "same-origin", signal: AbortSignal.timeout(150000) };
   if (command) Object.assign(how, { method: "POST", headers: { "Content-Type": "application/json" }, body: JSON.stringify(command) });
@@ -70,7 +70,7 @@ async function ask(target, command) {
 
 const at = (id) => document.getElementById(id);
 
-function tell(text, bad = false) {
+function announce(text, bad = false) {
   at("answer").textContent = text;
   at("answer").classList.toggle("bad", Boolean(bad));
 }
@@ -91,7 +91,7 @@ function show({ copy, parts }) {
 // A day of the register, 2025-03-03, as people read it: 3 March 2025
 const day = (text) => new Date(text + "T00:00:00Z").toLocaleDateString("en-GB", { timeZone: "UTC", day: "numeric", month: "long", year: "numeric" });
 
-// The days that the register takes. A field for a day takes years of five and six digits, too
+// The days that the register accepts. A field for a day accepts years of five and six digits, too
 const FIRST_DAY = "1990-01-01";
 const LAST_DAY = "2110-12-31";
 const isDay = (text) => /^\d{4}-\d{2}-\d{2}$/.test(text) && text >= FIRST_DAY && text <= LAST_DAY;
@@ -107,7 +107,7 @@ function withDays(line) {
 
 const plural = (count, one, many) => `${count} ${count === 1 ? one : many}`;
 
-// What a letter says, by its lines. A school's name may hold whatever text, so each line is read from both its ends
+// What a letter says, by its lines. A school's name may hold any text, so each line is read from both ends
 function readLetter(lines) {
   const child = /^Child (\d+) (.*)$/.exec(lines[1]);
   const place = /^Place: ([A-Z0-9]{1,8}) (.*), (accepted|plan|offered ([\d-]{10})(?:, reminded ([\d-]{10}))?)$/.exec(lines[2]);
@@ -137,23 +137,23 @@ let turn = 0;
 // One command at a time: a second press sends nothing
 let sending = false;
 
-// Shows a child as it is now. `said` stays as the answer, where a command was answered before
-async function showChild(number, said) {
+// Shows a child as it is now. `answer` remains shown if a command was answered before
+async function showChild(number, answer) {
   const mine = ++turn;
-  if (!said) tell("Asking …");
+  if (!answer) announce("Asking …");
   const { status, body } = await ask(`/child/${number}/letter`);
   if (mine !== turn) return;
   if (status !== 200) {
     at("result").replaceChildren();
-    tell(said ? said.text + " The child cannot be shown now." : words(status, body, false), true);
+    announce(answer ? answer.text + " The child cannot be shown now." : describe(status, body, false), true);
     return;
   }
   const letter = readLetter(body.trimEnd().split("\n"));
   const made = view("child-view");
   fillChild(made, letter);
   show(made);
-  tell(said ? said.text : `Child ${letter.number} found.`, said && said.bad);
-  if (said) at("answer").focus();
+  announce(answer ? answer.text : `Child ${letter.number} found.`, answer && answer.bad);
+  if (answer) at("answer").focus();
 }
 
 function fillChild({ copy, parts }, letter) {
@@ -191,12 +191,12 @@ function waitLine(wait, letter) {
   return copy;
 }
 
-// Sends a reminder. A day of a year that the register does not take is not sent, and one long after the offer, such as 2035 for 2025, is asked
-// about: the day cannot be changed afterwards
+// Sends a reminder. A day of a year that the register does not accept is not sent, and one long after the offer, such as 2035 for 2025, must be
+// confirmed: the day cannot be changed afterwards
 async function noteReminder(letter) {
   const when = at("remind-day").value;
   if (!isDay(when)) {
-    tell(`Nothing was sent: the day of the reminder is in the year ${Number(when.split("-")[0])}. The register takes days from ${day(FIRST_DAY)} to ${day(LAST_DAY)}.`, true);
+    announce(`Nothing was sent: the day of the reminder is in the year ${Number(when.split("-")[0])}. The register takes days from ${day(FIRST_DAY)} to ${day(LAST_DAY)}.`, true);
     at("remind-day").focus();
     return;
   }
@@ -217,7 +217,7 @@ async function answerOffer(command, letter) {
   }
 }
 
-// Asks whether what cannot be taken back shall be done. The button that does nothing has the focus
+// Asks for confirmation of what cannot be undone. The button that does nothing has the focus
 function isSure(question, yes) {
   const dialog = at("sure");
   at("sure-question").textContent = question;
@@ -225,20 +225,20 @@ function isSure(question, yes) {
   dialog.returnValue = "no";
   dialog.showModal();
   at("sure-no").focus();
-  // The news of an earlier close may come when the dialog is open again: then it is not the answer to this question
+  // The event of an earlier close may arrive when the dialog is open again: then it is not the answer to this question
   return new Promise((resolve) => { dialog.onclose = () => dialog.open || resolve(dialog.returnValue === "yes"); });
 }
 
-// Sends a command, tells its answer in words, and shows the child as it is then
+// Sends a command, shows its answer in plain English, and then the child
 async function send(command, done) {
   if (sending) return;
   sending = true;
   turn += 1;
-  tell("Sending …");
+  announce("Sending …");
   const { status, body } = await ask("/command", command);
   sending = false;
-  const said = status === 200 ? { text: "Done, and kept. " + done, bad: false } : { text: words(status, body, true), bad: true };
-  await showChild(command.child, said);
+  const answer = status === 200 ? { text: "Done, and kept. " + done, bad: false } : { text: describe(status, body, true), bad: true };
+  await showChild(command.child, answer);
 }
 
 async function showLetter(number) {
@@ -254,28 +254,28 @@ async function showLetter(number) {
   made.parts.print.onclick = () => window.print();
   made.parts.back.onclick = () => showChild(number);
   show(made);
-  tell(`The letter of child ${number}, as it is now.`);
+  announce(`The letter of child ${number}, as it is now.`);
 }
 
-// The lines of a text of the desk. Where there is none, that is told; where something else was asked for meanwhile, nothing is
+// The lines of a text of the desk. If there is none, that is shown; if another request was made meanwhile, nothing is
 async function linesOf(target) {
   const mine = ++turn;
-  tell("Asking …");
+  announce("Asking …");
   const { status, body } = await ask(target);
   if (mine !== turn) return null;
   if (status === 200) return body.trimEnd().split("\n");
   at("result").replaceChildren();
-  tell(words(status, body, false), true);
+  announce(describe(status, body, false), true);
   return null;
 }
 
-async function showTable(target, told, read) {
+async function showTable(target, text, read) {
   const lines = await linesOf(target);
   if (!lines) return;
   const made = view("table-view");
   fillTable(made.parts, read(lines));
   show(made);
-  tell(told);
+  announce(text);
 }
 
 // The columns of figures, which are aligned on the right
@@ -305,7 +305,7 @@ function fillTable(parts, { heading, total, caption, columns, rows }) {
 function childButton(number) {
   const button = document.createElement("button");
   button.type = "button";
-  // The word is left out where the column's name is enough: on paper and on a narrow screen
+  // The word is hidden where the column's name is enough: on paper and on a narrow screen
   const word = document.createElement("span");
   word.className = "word";
   word.textContent = "Child ";

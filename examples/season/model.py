@@ -2,7 +2,7 @@
 """Works the season of this example without the program, and writes its files: model.py FOLDER
 
 It makes up a town of 20 schools and 600 children, their applications and lots (from a fixed seed), and allots the places by deferred acceptance as
-Gale and Shapley told it in 1962: each child asks the schools of its list in turn, and each school keeps those that rank first. It counts positions
+Gale and Shapley described it in 1962: each child asks the schools of its list in turn, and each school keeps those that rank first. It counts positions
 on waiting lists, fills vacancies from them, and writes letters, a list and a report; it counts worklists and figures, and whom a school turned away.
 From that it writes the files of the season, and `expected`: what the program and the tools beside it must print. It shares no code with them.
 """
@@ -175,19 +175,19 @@ class Season:
         return (*standing(self.schools[school], self.children[child]), lots[school, child])
 
     def audit_lines(self, school):
-        """What an audit of the last round tells of a school."""
+        """What an audit of the last round reports about a school."""
         draw, at, _, day = self.draws[-1]
         (lots, has, fresh), (asks, own, quotas) = self.drawn[-1], self.asked
-        told = lambda child: "class {}, {} metres, lot {}".format(*self.key(school, child, lots))
+        key_text = lambda child: "class {}, {} metres, lot {}".format(*self.key(school, child, lots))
         there = [child for child in has if has[child] == school]
         last = max((child for child in there if own.get(child) != school), key=lambda it: self.key(school, it, lots))
         rather = lambda child: school in asks[child] and (has[child] is None or asks[child].index(school) < asks[child].index(has[child]))
         lines = [f"Round {at}, draw {draw}, {day}: {len(has)} children, {len(self.schools)} schools, {len(lots)} lots"]
-        lines += [self.report(at)[-1], f"School {school}: places {quotas[school]}, children {len(there)}, the last child {last}, {told(last)}"]
+        lines += [self.report(at)[-1], f"School {school}: places {quotas[school]}, children {len(there)}, the last child {last}, {key_text(last)}"]
         for child in sorted(filter(rather, has), key=lambda it: self.key(school, it, lots)):
             mine, its = self.key(school, child, lots), self.key(school, last, lots)
             by = "class" if mine[0] != its[0] else "distance" if mine[1] != its[1] else "lot"
-            lines.append(f"  turned away child {child}, {told(child)}: by {by}")
+            lines.append(f"  turned away child {child}, {key_text(child)}: by {by}")
         return lines + ["The outcomes are stable, and the best for each child of all that are stable"]
 
     def lots_decided(self, draw):
@@ -340,7 +340,7 @@ def main():
         return lots
 
     def round(name, day):
-        """A backup, the round, and an audit that tells of the school that turned away fewest of those at which a lot decided, or else at all."""
+        """A backup, the round, and an audit that reports on the school that turned away fewest of those at which a lot decided, or else at all."""
         at = len(season.rounds) + 1
         show(f"admissions-backup reg.db before-{at}.db", [f"reg.db is backed up as before-{at}.db"])
         lots = drawn(len(season.pairs()))
@@ -373,19 +373,19 @@ def main():
         show(f"admissions-query reg.db lapse-due --day {day}", season.lapse_due(day))
 
     # the silent child's offer lapses; some leave a list; two vacancies are filled
-    summer, said = [{"cmd": "lapse", "child": silent, "school": season.places[silent]["school"], "day": "2025-03-31"}], [done]
+    summer, replies = [{"cmd": "lapse", "child": silent, "school": season.places[silent]["school"], "day": "2025-03-31"}], [done]
     season.give_up(silent)
     for child in [it for it in sorted(season.lists) if len(season.wanted(it)) > 1][:3]:
         school = season.wanted(child)[0]
         summer.append({"cmd": "leave_list", "child": child, "school": school})
         season.left.add((child, school))
-        said.append(done)
+        replies.append(done)
     fills = []
     for day in ["2025-04-01", "2025-04-02"]:
         school = max(sorted(season.schools), key=lambda it: (season.vacancies(it) > 0) * len(season.waiting(it)))
         lots = drawn(len(season.waiting(school)))
         if not fills:
-            # the supervisor hands the drawn lots back in another order, as a spreadsheet writes them
+            # the supervisor returns the drawn lots in another order, as a spreadsheet writes them
             there = sorted(it[1] for it in season.waiting(school))
             rows = [f"{school};{child};{lot}\r" for child, lot in zip(there, lots)]
             random.Random(1).shuffle(rows)
@@ -393,15 +393,15 @@ def main():
             write("fill.csv", ["\ufeffSchool;Child;Lot\r", *rows])
             fills.append(f"admissions-lots fill.pairs fill.csv --number {len(season.draws) + 1} --day {day} --school {school}")
         summer.append({"cmd": "fill", "draw": len(season.draws) + 1, "school": school, "day": day, "lots": lots})
-        said.append(season.fill(school, day, lots))
+        replies.append(season.fill(school, day, lots))
     show(fills[0], [compact(summer[-2])])
-    do("summer.jsonl", summer, said)
+    do("summer.jsonl", summer, replies)
     show("pairs reg.db", [f"{school} {child}" for school, child in season.pairs()])
     round("second_round.jsonl", SECOND)
 
-    # what the office sends and hangs out
+    # what the office sends and displays
     unplaced = next(it for it in sorted(season.lists) if it not in season.places and len(season.wanted(it)) > 2)
-    for child in [unplaced, said[-1]["child"], 601]:
+    for child in [unplaced, replies[-1]["child"], 601]:
         show(f"letter reg.db {child}", season.letter(child))
     longest = max(sorted(season.schools), key=lambda it: len(season.waiting(it)))
     show(f"list reg.db {longest}", season.list_lines(longest))
@@ -418,7 +418,7 @@ def main():
     show("admissions-query reg.db last-offered", csv_lines(("draw", "day", "school", "offers", "child", "class", "metres", "lot"), *(it for draw in draws for it in season.last_offers(draw))))
     decided = [it for draw in draws for it in season.lots_decided(draw)]
     show("admissions-query reg.db equal-at-limit", csv_lines(("draw", "school", "child", "class", "metres", "lot", "came"), *decided))
-    for child in (unplaced, said[-1]["child"], 1):
+    for child in (unplaced, replies[-1]["child"], 1):
         show(f"admissions-query reg.db child --child {child}", season.child_lines(child))
     show("admissions-query reg.db lots --draw 2", season.lot_lines(2))
     kinds = {"offered": 1, "accepted": 2, "plan": 3}
@@ -431,8 +431,8 @@ def main():
         "SELECT draw, round, school, day FROM draw ORDER BY draw;", "SELECT draws FROM meta;",
     ])
 
-    # the desk is asked on each of its routes; the same answer to an offer again is refused
-    child = said[-1]["child"]
+    # the desk is queried on each of its routes; the same answer to an offer is refused when repeated
+    child = replies[-1]["child"]
     accept = {"cmd": "accept", "child": child, "school": season.places[child]["school"]}
     states = [compact(season.state(child)), compact(season.state(unplaced))]
     season.places[child].update(kind="accepted", day=None)
@@ -442,8 +442,8 @@ def main():
         *[f'curl -s "$at/child/{it}"; echo' for it in (child, unplaced)], *[f"curl -s -d '{compact(accept)}' \"$at/command\"; echo"] * 2,
         f'curl -s "$at/child/{child}/letter"', f'curl -s "$at/school/{shortest}/waiting"', 'curl -s "$at/round/2" | tail -n 1',
     ])
-    said_to = [*states, compact(done), compact({"name": "NotOffered", "refused": 15}), *season.letter(child), *season.list_lines(shortest), season.report(2)[-1]]
-    show("serving reg.db 7 bash asks", said_to)
+    responses = [*states, compact(done), compact({"name": "NotOffered", "refused": 15}), *season.letter(child), *season.list_lines(shortest), season.report(2)[-1]]
+    show("serving reg.db 7 bash asks", responses)
     write("steps", steps)
     # (the log beside the file, which holds no page, stays as the last program left it)
     write("expected", [*shown, "files: before-1.db before-2.db reg.db reg.db-wal"])
