@@ -4,6 +4,7 @@ pub mod Quotas
 pub mod MorePlaces
 pub mod ShorterList
 pub mod RaisedRound
+pub mod AppliedLists
 pub mod Lost
 pub mod GroupGains
 pub mod Restated

@@ -1,5 +1,5 @@
 -- The problem in which the members of a group state other lists is one that the law of groups speaks of.
-use Rattle.std.proofs.Common.{◌≡◌, ◌∙◌, ap, sym, refl, ℕ, List, [], ◌∷◌, map, Some, true, false, cond, inl, inr}
+use Rattle.std.proofs.Common.{◌≡◌, ◌∙◌, ap, sym, refl, List, [], ◌∷◌, map, Some, true, false, cond, inl, inr}
 use Rattle.std.specs.Prelude.{◌==◌, ◌||◌, find, unwrap_or}
 use Rattle.std.specs.List.{AllZip, AllByRecursion, list_any}
 use Rattle.std.proofs.lemmas.Bool.{cases_Bool, eqb-true, true≢false}
@@ -7,7 +7,7 @@ use Rattle.std.proofs.lemmas.List.Elements.{recursion_from_All}
 use Rattle.adm_match.specs.Market.{Candidate, Market}
 use Rattle.adm_match.specs.Stability.{Allocation, IsStable}
 use Rattle.adm_match.specs.AnyList.{MayHandIn}
-use Rattle.adm_laws.specs.Groups.{HandsIn, IsHandedInBy, NoGroupGains, is_member, restated, with_lists, MayRestate, NotAllGain}
+use Rattle.adm_laws.specs.Groups.{HandsIn, IsHandedInBy, NoGroupGains, is_member, restated, with_lists, NotAllGain}
 
 -- the member that states the entrant's list, where there is one
 restated_child : (members : List Candidate) (e : Candidate) → (restated members e).child ≡ e.child

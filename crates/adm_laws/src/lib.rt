@@ -1,6 +1,8 @@
 // What families, schools and councillors may expect of a round: its laws, each with a function that answers by it.
 #![tactic(auto)]
 
+mod after_command;
+mod applied;
 mod copies;
 mod cutting;
 mod groups;
@@ -11,11 +13,13 @@ mod raised;
 mod registers;
 mod taken;
 
+pub use after_command::NotOffered;
+pub use applied::offers_with_shorter_application;
 pub use cutting::offers_with_shorter_list;
 pub use groups::{no_group_gains, offers_with_lists};
 pub use leaving::offers_without;
 pub use listing::offers_with_list;
 pub use places::offers_with_quota;
-pub use raised::{NotRaised, offers_with_number};
+pub use raised::offers_with_number;
 pub use registers::{no_loss_by_raise, no_loss_by_shorter_list};
 pub use taken::taken_at;

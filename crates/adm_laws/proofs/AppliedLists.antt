@@ -1,0 +1,69 @@
+-- An application for fewer schools, on a register where the child has none: it leaves the register of the whole one, cut.
+use Rattle.std.proofs.Common.{◌≡◌, ◌∙◌, ap, sym, subst, refl, cond, true, false, ℕ, List, Some, None}
+use Rattle.std.specs.Prelude.{not}
+use Rattle.std.specs.Cmp.{nat_cmp_total}
+use Rattle.std.specs.Ordering.{nat_cmp, eq_by_cmp}
+use Rattle.std.specs.FinMap.{FinMap, get, insert, get-insert, same_map, nat_cmp-IsAntisymmetric}
+use Rattle.std.proofs.lemmas.Bool.{not-true}
+use Rattle.adm_lists.proofs.Options.{none_of}
+use Rattle.adm_types.specs.declared.rows.Application.{Application}
+use Rattle.adm_types.specs.declared.commands.Command.TheVariants.{Apply}
+use Rattle.adm_match.specs.Stability.{Allocation, IsBest}
+use Rattle.adm_match.specs.Generous.{IsNoWorse}
+use Rattle.adm_round.specs.Outcomes.{outcomes_of}
+use Rattle.adm_register.specs.State.{State}
+use Rattle.adm_register.specs.Change.{after}
+use Rattle.adm_register.specs.WellFormed.{WellFormed}
+use Rattle.adm_commands.specs.Commands.Apply as apply
+use Rattle.adm_commands.specs.Commands.Round.{round_applicants, round_lots, round_market}
+use Rattle.adm_commands.specs.Problem.{lots_fault}
+use Rattle.adm_commands.specs.Steps.{Accepts}
+use Rattle.adm_commands.proofs.Accepted.{no_place}
+use Rattle.adm_commands.proofs.Keeps.{all_pass}
+use Rattle.adm_commands.proofs.PutAgain.{get-insert_same}
+use Rattle.adm_commands.proofs.Shows.{no_row}
+use Rattle.adm_laws.specs.Registers.{first_listed, with_application, KeepsLots, NoLossByShorterList}
+use Rattle.adm_laws.specs.AfterCommand.{IsRoundAfter}
+use Rattle.adm_laws.specs.Applied.{NoLossApplied}
+
+-- an accepted application is put, and nothing else changes
+application_put : (old new : State) (application : Application) → Accepts old (Apply application) new → new ≡ with_application old application
+unfolding apply.change_of
+application_put old new application accepts = accepts.1.1.2 ∙ ap (after old) accepts.1.1.1.0
+
+-- a child that may apply has no place
+no_place_yet : (old new : State) (application : Application) → WellFormed old → Accepts old (Apply application) new → get old.places application.child ≡ None
+unfolding apply.tests
+no_place_yet old new application well accepts =
+    let pass = all_pass (apply.tests old application) (no_row _ accepts.1.0) in
+    none_of (get old.places application.child) (ap not (no_place old application.child well (not-true _ pass.1.0) (not-true _ pass.1.1.0)))
+
+-- of two applications of a child that are put, the second takes the place of the first
+put_over : (rows : FinMap nat_cmp Application) (child : ℕ) (one other : Application) → insert (insert rows child one) child other ≡ insert rows child other
+put_over rows child one other = same_map nat_cmp_total nat_cmp-IsAntisymmetric _ _ (λ q.
+    get-insert nat_cmp_total (insert rows child one) child other q ∙ ap (cond (eq_by_cmp nat_cmp q child) (Some other)) (get-insert nat_cmp_total rows child one q)
+    ∙ elim (eq_by_cmp nat_cmp q child) as (λ b. cond b (Some other) (cond b (Some one) (get rows q)) ≡ cond b (Some other) (get rows q)) [ true ↦ refl | false ↦ refl ]
+    ∙ sym (get-insert nat_cmp_total rows child other q))
+
+module _ (old : State) (application : Application) (count : ℕ) (numbers : List ℕ) where
+  abbrev cut : Application
+  cut = first_listed count application
+
+  pub no_loss_applied : NoLossByShorterList → (given : Allocation) → WellFormed old → IsRoundAfter old (Apply cut) numbers given → NoLossApplied old application count numbers given
+  no_loss_applied law given well round whole short drawn before first accepts accepts_cut keeps =
+      let whole_is : whole ≡ with_application old application = application_put old whole application accepts in
+      let short_is : short ≡ with_application old cut = application_put old short cut accepts_cut in
+      let new_is : round.new ≡ with_application old cut = application_put old round.new cut round.accepted in
+      let over : with_application whole cut ≡ with_application old cut
+      = ap (λ (s : State). with_application s cut) whole_is ∙ ap (λ rows. record old { applications = rows }) (put_over old.applications application.child application cut) in
+      let new_over : round.new ≡ with_application whole cut = new_is ∙ sym over in
+      let short_over : short ≡ with_application whole cut = short_is ∙ sym over in
+      let there : get whole.applications application.child ≡ Some application
+      = ap (λ (s : State). get s.applications application.child) whole_is ∙ get-insert_same nat_cmp_total old.applications application.child application in
+      let free : get whole.places application.child ≡ None
+      = ap (λ (s : State). get s.places application.child) whole_is ∙ no_place_yet old whole application well accepts in
+      subst (λ s. IsNoWorse (round_market s numbers).entrants given first.allocation) (sym short_over)
+      (law whole application count drawn numbers before (outcomes_of given (round_applicants (with_application whole cut))) first
+      (record { allocation = given; best = subst (λ s. IsBest (round_market s numbers) given) new_over round.best; given = refl })
+      there free (subst WellFormed new_over round.well_formed) (sym (ap (λ s. lots_fault s numbers) new_over) ∙ round.posed)
+      (subst (λ s. KeepsLots s (round_lots whole drawn) (round_lots s numbers)) short_over keeps))
