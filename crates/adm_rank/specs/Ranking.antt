@@ -1,5 +1,7 @@
 -- Which of two children ranks before the other at a school (School Admissions Code 2021, section 1; this profile).
-use Rattle.std.specs.Prelude.{◌≡◌, ◌≢◌, ◌⊎◌, ℕ, Bool, true, false, ◌||◌, ◌&&◌, ◌==◌, nat_lt}
+use Rattle.std.specs.Prelude.{◌≡◌, ◌≢◌, ◌⊎◌, ◌↔◌, ℕ, Bool, true, false, ◌||◌, ◌&&◌, ◌==◌, nat_lt}
+use Rattle.std.specs.declared.cmp.Ordering.{Ordering}
+use Rattle.std.specs.declared.cmp.Ordering.TheVariants.{Less, Greater}
 use Rattle.adm_types.specs.declared.rows.School.{School}
 use Rattle.adm_types.specs.declared.rows.Child.{Child}
 use Rattle.adm_rank.specs.Distance.{distance_of}
@@ -23,3 +25,8 @@ pub record IsStrictOrder : Type 0 where
   pub asymmetric : (a b : RankKey) → precedes a b ≡ true → precedes b a ≡ false
   pub transitive : (a b c : RankKey) → precedes a b ≡ true → precedes b c ≡ true → precedes a c ≡ true
   pub total : (a b : RankKey) → a.lot ≢ b.lot → (precedes a b ≡ true) ⊎ (precedes b a ≡ true)
+
+-- Keys compare as they rank: one is less than another exactly where it ranks before it, and greater exactly where the other ranks before it.
+pub record ComparesByRank (compare : RankKey → RankKey → Ordering) : Type 0 where
+  pub less : (a b : RankKey) → (compare a b ≡ Less) ↔ (precedes a b ≡ true)
+  pub greater : (a b : RankKey) → (compare a b ≡ Greater) ↔ (precedes b a ≡ true)

@@ -9,4 +9,4 @@ mod laws;
 pub use classes::class;
 pub use distances::distance;
 pub use keys::{RankKey, key};
-pub use laws::order_is_total;
+pub use laws::{keys_compare_by_rank, order_is_total};
