@@ -10,3 +10,4 @@ pub mod Extends
 pub mod Rows
 pub mod Difference
 pub mod Fits
+pub mod Equality

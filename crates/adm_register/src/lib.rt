@@ -7,6 +7,7 @@ mod child_checks;
 mod difference;
 pub mod draws_so_far;
 mod groups;
+mod laws;
 mod list_fault;
 mod lists;
 mod register_rows;
@@ -22,6 +23,7 @@ mod wanted;
 
 pub use difference::Difference;
 pub use draws_so_far::DrawsSoFar;
+pub use laws::same_is_equal;
 pub use list_fault::ListFault;
 pub use register_rows::Rows;
 pub use registers::Register;
