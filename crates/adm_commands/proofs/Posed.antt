@@ -154,6 +154,11 @@ each_entrant old Q each =
     let P : Application → Type 0 = λ application. (applicant : Applicant) → applicant_of old application ≡ Some applicant → Q applicant in
     All-filter_map Q (applicant_of old) (values old.applications) (recursion_from_All P (values old.applications) (values_hold nat_cmp_total nat_cmp-IsAntisymmetric P old.applications each))
 
+-- there is one lot for each pair of an accepted round
+pub lots_counted : (old : State) (draw day : ℕ) (numbers : List ℕ) → first_failing (round.tests old draw day numbers) ≡ None → is_lot_count old numbers ≡ true
+unfolding round.tests
+lots_counted old draw day numbers passes = (all_pass (round.tests old draw day numbers) passes).1.1.1.0
+
 -- the lots of an accepted round pass both tests
 pub lots_pass : (old : State) (draw day : ℕ) (numbers : List ℕ) → first_failing (round.tests old draw day numbers) ≡ None → lots_fault old numbers ≡ None
 unfolding round.tests

@@ -1,13 +1,14 @@
 // For whom lots are drawn, in their order.
-ghost use Rattle.std.specs.Prelude.{◌≡◌, IfOk, map};
+ghost use Rattle.std.specs.Prelude.{◌≡◌, IfOk, length, map, nat_eq, true};
+ghost use Rattle.adm_round.specs.Round.{lots_of};
 ghost use Rattle.adm_commands.specs.Commands.Round.{round_applicants, sites, round_pairs};
 ghost use Rattle.adm_commands.specs.Commands.Fill.{fill_pairs};
 
 use crate::applicants::{round_applicants, sites};
 use adm_register::{Register, Tables};
-use adm_round::{Applicant, Pair, Site, wanted_pairs};
+use adm_round::{Applicant, Pair, Site, assign_lots, wanted_pairs};
 use adm_table::Shared;
-use adm_types::{Child, SchoolCode};
+use adm_types::{Child, Lot, SchoolCode};
 use std::alloc::{AllocError, Global};
 
 /// The schools of the next round, who takes part in it, and for whom its lots are drawn.
@@ -63,6 +64,21 @@ pub(crate) fn pairs_for(
             child: child.as_ref().no,
         })
         .collect(alloc)
+}
+
+/// The lots of the pairs, each with the number drawn for it; none where there is not one number for
+/// each pair.
+pub(crate) fn drawn_lots(
+    alloc: Global,
+    pairs: Vec<Pair>,
+    numbers: &[u32],
+) -> Result<Vec<Lot>, AllocError>
+    ensures { IfOk result (λ lots. (nat_eq (length numbers.now) (length pairs.items) ≡ true → lots.items ≡ lots_of pairs.items numbers.now)) }
+{
+    match assign_lots(alloc, pairs, numbers)? {
+        Some(lots) => Ok(lots),
+        None => Ok(Vec::new(alloc)),
+    }
 }
 
 /// For whom lots are drawn in a fill at the school: the school with each child that waits there, by

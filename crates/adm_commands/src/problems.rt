@@ -1,14 +1,14 @@
 // The problem of the next round.
-ghost use Rattle.std.specs.Prelude.{◌≡◌, ◌⊎◌, None, Some, IfOk, IfErr, OnOk};
+ghost use Rattle.std.specs.Prelude.{◌≡◌, ◌⊎◌, true, None, Some, IfOk, IfErr, OnOk};
 ghost use Rattle.adm_commands.specs.Commands.Round.{round_applicants, sites, round_lots, round_market, is_lot_count, are_lots_apart};
 ghost use Rattle.adm_commands.specs.Problem.{lots_fault};
 ghost use Rattle.adm_commands.specs.declared.problems.DrawFault.TheVariants.{Memory};
 
-use crate::pairs::{Wants, wants_of};
+use crate::pairs::{Wants, drawn_lots, wants_of};
 use adm_draws::has_repeated_lot;
 use adm_match::Problem;
 use adm_register::{Register, Tables};
-use adm_round::{Applicant, Site, assign_lots, problem_of};
+use adm_round::{Applicant, Site, problem_of};
 use adm_types::Lot;
 use std::alloc::{AllocError, Global};
 
@@ -36,7 +36,7 @@ impl From<AllocError> for DrawFault {
 pub(crate) struct Parts {
     pub(crate) sites: Vec<Site>,
     pub(crate) applicants: Vec<Applicant>,
-    /// The lots, as many as there are both pairs and numbers.
+    /// The lots; none where there is not one number for each pair.
     pub(crate) drawn: Vec<Lot>,
     /// There is one number for each pair.
     pub(crate) counted: bool,
@@ -51,9 +51,9 @@ pub(crate) struct Parts {
 pub(crate) fn parts_of(old: &Tables, alloc: Global, lots: &[u32]) -> Result<Parts, AllocError>
     ensures sites { IfOk result (λ parts. parts.sites.items ≡ sites old.now) }
     ensures applicants { IfOk result (λ parts. parts.applicants.items ≡ round_applicants old.now) }
-    ensures drawn { IfOk result (λ parts. parts.drawn.items ≡ round_lots old.now lots.now) }
     ensures counted { IfOk result (λ parts. parts.counted ≡ is_lot_count old.now lots.now) }
-    ensures apart { IfOk result (λ parts. parts.apart ≡ are_lots_apart old.now lots.now) }
+    ensures drawn { IfOk result (λ parts. (is_lot_count old.now lots.now ≡ true → parts.drawn.items ≡ round_lots old.now lots.now)) }
+    ensures apart { IfOk result (λ parts. (is_lot_count old.now lots.now ≡ true → parts.apart ≡ are_lots_apart old.now lots.now)) }
 {
     let Wants {
         sites,
@@ -61,7 +61,7 @@ pub(crate) fn parts_of(old: &Tables, alloc: Global, lots: &[u32]) -> Result<Part
         pairs,
     } = wants_of(old, alloc)?;
     let counted = lots.len() == pairs.len();
-    let drawn = assign_lots(alloc, pairs, lots)?;
+    let drawn = drawn_lots(alloc, pairs, lots)?;
     let apart = !has_repeated_lot(alloc, &drawn)?;
     Ok(Parts {
         sites,

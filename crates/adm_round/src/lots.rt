@@ -1,5 +1,5 @@
 // Which pairs of a school and a child have a lot drawn, and the lots with the numbers drawn.
-ghost use Rattle.std.specs.Prelude.{◌≡◌, ◌++◌, IfOk, map};
+ghost use Rattle.std.specs.Prelude.{◌≡◌, ◌++◌, IfOk, IfSome, is_some, length, map, nat_eq};
 ghost use Rattle.adm_round.specs.Round.{pairs, lot_of_draw, lots_of};
 ghost use Rattle.adm_round.specs.Lookups.{children_for};
 
@@ -73,15 +73,32 @@ fn lot_of(pair: Pair, number: u32) -> Lot
     }
 }
 
-/// The lots of the pairs, each with the number drawn for it: the first number is the first pair's.
-/// Where there are more of the ones than of the others, those are omitted. They take memory for
-/// each lot, and time for each.
-pub fn assign_lots(alloc: Global, pairs: Vec<Pair>, numbers: &[u32]) -> Result<Vec<Lot>, AllocError>
-    ensures { IfOk result (λ lots. lots.items ≡ lots_of pairs.items numbers.now) }
+/// The lots of as many pairs as numbers, in turn.
+fn lots_in_turn(alloc: Global, pairs: &[Pair], numbers: &[u32]) -> Result<Vec<Lot>, AllocError>
+    requires { length numbers.now ≡ length pairs.now }
+    ensures { IfOk result (λ lots. lots.items ≡ lots_of pairs.now numbers.now) }
 {
     pairs
         .iter()
         .zip(numbers)
         .map(|(pair, number)| lot_of(*pair, *number))
         .collect(alloc)
+}
+
+/// The lots of the pairs, each with the number drawn for it: the first number is the first pair's.
+/// It is None exactly where there is not one number for each pair. They take memory for each lot,
+/// and time for each.
+pub fn assign_lots(
+    alloc: Global,
+    pairs: Vec<Pair>,
+    numbers: &[u32],
+) -> Result<Option<Vec<Lot>>, AllocError>
+    ensures some { IfOk result (λ found. is_some found ≡ nat_eq (length numbers.now) (length pairs.items)) }
+    ensures lots { IfOk result (λ found. IfSome found (λ lots. lots.items ≡ lots_of pairs.items numbers.now)) }
+{
+    if numbers.len() != pairs.len() {
+        return Ok(None);
+    }
+    let lots = lots_in_turn(alloc, &pairs, numbers)?;
+    Ok(Some(lots))
 }

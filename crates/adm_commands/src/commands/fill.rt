@@ -1,5 +1,5 @@
 // To fill a vacancy.
-ghost use Rattle.std.specs.Prelude.{◌≡◌, ◌∷◌, [], ◌+◌, ◌&&◌, nat_lt, nat_le, IfOk, length, map};
+ghost use Rattle.std.specs.Prelude.{◌≡◌, ◌∷◌, [], ◌+◌, ◌&&◌, true, nat_eq, nat_lt, nat_le, IfOk, length, map};
 ghost use Rattle.adm_types.specs.Lots.{repeats_lot};
 ghost use Rattle.adm_types.specs.Limits.{most_draws, most_lots};
 ghost use Rattle.adm_types.specs.Seasons.{lists_end};
@@ -15,11 +15,10 @@ ghost use Rattle.adm_commands.specs.Commands.Fill.{rules, tests, is_vacant, fill
 use crate::command_result::{CommandResult, refused};
 use crate::failing::first_failing;
 use crate::one_row::{one, one_place};
-use crate::pairs::pairs_for;
+use crate::pairs::{drawn_lots, pairs_for};
 use adm_draws::has_repeated_lot;
 use adm_register::draws_so_far::{DrawsSoFar, is_due};
 use adm_register::{Difference, Tables};
-use adm_round::assign_lots;
 use adm_table::Shared;
 use adm_types::limits::{MOST_DRAWS, MOST_LOTS};
 use adm_types::{
@@ -29,7 +28,7 @@ use adm_waiting::first_by_lot;
 use std::alloc::{AllocError, Global};
 
 /// Why it is refused, where so many draws were made, so many wait, and two of their lots are equal
-/// or none.
+/// or none. Whether they are is asked only where there is one for each who waits.
 #[tactic(auto, unfolding(crate::specs::Commands::Fill::tests))]
 fn refusal_of(
     old: &Tables,
@@ -44,7 +43,7 @@ fn refusal_of(
     requires draws { so_far.now ≡ draws_so_far old.now }
     requires within { IsWithin so_far.now }
     requires waiting { waiting ≡ length (waiting_at old.now school) }
-    requires repeated { repeated ≡ repeats_lot (fill_lots old.now school lots.now) }
+    requires repeated { nat_eq (length lots.now) (length (waiting_at old.now school)) ≡ true → repeated ≡ repeats_lot (fill_lots old.now school lots.now) }
     ensures { result ≡ first_failing (tests old.now draw school day lots.now) }
 {
     first_failing(&[
@@ -124,17 +123,18 @@ fn has_vacancy(old: &Tables, school: SchoolCode) -> bool
     }
 }
 
-/// The lots of the children at the school, each with the number drawn for it.
+/// The lots of the children at the school, each with the number drawn for it; none where there is
+/// not one number for each child.
 fn lots_for(
     alloc: Global,
     school: SchoolCode,
     children: &[Shared<Child>],
     numbers: &[u32],
 ) -> Result<Vec<Lot>, AllocError>
-    ensures { IfOk result (λ lots. lots.items ≡ lots_of (map (λ child. record { school = school; child = child.no }) children.now) numbers.now) }
+    ensures { IfOk result (λ lots. (nat_eq (length numbers.now) (length children.now) ≡ true → lots.items ≡ lots_of (map (λ child. record { school = school; child = child.no }) children.now) numbers.now)) }
 {
     let pairs = pairs_for(alloc, school, children)?;
-    assign_lots(alloc, pairs, numbers)
+    drawn_lots(alloc, pairs, numbers)
 }
 
 /// The draw by which the child was moved to the school, as the one row that is put.

@@ -1,5 +1,5 @@
 // To hold a round.
-ghost use Rattle.std.specs.Prelude.{◌≡◌, ◌≤◌, ◌∷◌, [], None, IfOk, length, count_by, is_none};
+ghost use Rattle.std.specs.Prelude.{◌≡◌, ◌≤◌, ◌∷◌, [], true, None, IfOk, length, count_by, is_none};
 ghost use Rattle.adm_types.specs.declared.commands.Reply.TheVariants.{Round as RoundReply};
 ghost use Rattle.adm_commands.specs.Tests.{first_failing};
 ghost use Rattle.adm_register.specs.WellFormed.{WellFormed};
@@ -34,7 +34,7 @@ fn refusal_of(
     requires draws { so_far.now ≡ draws_so_far old.now }
     requires within { IsWithin so_far.now }
     requires counted { counted ≡ is_lot_count old.now lots.now }
-    requires apart { apart ≡ are_lots_apart old.now lots.now }
+    requires apart { is_lot_count old.now lots.now ≡ true → apart ≡ are_lots_apart old.now lots.now }
     ensures { result ≡ first_failing (tests old.now draw day lots.now) }
 {
     let room = so_far.draws < MOST_DRAWS && lots.len() <= MOST_LOTS - so_far.lots;

@@ -18,8 +18,11 @@ pub returns-then-not-apart-clause-fault : goal.returns-then-not-apart-clause-fau
 returns-then-not-apart-clause-fault c =
     let old = c.args.old.now in
     let numbers = c.args.lots.now in
-    let count : is_lot_count old numbers ≡ true = ap (λ (s : State). is_lot_count s numbers) (sym c.tables.ensures.value) ∙ sym c.in_ok-sites.ensures.counted ∙ c.if-not-counted.false in
-    let apart : are_lots_apart old numbers ≡ false = ap (λ (s : State). are_lots_apart s numbers) (sym c.tables.ensures.value) ∙ sym c.in_ok-sites.ensures.apart ∙ c.if-not-apart.true in
+    let same = c.tables.ensures.value in
+    let parts = c.in_ok-sites.ensures in
+    let counted = sym parts.counted ∙ c.if-not-counted.false in
+    let count : is_lot_count old numbers ≡ true = ap (λ (s : State). is_lot_count s numbers) (sym same) ∙ counted in
+    let apart : are_lots_apart old numbers ≡ false = ap (λ (s : State). are_lots_apart s numbers) (sym same) ∙ sym (parts.apart counted) ∙ c.if-not-apart.true in
     inl (λ i. cond (count i) (cond (apart i) None (Some LotsRepeated)) (Some LotCount))
 
 pub problem_of-requires : goal.problem_of-requires
@@ -28,18 +31,21 @@ problem_of-requires c =
     let numbers = c.args.lots.now in
     let same = c.tables.ensures.value in
     let parts = c.in_ok-sites.ensures in
-    let count : is_lot_count old numbers ≡ true = ap (λ (s : State). is_lot_count s numbers) (sym same) ∙ sym parts.counted ∙ c.if-not-counted.false in
-    let apart : are_lots_apart old numbers ≡ true = ap (λ (s : State). are_lots_apart s numbers) (sym same) ∙ sym parts.apart ∙ c.if-not-apart.false in
+    let counted = sym parts.counted ∙ c.if-not-counted.false in
+    let count : is_lot_count old numbers ≡ true = ap (λ (s : State). is_lot_count s numbers) (sym same) ∙ counted in
+    let apart : are_lots_apart old numbers ≡ true = ap (λ (s : State). are_lots_apart s numbers) (sym same) ∙ sym (parts.apart counted) ∙ c.if-not-apart.false in
     let passes : lots_fault old numbers ≡ None = λ i. cond (count i) (cond (apart i) None (Some LotsRepeated)) (Some LotCount) in
+    let at_lots = c.deref-3.ensures.value ∙ parts.drawn counted ∙ ap (λ (s : State). round_lots s numbers) same in
     posed_as old numbers c.deref.result.now c.deref-2.result.now c.deref-3.result.now c.tables.ensures.well_formed passes (c.deref.ensures.value ∙ parts.sites ∙ ap sites same)
-    (c.deref-2.ensures.value ∙ parts.applicants ∙ ap round_applicants same) (c.deref-3.ensures.value ∙ parts.drawn ∙ ap (λ (s : State). round_lots s numbers) same)
+    (c.deref-2.ensures.value ∙ parts.applicants ∙ ap round_applicants same) at_lots
 
 pub returns-clause-problem : goal.returns-clause-problem
 returns-clause-problem c =
     let numbers = c.args.lots.now in
     let same = c.tables.ensures.value in
     let parts = c.in_ok-sites.ensures in
+    let counted = sym parts.counted ∙ c.if-not-counted.false in
     let at_sites = c.deref.ensures.value ∙ parts.sites ∙ ap sites same in
     let at_entrants = c.deref-2.ensures.value ∙ parts.applicants ∙ ap round_applicants same in
-    let at_lots = c.deref-3.ensures.value ∙ parts.drawn ∙ ap (λ (s : State). round_lots s numbers) same in
+    let at_lots = c.deref-3.ensures.value ∙ parts.drawn counted ∙ ap (λ (s : State). round_lots s numbers) same in
     c.in_ok-problem_of.ensures ∙ (λ i. market_of_round (at_sites i) (at_entrants i) (at_lots i))

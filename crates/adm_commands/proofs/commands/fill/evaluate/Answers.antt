@@ -1,7 +1,8 @@
-use Rattle.std.proofs.Common.{◌∙◌, ap, sym, subst, refl, map, [], ◌∷◌, List}
+use Rattle.std.proofs.Common.{◌∙◌, ap, sym, subst, refl, map, length, [], ◌∷◌, List}
 use Rattle.std.specs.Prelude.{is_some}
 use Rattle.std.specs.Option.{option_copied}
 use Rattle.std.specs.Ordering.{nat_cmp}
+use Rattle.std.specs.Cmp.{unsigned_Decides}
 use Rattle.std.specs.List.Sorted.{IsStrictlySortedBy}
 use Rattle.std.proofs.lemmas.Bool.{false≢true}
 use Rattle.adm_types.specs.declared.rows.Child.{Child}
@@ -42,7 +43,10 @@ returns c =
     let children = c.deref-3.ensures.value ∙ c.in_ok-waiting.ensures in
     let there = sym c.school.ensures ∙ ap option_copied c.in-Some-school.is in
     let first = (λ i. first_by_lot c.in-Some-school.row.now (sym children i) (sym c.as_slice-2.ensures i)) ∙ sym c.first_by_lot.ensures.first ∙ c.in-Some-first_by_lot.is in
-    let lots = c.in_ok-drawn.ensures ∙ (λ i. lots_of (map {A = Child} {B = Pair} (λ child. record { school = c.args.school; child = child.no }) ((c.deref.ensures.value ∙ c.in_ok-waiting.ensures) i)) (c.as_slice.ensures i)) in
+    let waiting = c.deref.ensures.value ∙ c.in_ok-waiting.ensures in
+    let each = each_has_lot c.args.old.now c.args.draw c.args.school c.args.day c.args.lots.now passes c.deref.result.now c.as_slice.result.now waiting c.as_slice.ensures in
+    let counted = (unsigned_Decides (length c.as_slice.result.now) (length c.deref.result.now)).1 each.1 in
+    let lots = c.in_ok-drawn.ensures counted ∙ (λ i. lots_of (map {A = Child} {B = Pair} (λ child. record { school = c.args.school; child = child.no }) (waiting i)) (c.as_slice.ensures i)) in
     let none = c.none-change.ensures in
     let child = c.in-Some-first_by_lot.child in
     let draws = c.in_ok-change-2.ensures ∙ (λ i. fill.draw_of_fill c.args.draw c.args.school c.args.day child (lots i) ∷ []) in

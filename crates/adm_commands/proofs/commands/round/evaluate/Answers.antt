@@ -6,20 +6,27 @@ use Rattle.adm_types.specs.declared.commands.Reply.TheVariants.{Round as RoundRe
 use Rattle.adm_register.specs.declared.draws_so_far.DrawsSoFar.{DrawsSoFar}
 use Rattle.adm_round.specs.Round.{number_of}
 use Rattle.adm_round.specs.Outcomes.{is_kept}
-use Rattle.adm_commands.specs.Commands.Round.{offers_on, round_lots}
+use Rattle.adm_commands.specs.Commands.Round.{offers_on, round_lots, is_lot_count, are_lots_apart}
 use Rattle.adm_commands.specs.Commands.Round as round
 use Rattle.adm_commands.specs.Rules.{without_row}
-use Rattle.adm_commands.proofs.Posed.{lots_pass, posed_as, best_as, few_entrants}
+use Rattle.adm_commands.proofs.Posed.{lots_pass, lots_counted, posed_as, best_as, few_entrants}
 use Rattle.adm_commands.proofs.commands.round.evaluate.Goals as goal
+
+pub refusal_of-why-requires-clause-apart : goal.refusal_of-why-requires-clause-apart
+refusal_of-why-requires-clause-apart c = λ counted.
+    let old = c.args.old.now in
+    c.in_ok-sites.ensures.apart (ap (is_lot_count old) c.as_slice.ensures ∙ counted) ∙ ap (are_lots_apart old) c.as_slice.ensures
 
 pub allot-requires : goal.allot-requires
 allot-requires c =
     let old = c.args.old.now in
     let numbers = c.args.lots.now in
     let parts = c.in_ok-sites.ensures in
+    let passes = sym c.refusal_of-why.ensures ∙ c.in_default.is in
+    let at_lots = parts.drawn (ap (is_lot_count old) c.as_slice.ensures ∙ lots_counted old c.args.draw c.args.day numbers passes) ∙ ap (round_lots old) c.as_slice.ensures in
     record {
-      posed = posed_as old numbers c.deref.result.now c.deref-2.result.now c.deref-3.result.now c.requires.well_formed (lots_pass old c.args.draw c.args.day numbers (sym c.refusal_of-why.ensures ∙ c.in_default.is))
-          (c.deref.ensures.value ∙ parts.sites) (c.deref-2.ensures.value ∙ parts.applicants) (c.deref-3.ensures.value ∙ parts.drawn ∙ ap (round_lots old) c.as_slice.ensures);
+      posed = posed_as old numbers c.deref.result.now c.deref-2.result.now c.deref-3.result.now c.requires.well_formed (lots_pass old c.args.draw c.args.day numbers passes)
+          (c.deref.ensures.value ∙ parts.sites) (c.deref-2.ensures.value ∙ parts.applicants) (c.deref-3.ensures.value ∙ at_lots);
     }
 
 pub reply_of-reply-requires : goal.reply_of-reply-requires
@@ -38,7 +45,7 @@ returns c =
     let numbers = c.args.lots.now in
     let passes = sym c.refusal_of-why.ensures ∙ c.in_default.is in
     let parts = c.in_ok-sites.ensures in
-    let at_lots = parts.drawn ∙ ap (round_lots old) c.as_slice.ensures in
+    let at_lots = parts.drawn (ap (is_lot_count old) c.as_slice.ensures ∙ lots_counted old c.args.draw c.args.day numbers passes) ∙ ap (round_lots old) c.as_slice.ensures in
     let outcomes = c.in_ok-outcomes.outcomes.items in
     let best = best_as old numbers c.deref.result.now c.deref-2.result.now c.deref-3.result.now outcomes
     (c.deref.ensures.value ∙ parts.sites) (c.deref-2.ensures.value ∙ parts.applicants) (c.deref-3.ensures.value ∙ at_lots) c.in_ok-outcomes.ensures.best in
