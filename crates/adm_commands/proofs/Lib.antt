@@ -28,6 +28,7 @@ pub mod ShowsDraws
 pub mod EachCommand
 pub mod Repeats
 pub mod OneStep
+pub mod StepKeeps
 pub mod SomeStep
 pub mod History
 pub mod Imports

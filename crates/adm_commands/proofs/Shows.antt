@@ -41,6 +41,8 @@ pub record Shows (command : Command) : Type 0 where
       → refused new command ≡ None → (more : Difference) (second : Reply) → MakesChange new command more second → after new more ≡ new
   -- what it changes is one
   pub one_change : OneAllotment → (old : State) (one other : Difference) (first second : Reply) → MakesChange old command one first → MakesChange old command other second → one ≡ other
+  -- and so is what it answers
+  pub one_reply : OneAllotment → (old : State) (one other : Difference) (first second : Reply) → MakesChange old command one first → MakesChange old command other second → first ≡ second
   -- draws that were made stay
   pub draws : (old new : State) (change : Difference) (reply : Reply) → DrawsInOrder old → refused old command ≡ None → MakesChange old command change reply → new ≡ after old change
       → DrawsInOrder new × DrawsStay old new
@@ -48,10 +50,10 @@ pub record Shows (command : Command) : Type 0 where
   pub imports : (old new : State) (change : Difference) (reply : Reply) → ImportsKnown old → refused old command ≡ None → MakesChange old command change reply → new ≡ after old change
       → ImportsKnown new × ImportsStay old new
 
--- what a command must show that changes just this, and neither draws nor imported rows
+-- what a command must show that changes just this, is answered by Done, and changes neither draws nor imported rows
 pub record ShowsOnly (command : Command) (only : State → Difference) : Type 0 where
   pub done : (old : State) → MakesChange old command (only old) Done
-  pub is : (old : State) (change : Difference) (reply : Reply) → MakesChange old command change reply → change ≡ only old
+  pub is : (old : State) (change : Difference) (reply : Reply) → MakesChange old command change reply → (change ≡ only old) × (reply ≡ Done)
   pub fits : (old : State) → KeptByTypes command → WellFormed old → refused old command ≡ None → Fit old (only old)
   pub again : (old : State) → WellFormed old → refused old command ≡ None → refused (after old (only old)) command ≡ None → after (after old (only old)) (only (after old (only old))) ≡ after old (only old)
   pub no_draw : (old : State) → (only old).draws ≡ []
@@ -60,11 +62,12 @@ pub record ShowsOnly (command : Command) (only : State → Difference) : Type 0 
 pub shows_only : (command : Command) (only : State → Difference) → ShowsOnly command only → Shows command
 shows_only command only it = record {
   some = λ laws old well accepted. (only old, Done, it.done old);
-  fits = λ old kept well law accepted change reply done. subst (Fit old) (sym (it.is old change reply done)) (it.fits old kept well accepted);
+  fits = λ old kept well law accepted change reply done. subst (Fit old) (sym (it.is old change reply done).0) (it.fits old kept well accepted);
   again = λ old new change reply well first done is passes more second next.
-      let now : new ≡ after old (only old) = is ∙ ap (after old) (it.is old change reply done) in
-      ap (after new) (it.is new more second next) ∙ ap (λ s. after s (only s)) now ∙ it.again old well first (subst (λ s. refused s command ≡ None) now passes) ∙ sym now;
-  one_change = λ law old one other first second x y. it.is old one first x ∙ sym (it.is old other second y);
-  draws = λ old new change reply ordered accepted done is. unchanged old new change (ap (λ (c : Difference). c.draws) (it.is old change reply done) ∙ it.no_draw old) is ordered;
-  imports = λ old new change reply known accepted done is. stay_alone old new change (ap (λ (c : Difference). c.imported) (it.is old change reply done) ∙ it.no_import old) is known;
+      let now : new ≡ after old (only old) = is ∙ ap (after old) (it.is old change reply done).0 in
+      ap (after new) (it.is new more second next).0 ∙ ap (λ s. after s (only s)) now ∙ it.again old well first (subst (λ s. refused s command ≡ None) now passes) ∙ sym now;
+  one_change = λ law old one other first second x y. (it.is old one first x).0 ∙ sym (it.is old other second y).0;
+  one_reply = λ law old one other first second x y. (it.is old one first x).1 ∙ sym (it.is old other second y).1;
+  draws = λ old new change reply ordered accepted done is. unchanged old new change (ap (λ (c : Difference). c.draws) (it.is old change reply done).0 ∙ it.no_draw old) is ordered;
+  imports = λ old new change reply known accepted done is. stay_alone old new change (ap (λ (c : Difference). c.imported) (it.is old change reply done).0 ∙ it.no_import old) is known;
 }

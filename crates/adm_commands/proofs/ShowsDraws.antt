@@ -82,6 +82,8 @@ round_shows draw day lots = record {
       absurd (round_again old new draw day lots held.0 well (no_row _ first) (is ∙ ap (after old) held.2) (no_row _ passes));
   one_change = λ law old one other first second x y.
       x.2 ∙ ap (round.change_of old draw day lots) (law (round.sites old) (round.round_applicants old) (round_lots old lots) x.0 y.0 x.1 y.1) ∙ sym y.2;
+  one_reply = λ law old one other first second x y.
+      x.3 ∙ ap (round.reply_of old) (law (round.sites old) (round.round_applicants old) (round_lots old lots) x.0 y.0 x.1 y.1) ∙ sym y.3;
   draws = λ old new change reply ordered accepted held is.
       one_more old new change (recorded_draw old draw day lots held.0) (ap (λ (c : Difference). c.draws) held.2) is ordered (round-next old draw day lots held.0 (no_row (first_failing (round.tests old draw day lots)) accepted));
   imports = λ old new change reply known accepted held is. stay_alone old new change (ap (λ (c : Difference). c.imported) held.2) is known;
@@ -104,6 +106,10 @@ fill_shows draw school day lots = record {
       let row = same_Some x.0 y.0 (sym x.1 ∙ y.1) in
       let child = same_Some x.2 y.2 (sym x.3 ∙ ap (λ s. first_by_lot s (waiting_at old school) lots) row ∙ y.3) in
       x.4 ∙ ap (fill.change_of old draw school day lots) child ∙ sym y.4;
+  one_reply = λ law old one other first second x y.
+      let row = same_Some x.0 y.0 (sym x.1 ∙ y.1) in
+      let child = same_Some x.2 y.2 (sym x.3 ∙ ap (λ s. first_by_lot s (waiting_at old school) lots) row ∙ y.3) in
+      x.5 ∙ ap Filled child ∙ sym y.5;
   draws = λ old new change reply ordered accepted filled is.
       one_more old new change (fill.filled_draw old draw school day lots filled.2) (ap (λ (c : Difference). c.draws) filled.4) is ordered (fill-next old draw school day lots (no_row _ accepted) filled.2 ordered.in_order);
   imports = λ old new change reply known accepted filled is. stay_alone old new change (ap (λ (c : Difference). c.imported) filled.4) is known;
@@ -124,6 +130,10 @@ import_shows rows = record {
       let key = λ (r : ImportRow). r.child.no in
       let permuted = IsPermutation-trans x.0 (import.new_rows old rows) y.0 (IsPermutation-sym (import.new_rows old rows) x.0 x.1) y.1 in
       x.3 ∙ ap import.change_of (one_order nat_cmp_total key x.0 y.0 permuted x.2 y.2) ∙ sym y.3;
+  one_reply = λ law old one other first second x y.
+      let key = λ (r : ImportRow). r.child.no in
+      let permuted = IsPermutation-trans x.0 (import.new_rows old rows) y.0 (IsPermutation-sym (import.new_rows old rows) x.0 x.1) y.1 in
+      x.4 ∙ ap (λ (added : List ImportRow). Imported (length added) (length rows - length added)) (one_order nat_cmp_total key x.0 y.0 permuted x.2 y.2) ∙ sym y.4;
   draws = λ old new change reply ordered accepted done is. unchanged old new change (ap (λ (c : Difference). c.draws) done.3) is ordered;
   imports = λ old new change reply known accepted done is.
       stay_beside old new (import.change_of done.0) (is ∙ ap (after old) done.3) known (each_new old rows done.0 known accepted done.1)

@@ -34,7 +34,7 @@ pub name_plan_shows : (child : ℕ) (school : List ℕ) → Shows (NamePlan chil
 unfolding name_plan.tests name_plan.change_of
 name_plan_shows child school = shows_only (NamePlan child school) (λ old. name_plan.change_of child school) (record {
   done = λ old. (refl, refl);
-  is = λ old change reply done. done.0;
+  is = λ old change reply done. done;
   fits = λ old kept well accepted. name_plan-fit old child school well (no_row _ accepted);
   again = λ old well first passes.
       let unplanned = (all_pass (name_plan.tests (after old (name_plan.change_of child school)) child school) (no_row _ passes)).1.1.0 in
@@ -47,7 +47,7 @@ pub accept_shows : (child : ℕ) (school : List ℕ) → Shows (Accept child sch
 unfolding accept.tests accept.change_of
 accept_shows child school = shows_only (Accept child school) (λ old. accept.change_of child school) (record {
   done = λ old. (refl, refl);
-  is = λ old change reply done. done.0;
+  is = λ old change reply done. done;
   fits = λ old kept well accepted. accept-fit old child school well (no_row _ accepted);
   again = λ old well first passes.
       let offered = (all_pass (accept.tests (after old (accept.change_of child school)) child school) (no_row _ passes)).1.1.0 in
@@ -65,7 +65,7 @@ pub decline_shows : (child : ℕ) (school : List ℕ) → Shows (Decline child s
 unfolding decline.tests decline.change_of
 decline_shows child school = shows_only (Decline child school) (λ old. decline.change_of child school) (record {
   done = λ old. (refl, refl);
-  is = λ old change reply done. done.0;
+  is = λ old change reply done. done;
   fits = λ old kept well accepted. decline-fit old child school well (no_row _ accepted);
   again = λ old well first passes.
       let held = (all_pass (decline.tests (after old (decline.change_of child school)) child school) (no_row _ passes)).1.1.0 in
@@ -78,7 +78,7 @@ pub lapse_shows : (child : ℕ) (school : List ℕ) (day : ℕ) → Shows (Lapse
 unfolding lapse.tests decline.change_of
 lapse_shows child school day = shows_only (Lapse child school day) (λ old. decline.change_of child school) (record {
   done = λ old. (refl, refl);
-  is = λ old change reply done. done.0;
+  is = λ old change reply done. done;
   fits = λ old kept well accepted. lapse-fit old child school day well (no_row _ accepted);
   again = λ old well first passes.
       let offered = (all_pass (lapse.tests (after old (decline.change_of child school)) child school day) (no_row _ passes)).1.1.0 in
@@ -91,7 +91,7 @@ pub leave_list_shows : (child : ℕ) (school : List ℕ) → Shows (LeaveList ch
 unfolding leave_list.change_of
 leave_list_shows child school = shows_only (LeaveList child school) (λ old. leave_list.change_of child school) (record {
   done = λ old. (refl, refl);
-  is = λ old change reply done. done.0;
+  is = λ old change reply done. done;
   fits = λ old kept well accepted. leave_list-fit old child school well (no_row _ accepted);
   again = λ old well first passes. absurd (leave_again old (after old (leave_list.change_of child school)) child school well (no_row _ first) refl (no_row _ passes));
   no_draw = λ old. refl;
@@ -126,7 +126,7 @@ pub remind_shows : (child : ℕ) (school : List ℕ) (day : ℕ) → Shows (Remi
 unfolding remind.change_of
 remind_shows child school day = shows_only (Remind child school day) (λ old. remind.change_of old child school day) (record {
   done = λ old. (refl, refl);
-  is = λ old change reply done. done.0;
+  is = λ old change reply done. done;
   fits = λ old kept well accepted. remind-fit old child school day kept well (no_row _ accepted);
   again = λ old well first passes. absurd (remind_again old (after old (remind.change_of old child school day)) child school day (no_row _ first) refl (no_row _ passes));
   no_draw = λ old. no_draw child school day (offer_at (get old.places child) school);

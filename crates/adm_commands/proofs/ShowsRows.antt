@@ -22,7 +22,7 @@ pub add_school_shows : (school : School) → Shows (AddSchool school)
 unfolding add_school.tests add_school.change_of
 add_school_shows school = shows_only (AddSchool school) (λ old. add_school.change_of school) (record {
   done = λ old. (refl, refl);
-  is = λ old change reply done. done.0;
+  is = λ old change reply done. done;
   fits = λ old kept well accepted. add_school-fit old school kept well (no_row _ accepted);
   again = λ old well first passes. absurd (not_again nat_list_cmp_total old.schools school.code school (all_pass (add_school.tests (after old (add_school.change_of school)) school) (no_row _ passes)).0);
   no_draw = λ old. refl;
@@ -33,7 +33,7 @@ pub add_child_shows : (child : Child) → Shows (AddChild child)
 unfolding add_child.tests
 add_child_shows child = shows_only (AddChild child) (λ old. change_of_child child) (record {
   done = λ old. (refl, refl);
-  is = λ old change reply done. done.0;
+  is = λ old change reply done. done;
   fits = λ old kept well accepted. add_child-fit old child kept well (no_row _ accepted);
   again = λ old well first passes. absurd (not_again nat_cmp_total old.children child.no child (all_pass (add_child.tests (after old (change_of_child child)) child) (no_row _ passes)).0);
   no_draw = λ old. refl;
@@ -43,7 +43,7 @@ add_child_shows child = shows_only (AddChild child) (λ old. change_of_child chi
 pub amend_shows : (child : Child) → Shows (Amend child)
 amend_shows child = shows_only (Amend child) (λ old. change_of_child child) (record {
   done = λ old. (refl, refl);
-  is = λ old change reply done. done.0;
+  is = λ old change reply done. done;
   fits = λ old kept well accepted. amend-fit old child kept well (no_row _ accepted);
   again = λ old well first passes. (λ i. record old { children = insert_again nat_cmp_total nat_cmp-IsAntisymmetric old.children child.no child i });
   no_draw = λ old. refl;
@@ -54,7 +54,7 @@ pub apply_shows : (application : Application) → Shows (Apply application)
 unfolding apply.tests apply.change_of
 apply_shows application = shows_only (Apply application) (λ old. apply.change_of application) (record {
   done = λ old. (refl, refl);
-  is = λ old change reply done. done.0;
+  is = λ old change reply done. done;
   fits = λ old kept well accepted. apply-fit old application kept well (no_row _ accepted);
   again = λ old well first passes. absurd (not_again nat_cmp_total old.applications application.child application (all_pass (apply.tests (after old (apply.change_of application)) application) (no_row _ passes)).1.1.0);
   no_draw = λ old. refl;
@@ -65,7 +65,7 @@ pub raise_pan_shows : (school : List ℕ) (pan : ℕ) → Shows (RaisePan school
 unfolding raise_pan.change_of
 raise_pan_shows school pan = shows_only (RaisePan school pan) (λ old. raise_pan.change_of old school pan) (record {
   done = λ old. (refl, refl);
-  is = λ old change reply done. done.0;
+  is = λ old change reply done. done;
   fits = λ old kept well accepted. raise_pan-fit old school pan well (no_row _ accepted);
   again = λ old well first passes. raise_pan-again old school pan well (no_row _ first);
   no_draw = λ old. refl;

@@ -1,12 +1,12 @@
 // Laws of the steps of a register: repeats, rounds, imports, other lists.
 ghost use Rattle.adm_commands.specs.History.{DrawsKept, RoundIsRecorded};
 ghost use Rattle.adm_commands.specs.Imports.{ImportOnce};
-ghost use Rattle.adm_commands.specs.Steps.{OneStep, RepeatSafe, SomeStep};
+ghost use Rattle.adm_commands.specs.Steps.{OneStep, RepeatSafe, SomeStep, StepKeeps};
 ghost use Rattle.adm_commands.specs.Problem.{RoundIsPosed};
 ghost use Rattle.adm_commands.specs.WhatIf.{NoBetterList};
 
 use adm_match::{no_gain, one_best};
-use adm_round::{one_allotment, posed_without_fault};
+use adm_round::{allotment_fits, one_allotment, posed_without_fault};
 use adm_waiting::one_is_first;
 
 /// A command that follows itself at once leaves a register as it was.
@@ -14,14 +14,23 @@ pub fn repeat_safe()
     ensures { RepeatSafe }
 {}
 
-/// Each command has a result on each well-formed register: a refusal, or a reply and the
-/// register that it leaves.
+/// Each command has a result on each well-formed register: a refusal, or a reply, and the register
+/// that it leaves, which is well-formed.
 pub fn some_step()
     ensures { SomeStep }
 {
+    allotment_fits();
     one_best();
     posed_without_fault();
     one_is_first();
+}
+
+/// An accepted command of a well-formed register leaves a well-formed register, so what holds of a
+/// command on each such register holds of each of several, one after another.
+pub fn step_keeps()
+    ensures { StepKeeps }
+{
+    allotment_fits();
 }
 
 /// Lots that pass their two tests pose a round on each well-formed register.
@@ -29,7 +38,7 @@ pub fn round_is_posed()
     ensures { RoundIsPosed }
 {}
 
-/// An accepted command leaves one register.
+/// A command has at most one result: its reply or its refusal, and the register that it leaves.
 pub fn one_step()
     ensures { OneStep }
 {

@@ -18,7 +18,7 @@ mod what_ifs;
 
 pub use laws::{
     draws_kept, import_once, no_better_list, one_step, repeat_safe, round_is_posed,
-    round_is_recorded, some_step,
+    round_is_recorded, some_step, step_keeps,
 };
 pub use not_done::NotDone;
 pub use pairs::{fill_pairs, round_pairs};

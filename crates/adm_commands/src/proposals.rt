@@ -3,6 +3,7 @@ ghost use Rattle.std.specs.Prelude.{IfOk};
 ghost use Rattle.adm_register.specs.WellFormed.{WellFormed};
 ghost use Rattle.adm_register.specs.Extends.{Extends, KeepsSchools};
 ghost use Rattle.adm_register.specs.Difference.{IsDifference};
+ghost use Rattle.adm_commands.specs.Commands.{KeptByTypes};
 ghost use Rattle.adm_commands.specs.Steps.{Decides, decision};
 
 use crate::NotDone;
@@ -20,6 +21,7 @@ pub fn propose(old: &Register, alloc: Global, command: &Command) -> Result<Propo
     ensures extends { IfOk result (λ proposal. Extends old.now proposal.register × WellFormed proposal.register) }
     ensures schools { IfOk result (λ proposal. KeepsSchools old.now proposal.register) }
     ensures change { IfOk result (λ proposal. IsDifference old.now proposal.register proposal.change) }
+    ensures kept { KeptByTypes command.now }
 {
     allotment_fits();
     match evaluate(old.tables(), old.draws_so_far(), alloc, command)? {

@@ -1,5 +1,5 @@
 -- A run keeps what it acknowledged.
-use Rattle.std.proofs.Common.{◌≡◌, ◌∙◌, ℕ, List, [], ◌∷◌, true, false, Result, refl, sym, ap, subst, zip}
+use Rattle.std.proofs.Common.{◌≡◌, ◌∙◌, ℕ, List, [], ◌∷◌, true, false, Result, Ok, refl, sym, ap, subst, zip}
 use Rattle.sqlite.specs.State.{State as Disk}
 use Rattle.std.proofs.lemmas.Bool.{true≢false}
 use Rattle.adm_types.specs.declared.commands.Command.{Command}
@@ -113,5 +113,5 @@ module _ {C : Type 0} (disk : C → Disk) where
 pub one_after_lem : OneStep → OneAfter
 one_after_lem step old a b [] one other = one ∙ sym other
 one_after_lem step old a b (c ∷ commands) one other =
-    let same = step old one.0 other.0 c one.1 other.1 in
+    let same = (step old one.0 other.0 c (Ok one.1.0) (Ok other.1.0) one.1.1 other.1.1).1 in
     one_after_lem step one.0 a b commands one.2 (subst (λ (r : Register). Reaches r commands b) (sym same) other.2)
