@@ -17,6 +17,7 @@ use Rattle.adm_types.specs.contracts.draws.LotPartialEq.TheImpl.{eq-value as lot
 use Rattle.adm_types.specs.contracts.rows.CriterionPartialEq.TheImpl.{eq-value as criterion_eq}
 use Rattle.adm_types.specs.contracts.rows.PlaceStatePartialEq.TheImpl.{eq-value as state_eq}
 
+-- whether two schools are equal in all their values
 abbrev pub is_same_school : School → School → Bool
 is_same_school x y =
     pointwise nat_eq x.code y.code && (pointwise nat_eq x.name y.name && (nat_eq x.pan y.pan && ((nat_eq x.at.east y.at.east && nat_eq x.at.north y.at.north) && pointwise criterion_eq.it x.criteria y.criteria)))
@@ -40,15 +41,19 @@ equality = record {
 abbrev pub is_same_child : Child → Child → Bool
 is_same_child x y = child_fields equality (child_values x) (child_values y)
 
+-- whether two applications are equal in all their values
 abbrev pub is_same_application : Application → Application → Bool
 is_same_application x y = nat_eq x.child y.child && (nat_eq x.day y.day && pointwise (pointwise nat_eq) x.list y.list)
 
+-- whether two rows of places are equal in all their values
 abbrev pub is_same_place : PlaceRow → PlaceRow → Bool
 is_same_place x y = nat_eq x.child y.child && (pointwise nat_eq x.place.school y.place.school && state_eq.it x.place.state y.place.state)
 
+-- whether two left pairs are equal in all their values
 abbrev pub is_same_left : LeftPair → LeftPair → Bool
 is_same_left x y = nat_eq x.child y.child && pointwise nat_eq x.school y.school
 
+-- whether two draws are equal in all their values
 abbrev pub is_same_draw : Draw → Draw → Bool
 is_same_draw x y =
     nat_eq x.number y.number && (nat_eq x.round y.round && (option_eq (pointwise nat_eq) x.school y.school && (nat_eq x.day y.day && (pointwise outcome_eq.it x.outcomes y.outcomes && pointwise lot_eq.it x.lots y.lots))))
