@@ -50,7 +50,7 @@ Answered-then runs old mid new u v w a b c ls ms p q = record {
   counted = Counts-then a b c p.answers q.answers p.counted q.counted;
 }
 
-whole_beginning : (xs : List LineAnswer) → IsBeginning xs (answers_text xs)
+pub whole_beginning : (xs : List LineAnswer) → IsBeginning xs (answers_text xs)
 whole_beginning xs =
     let k = length xs - 1 in (
       length (answers_text (drop k xs)),

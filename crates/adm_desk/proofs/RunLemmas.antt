@@ -1,5 +1,5 @@
 -- A run of lines, from the pieces that were read to the whole input, and how it ended.
-use Rattle.std.proofs.Common.{◌≡◌, ℕ, ◌-◌, ◌^◌, ◌≤◌, ◌<◌, ◌||◌, Bool, true, false, List, [], ◌∷◌, ◌++◌, length, take, Option, Some, None, IfSome, Result, Ok, Err, IfOk, OnErr, IfErr, inl, inr, refl, sym, ap, ◌∙◌, arith, length-append}
+use Rattle.std.proofs.Common.{◌≡◌, ℕ, ◌||◌, Bool, true, false, List, [], ◌∷◌, ◌++◌, length, take, Option, Some, None, Result, Ok, Err, IfOk, OnErr, IfErr, inl, inr, refl, sym, ap, ◌∙◌, arith}
 use Rattle.std.specs.Io.KnownBytes.{Consumes, Keeps, IsAtEnd}
 use Rattle.std.specs.List.{AllByRecursion}
 use Rattle.std.proofs.Math.Seq.{take-length}
@@ -8,10 +8,10 @@ use Rattle.adm_desk.specs.declared.run.Run.{Run}
 use Rattle.adm_desk.specs.declared.run.RunFault.{RunFault}
 use Rattle.adm_desk.specs.declared.run.RunFault.TheVariants.{Read, Write, Memory}
 use Rattle.adm_wire.specs.Streams.{Stream}
-use Rattle.adm_desk.specs.Lines.{lines_of, lines_ended}
+use Rattle.adm_desk.specs.Lines.{lines_of, lines_ended, answers_text}
 use Rattle.adm_desk.specs.Written.{Answered, Finished, AnsweredUpTo, Interrupted, InterruptedWithin, EndsAs, ReaderFailsBy, WriterFailsBy, OfWriter, Takes, Breaks, joined_lines, HasNoLineFeed, last_line}
 use Rattle.adm_desk.proofs.CutLemmas.{lines_of-joined, lines_of-piece, ended-joined, ended-more, first_lines}
-use Rattle.adm_desk.proofs.AnswerLemmas.{Answered-then, Answered-interrupted}
+use Rattle.adm_desk.proofs.AnswerLemmas.{whole_beginning, Answered-then, Answered-interrupted}
 
 -- ---- what was read, and the input
 
@@ -27,19 +27,12 @@ Consumes-end (Some start) None c xs p q = absurd p
 Consumes-end (Some start) (Some bs) None xs p q = absurd q
 Consumes-end (Some start) (Some bs) (Some cs) xs p q = p ∙ ap (λ zs. xs ++ zs) q
 
--- no input is that long
-pub too_long : (a b : Option (List ℕ)) (xs : List ℕ) (turn : ℕ) (F : Type 0) → Consumes a b xs → turn ≤ length xs → 2 ^ 64 - 1 ≤ turn → IfSome a (λ input. length input < 2 ^ 64 - 1 → F)
-too_long None b xs turn F p bound end = tt
-too_long (Some start) None xs turn F p bound end = absurd p
-too_long (Some start) (Some bs) xs turn F p bound end = λ short. absurd (omega (arith, ap length p, length-append xs bs))
-
 -- ---- what failed
 
 -- a read that failed
-pub read_has_failed : (a : Option (List ℕ)) (old new : Bool) → new ≡ (old || true) → IfSome a (λ input. length input < 2 ^ 64 - 1 → new ≡ true)
-read_has_failed None old new failed = tt
-read_has_failed (Some input) true new failed = λ short. failed
-read_has_failed (Some input) false new failed = λ short. failed
+pub read_has_failed : (old new : Bool) → new ≡ (old || true) → new ≡ true
+read_has_failed true new failed = failed
+read_has_failed false new failed = failed
 
 -- nothing failed before
 pub writer_left : {A : Type 0} (r : Result A RunFault) (old mid new : Bool) → mid ≡ old → WriterFailsBy r mid new → WriterFailsBy r old new
@@ -48,11 +41,11 @@ writer_left (Err Read) old mid new same left = left ∙ same
 writer_left (Err Write) old mid new same left = left
 writer_left (Err Memory) old mid new same left = left ∙ same
 
-pub reader_left : {A : Type 0} (r : Result A RunFault) (old new : Bool) → new ≡ old → ReaderFailsBy r old new
-reader_left (Ok x) old new same = same
-reader_left (Err Read) old new same = tt
-reader_left (Err Write) old new same = same
-reader_left (Err Memory) old new same = same
+pub reader_left : {A : Type 0} (r : Result A RunFault) (old new : Bool) → new ≡ old → IfErr r OfWriter → ReaderFailsBy r old new
+reader_left (Ok x) old new same fault = same
+reader_left (Err Read) old new same fault = absurd fault
+reader_left (Err Write) old new same fault = same
+reader_left (Err Memory) old new same fault = same
 
 -- ---- whole lines
 
@@ -114,6 +107,24 @@ read_failed_from runs old new u v run ran p bytes takes =
       answers = takes.answered.answers;
       answered = rw lines takes.answered.answered;
       written = takes.answered.written;
+    }
+
+-- no more reads are made: the lines that had ended were answered, and each answer was written whole
+pub out_of_reads : {D : Type 0} (runs : D → List ℕ → LineAnswer → D → Type 0) (old new : D) (u v left : Option (List ℕ)) (run ran : Run) (p bytes : List ℕ)
+    → Takes runs old new u v run ran [] p bytes → InterruptedWithin runs old new u v bytes left
+out_of_reads runs old new u v left run ran p bytes takes =
+    let plain = takes.cut.plain tt in
+    let lines : take (lines_ended bytes) (lines_of bytes) ≡ takes.lines = ap (λ b. take (lines_ended b) (lines_of b)) takes.cut.whole ∙ ended_lines takes.lines p plain.0 plain.1 in
+    record {
+      count = lines_ended bytes;
+      within = inr (omega arith);
+      interrupted = rw lines record {
+        answers = takes.answered.answers;
+        text = answers_text takes.answered.answers;
+        answered = takes.answered.answered;
+        beginning = whole_beginning takes.answered.answers;
+        written = takes.answered.written;
+      };
     }
 
 -- a run that read its input to the end, or that no error of the reader ended

@@ -1,5 +1,5 @@
 -- What a call over a reader and a writer did.
-use Rattle.std.specs.Prelude.{◌≡◌, ◌≢◌, ◌⊎◌, ◌≤◌, ◌<◌, ℕ, ◌+◌, ◌-◌, ◌^◌, ◌||◌, min, max, List, [], ◌∷◌, ◌++◌, Bool, true, Option, IfSome, Result, Ok, Err, length, take, drop, count_by}
+use Rattle.std.specs.Prelude.{◌≡◌, ◌≢◌, ◌⊎◌, ◌≤◌, ℕ, ◌+◌, ◌-◌, ◌^◌, ◌||◌, min, max, List, [], ◌∷◌, ◌++◌, Bool, true, Option, Result, Ok, Err, length, take, drop, count_by}
 use Rattle.std.specs.List.{list_any, flat_map, AllByRecursion}
 use Rattle.std.specs.Io.KnownBytes.{Appends, Consumes, IsAtEnd}
 use Rattle.adm_wire.specs.Streams.{Stream}
@@ -65,7 +65,7 @@ pub record InterruptedWithin {D : Type 0} (runs : D → List ℕ → LineAnswer 
 abbrev pub EndsAs : {D : Type 0} → (D → List ℕ → LineAnswer → D → Type 0) → D → D → Stream → Stream → Result Run RunFault → Type 0
 EndsAs runs old new input output (Ok run) = IsAtEnd input.new
     × (bytes : List ℕ) × Consumes input.old input.new bytes × Finished runs old new output.old output.new run (lines_of bytes)
-EndsAs runs old new input output (Err Read) = IfSome input.old (λ bytes. length bytes < 2 ^ 64 - 1 → input.has_failed ≡ true)
+EndsAs runs old new input output (Err Read) = (input.has_failed ≡ true)
     × (bytes : List ℕ) × Consumes input.old input.new bytes × AnsweredUpTo runs old new output.old output.new bytes
 EndsAs runs old new input output (Err Write) = (output.has_failed ≡ true)
     × (bytes : List ℕ) × Consumes input.old input.new bytes × InterruptedWithin runs old new output.old output.new bytes input.new
@@ -79,10 +79,10 @@ WriterFailsBy (Err Read) old new = new ≡ old
 WriterFailsBy (Err Write) old new = new ≡ true
 WriterFailsBy (Err Memory) old new = new ≡ old
 
--- and a reader with Read alone
+-- and a reader exactly with Read
 abbrev pub ReaderFailsBy : {A : Type 0} → Result A RunFault → Bool → Bool → Type 0
 ReaderFailsBy (Ok x) old new = new ≡ old
-ReaderFailsBy (Err Read) old new = Unit {0}
+ReaderFailsBy (Err Read) old new = new ≡ true
 ReaderFailsBy (Err Write) old new = new ≡ old
 ReaderFailsBy (Err Memory) old new = new ≡ old
 

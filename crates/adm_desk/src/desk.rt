@@ -1,12 +1,15 @@
 // The desk: one register and its file.
-ghost use Rattle.std.specs.Prelude.{◌≡◌, ◌≢◌, ◌^◌, ◌<◌, ◌-◌, ℕ, List, length, zip, true, false, if◌then◌else◌, IfOk, IfErr, IfSome, OnOk, OnErr, IsErrOf, Some, None, option_copied};
+ghost use Rattle.std.specs.Prelude.{◌≡◌, ◌≢◌, ◌⊎◌, ◌^◌, ◌<◌, ◌-◌, ℕ, List, length, zip, true, false, if◌then◌else◌, IfOk, IfErr, IfSome, OnOk, OnErr, IsErrOf, Some, None, option_copied};
 ghost use Rattle.adm_wire.specs.Streams.{reader, writer};
 ghost use Rattle.sqlite.specs.Held.{state};
 ghost use Rattle.sqlite.specs.State.{HasCleanDisk, Survives};
+ghost use Rattle.adm_schema.specs.Schema.{schema_of};
+ghost use Rattle.adm_schema.specs.declared.version.Version.TheVariants.{First};
 ghost use Rattle.adm_register.specs.Extends.{Extends};
 ghost use Rattle.adm_register.specs.Difference.{IsDifference};
 ghost use Rattle.adm_register.specs.WellFormed.{WellFormed};
 ghost use Rattle.adm_store.specs.Changes.{IsChanges};
+ghost use Rattle.adm_rows.specs.Causes.{HasDiskCause};
 ghost use Rattle.adm_rows.specs.Faults.{IsNoRegister};
 ghost use Rattle.adm_rows.specs.FirstFault.{IsFirstFault};
 ghost use Rattle.adm_rows.specs.Represents.{IsStarted, LeavesOnly, LeavesNone};
@@ -70,15 +73,18 @@ impl<S: Alter> Model for Desk<S> {
 
 impl<S: Alter> Desk<S> {
     /// Opens the register that the file represents. Errors 1 to 3 are reported only where it
-    /// represents none, and the first of them that fits is reported; whatever comes, a crash leaves
-    /// the file as it was found, or, where it was one of the first version, one of the second for
-    /// the same register. What it costs grows with the rows of the register.
+    /// represents none, and the first of them that fits is reported, and Disk only where the disk
+    /// failed or refused, or where the file was one of the first version, which is then written;
+    /// whatever comes, a crash leaves the file as it was found, or, where it was one of the first
+    /// version, one of the second for the same register. What it costs grows with the rows of the
+    /// register.
     pub fn open(alloc: Global, conn: Connection<S>) -> Result<Desk<S>, (OpenFault, Connection<S>)>
         requires ended { conn.in_transaction ≡ false }
         requires started { IsStarted (state S.Store conn) }
         ensures opened { IfOk result (λ desk. (desk.failed ≡ false) × LeavesOnly desk.register (state S.Store desk.conn)) }
         ensures bad { IfErr result (λ e. IsNoRegister e.0 → LeavesNone (state S.Store e.1)) }
         ensures first { IfErr result (λ e. HasCleanDisk (state S.Store e.1) → IsNoRegister e.0 → IsFirstFault (state S.Store conn).now e.0) }
+        ensures disk { IfErr result (λ e. e.0 ≡ OpenFault.Disk → HasDiskCause (state S.Store conn) (state S.Store e.1) ⊎ (conn.schema ≡ schema_of First)) }
         ensures kept { IfOk result (λ desk. Survives (state S.Store conn) (state S.Store desk.conn) (IsMigrated (state S.Store conn))) }
         ensures ended { IfErr result (λ e. e.1.in_transaction ≡ false) }
         ensures left { IfErr result (λ e. Survives (state S.Store conn) (state S.Store e.1) (IsMigrated (state S.Store conn))) }
@@ -197,7 +203,7 @@ impl<S: Alter> Desk<S> {
     ) -> Result<Run, RunFault>
         ensures ends { EndsAs (AnswersLine (Handles (state S.Store))) self.old self.new (reader R.Input input.old input.new) (writer W.Output output.old output.new) result }
 
-        // The writer has failed since exactly with Write, and the reader with Read alone.
+        // The writer has failed since exactly with Write, and the reader exactly with Read.
         ensures writer { WriterFailsBy result (W.has_failed output.old) (W.has_failed output.new) }
         ensures reader { ReaderFailsBy result (R.has_failed input.old) (R.has_failed input.new) }
 

@@ -165,7 +165,8 @@ fn finish<H: LineHandler, W: Output>(
 }
 
 /// Answers the lines that the reader gives, to its end, and writes an answer for each. An error of
-/// the reader leaves the lines answered that ended before it.
+/// the reader leaves the lines answered that ended before it. An input that takes more than
+/// `u64::MAX` reads is out of memory.
 pub(crate) fn run_lines<H: LineHandler, R: Input, W: Output>(
     alloc: Global,
     handler: &mut H,
@@ -174,7 +175,7 @@ pub(crate) fn run_lines<H: LineHandler, R: Input, W: Output>(
 ) -> Result<Run, RunFault>
     ensures ends { EndsAs H.runs (H.view handler.old) (H.view handler.new) (reader R.Input input.old input.new) (writer W.Output output.old output.new) result }
 
-    // The writer has failed since exactly with Write, and the reader with Read alone.
+    // The writer has failed since exactly with Write, and the reader exactly with Read.
     ensures writer { WriterFailsBy result (W.has_failed output.old) (W.has_failed output.new) }
     ensures reader { ReaderFailsBy result (R.has_failed input.old) (R.has_failed input.new) }
 {
@@ -198,5 +199,5 @@ pub(crate) fn run_lines<H: LineHandler, R: Input, W: Output>(
             Err(fault) => return Err(fault),
         }
     }
-    Err(RunFault::Read)
+    Err(RunFault::Memory)
 }

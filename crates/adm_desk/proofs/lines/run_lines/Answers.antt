@@ -1,19 +1,15 @@
-use Rattle.std.proofs.Common.{rules, arith, refl, ◌∙◌, ◌||◌, Bool, true, false, Err, ◌≡◌, ◌+◌, ◌≤◌, ℕ, List, [], ◌++◌, length, take, length-append}
-use Rattle.std.proofs.lemmas.List.{length-take-le}
+use Rattle.std.proofs.Common.{rules, refl, ◌∙◌, ◌||◌, Bool, true, false, Err, ◌≡◌, [], ◌++◌, take}
 use Rattle.std.proofs.lemmas.Result.{IfOk-weaker, on_err_weaker}
 use Rattle.adm_desk.specs.declared.run.Run.{Run}
 use Rattle.adm_desk.proofs.Known.{Consumes-nothing, Consumes-then}
 use Rattle.adm_desk.proofs.AnswerLemmas.{Takes-nothing, Takes-then, Takes-breaks}
-use Rattle.adm_desk.proofs.RunLemmas.{Consumes-kept, Consumes-end, too_long, read_has_failed, finished_from, interrupted_from, broken_from, read_failed_from, ends_from, writer_left, reader_left}
+use Rattle.adm_desk.proofs.RunLemmas.{Consumes-kept, Consumes-end, read_has_failed, out_of_reads, finished_from, interrupted_from, broken_from, read_failed_from, ends_from, writer_left, reader_left}
 use Rattle.adm_desk.proofs.lines.run_lines.Goals as goal
 
 pub loop-turn-init : goal.loop-turn-init
 loop-turn-init g c =
     rw c.new-pending.ensures.items
-    ([], Consumes-nothing _, Takes-nothing g.H.LineHandler.runs _ _ _ [], omega arith, refl, refl)
-
-grows : (xs buffer : List ℕ) (turn n : ℕ) → turn ≤ length xs → (n ≡ 0 → ⊥) → n ≤ length buffer → turn + 1 ≤ length (xs ++ take n buffer)
-grows xs buffer turn n bound some within = omega (arith, length-append xs (take n buffer), length-take-le n buffer within)
+    ([], Consumes-nothing _, Takes-nothing g.H.LineHandler.runs _ _ _ [], refl, refl)
 
 goes_on : (old new : Bool) → new ≡ (old || false) → new ≡ old
 goes_on false new same = same
@@ -25,15 +21,14 @@ loop-turn-preserved g c =
       i.0 ++ take c.in-Ok.count c.read_some.new.buffer,
       Consumes-then _ _ _ i.0 _ i.1 c.in-Ok.ensures.bytes.0,
       Takes-then g.H.LineHandler.runs _ _ _ _ _ _ _ _ _ _ _ _ i.0 _ i.2 c.in-Ok-take_bytes.ensures.taken,
-      grows i.0 c.read_some.new.buffer c.loop-turn._turn c.in-Ok.count i.3 c.if-count-eq0.false c.in-Ok.ensures.bound,
-      c.in-Ok-take_bytes.ensures.writer ∙ i.4,
-      goes_on _ _ c.in-Ok.ensures.fails ∙ i.5,
+      c.in-Ok-take_bytes.ensures.writer ∙ i.3,
+      goes_on _ _ c.in-Ok.ensures.fails ∙ i.4,
     )
 
 pub returns-in-Err-clause-ends : goal.returns-in-Err-clause-ends
 returns-in-Err-clause-ends g c =
     let i = c.loop-turn.invariant in (
-      read_has_failed _ _ _ c.in-Err.ensures.fails,
+      read_has_failed _ _ c.in-Err.ensures.fails,
       i.0,
       Consumes-kept _ _ _ i.0 i.1 c.in-Err.ensures.bytes,
       read_failed_from g.H.LineHandler.runs _ _ _ _ _ _ _ i.0 i.2,
@@ -69,22 +64,28 @@ returns-in-Err-take_bytes-clause-ends g c =
 pub returns-clause-ends : goal.returns-clause-ends
 returns-clause-ends g c =
     let i = c.loop-turn.invariant in
-    (too_long _ _ i.0 c.loop-turn._turn _ i.1 i.3 (omega arith), i.0, i.1, read_failed_from g.H.LineHandler.runs _ _ _ _ _ _ _ i.0 i.2)
+    (i.0, i.1, out_of_reads g.H.LineHandler.runs _ _ _ _ _ _ _ _ i.0 i.2)
+
+pub returns-in-Err-clause-reader : goal.returns-in-Err-clause-reader
+returns-in-Err-clause-reader g c = read_has_failed _ _ c.in-Err.ensures.fails
+
+pub returns-clause-reader : goal.returns-clause-reader
+returns-clause-reader g c = c.loop-turn.invariant.4
 
 pub returns-in-Err-clause-writer : goal.returns-in-Err-clause-writer
-returns-in-Err-clause-writer g c = c.loop-turn.invariant.4
+returns-in-Err-clause-writer g c = c.loop-turn.invariant.3
 
 pub returns-then-count-eq0-clause-writer : goal.returns-then-count-eq0-clause-writer
-returns-then-count-eq0-clause-writer g c = writer_left c.finish.result _ _ _ c.loop-turn.invariant.4 c.finish.ensures.writer
+returns-then-count-eq0-clause-writer g c = writer_left c.finish.result _ _ _ c.loop-turn.invariant.3 c.finish.ensures.writer
 
 pub returns-then-count-eq0-clause-reader : goal.returns-then-count-eq0-clause-reader
-returns-then-count-eq0-clause-reader g c = reader_left c.finish.result _ _ (goes_on _ _ c.in-Ok.ensures.fails ∙ c.loop-turn.invariant.5)
+returns-then-count-eq0-clause-reader g c = reader_left c.finish.result _ _ (goes_on _ _ c.in-Ok.ensures.fails ∙ c.loop-turn.invariant.4) c.finish.ensures.fault
 
 pub returns-in-Err-take_bytes-clause-writer : goal.returns-in-Err-take_bytes-clause-writer
-returns-in-Err-take_bytes-clause-writer g c = writer_left {A = Run} (Err c.in-Err-take_bytes.fault) _ _ _ c.loop-turn.invariant.4 c.in-Err-take_bytes.ensures.writer
+returns-in-Err-take_bytes-clause-writer g c = writer_left {A = Run} (Err c.in-Err-take_bytes.fault) _ _ _ c.loop-turn.invariant.3 c.in-Err-take_bytes.ensures.writer
 
 pub returns-in-Err-take_bytes-clause-reader : goal.returns-in-Err-take_bytes-clause-reader
-returns-in-Err-take_bytes-clause-reader g c = reader_left {A = Run} (Err c.in-Err-take_bytes.fault) _ _ (goes_on _ _ c.in-Ok.ensures.fails ∙ c.loop-turn.invariant.5)
+returns-in-Err-take_bytes-clause-reader g c = reader_left {A = Run} (Err c.in-Err-take_bytes.fault) _ _ (goes_on _ _ c.in-Ok.ensures.fails ∙ c.loop-turn.invariant.4) c.in-Err-take_bytes.ensures.fault
 
 pub returns-clause-writer : goal.returns-clause-writer
-returns-clause-writer g c = c.loop-turn.invariant.4
+returns-clause-writer g c = c.loop-turn.invariant.3
