@@ -42,11 +42,12 @@ module _ {D : Type 0} {g : disk.Ghosts D} where
   abbrev pub OpensAndRuns : LineStep (DeskState (Held (FileStore D g))) → Image → Stream → Stream → Result Exit Fault → Result (Files D) (Error × FileStore D g) → Type 0
   OpensAndRuns runs image input output e closed = Opens image ((input.new ≡ input.old) × (output.new ≡ output.old)) e closed (λ desk. Runs runs desk input output e closed)
 
-  -- what a create leaves
+  -- what a create leaves: the register of the season, where there was no table, index or view; or what was found, or that register. InUse is reported just where
+  -- there was one, and then nothing is changed.
   abbrev pub CreatesAs : SeasonFacts → Held (FileStore D g) → Held (FileStore D g) → Result Exit Fault → Type 0
-  CreatesAs season found left (Ok e) = (e ≡ exit.Done) × LeavesOnly (only_season season) (file_state left)
+  CreatesAs season found left (Ok e) = (e ≡ exit.Done) × (found.schema ≡ no_schema) × LeavesOnly (only_season season) (file_state left)
   CreatesAs season found left (Err f) = (cause : CreateFault) × (f ≡ of_create cause) × LeavesOldOrNew season (file_state found) (file_state left)
-      × (cause ≡ create.InUse → (found.schema ≢ no_schema) × (left ≡ found))
+      × (cause ≡ create.InUse → (found.schema ≢ no_schema) × (left ≡ found)) × (found.schema ≢ no_schema → cause ≡ create.InUse)
 
   -- the register of the season is created over a connection, which is then closed
   pub record CreatesIn (found : Held (FileStore D g)) (season : SeasonFacts) (e : Result Exit Fault) (closed : Result (Files D) (Error × FileStore D g)) : Type 0 where

@@ -1,12 +1,16 @@
-use Rattle.std.proofs.Common.{refl, ap, Err}
+use Rattle.std.proofs.Common.{◌≡◌, Result, refl, ap, Err}
+use Rattle.adm_store.specs.declared.fault.CreateFault.{CreateFault}
 use Rattle.adm_files.proofs.Closing.{closes}
 use Rattle.adm_files.proofs.creating.create_register.Goals as goal
+
+same_Err : (x y : CreateFault) (r : Result (Unit {0}) CreateFault) → r ≡ Err x → r ≡ Err y → x ≡ y
+same_Err x y r one other = cc
 
 pub returns-in-Ok : goal.returns-in-Ok
 returns-in-Ok g c =
     record {
       left = c.create.new.conn;
-      made = (refl, c.in-Ok.ensures.ok);
+      made = (refl, c.in-Ok.ensures.unused, c.in-Ok.ensures.ok);
       closes = closes c.create.new.conn c.close_files.result _ c.close_files.ensures.copied c.close_files.ensures.err;
     }
 
@@ -14,6 +18,6 @@ pub returns-in-Err : goal.returns-in-Err
 returns-in-Err g c =
     record {
       left = c.create.new.conn;
-      made = (c.in-Err.fault, c.from.ensures, c.in-Err.ensures.err, λ e. c.in-Err.ensures.in_use (ap Err e));
+      made = (c.in-Err.fault, c.from.ensures, c.in-Err.ensures.err, λ e. c.in-Err.ensures.in_use (ap Err e), λ used. same_Err _ _ (Err c.in-Err.fault) refl (c.in-Err.ensures.taken used));
       closes = closes c.create.new.conn c.close_files-in-Err.result _ c.close_files-in-Err.ensures.copied c.close_files-in-Err.ensures.err;
     }
