@@ -25,6 +25,8 @@ use Rattle.adm_register.specs.declared.difference.Difference.{Difference}
 use Rattle.adm_register.specs.Change.{no_change, change_of_child, after}
 use Rattle.adm_register.specs.Plans.{has_plan, is_plan_row}
 use Rattle.adm_commands.specs.KeptByTypes.{KeptBySchool, KeptByChild}
+use Rattle.adm_types.specs.declared.commands.Refusal.TheVariants as refusal
+use Rattle.adm_commands.proofs.Passed.{passed}
 use Rattle.adm_register.specs.WellFormed.{AllRows, WellFormed, ChildFits, has_first_round, places_outside_plans, is_unplanned_at, lists_school}
 use Rattle.adm_register.specs.Draws.{DrawFits, are_in_order, no_draws, count_draws}
 use Rattle.adm_commands.specs.Tests.{first_failing}
@@ -33,7 +35,7 @@ use Rattle.adm_commands.specs.Commands.AddChild as add_child
 use Rattle.adm_commands.specs.Commands.Amend as amend
 use Rattle.adm_commands.specs.Commands.NamePlan as name_plan
 use Rattle.adm_commands.specs.Commands.Apply as apply
-use Rattle.adm_commands.proofs.Keeps.{all_pass, len-insert_room}
+use Rattle.adm_commands.proofs.Keeps.{len-insert_room}
 use Rattle.adm_register.proofs.Maps.{code_cmp-IsAntisymmetric}
 use Rattle.adm_commands.proofs.HeldLemmas.{held_le, none_held}
 use Rattle.adm_register.proofs.Puts.{AllRows-put_all}
@@ -59,12 +61,14 @@ draws_stay old change none = record {
 pub none_there : (old : State) (code : List ℕ) → WellFormed old → not (contains_key old.schools code) ≡ true → AllRows (λ number row. is_unplanned_at (Some row) code ≡ false) old.places
 none_there old code well gone number row there =
     elim (pointwise nat_eq row.place.school code) as (λ b. pointwise nat_eq row.place.school code ≡ b → (b && not (is_plan row.place.state)) ≡ false) [
-      | true ↦ λ is. let here = subst (λ c. contains_key old.schools c ≡ true) ((bytes_decides row.place.school code).0 is) (well.places.each number row there).school in let none = not-true _ gone in cc (here, none)
+      | true ↦ λ is. let here = subst (λ c. contains_key old.schools c ≡ true) ((bytes_decides row.place.school code).0 is) (well.places.each number row there).school in
+          let none = not-true _ gone in cc (here, none)
       | false ↦ λ is. refl
     ] refl
 
--- there is room at the schools where one more is put that was not there
-pub room_with : (old : State) (school : School) → WellFormed old → not (contains_key old.schools school.code) ≡ true → AllRows (λ code (s : School). places_outside_plans old.places code ≤ s.pan) (insert old.schools school.code school)
+-- there is room at the schools where one more is written that was not there
+pub room_with : (old : State) (school : School) → WellFormed old → not (contains_key old.schools school.code) ≡ true
+    → AllRows (λ code (s : School). places_outside_plans old.places code ≤ s.pan) (insert old.schools school.code school)
 room_with old school well new =
     let none = none_held school.code old.places (none_there old school.code well new) in
     AllRows-put_all nat_list_cmp_total code_cmp-IsAntisymmetric (λ (s : School). s.code) (λ code (s : School). places_outside_plans old.places code ≤ s.pan) old.schools (school ∷ [])
@@ -73,24 +77,32 @@ room_with old school well new =
 pub add_school-fit : (old : State) (school : School) → KeptBySchool school → WellFormed old → first_failing (add_school.tests old school) ≡ None → Fit old (add_school.change_of school)
 unfolding add_school.tests add_school.change_of
 add_school-fit old school kept well passes =
-    let pass = all_pass (add_school.tests old school) passes in
+    let pass = passed (add_school.tests old school) passes in
     record {
       base = record {
-        schools = (record { own_code = refl; code_form = kept.code_form; text = kept.text; name = pass.1.0; in_range = pass.1.1.0 }, tt);
-        kept_schools = (λ was there. absurd (none-some was (sym (none_of _ pass.0) ∙ there)), tt);
-        few_schools = len-insert_room nat_list_cmp_total old.schools school.code school most_schools (ltb-true _ _ pass.1.1.1.0);
+        schools = (record { own_code = refl; code_form = kept.code_form; text = kept.text; name = (pass refusal.BadText); in_range = (pass refusal.OutOfRange) }, tt);
+        kept_schools = (λ was there. absurd (none-some was (sym (none_of _ (pass refusal.SchoolKnown)) ∙ there)), tt);
+        few_schools = len-insert_room nat_list_cmp_total old.schools school.code school most_schools (ltb-true _ _ (pass refusal.RegisterFull));
         children = tt;
         few_children = tt;
         applications = tt;
       };
-      places = record { places = tt; kept = λ number row there still. refl; room = room_with old school well pass.0 };
+      places = record { places = tt; kept = λ number row there still. refl; room = room_with old school well (pass refusal.SchoolKnown) };
       left = record { left = tt; places = tt };
       draws = draws_stay old (add_school.change_of school) refl;
       imported = record { each = tt; new_rows = tt };
-      tidy = record { schools = tidy_put _ _ school; children = tidy_none _ _; applications = tidy_none _ _; places = tidy_none _ _; left = tidy_none _ _; draws = tidy_none _ _; imported = tidy_none _ _ };
+      tidy = record {
+        schools = tidy_put _ _ school;
+        children = tidy_none _ _;
+        applications = tidy_none _ _;
+        places = tidy_none _ _;
+        left = tidy_none _ _;
+        draws = tidy_none _ _;
+        imported = tidy_none _ _;
+      };
     }
 
--- a child that fits is put
+-- a child that fits is written
 pub put_child-fit : (old : State) (child : Child) → WellFormed old → ChildFits old.schools child.no child → len (insert old.children child.no child) ≤ most_children → Fit old (change_of_child child)
 put_child-fit old child well fits few = record {
   base = record { schools = tt; kept_schools = tt; few_schools = tt; children = (fits, tt); few_children = few; applications = tt };
@@ -104,31 +116,58 @@ put_child-fit old child well fits few = record {
 pub add_child-fit : (old : State) (child : Child) → KeptByChild child → WellFormed old → first_failing (add_child.tests old child) ≡ None → Fit old (change_of_child child)
 unfolding add_child.tests
 add_child-fit old child kept well passes =
-    let pass = all_pass (add_child.tests old child) passes in
-    put_child-fit old child well (record { own_number = refl; number_form = kept.number_form; text = kept.text; name = pass.1.0; in_range = pass.1.1.0; flags = kept.flags; siblings = pass.1.1.1.0 })
-    (len-insert_room nat_cmp_total old.children child.no child most_children (ltb-true _ _ pass.1.1.1.1.0))
+    let pass = passed (add_child.tests old child) passes in
+    put_child-fit old child well (record {
+      own_number = refl;
+      number_form = kept.number_form;
+      text = kept.text;
+      name = (pass refusal.BadText);
+      in_range = (pass refusal.OutOfRange);
+      flags = kept.flags;
+      siblings = (pass refusal.UnknownSchool);
+    })
+    (len-insert_room nat_cmp_total old.children child.no child most_children (ltb-true _ _ (pass refusal.RegisterFull)))
 
 pub amend-fit : (old : State) (child : Child) → KeptByChild child → WellFormed old → first_failing (amend.tests old child) ≡ None → Fit old (change_of_child child)
 unfolding amend.tests
 amend-fit old child kept well passes =
-    let pass = all_pass (amend.tests old child) passes in
-    let same_len = len-insert nat_cmp_total old.children child.no child ∙ ap (λ b. cond b (len old.children) (len old.children + 1)) pass.0 in
-    put_child-fit old child well (record { own_number = refl; number_form = kept.number_form; text = kept.text; name = pass.1.0; in_range = pass.1.1.0; flags = kept.flags; siblings = pass.1.1.1.0 }) (rw same_len well.base.few_children)
+    let pass = passed (amend.tests old child) passes in
+    let same_len = len-insert nat_cmp_total old.children child.no child ∙ ap (λ b. cond b (len old.children) (len old.children + 1)) (pass refusal.UnknownChild) in
+    put_child-fit old child well (record {
+      own_number = refl;
+      number_form = kept.number_form;
+      text = kept.text;
+      name = (pass refusal.BadText);
+      in_range = (pass refusal.OutOfRange);
+      flags = kept.flags;
+      siblings = (pass refusal.UnknownSchool);
+    }) (rw same_len well.base.few_children)
 
 pub name_plan-fit : (old : State) (child : ℕ) (school : List ℕ) → WellFormed old → first_failing (name_plan.tests old child school) ≡ None → Fit old (name_plan.change_of child school)
 unfolding name_plan.tests name_plan.change_of
 name_plan-fit old child school well passes =
-    let pass = all_pass (name_plan.tests old child school) passes in
+    let pass = passed (name_plan.tests old child school) passes in
     let row : PlaceRow = record { child = child; place = record { school = school; state = Plan } } in
     record {
       base = base_stays old (row ∷ []) (child ∷ []);
       places = record {
-        places = (record { own_number = refl; child = pass.0; school = pass.1.0; state = refl; entitled = not_contains_key-removed nat_cmp_total old.applications child }, tt);
+        places = (
+          record {
+            own_number = refl;
+            child = (pass refusal.UnknownChild);
+            school = (pass refusal.UnknownSchool);
+            state = refl;
+            entitled = not_contains_key-removed nat_cmp_total old.applications child;
+          },
+          tt,
+        );
         kept = λ number other there still.
             elim (eq_by_cmp nat_cmp number child) as (λ b. eq_by_cmp nat_cmp number child ≡ b → get (remove old.applications child) number ≡ get old.applications number) [
               | true ↦ λ tie.
-                  let planned : is_plan_row (Some other) ≡ true = ap is_plan_row (sym still ∙ get-insert nat_cmp_total old.places child row number ∙ ap (λ b. cond b (Some row) (get old.places number)) tie) in
-                  let was : is_plan_row (Some other) ≡ false = ap is_plan_row (sym there) ∙ ap (has_plan old.places) (same_key nat_cmp-IsAntisymmetric number child tie) ∙ not-true _ pass.1.1.0 in
+                  let planned : is_plan_row (Some other) ≡ true = ap is_plan_row (sym still ∙ get-insert nat_cmp_total old.places child row number
+                  ∙ ap (λ b. cond b (Some row) (get old.places number)) tie) in
+                  let was : is_plan_row (Some other) ≡ false = ap is_plan_row (sym there) ∙ ap (has_plan old.places) (same_key nat_cmp-IsAntisymmetric number child tie)
+                  ∙ not-true _ (pass refusal.HasPlan) in
                   cc (planned, was)
               | false ↦ λ tie. get-remove nat_cmp_total old.applications child number ∙ ap (λ b. cond b None (get old.applications number)) tie
             ] refl;
@@ -149,7 +188,15 @@ name_plan-fit old child school well passes =
       left = record { left = tt; places = (refl, tt) };
       draws = draws_stay old (name_plan.change_of child school) refl;
       imported = record { each = tt; new_rows = tt };
-      tidy = record { schools = tidy_none _ _; children = tidy_none _ _; applications = tidy_cut _ _ child; places = tidy_put _ _ row; left = tidy_none _ _; draws = tidy_none _ _; imported = tidy_none _ _ };
+      tidy = record {
+        schools = tidy_none _ _;
+        children = tidy_none _ _;
+        applications = tidy_cut _ _ child;
+        places = tidy_put _ _ row;
+        left = tidy_none _ _;
+        draws = tidy_none _ _;
+        imported = tidy_none _ _;
+      };
     }
 
 -- a child without a plan and without an application has no place
@@ -160,18 +207,20 @@ no_place old child well unplanned unlisted =
           let fits = well.places.each child row there in
           let other : is_plan row.place.state ≡ false = sym (ap is_plan_row there) ∙ unplanned in
           let none : get old.applications row.child ≡ None = none_of _ (ap not (ap (contains_key old.applications) fits.own_number ∙ unlisted)) in
-          let wrong : (has_first_round old.draws && false) ≡ true = sym (λ i. if other i then not (is_some (none i)) else has_first_round old.draws && lists_school (none i) row.place.school) ∙ fits.entitled in
+          let wrong : (has_first_round old.draws && false) ≡ true = sym
+          (λ i. if other i then not (is_some (none i)) else has_first_round old.draws && lists_school (none i) row.place.school) ∙ fits.entitled in
           let no = and-false (has_first_round old.draws) in
           cc (wrong, no)
       | None ↦ λ there. refl
     ] refl
 
-pub apply-fit : (old : State) (application : Application) → IsTrue (nat_le first_day application.day) → WellFormed old → first_failing (apply.tests old application) ≡ None → Fit old (apply.change_of application)
+pub apply-fit : (old : State) (application : Application) → IsTrue (nat_le first_day application.day) → WellFormed old
+    → first_failing (apply.tests old application) ≡ None → Fit old (apply.change_of application)
 unfolding apply.tests apply.change_of
 apply-fit old application since well passes =
-    let pass = all_pass (apply.tests old application) passes in
-    let by = pass.1.1.1.0 in
-    let preferences = and_parts _ _ pass.1.1.1.1.0 in
+    let pass = passed (apply.tests old application) passes in
+    let by = (pass refusal.ListClosed) in
+    let preferences = and_parts _ _ (pass refusal.BadPreferences) in
     record {
       base = record {
         schools = tt;
@@ -179,14 +228,26 @@ apply-fit old application since well passes =
         few_schools = tt;
         children = tt;
         few_children = tt;
-        applications = (record { own_number = refl; child = pass.0; day = λ i. since i && by i; list_length = preferences.0; without_repeat = preferences.1; known = pass.1.1.1.1.1.0 }, tt);
+        applications = (
+          record {
+            own_number = refl;
+            child = (pass refusal.UnknownChild);
+            day = λ i. since i && by i;
+            list_length = preferences.0;
+            without_repeat = preferences.1;
+            known = (pass refusal.UnknownSchool);
+          },
+          tt,
+        );
       };
       places = record {
         places = tt;
         kept = λ number row there still.
-            elim (eq_by_cmp nat_cmp number application.child) as (λ b. eq_by_cmp nat_cmp number application.child ≡ b → get (insert old.applications application.child application) number ≡ get old.applications number) [
+            elim (eq_by_cmp nat_cmp number application.child) as (λ b. eq_by_cmp nat_cmp number application.child ≡ b
+            → get (insert old.applications application.child application) number ≡ get old.applications number) [
               | true ↦ λ tie.
-                  let none = ap (contains_key old.places) (same_key nat_cmp-IsAntisymmetric number application.child tie) ∙ no_place old application.child well (not-true _ pass.1.0) (not-true _ pass.1.1.0) in
+                  let none = ap (contains_key old.places) (same_key nat_cmp-IsAntisymmetric number application.child tie)
+                  ∙ no_place old application.child well (not-true _ (pass refusal.HasPlan)) (not-true _ (pass refusal.AlreadyApplied)) in
                   let here = ap is_some there in
                   cc (none, here)
               | false ↦ λ tie. get-insert nat_cmp_total old.applications application.child application number ∙ ap (λ b. cond b (Some application) (get old.applications number)) tie
@@ -196,5 +257,13 @@ apply-fit old application since well passes =
       left = record { left = tt; places = tt };
       draws = draws_stay old (apply.change_of application) refl;
       imported = record { each = tt; new_rows = tt };
-      tidy = record { schools = tidy_none _ _; children = tidy_none _ _; applications = tidy_put _ _ application; places = tidy_none _ _; left = tidy_none _ _; draws = tidy_none _ _; imported = tidy_none _ _ };
+      tidy = record {
+        schools = tidy_none _ _;
+        children = tidy_none _ _;
+        applications = tidy_put _ _ application;
+        places = tidy_none _ _;
+        left = tidy_none _ _;
+        draws = tidy_none _ _;
+        imported = tidy_none _ _;
+      };
     }

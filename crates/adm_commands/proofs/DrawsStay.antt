@@ -11,7 +11,7 @@ use Rattle.adm_commands.specs.History.{DrawsInOrder, DrawsStay}
 use Rattle.adm_register.proofs.DrawLemmas.{own-put, values_put, new_draws, are_in_order-append}
 use Rattle.adm_register.proofs.Puts.{all_stay}
 
--- where no draw is put
+-- where no draw is written
 pub unchanged : (old new : State) (change : Difference) → change.draws ≡ [] → new ≡ after old change → DrawsInOrder old → DrawsInOrder new × DrawsStay old new
 unchanged old new change none is ordered =
     let draws : new.draws ≡ old.draws = ap (λ s. s.draws) is ∙ ap (put_all (λ (d : Draw). d.number) old.draws) none in
@@ -23,7 +23,7 @@ unchanged old new change none is ordered =
       λ number draw there. ap (λ ds. get ds number) draws ∙ there,
     )
 
--- where the next is put
+-- where the next is written
 pub one_more : (old new : State) (change : Difference) (draw : Draw) → change.draws ≡ draw ∷ [] → new ≡ after old change → DrawsInOrder old
     → are_in_order old.season (count_draws no_draws (values old.draws)) (draw ∷ []) ≡ true → DrawsInOrder new × DrawsStay old new
 one_more old new change draw one is ordered next =
@@ -35,5 +35,6 @@ one_more old new change draw one is ordered next =
         in_order = (λ i. are_in_order (season i) no_draws (listed i)) ∙ are_in_order-append old.season no_draws (values old.draws) (draw ∷ []) ordered.in_order next;
       },
       λ number other there. ap (λ ds. get ds number) draws
-          ∙ all_stay nat_cmp_total nat_cmp-IsAntisymmetric (λ (d : Draw). d.number) old.draws (draw ∷ []) (new_draws old.draws old.season (draw ∷ []) ordered.own ordered.in_order next) number other there,
+          ∙ all_stay nat_cmp_total nat_cmp-IsAntisymmetric (λ (d : Draw). d.number) old.draws (draw ∷ [])
+          (new_draws old.draws old.season (draw ∷ []) ordered.own ordered.in_order next) number other there,
     )

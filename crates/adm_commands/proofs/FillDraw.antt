@@ -26,12 +26,13 @@ use Rattle.adm_register.specs.declared.draws_so_far.DrawsSoFar.{DrawsSoFar}
 use Rattle.adm_register.specs.State.{State}
 use Rattle.adm_register.specs.Draws.{DrawFits, no_draws, count_draw, count_draws, is_round, is_next, are_in_order, is_known_lot, draws_so_far}
 use Rattle.adm_commands.specs.KeptByTypes.{KeptByRound}
+use Rattle.adm_types.specs.declared.commands.Refusal.TheVariants as refusal
+use Rattle.adm_commands.proofs.Passed.{passed}
 use Rattle.adm_commands.specs.Tests.{first_failing}
 use Rattle.adm_register.specs.WellFormed.{WellFormed, has_first_round}
 use Rattle.adm_register.specs.Waits.{waits, waiting_child, waiting_at}
 use Rattle.adm_commands.specs.Commands.Fill as fill
 use Rattle.adm_commands.specs.Commands.Fill.{fill_pairs, fill_lots, filled_draw}
-use Rattle.adm_commands.proofs.Keeps.{all_pass}
 use Rattle.adm_commands.proofs.Posed.{pairs_again}
 use Rattle.adm_commands.proofs.RoundNext.{lots-few}
 use Rattle.adm_register.proofs.RoundLemmas.{rises_by}
@@ -109,8 +110,8 @@ module _ (old : State) (draw : ℕ) (school : List ℕ) (day : ℕ) (numbers : L
   pub was_round : has_first_round old.draws ≡ true
   unfolding fill.tests
   was_round =
-      let pass = all_pass (fill.tests old draw school day numbers) passes in
-      by (waiting_at old school) pass.1.1.1.0 refl
+      let pass = passed (fill.tests old draw school day numbers) passes in
+      by (waiting_at old school) (pass refusal.EmptyList) refl
     where
       by : (children : List Child) → nat_lt 0 (length children) ≡ true → waiting_at old school ≡ children → has_first_round old.draws ≡ true
       by [] some are = absurd (false≢true some)
@@ -123,13 +124,13 @@ module _ (old : State) (draw : ℕ) (school : List ℕ) (day : ℕ) (numbers : L
   unfolding fill.tests
   fill-next child ordered =
       let so_far = draws_so_far old in
-      let pass = all_pass (fill.tests old draw school day numbers) passes in
-      let room = and_parts (nat_lt so_far.draws most_draws) _ pass.1.1.1.1.1.1.1.1.0 in
+      let pass = passed (fill.tests old draw school day numbers) passes in
+      let room = and_parts (nat_lt so_far.draws most_draws) _ (pass refusal.RegisterFull) in
       let few = lots-few (fill_pairs old school) numbers in
       let most = leb-true _ _ room.1 in
       let fits : nat_le (so_far.lots + length (fill_lots old school numbers)) most_lots ≡ true = le-leb _ _ (omega (arith, few, most)) in
       let held : nat_lt 0 so_far.rounds ≡ true = lt-ltb 0 so_far.rounds (some_round old ordered was_round) in
-      λ i. pass.1.0 i && held i && room.0 i && pass.1.1.1.1.1.0 i && pass.1.1.0 i && fits i && true
+      λ i. (pass refusal.WrongDraw) i && held i && room.0 i && (pass refusal.TooSoon) i && (pass refusal.ListClosed) i && fits i && true
 
   module _ (well : WellFormed old) (kept : KeptByRound day numbers) (child : ℕ) (there : contains_key old.children child ≡ true) where
     abbrev lots : List Lot
@@ -138,17 +139,17 @@ module _ (old : State) (draw : ℕ) (school : List ℕ) (day : ℕ) (numbers : L
     lots_rise : rises lot_cmp lots ≡ true
     unfolding fill.tests pair_for
     lots_rise =
-        let pass = all_pass (fill.tests old draw school day numbers) passes in
+        let pass = passed (fill.tests old draw school day numbers) passes in
         let waiting = waiting_at old school in
-        let count : length numbers ≡ length (fill_pairs old school) = (unsigned_Decides (length numbers) (length waiting)).0 pass.1.1.1.1.1.1.0 ∙ sym (length-map (pair_for school) waiting) in
+        let count : length numbers ≡ length (fill_pairs old school) = (unsigned_Decides (length numbers) (length waiting)).0 (pass refusal.LotCount) ∙ sym (length-map (pair_for school) waiting) in
         rises_by pair_cmp pair_of lots (subst (IsStrictlySortedBy pair_cmp) (sym (pairs_again (fill_pairs old school) numbers count)) (pairs_rise school waiting (waiters_rise old well school)))
 
     form : is_draw (filled_draw old draw school day numbers child) ≡ true
     unfolding fill.tests
     form =
-        let pass = all_pass (fill.tests old draw school day numbers) passes in
+        let pass = passed (fill.tests old draw school day numbers) passes in
         let same : pointwise nat_eq school school ≡ true = (bytes_decides school school).1 refl in
-        λ i. (true && lots_rise i) && pass.1.1.1.1.1.1.1.0 i && true && (true && same i)
+        λ i. (true && lots_rise i) && (pass refusal.LotsRepeated) i && true && (true && same i)
 
     known_lots : (here : contains_key old.schools school ≡ true) → list_all (is_known_lot old.schools old.children) lots ≡ true
     known_lots here = list_all_in (is_known_lot old.schools old.children) lots (λ lot at.
@@ -164,12 +165,12 @@ module _ (old : State) (draw : ℕ) (school : List ℕ) (day : ℕ) (numbers : L
     pub filled_fits : DrawFits old.schools old.children draw (filled_draw old draw school day numbers child)
     unfolding fill.tests
     filled_fits =
-        let pass = all_pass (fill.tests old draw school day numbers) passes in
+        let pass = passed (fill.tests old draw school day numbers) passes in
         record {
           own_number = refl;
           form = form;
           day = (and_parts (nat_le first_day day) (nat_le day last_day) kept.is_day).0;
-          school = pass.0;
-          outcomes = λ i. there i && pass.0 i && true;
-          lots = known_lots pass.0;
+          school = (pass refusal.UnknownSchool);
+          outcomes = λ i. there i && (pass refusal.UnknownSchool) i && true;
+          lots = known_lots (pass refusal.UnknownSchool);
         }

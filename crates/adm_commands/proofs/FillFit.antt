@@ -21,6 +21,8 @@ use Rattle.adm_register.specs.declared.draws_so_far.DrawsSoFar.{DrawsSoFar}
 use Rattle.adm_register.specs.State.{State}
 use Rattle.adm_register.specs.Change.{after}
 use Rattle.adm_commands.specs.KeptByTypes.{KeptByRound}
+use Rattle.adm_types.specs.declared.commands.Refusal.TheVariants as refusal
+use Rattle.adm_commands.proofs.Passed.{passed}
 use Rattle.adm_register.specs.Draws.{no_draws, count_draws}
 use Rattle.adm_commands.specs.Tests.{first_failing}
 use Rattle.adm_register.specs.WellFormed.{WellFormed, has_first_round, lists_school}
@@ -29,7 +31,6 @@ use Rattle.adm_register.specs.Waits.{waiting_at}
 use Rattle.adm_commands.specs.Commands.Fill as fill
 use Rattle.adm_commands.specs.Commands.Fill.{filled_draw}
 use Rattle.adm_register.specs.Fits.{Fit}
-use Rattle.adm_commands.proofs.Keeps.{all_pass}
 use Rattle.adm_register.proofs.Tidy.{tidy_none, tidy_put}
 use Rattle.adm_register.proofs.DrawLemmas.{values_put, with_draws-append}
 use Rattle.adm_register.proofs.WaitLemmas.{waits_is, waiter_is}
@@ -49,14 +50,16 @@ pub first_in : (school : School) (children : List Child) (lots : List ℕ) (numb
 unfolding first_by_lot
 first_in school children lots number is = by (find (is_first school (zip children lots)) (zip children lots)) refl is
   where
-    by : (o : Option (Child × ℕ)) → find (is_first school (zip children lots)) (zip children lots) ≡ o → option_map (λ (one : Child × ℕ). one.0.no) o ≡ Some number → (child : Child) × In child children × (child.no ≡ number)
+    by : (o : Option (Child × ℕ)) → find (is_first school (zip children lots)) (zip children lots) ≡ o → option_map (λ (one : Child × ℕ). one.0.no) o ≡ Some number
+        → (child : Child) × In child children × (child.no ≡ number)
     by None found is = absurd (none-some number is)
     by (Some one) found is = (one.0, (from_zip children lots one (find_in (is_first school (zip children lots)) (zip children lots) one found)).0, same_Some one.0.no number is)
 
 -- ---- the child is found
 
 any_same : (code : List ℕ) (child number : ℕ) (children : List Child) (numbers : List ℕ) → length numbers ≡ length children
-    → list_any (is_same_lot (record { school = code; child = child; lot = number })) (lots_of (map (λ (c : Child). record { school = code; child = c.no }) children) numbers) ≡ list_any (nat_eq number) numbers
+    → list_any (is_same_lot (record { school = code; child = child; lot = number }))
+    (lots_of (map (λ (c : Child). record { school = code; child = c.no }) children) numbers) ≡ list_any (nat_eq number) numbers
 any_same code child number [] [] many = refl
 any_same code child number [] (n ∷ numbers) many = absurd (omega (arith, many))
 any_same code child number (c ∷ children) [] many = absurd (omega (arith, many))
@@ -65,7 +68,8 @@ any_same code child number (c ∷ children) (n ∷ numbers) many =
     λ i. (same i && nat_eq number n) || any_same code child number children numbers (omega (arith, many)) i
 
 -- the lots repeat where the numbers do
-same_repeats : (code : List ℕ) (children : List Child) (numbers : List ℕ) → length numbers ≡ length children → repeats_lot (lots_of (map (λ (c : Child). record { school = code; child = c.no }) children) numbers) ≡ repeats numbers
+same_repeats : (code : List ℕ) (children : List Child) (numbers : List ℕ) → length numbers ≡ length children
+    → repeats_lot (lots_of (map (λ (c : Child). record { school = code; child = c.no }) children) numbers) ≡ repeats numbers
 same_repeats code [] [] many = refl
 same_repeats code [] (n ∷ numbers) many = absurd (omega (arith, many))
 same_repeats code (c ∷ children) [] many = absurd (omega (arith, many))
@@ -76,17 +80,17 @@ same_repeats code (c ∷ children) (n ∷ numbers) many =
 -- where the tests pass the school is there
 pub school_there : (old : State) (draw : ℕ) (school : List ℕ) (day : ℕ) (numbers : List ℕ) → first_failing (fill.tests old draw school day numbers) ≡ None → contains_key old.schools school ≡ true
 unfolding fill.tests
-school_there old draw school day numbers passes = (all_pass (fill.tests old draw school day numbers) passes).0
+school_there old draw school day numbers passes = (passed (fill.tests old draw school day numbers) passes refusal.UnknownSchool)
 
 -- someone waits, and each has a lot of its own
 pub each_has_lot : (old : State) (draw : ℕ) (school : List ℕ) (day : ℕ) (numbers : List ℕ) → first_failing (fill.tests old draw school day numbers) ≡ None
     → (children : List Child) (lots : List ℕ) → children ≡ waiting_at old school → lots ≡ numbers → (0 < length children) × (length lots ≡ length children) × (repeats lots ≡ false)
 unfolding fill.tests
 each_has_lot old draw school day numbers passes children lots are drawn =
-    let pass = all_pass (fill.tests old draw school day numbers) passes in
-    let some = ltb-true 0 (length (waiting_at old school)) pass.1.1.1.0 in
-    let many = (unsigned_Decides (length numbers) (length (waiting_at old school))).0 pass.1.1.1.1.1.1.0 in
-    let apart = sym (same_repeats school (waiting_at old school) numbers many) ∙ not-true _ pass.1.1.1.1.1.1.1.0 in
+    let pass = passed (fill.tests old draw school day numbers) passes in
+    let some = ltb-true 0 (length (waiting_at old school)) (pass refusal.EmptyList) in
+    let many = (unsigned_Decides (length numbers) (length (waiting_at old school))).0 (pass refusal.LotCount) in
+    let apart = sym (same_repeats school (waiting_at old school) numbers many) ∙ not-true _ (pass refusal.LotsRepeated) in
     (subst (λ xs. 0 < length xs) (sym are) some, ap length drawn ∙ many ∙ ap length (sym are), ap repeats drawn ∙ apart)
 
 -- ---- the change fits
@@ -95,7 +99,7 @@ pub fill-fit : (old : State) (draw : ℕ) (school : List ℕ) (day : ℕ) (numbe
     → first_failing (fill.tests old draw school day numbers) ≡ None → first_by_lot row (waiting_at old school) numbers ≡ Some child → Fit old (fill.change_of old draw school day numbers child)
 unfolding fill.tests fill.change_of
 fill-fit old draw school day numbers row child well kept passes first =
-    let pass = all_pass (fill.tests old draw school day numbers) passes in
+    let pass = passed (fill.tests old draw school day numbers) passes in
     let found = first_in row (waiting_at old school) numbers child first in
     let waiter = waiter_is old well school found.0 found.1 in
     let waiting = waits_is old well waiter.application school waiter.waiting in
@@ -109,14 +113,31 @@ fill-fit old draw school day numbers row child well kept passes first =
     record {
       base = record { schools = tt; kept_schools = tt; few_schools = tt; children = tt; few_children = tt; applications = tt };
       places = record {
-        places = (record { own_number = refl; child = known; school = pass.0; state = kept.is_day; entitled = (λ i. held i && lists_school (applied i) school) ∙ waiting.lists }, tt);
+        places = (
+          record {
+            own_number = refl;
+            child = known;
+            school = (pass refusal.UnknownSchool);
+            state = kept.is_day;
+            entitled = (λ i. held i && lists_school (applied i) school) ∙ waiting.lists;
+          },
+          tt,
+        );
         kept = λ other was there still. refl;
-        room = room_filled old well child place pass.1.1.1.1.0;
+        room = room_filled old well child place (pass refusal.NoVacancy);
       };
       left = record { left = tt; places = (ap not (ap (λ n. has_left old.left n school) (sym number) ∙ waiting.not_left), tt) };
       draws = record { each = (filled_fits old draw school day numbers passes well kept child known, tt); in_order = next };
       imported = record { each = tt; new_rows = tt };
-      tidy = record { schools = tidy_none _ _; children = tidy_none _ _; applications = tidy_none _ _; places = tidy_put _ _ place; left = tidy_none _ _; draws = tidy_put _ _ it; imported = tidy_none _ _ };
+      tidy = record {
+        schools = tidy_none _ _;
+        children = tidy_none _ _;
+        applications = tidy_none _ _;
+        places = tidy_put _ _ place;
+        left = tidy_none _ _;
+        draws = tidy_put _ _ it;
+        imported = tidy_none _ _;
+      };
     }
 
 -- a draw's number is not repeated
@@ -124,12 +145,13 @@ pub fill_again : (old new : State) (draw : ℕ) (school : List ℕ) (day : ℕ) 
     → new ≡ after old (fill.change_of old draw school day numbers child) → first_failing (fill.tests new draw school day numbers) ≡ None → ⊥
 unfolding fill.tests fill.change_of
 fill_again old new draw school day numbers child well first is passes =
-    let made = all_pass (fill.tests old draw school day numbers) first in
+    let made = passed (fill.tests old draw school day numbers) first in
     let tests = subst (λ s. first_failing (fill.tests s draw school day numbers) ≡ None) is passes in
-    let next = all_pass (fill.tests (after old (fill.change_of old draw school day numbers child)) draw school day numbers) tests in
-    let one = (unsigned_Decides draw (so_far.draws + 1)).0 made.1.0 in
-    let two = (unsigned_Decides draw ((count_draws no_draws (values (after old (fill.change_of old draw school day numbers child)).draws)).draws + 1)).0 next.1.0 in
-    let here = ap (λ ds. (count_draws no_draws ds).draws) (values_put old.draws old.season (row ∷ []) (λ number d there. (well.draws.each number d there).own_number) well.draws.in_order (fill-next old draw school day numbers first child well.draws.in_order)) in
+    let next = passed (fill.tests (after old (fill.change_of old draw school day numbers child)) draw school day numbers) tests in
+    let one = (unsigned_Decides draw (so_far.draws + 1)).0 (made refusal.WrongDraw) in
+    let two = (unsigned_Decides draw ((count_draws no_draws (values (after old (fill.change_of old draw school day numbers child)).draws)).draws + 1)).0 (next refusal.WrongDraw) in
+    let here = ap (λ ds. (count_draws no_draws ds).draws) (values_put old.draws old.season (row ∷ [])
+    (λ number d there. (well.draws.each number d there).own_number) well.draws.in_order (fill-next old draw school day numbers first child well.draws.in_order)) in
     let count = ap (λ (b : DrawsSoFar). b.draws) (with_draws-append no_draws (values old.draws) (row ∷ [])) in
     omega (arith, one, two, here, count)
   where

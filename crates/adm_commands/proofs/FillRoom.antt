@@ -42,7 +42,7 @@ module _ (p : PlaceRow → Bool) (key : ℕ) (row : PlaceRow) where
   abbrev many : List (ℕ × PlaceRow) → ℕ
   many es = count_by p (values_of es)
 
-  -- one row that is put is one more at the most
+  -- one row that is written is one more at the most
   count-put : (es : List (ℕ × PlaceRow)) → many (put nat_cmp key row es) ≤ many es + 1
   count-put [] = let one = one_at_most (p row) in omega (arith, one, count-cons p row [])
   count-put (e ∷ es) =
@@ -65,11 +65,13 @@ held_fewer : (s : State) (code : List ℕ) (school : School) → get s.schools c
 held_fewer s code school there vacant =
     let free : nat_lt 0 (school.pan - places_at s code) ≡ true = ap (λ o. is_vacant (option_map (λ (it : School). it.pan - places_at s code) o)) (sym there) ∙ vacant in
     let more = ltb-true 0 (school.pan - places_at s code) free in
-    let fewer = count-weaker (λ row. is_unplanned_at (Some row) code) (λ row. pointwise nat_eq row.place.school code) (λ row held. (and_parts (pointwise nat_eq row.place.school code) (not (is_plan row.place.state)) held).0) (values_of (entries s.places)) in
+    let fewer = count-weaker (λ row. is_unplanned_at (Some row) code) (λ row. pointwise nat_eq row.place.school code)
+    (λ row held. (and_parts (pointwise nat_eq row.place.school code) (not (is_plan row.place.state)) held).0) (values_of (entries s.places)) in
     omega (arith, more, fewer)
 
 -- so one more is held at the school, and no more than before elsewhere
-pub room_filled : (s : State) → WellFormed s → (child : ℕ) (row : PlaceRow) → is_vacant (vacancies s row.place.school) ≡ true → AllRows (λ code (school : School). places_outside_plans (insert s.places child row) code ≤ school.pan) s.schools
+pub room_filled : (s : State) → WellFormed s → (child : ℕ) (row : PlaceRow) → is_vacant (vacancies s row.place.school) ≡ true
+    → AllRows (λ code (school : School). places_outside_plans (insert s.places child row) code ≤ school.pan) s.schools
 room_filled s well child row vacant code school there = elim (cases_Bool (pointwise nat_eq row.place.school code)) [
   | inl here ↦
       let same = (bytes_decides row.place.school code).0 here in

@@ -71,7 +71,8 @@ module _ (code : List ℕ) where
   at_entries places q = sym (ap (λ m. get m q) (map_of_entries nat_cmp_total nat_cmp-IsAntisymmetric places)) ∙ get_rows nat_cmp_total (entries places) q
 
   -- at most as many are held as before where each that is held was held
-  pub held_le : (places new : FinMap nat_cmp PlaceRow) → ((number : ℕ) (row : PlaceRow) → get new number ≡ Some row → is_unplanned_at (Some row) code ≡ true → is_unplanned_at (get places number) code ≡ true)
+  pub held_le : (places new : FinMap nat_cmp PlaceRow) → ((number : ℕ) (row : PlaceRow) → get new number ≡ Some row → is_unplanned_at (Some row) code ≡ true
+      → is_unplanned_at (get places number) code ≡ true)
       → places_outside_plans new code ≤ places_outside_plans places code
   held_le places new stand = sums (entries new) (entries places) (entries_in_order new)
       (λ q row there held. ap (λ o. is_unplanned_at o code) (sym (at_entries places q)) ∙ stand q row (at_entries new q ∙ there) held)

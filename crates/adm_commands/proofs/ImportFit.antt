@@ -30,7 +30,7 @@ use Rattle.adm_register.proofs.Puts.{there_each, stays}
 use Rattle.adm_register.proofs.Tidy.{tidy_none, tidy_puts}
 
 module _ {X K V : Type 0} {R : K → K → Ordering} (total : IsTotalOrder R) (key : V → K) (f : X → V) where
-  -- as many rows as there were, and at most as many more as are put
+  -- as many rows as there were, and at most as many more as are written
   len-put_all : (rows : FinMap R V) (xs : List X) → len (put_all key rows (map f xs)) ≤ len rows + length xs
   len-put_all rows [] = omega arith
   len-put_all rows (x ∷ xs) =
@@ -109,14 +109,17 @@ import-fit old rows added well kept accepted permuted sorted =
       left = record { left = tt; places = tt };
       draws = draws_stay old (change_of added) refl;
       imported = record {
-        each = each_weaker (λ (r : ImportRow). (KeptByImportRow r × IsAddable old r) × (contains_key children r.child.no ≡ true)) (λ (r : ImportRow). ImportFits (lists_end old.season) old.schools children r.child.no r)
+        each = each_weaker (λ (r : ImportRow). (KeptByImportRow r × IsAddable old r) × (contains_key children r.child.no ≡ true))
+            (λ (r : ImportRow). ImportFits (lists_end old.season) old.schools children r.child.no r)
             (λ r it. record { child = child_fits old r it.0.0 it.0.1; application = application_fits old children r it.0.0 it.0.1 it.1 }) added known;
         new_rows = each_new old rows added (imports_known old well) accepted permuted;
       };
       tidy = record {
         schools = tidy_none _ _;
-        children = tidy_puts nat_cmp (λ (c : Child). c.no) (map (λ (r : ImportRow). r.child) added) (subst (IsStrictlySortedBy nat_cmp) (sym (map_twice (λ (r : ImportRow). r.child) (λ (c : Child). c.no) added)) sorted);
-        applications = tidy_puts nat_cmp (λ (a : Application). a.child) (map application_of added) (subst (IsStrictlySortedBy nat_cmp) (sym (map_twice application_of (λ (a : Application). a.child) added)) sorted);
+        children = tidy_puts nat_cmp (λ (c : Child). c.no) (map (λ (r : ImportRow). r.child) added)
+            (subst (IsStrictlySortedBy nat_cmp) (sym (map_twice (λ (r : ImportRow). r.child) (λ (c : Child). c.no) added)) sorted);
+        applications = tidy_puts nat_cmp (λ (a : Application). a.child) (map application_of added)
+            (subst (IsStrictlySortedBy nat_cmp) (sym (map_twice application_of (λ (a : Application). a.child) added)) sorted);
         places = tidy_none _ _;
         left = tidy_none _ _;
         draws = tidy_none _ _;

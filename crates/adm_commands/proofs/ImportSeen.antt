@@ -42,7 +42,8 @@ module _ (old : State) (rows : List ImportRow) (seen : State) (number : ℕ) (ro
   }
 
 -- at the end none was refused, and the new rows are there
-pub seen_all : (old : State) (rows : List ImportRow) (seen : State) (number : ℕ) (added : List ImportRow) → Seen old rows seen number [] added → (None ≡ refused_from old 1 rows) × (added ≡ new_rows old rows)
+pub seen_all : (old : State) (rows : List ImportRow) (seen : State) (number : ℕ) (added : List ImportRow) → Seen old rows seen number [] added
+    → (None ≡ refused_from old 1 rows) × (added ≡ new_rows old rows)
 unfolding refused_from new_rows
 seen_all old rows seen number added so_far = (so_far.why, sym (append-nil added) ∙ so_far.new)
   where

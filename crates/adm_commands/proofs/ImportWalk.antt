@@ -1,5 +1,5 @@
 -- What is known of the rows that an import adds.
-use Rattle.std.proofs.Common.{◌≡◌, ◌∙◌, ap, refl, cond, true, false, ℕ, ◌+◌, ◌≤◌, ◌<◌, List, [], ◌∷◌, length, Some, None, arith}
+use Rattle.std.proofs.Common.{◌≡◌, ◌∙◌, ap, refl, cond, Bool, true, false, ◌++◌, ℕ, ◌+◌, ◌≤◌, ◌<◌, List, [], ◌∷◌, length, Some, None, arith}
 use Rattle.std.specs.Prelude.{nat_le, is_some, not, ◌&&◌, Option, map, if◌then◌else◌}
 use Rattle.std.specs.Ordering.{nat_cmp, eq_by_cmp}
 use Rattle.std.specs.List.{AllByRecursion, IsDistinct}
@@ -14,14 +14,16 @@ use Rattle.adm_types.specs.Limits.{is_from, is_without_repeat, is_name, is_child
 use Rattle.adm_types.specs.Seasons.{lists_end}
 use Rattle.adm_types.specs.declared.rows.ImportRow.{ImportRow}
 use Rattle.adm_types.specs.declared.commands.Refusal.{Refusal}
-use Rattle.adm_register.specs.State.{State}
+use Rattle.adm_register.specs.Change.{after, change_of_child}
+use Rattle.adm_register.specs.State.{State, application_of}
 use Rattle.adm_commands.specs.Tests.{first_failing}
 use Rattle.adm_register.specs.WellFormed.{are_schools}
 use Rattle.adm_commands.specs.Commands.AddChild as add_child
 use Rattle.adm_commands.specs.Commands.Apply as apply
 use Rattle.adm_commands.specs.Commands.Import.{change_of, is_known, row_tests, refusal_of_row, with_row, after_row, refused_from, or_later, new_rows}
 use Rattle.adm_commands.proofs.EachOf.{each_map}
-use Rattle.adm_commands.proofs.Keeps.{all_pass}
+use Rattle.adm_types.specs.declared.commands.Refusal.TheVariants as refusal
+use Rattle.adm_commands.proofs.Passed.{passed, passed_rest, both_pass}
 
 -- what its tests say of a row that is added
 pub record IsAddable (s : State) (row : ImportRow) : Type 0 where
@@ -36,16 +38,28 @@ pub record IsAddable (s : State) (row : ImportRow) : Type 0 where
 addable : (s : State) (row : ImportRow) → first_failing (row_tests s row) ≡ None → IsAddable s row × (len s.children < most_children)
 unfolding row_tests add_child.tests apply.tests
 addable s row passes =
-    let pass = all_pass (row_tests s row) passes in
-    let beside = pass.1.1.1.1.1.1.1.1.1 in (
-      record { new_child = pass.0; name = pass.1.1.0; in_range = pass.1.1.1.0; siblings = pass.1.1.1.1.0; in_time = beside.0; preferences = beside.1.0; listed = beside.1.1.0 },
-      ltb-true _ _ pass.1.1.1.1.1.0,
+    let of_child : List (Bool × Refusal) = add_child.tests s row.child in
+    let of_application : List (Bool × Refusal) = apply.tests (after s (change_of_child row.child)) (application_of row) in
+    let is_new : Bool × Refusal = (not (contains_key s.children row.child.no), refusal.RowDiffers) in
+    let both = both_pass of_child of_application (passed_rest is_new (of_child ++ of_application) passes) in
+    let new = passed of_child both.0 in
+    let applied = passed of_application both.1 in (
+      record {
+        new_child = new refusal.ChildKnown;
+        name = new refusal.BadText;
+        in_range = new refusal.OutOfRange;
+        siblings = new refusal.UnknownSchool;
+        in_time = applied refusal.ListClosed;
+        preferences = applied refusal.BadPreferences;
+        listed = applied refusal.UnknownSchool;
+      },
+      ltb-true _ _ (new refusal.RegisterFull),
     )
 
 -- where no row is refused, neither the first nor a later one is
 none_refused : (number : ℕ) (first : Option Refusal) (later : Option (Refusal × ℕ)) → or_later number first later ≡ None → (first ≡ None) × (later ≡ None)
 none_refused number None later none = (refl, none)
-none_refused number (Some refusal) later none = cc
+none_refused number (Some reason) later none = cc
 
 -- of the rows that are added: each passed its tests, there is room for all, and no two are of one child
 pub record AreAddable (s : State) (added : List ImportRow) : Type 0 where
@@ -93,7 +107,8 @@ module _ (s : State) (row : ImportRow) where
   one_more : (added : List ImportRow) → IsAddable s row → len s.children < most_children → AreAddable next added → AreAddable s (row ∷ added)
   unfolding with_row change_of
   one_more added fits few more =
-      let count : len next.children ≡ len s.children + 1 = len-insert nat_cmp_total s.children row.child.no row.child ∙ ap (λ b. cond b (len s.children) (len s.children + 1)) (not-true _ fits.new_child) in
+      let count : len next.children ≡ len s.children + 1 = len-insert nat_cmp_total s.children row.child.no row.child
+      ∙ ap (λ b. cond b (len s.children) (len s.children + 1)) (not-true _ fits.new_child) in
       let room = more.room (omega (arith, count, few)) in
       let numbers = map (λ (r : ImportRow). r.child.no) added in
       record {

@@ -16,6 +16,7 @@ pub mod ImportWalk
 pub mod ImportAgain
 pub mod ImportFit
 pub mod Keeps
+pub mod Passed
 pub mod PutAgain
 pub mod DrawsStay
 pub mod ImportsStay

@@ -18,13 +18,14 @@ use Rattle.adm_register.specs.State.{State, is_plan}
 use Rattle.adm_register.specs.Change.{no_change}
 use Rattle.adm_register.specs.WellFormed.{WellFormed, has_first_round, is_unplanned_at, is_entitled, has_days_in_order, lists_school}
 use Rattle.adm_commands.specs.Tests.{first_failing}
+use Rattle.adm_types.specs.declared.commands.Refusal.TheVariants as refusal
+use Rattle.adm_commands.proofs.Passed.{passed}
 use Rattle.adm_register.specs.Wanted.{has_left}
 use Rattle.adm_commands.specs.Offered.{offer_days, offer_at, is_after_offer}
 use Rattle.adm_commands.specs.Commands.Accept as accept
 use Rattle.adm_commands.specs.Commands.Decline as decline
 use Rattle.adm_commands.specs.Commands.Remind as remind
 use Rattle.adm_commands.specs.Commands.Lapse as lapse
-use Rattle.adm_commands.proofs.Keeps.{all_pass}
 use Rattle.adm_commands.proofs.HeldLemmas.{held_le}
 use Rattle.adm_register.proofs.Puts.{there_before}
 use Rattle.adm_register.proofs.Tidy.{tidy_none, tidy_put, tidy_cut}
@@ -46,13 +47,15 @@ offer-held (Some row) school there = by (pointwise nat_eq row.place.school schoo
 held-entitled : (old : State) (child : ℕ) (school : List ℕ) (state : PlaceState) → WellFormed old → is_unplanned_at (get old.places child) school ≡ true → is_plan state ≡ false
     → is_entitled (has_first_round old.draws) (get old.applications child) (record { school = school; state = state }) ≡ true
 held-entitled old child school state well held other =
-    elim (get old.places child) as (λ o. get old.places child ≡ o → is_unplanned_at o school ≡ true → is_entitled (has_first_round old.draws) (get old.applications child) (record { school = school; state = state }) ≡ true) [
+    elim (get old.places child) as (λ o. get old.places child ≡ o → is_unplanned_at o school ≡ true
+    → is_entitled (has_first_round old.draws) (get old.applications child) (record { school = school; state = state }) ≡ true) [
       | None ↦ λ there none. cc
       | Some row ↦ λ there here.
           let both = and_parts (pointwise nat_eq row.place.school school) _ here in
           let fits = well.places.each child row there in
           let was : (has_first_round old.draws && lists_school (get old.applications row.child) row.place.school) ≡ true =
-          sym (ap (λ b. if b then not (is_some (get old.applications row.child)) else has_first_round old.draws && lists_school (get old.applications row.child) row.place.school) (not-true _ both.1)) ∙ fits.entitled in
+          sym (ap (λ b. if b then not (is_some (get old.applications row.child)) else has_first_round old.draws
+          && lists_school (get old.applications row.child) row.place.school) (not-true _ both.1)) ∙ fits.entitled in
           ap (λ b. if b then not (is_some (get old.applications child)) else has_first_round old.draws && lists_school (get old.applications child) school) other
           ∙ sym (λ i. has_first_round old.draws && lists_school (get old.applications (fits.own_number i)) ((bytes_decides row.place.school school).0 both.0 i)) ∙ was
     ] refl held
@@ -69,7 +72,7 @@ not_left old child school well held =
           cc (none, held)
     ] refl
 
--- the place of a child is put again, in another state
+-- the place of a child is written again, in another state
 put_again : (old : State) (child : ℕ) (school : List ℕ) (state : PlaceState) → WellFormed old → contains_key old.children child ≡ true → contains_key old.schools school ≡ true
     → is_unplanned_at (get old.places child) school ≡ true → is_plan state ≡ false → has_days_in_order state ≡ true
     → Fit old (record no_change { places = record { child = child; place = record { school = school; state = state } } ∷ [] })
@@ -98,7 +101,15 @@ put_again old child school state well there here held other fits =
       left = record { left = tt; places = (ap (λ b. b || not (has_left old.left child school)) other ∙ not_left old child school well held, tt) };
       draws = draws_stay old (record no_change { places = row ∷ [] }) refl;
       imported = record { each = tt; new_rows = tt };
-      tidy = record { schools = tidy_none _ _; children = tidy_none _ _; applications = tidy_none _ _; places = tidy_put _ _ row; left = tidy_none _ _; draws = tidy_none _ _; imported = tidy_none _ _ };
+      tidy = record {
+        schools = tidy_none _ _;
+        children = tidy_none _ _;
+        applications = tidy_none _ _;
+        places = tidy_put _ _ row;
+        left = tidy_none _ _;
+        draws = tidy_none _ _;
+        imported = tidy_none _ _;
+      };
     }
 
 -- a place that is held ends, and its school is left
@@ -123,22 +134,30 @@ give_up old child school well there here =
       };
       draws = draws_stay old (decline.change_of child school) refl;
       imported = record { each = tt; new_rows = tt };
-      tidy = record { schools = tidy_none _ _; children = tidy_none _ _; applications = tidy_none _ _; places = tidy_cut _ _ child; left = tidy_put _ _ pair; draws = tidy_none _ _; imported = tidy_none _ _ };
+      tidy = record {
+        schools = tidy_none _ _;
+        children = tidy_none _ _;
+        applications = tidy_none _ _;
+        places = tidy_cut _ _ child;
+        left = tidy_put _ _ pair;
+        draws = tidy_none _ _;
+        imported = tidy_none _ _;
+      };
     }
 
 pub accept-fit : (old : State) (child : ℕ) (school : List ℕ) → WellFormed old → first_failing (accept.tests old child school) ≡ None → Fit old (accept.change_of child school)
 unfolding accept.tests accept.change_of
 accept-fit old child school well passes =
-    let pass = all_pass (accept.tests old child school) passes in
-    put_again old child school Accepted well pass.0 pass.1.0 (offer-held (get old.places child) school pass.1.1.0) refl refl
+    let pass = passed (accept.tests old child school) passes in
+    put_again old child school Accepted well (pass refusal.UnknownChild) (pass refusal.UnknownSchool) (offer-held (get old.places child) school (pass refusal.NotOffered)) refl refl
 
 pub decline-fit : (old : State) (child : ℕ) (school : List ℕ) → WellFormed old → first_failing (decline.tests old child school) ≡ None → Fit old (decline.change_of child school)
 unfolding decline.tests
-decline-fit old child school well passes = let pass = all_pass (decline.tests old child school) passes in give_up old child school well pass.0 pass.1.0
+decline-fit old child school well passes = let pass = passed (decline.tests old child school) passes in give_up old child school well (pass refusal.UnknownChild) (pass refusal.UnknownSchool)
 
 pub lapse-fit : (old : State) (child : ℕ) (school : List ℕ) (day : ℕ) → WellFormed old → first_failing (lapse.tests old child school day) ≡ None → Fit old (decline.change_of child school)
 unfolding lapse.tests
-lapse-fit old child school day well passes = let pass = all_pass (lapse.tests old child school day) passes in give_up old child school well pass.0 pass.1.0
+lapse-fit old child school day well passes = let pass = passed (lapse.tests old child school day) passes in give_up old child school well (pass refusal.UnknownChild) (pass refusal.UnknownSchool)
 
 first_day_of : Option (ℕ × Option ℕ) → ℕ
 first_day_of None = 0
@@ -148,12 +167,13 @@ same_day : (on offered : ℕ) (before r : Option ℕ) → ◌≡◌ {A = Option 
 unfolding first_day_of
 same_day on offered before r is = ap first_day_of is
 
-pub remind-fit : (old : State) (child : ℕ) (school : List ℕ) (day : ℕ) → nat_le day last_day ≡ true → WellFormed old → first_failing (remind.tests old child school day) ≡ None → Fit old (remind.change_of old child school day)
+pub remind-fit : (old : State) (child : ℕ) (school : List ℕ) (day : ℕ) → nat_le day last_day ≡ true → WellFormed old
+    → first_failing (remind.tests old child school day) ≡ None → Fit old (remind.change_of old child school day)
 unfolding remind.tests remind.change_of
 remind-fit old child school day before well passes =
-    let pass = all_pass (remind.tests old child school day) passes in
-    let held = offer-held (get old.places child) school pass.1.1.0 in
-    by (offer_at (get old.places child) school) refl pass.1.1.0 pass.1.1.1.1.0 pass.0 pass.1.0 held
+    let pass = passed (remind.tests old child school day) passes in
+    let held = offer-held (get old.places child) school (pass refusal.NotOffered) in
+    by (offer_at (get old.places child) school) refl (pass refusal.NotOffered) (pass refusal.TooSoon) (pass refusal.UnknownChild) (pass refusal.UnknownSchool) held
   where
     -- the day of an offer is a day
     offered-day : (place : Option PlaceRow) (offered : ℕ) (r : Option ℕ) → get old.places child ≡ place → offer_at place school ≡ Some (offered, r) → is_from first_day last_day offered ≡ true
@@ -163,7 +183,8 @@ remind-fit old child school day before well passes =
       where
         from : (b : Bool) (state : PlaceState) → has_days_in_order state ≡ true → (if b then offer_days state else None) ≡ Some (offered, r) → is_from first_day last_day offered ≡ true
         from true (Offered on None) fits is = subst (λ d. is_from first_day last_day d ≡ true) (same_day on offered None r is) fits
-        from true (Offered on (Some reminded)) fits is = subst (λ d. is_from first_day last_day d ≡ true) (same_day on offered (Some reminded) r is) (and_parts (is_from first_day last_day on) _ fits).0
+        from true (Offered on (Some reminded)) fits is = subst (λ d. is_from first_day last_day d ≡ true) (same_day on offered (Some reminded) r is)
+            (and_parts (is_from first_day last_day on) _ fits).0
         from true Accepted fits is = cc
         from true Plan fits is = cc
         from false state fits is = cc

@@ -1,5 +1,5 @@
 -- The problem of a round whose lots pass their tests is posed: its sites, its applicants and its lots fit together.
-use Rattle.std.proofs.Common.{◌≡◌, ◌∙◌, ap, sym, subst, refl, ℕ, ◌≤◌, ◌<◌, Bool, true, false, not, cond, ◌||◌, length, arith, List, [], ◌∷◌, Option, Some, None, map, inl, inr, leb-true}
+use Rattle.std.proofs.Common.{◌≡◌, ◌∙◌, ap, sym, subst, refl, ℕ, ◌≤◌, ◌<◌, Bool, true, false, not, cond, length, arith, List, [], ◌∷◌, Option, Some, None, map, inl, inr, leb-true}
 use Rattle.std.specs.Prelude.{All, option_map, nat_le, bytes_eq, is_some}
 use Rattle.std.specs.List.{filter_map, cons_option, list_any, AllByRecursion}
 use Rattle.std.specs.List.Sorted.{IsStrictlySortedBy}
@@ -33,6 +33,8 @@ use Rattle.adm_round.specs.Ranks.{market_of_round}
 use Rattle.adm_round.specs.Outcomes.{AreBest}
 use Rattle.adm_register.specs.State.{State}
 use Rattle.adm_commands.specs.Tests.{first_failing}
+use Rattle.adm_types.specs.declared.commands.Refusal.TheVariants as refusal
+use Rattle.adm_commands.proofs.Passed.{passed}
 use Rattle.adm_register.specs.WellFormed.{WellFormed}
 use Rattle.adm_register.specs.Wanted.{above, has_left, wanted_of, own_school}
 use Rattle.adm_commands.specs.Commands.Round.{takes_part, applicant_of, round_applicants, quota, sites, round_pairs, round_lots, is_lot_count, are_lots_apart, AreOutcomes}
@@ -41,7 +43,6 @@ use Rattle.adm_commands.specs.Problem.{lots_fault}
 use Rattle.adm_commands.specs.declared.problems.DrawFault.TheVariants.{LotCount, LotsRepeated}
 use Rattle.adm_register.proofs.Maps.{code_cmp-IsAntisymmetric}
 use Rattle.adm_register.proofs.SameRows.{entries_at_own_keys, values_hold, rows_hold}
-use Rattle.adm_commands.proofs.Keeps.{all_pass}
 use Rattle.adm_register.proofs.ListsKept.{once-filter, above_once, above_all, own_apart, own_known}
 
 pub some_of : {A : Type 0} (o : Option A) → is_some o ≡ true → (x : A) × (o ≡ Some x)
@@ -102,7 +103,8 @@ child_fits old well application applicant made =
     let part = of_application old application applicant made in
     ap (λ (a : Applicant). is_child_in_range a.child) part.is ∙ (well.base.children_fit application.child part.child part.there).in_range
 
-list_fits : (old : State) → WellFormed old → (number : ℕ) (application : Application) → get old.applications number ≡ Some application → (applicant : Applicant) → applicant_of old application ≡ Some applicant → IsListFit (sites old) applicant
+list_fits : (old : State) → WellFormed old → (number : ℕ) (application : Application) → get old.applications number ≡ Some application → (applicant : Applicant)
+    → applicant_of old application ≡ Some applicant → IsListFit (sites old) applicant
 list_fits old well number application there applicant made =
     let part = of_application old application applicant made in
     let fits = well.base.applications_fit number application there in
@@ -110,8 +112,10 @@ list_fits old well number application there applicant made =
     let stays : List ℕ → Bool = λ code. not (has_left old.left application.child code) in
     let at_site : (code : List ℕ) → contains_key old.schools code ≡ true → is_site (sites old) code ≡ true = λ code here. site_there old code well here in
     let known = list_all-weaker (contains_key old.schools) (is_site (sites old)) at_site application.list fits.known in
-    let wanted_known = AllPass-from_list_all (is_site (sites old)) (wanted_of old application) (all-filter (is_site (sites old)) stays (above place application.list) (above_all (is_site (sites old)) place application.list known)) in
-    let own = AllPass-from_list_all (is_site (sites old)) (option_to_list (own_school place)) (own_known (is_site (sites old)) place (λ row at. at_site row.place.school (well.places.each application.child row at).school)) in
+    let wanted_known = AllPass-from_list_all (is_site (sites old)) (wanted_of old application)
+    (all-filter (is_site (sites old)) stays (above place application.list) (above_all (is_site (sites old)) place application.list known)) in
+    let own = AllPass-from_list_all (is_site (sites old)) (option_to_list (own_school place))
+    (own_known (is_site (sites old)) place (λ row at. at_site row.place.school (well.places.each application.child row at).school)) in
     subst (IsListFit (sites old)) (sym part.is) (record {
       once = once-filter stays (above place application.list) (above_once place application.list fits.without_repeat);
       own_apart = own_apart stays place application.list;
@@ -139,17 +143,21 @@ pairs_again (pair ∷ pairs) (number ∷ numbers) same = ap (λ ps. pair ∷ ps)
 
 codes_in_order : (old : State) → WellFormed old → IsStrictlySortedBy (slice_cmp nat_cmp) (map code_of_site (sites old))
 codes_in_order old well =
-    let own = entries_at_own_keys nat_list_cmp_total code_cmp-IsAntisymmetric (λ (school : School). school.code) old.schools (λ code school there. (well.base.schools_fit code school there).own_code) in
-    subst (IsStrictlySortedBy (slice_cmp nat_cmp)) (sym (map-map code_of_site (λ (school : School). record { school = school; quota = quota old school }) (values old.schools) ∙ own)) (entries_in_order old.schools)
+    let own = entries_at_own_keys nat_list_cmp_total code_cmp-IsAntisymmetric (λ (school : School). school.code) old.schools
+    (λ code school there. (well.base.schools_fit code school there).own_code) in
+    subst (IsStrictlySortedBy (slice_cmp nat_cmp)) (sym (map-map code_of_site (λ (school : School). record { school = school; quota = quota old school })
+    (values old.schools) ∙ own)) (entries_in_order old.schools)
 
 numbers_in_order : (old : State) → WellFormed old → IsStrictlySortedBy nat_cmp (map number_of (round_applicants old))
 numbers_in_order old well =
-    let own = entries_at_own_keys nat_cmp_total nat_cmp-IsAntisymmetric (λ (application : Application). application.child) old.applications (λ number application there. (well.base.applications_fit number application there).own_number) in
+    let own = entries_at_own_keys nat_cmp_total nat_cmp-IsAntisymmetric (λ (application : Application). application.child) old.applications
+    (λ number application there. (well.base.applications_fit number application there).own_number) in
     sorted_filter_map nat_cmp (λ (application : Application). application.child) number_of (applicant_of old) (numbered old well) (values old.applications)
     (subst (IsStrictlySortedBy nat_cmp) (sym own) (entries_in_order old.applications))
 
 -- what holds of the applicant of each application that is there holds of each entrant
-each_entrant : (old : State) (Q : Applicant → Type 0) → ((number : ℕ) (application : Application) → get old.applications number ≡ Some application → (applicant : Applicant) → applicant_of old application ≡ Some applicant → Q applicant) → All Q (round_applicants old)
+each_entrant : (old : State) (Q : Applicant → Type 0) → ((number : ℕ) (application : Application) → get old.applications number ≡ Some application
+    → (applicant : Applicant) → applicant_of old application ≡ Some applicant → Q applicant) → All Q (round_applicants old)
 each_entrant old Q each =
     let P : Application → Type 0 = λ application. (applicant : Applicant) → applicant_of old application ≡ Some applicant → Q applicant in
     All-filter_map Q (applicant_of old) (values old.applications) (recursion_from_All P (values old.applications) (values_hold nat_cmp_total nat_cmp-IsAntisymmetric P old.applications each))
@@ -157,14 +165,14 @@ each_entrant old Q each =
 -- there is one lot for each pair of an accepted round
 pub lots_counted : (old : State) (draw day : ℕ) (numbers : List ℕ) → first_failing (round.tests old draw day numbers) ≡ None → is_lot_count old numbers ≡ true
 unfolding round.tests
-lots_counted old draw day numbers passes = (all_pass (round.tests old draw day numbers) passes).1.1.1.0
+lots_counted old draw day numbers passes = passed (round.tests old draw day numbers) passes refusal.LotCount
 
 -- the lots of an accepted round pass both tests
 pub lots_pass : (old : State) (draw day : ℕ) (numbers : List ℕ) → first_failing (round.tests old draw day numbers) ≡ None → lots_fault old numbers ≡ None
 unfolding round.tests
 lots_pass old draw day numbers passes =
-    let pass = all_pass (round.tests old draw day numbers) passes in
-    λ i. cond (pass.1.1.1.0 i) (cond (pass.1.1.1.1.0 i) None (Some LotsRepeated)) (Some LotCount)
+    let pass = passed (round.tests old draw day numbers) passes in
+    λ i. cond ((pass refusal.LotCount) i) (cond ((pass refusal.LotsRepeated) i) None (Some LotsRepeated)) (Some LotCount)
 
 -- both tests of lots pass where there is no error
 both_pass : (count apart : Bool) → cond count (cond apart None (Some LotsRepeated)) (Some LotCount) ≡ None → (count ≡ true) × (apart ≡ true)
@@ -179,7 +187,8 @@ posed old numbers well passes =
     record {
       codes_rise = codes_in_order old well;
       schools_fit = All-map (λ (site : Site). is_school_in_range site.school ≡ true) (λ (school : School). record { school = school; quota = quota old school }) (values old.schools)
-          (values_hold nat_list_cmp_total code_cmp-IsAntisymmetric (λ (school : School). is_school_in_range school ≡ true) old.schools (λ code school there. (well.base.schools_fit code school there).in_range));
+          (values_hold nat_list_cmp_total code_cmp-IsAntisymmetric (λ (school : School). is_school_in_range school ≡ true) old.schools
+          (λ code school there. (well.base.schools_fit code school there).in_range));
       numbers_rise = numbers_in_order old well;
       children_fit = each_entrant old (λ applicant. is_child_in_range applicant.child ≡ true) (λ number application there. child_fits old well application);
       lists_fit = each_entrant old (IsListFit (sites old)) (list_fits old well);
@@ -211,7 +220,8 @@ few_entrants old well =
     let bound = length-le_from_below 10000000 (map number_of (round_applicants old)) (numbers_in_order old well) (All-map (λ n. n < 10000000) number_of (round_applicants old) below) in
     omega (arith, bound, length-map (round_applicants old) number_of)
   where
-    each : (old : State) → WellFormed old → (number : ℕ) (application : Application) → get old.applications number ≡ Some application → (applicant : Applicant) → applicant_of old application ≡ Some applicant → number_of applicant < 10000000
+    each : (old : State) → WellFormed old → (number : ℕ) (application : Application) → get old.applications number ≡ Some application → (applicant : Applicant)
+        → applicant_of old application ≡ Some applicant → number_of applicant < 10000000
     each old well number application there applicant made =
         let part = of_application old application applicant made in
         let no' = part.child.no in

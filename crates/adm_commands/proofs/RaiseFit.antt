@@ -6,7 +6,8 @@ use Rattle.std.specs.Cmp.Lexicographic.{nat_list_cmp_total}
 use Rattle.std.specs.FinMap.{get, insert, len, len-insert}
 use Rattle.std.proofs.lemmas.Bool.{leb-true, and_parts}
 use Rattle.std.proofs.lemmas.Option.{same_Some}
-use Rattle.adm_types.specs.Limits.{is_criterion, is_on_map, is_pan}
+use Rattle.adm_types.specs.Limits.{is_on_map, is_pan}
+use Rattle.adm_types.specs.Criteria.{is_criterion}
 use Rattle.adm_types.specs.declared.rows.School.{School}
 use Rattle.adm_register.specs.State.{State}
 use Rattle.adm_register.specs.Change.{no_change, after}
@@ -17,9 +18,10 @@ use Rattle.adm_register.proofs.Maps.{code_cmp-IsAntisymmetric}
 use Rattle.adm_register.proofs.Puts.{AllRows-put_all}
 use Rattle.adm_register.proofs.Tidy.{tidy_none, tidy_put}
 use Rattle.adm_commands.specs.Commands.RaisePan.{tests, may_have, with_pan, change_of}
+use Rattle.adm_types.specs.declared.commands.Refusal.TheVariants as refusal
+use Rattle.adm_commands.proofs.Passed.{passed}
 use Rattle.adm_commands.specs.Tests.{first_failing}
 use Rattle.adm_commands.proofs.Accepted.{draws_stay}
-use Rattle.adm_commands.proofs.Keeps.{all_pass}
 use Rattle.adm_commands.proofs.PutAgain.{get-insert_same, insert_again}
 
 module _ (old : State) (school : List ℕ) (pan : ℕ) (well : WellFormed old) where
@@ -58,11 +60,20 @@ module _ (old : State) (school : List ℕ) (pan : ℕ) (well : WellFormed old) w
           left = record { left = tt; places = tt };
           draws = draws_stay old (record no_change { schools = now ∷ [] }) refl;
           imported = record { each = tt; new_rows = tt };
-          tidy = record { schools = tidy_put _ _ now; children = tidy_none _ _; applications = tidy_none _ _; places = tidy_none _ _; left = tidy_none _ _; draws = tidy_none _ _; imported = tidy_none _ _ };
+          tidy = record {
+            schools = tidy_put _ _ now;
+            children = tidy_none _ _;
+            applications = tidy_none _ _;
+            places = tidy_none _ _;
+            left = tidy_none _ _;
+            draws = tidy_none _ _;
+            imported = tidy_none _ _;
+          };
         }
 
     -- raised to the same number again it stays as it is
-    row-again : after (after old (record no_change { schools = now ∷ [] })) (change_of (after old (record no_change { schools = now ∷ [] })) school pan) ≡ after old (record no_change { schools = now ∷ [] })
+    row-again : after (after old (record no_change { schools = now ∷ [] })) (change_of (after old (record no_change { schools = now ∷ [] })) school pan) ≡ after old
+        (record no_change { schools = now ∷ [] })
     unfolding change_of
     row-again =
         let own = (well.base.schools_fit school row there).own_code in
@@ -72,7 +83,7 @@ module _ (old : State) (school : List ℕ) (pan : ℕ) (well : WellFormed old) w
 
   pub raise_pan-fit : first_failing (tests old school pan) ≡ None → Fit old (change_of old school pan)
   unfolding tests change_of
-  raise_pan-fit passes = by (get old.schools school) refl (all_pass (tests old school pan) passes).1.0
+  raise_pan-fit passes = by (get old.schools school) refl (passed (tests old school pan) passes refusal.OutOfRange)
     where
       by : (o : Option School) → get old.schools school ≡ o → may_have o pan ≡ true → Fit old (record no_change { schools = with_pan o pan })
       by None there may = cc
@@ -80,11 +91,13 @@ module _ (old : State) (school : List ℕ) (pan : ℕ) (well : WellFormed old) w
 
   -- what is raised is raised no further
   abbrev Again : Option School → Type 0
-  Again o = after (after old (record no_change { schools = with_pan o pan })) (change_of (after old (record no_change { schools = with_pan o pan })) school pan) ≡ after old (record no_change { schools = with_pan o pan })
+  Again o = after (after old (record no_change { schools = with_pan o pan }))
+      (change_of (after old (record no_change { schools = with_pan o pan })) school pan) ≡ after old (record no_change { schools = with_pan o pan })
 
-  pub raise_pan-again : first_failing (tests old school pan) ≡ None → after (after old (change_of old school pan)) (change_of (after old (change_of old school pan)) school pan) ≡ after old (change_of old school pan)
+  pub raise_pan-again : first_failing (tests old school pan) ≡ None
+      → after (after old (change_of old school pan)) (change_of (after old (change_of old school pan)) school pan) ≡ after old (change_of old school pan)
   unfolding tests change_of
-  raise_pan-again passes = by (get old.schools school) refl (all_pass (tests old school pan) passes).1.0
+  raise_pan-again passes = by (get old.schools school) refl (passed (tests old school pan) passes refusal.OutOfRange)
     where
       by : (o : Option School) → get old.schools school ≡ o → may_have o pan ≡ true → Again o
       by None there may = cc

@@ -48,7 +48,8 @@ by_school one other less = ap (λ r. ordering_then r (nat_cmp one.child other.ch
 by_child : (code : Code) (one other : Applicant) → nat_cmp (number_of one) (number_of other) ≡ Less → pair_cmp (pair_at code one) (pair_at code other) ≡ Less
 by_child code one other less = ap (λ r. ordering_then r (nat_cmp (number_of one) (number_of other))) (tied_itself nat_list_cmp_total code) ∙ less
 
-at_one_rise : (code : Code) (p : Applicant → Bool) (applicants : List Applicant) → IsStrictlySortedBy nat_cmp (map number_of applicants) → IsStrictlySortedBy pair_cmp (map (pair_at code) (filter p applicants))
+at_one_rise : (code : Code) (p : Applicant → Bool) (applicants : List Applicant) → IsStrictlySortedBy nat_cmp (map number_of applicants)
+    → IsStrictlySortedBy pair_cmp (map (pair_at code) (filter p applicants))
 unfolding IsStrictlySortedBy
 at_one_rise code p [] sorted = tt
 at_one_rise code p (x ∷ xs) sorted = by (p x) (at_one_rise code p xs sorted.1)
@@ -72,7 +73,8 @@ of_pair ss applicants pair at =
     let found = from_map (pair_at (code_of_site here.0)) (filter (wants (code_of_site here.0)) applicants) pair here.2 in
     (here.0, here.1, found.0, (from_filter (wants (code_of_site here.0)) applicants found.0 found.1).0, sym found.2)
 
-pairs_rise : (ss : List Site) (applicants : List Applicant) → IsStrictlySortedBy code_cmp (map code_of_site ss) → IsStrictlySortedBy nat_cmp (map number_of applicants) → IsStrictlySortedBy pair_cmp (pairs ss applicants)
+pairs_rise : (ss : List Site) (applicants : List Applicant) → IsStrictlySortedBy code_cmp (map code_of_site ss) → IsStrictlySortedBy nat_cmp (map number_of applicants)
+    → IsStrictlySortedBy pair_cmp (pairs ss applicants)
 unfolding IsStrictlySortedBy
 pairs_rise [] applicants codes numbers = tt
 pairs_rise (s ∷ ss) applicants codes numbers =
@@ -123,7 +125,8 @@ module _ {old : State} {numbers : List ℕ} {outcomes : List Outcome} (facts : I
   it = round_draw old draw day numbers outcomes
 
   lots_rise : rises lot_cmp lots ≡ true
-  lots_rise = rises_by pair_cmp pair_of lots (subst (IsStrictlySortedBy pair_cmp) (sym facts.posed.lots_drawn) (pairs_rise (sites old) (round_applicants old) facts.posed.codes_rise facts.posed.numbers_rise))
+  lots_rise = rises_by pair_cmp pair_of lots (subst (IsStrictlySortedBy pair_cmp) (sym facts.posed.lots_drawn)
+      (pairs_rise (sites old) (round_applicants old) facts.posed.codes_rise facts.posed.numbers_rise))
 
   outcomes_rise : rises outcome_cmp outcomes ≡ true
   outcomes_rise = rises_by nat_cmp (λ (o : Outcome). o.child) outcomes (children_rise facts)

@@ -50,7 +50,8 @@ module _ (old : State) (well : WellFormed old) where
       let found = from_filter_map (applicant_of old) (values old.applications) applicant at in
       let application = found.0 in
       let parts = made (takes_part old application) (get old.children application.child) (wanted_of old application) (own_school (get old.places application.child)) applicant found.2 in
-      let there = from_values nat_cmp_total nat_cmp-IsAntisymmetric old.applications (λ (a : Application). a.child) (λ number row here. (well.base.applications_fit number row here).own_number) application found.1 in
+      let there = from_values nat_cmp_total nat_cmp-IsAntisymmetric old.applications (λ (a : Application). a.child)
+      (λ number row here. (well.base.applications_fit number row here).own_number) application found.1 in
       let number : number_of applicant ≡ application.child = (well.base.children_fit application.child applicant.child parts.0).own_number in
       record {
         application = application;
@@ -62,7 +63,8 @@ module _ (old : State) (well : WellFormed old) where
       }
 
   -- each application of an entrant is that of an applicant
-  pub applicant_there : (number : ℕ) (application : Application) → get old.applications number ≡ Some application → takes_part old application ≡ true → (applicant : Applicant) × In applicant (round_applicants old) × (number_of applicant ≡ number)
+  pub applicant_there : (number : ℕ) (application : Application) → get old.applications number ≡ Some application → takes_part old application ≡ true
+      → (applicant : Applicant) × In applicant (round_applicants old) × (number_of applicant ≡ number)
   applicant_there number application there part =
       let fits = well.base.applications_fit number application there in
       elim (get old.children application.child) as (λ o. get old.children application.child ≡ o → (applicant : Applicant) × In applicant (round_applicants old) × (number_of applicant ≡ number)) [
@@ -88,11 +90,14 @@ module _ (old : State) (well : WellFormed old) where
 
   -- and each school has one
   pub has_site : (code : Code) (school : School) → get old.schools code ≡ Some school → In (record { school = school; quota = quota old school }) (sites old)
-  has_site code school there = in_map (λ s. record { school = s; quota = quota old s }) (values old.schools) school (in_values nat_list_cmp_total code_cmp-IsAntisymmetric old.schools code school there)
+  has_site code school there = in_map (λ s. record { school = s; quota = quota old s }) (values old.schools) school
+      (in_values nat_list_cmp_total code_cmp-IsAntisymmetric old.schools code school there)
 
   -- each school that an applicant lists is there
-  pub school_there : (lots : List Lot) → IsPosed (sites old) (round_applicants old) lots → (applicant : Applicant) (code : Code) → In applicant (round_applicants old) → is_listed (listed applicant) code ≡ true → contains_key old.schools code ≡ true
+  pub school_there : (lots : List Lot) → IsPosed (sites old) (round_applicants old) lots → (applicant : Applicant) (code : Code) → In applicant (round_applicants old)
+      → is_listed (listed applicant) code ≡ true → contains_key old.schools code ≡ true
   school_there lots posed applicant code at lists =
-      let known = All_in (λ other. is_site (sites old) other ≡ true) (listed applicant) code (All_in (IsListFit (sites old)) (round_applicants old) applicant posed.lists_fit at).known (listed_in (listed applicant) code lists) in
+      let known = All_in (λ other. is_site (sites old) other ≡ true) (listed applicant) code
+      (All_in (IsListFit (sites old)) (round_applicants old) applicant posed.lists_fit at).known (listed_in (listed applicant) code lists) in
       let found = any_in (λ site. pointwise nat_eq (code_of_site site) code) (sites old) known in
       ap (contains_key old.schools) (sym ((bytes_decides (code_of_site found.0) code).0 found.2)) ∙ ap is_some (site_is found.0 found.1).0

@@ -66,7 +66,8 @@ kept_school day child own (Some other) code is has none =
     elim (pointwise nat_eq code other) as (λ b. pointwise nat_eq code other ≡ b → Some other ≡ Some code) [
       | true ↦ λ same. ap Some (sym ((bytes_decides code other).0 same))
       | false ↦ λ differs.
-          let made : offer_of day (record { child = child; school = Some other; fresh = is_fresh own (Some other) }) ≡ Some (record { child = child; place = record { school = other; state = Offered day None } }) =
+          let made : offer_of day (record { child = child; school = Some other; fresh = is_fresh own (Some other) }) ≡ Some
+          (record { child = child; place = record { school = other; state = Offered day None } }) =
           (λ i. offer_of day (record { child = child; school = Some other; fresh = is_fresh (is i) (Some other) }))
           ∙ ap (λ b. offer_of day (record { child = child; school = Some other; fresh = not b })) differs in
           absurd (none-some _ (sym none ∙ made))
@@ -104,7 +105,8 @@ module _ {old : State} {numbers : List ℕ} {outcomes : List Outcome} (facts : I
   is_given R all applicant at = zip_in R outcome (round_applicants old) applicant (subst (AllZip R (round_applicants old)) facts.best.given all) at
 
   -- what the law says of the outcomes
-  abbrev pub allotted : AllZip HasListedSchool (round_applicants old) outcomes × AllZip KeepsTenant (round_applicants old) outcomes × All (HasRoom outcomes) (sites old) × (map (λ (o : Outcome). o.child) outcomes ≡ map number_of (round_applicants old))
+  abbrev pub allotted : AllZip HasListedSchool (round_applicants old) outcomes × AllZip KeepsTenant (round_applicants old) outcomes × All (HasRoom outcomes) (sites old)
+      × (map (λ (o : Outcome). o.child) outcomes ≡ map number_of (round_applicants old))
   allotted = facts.law (sites old) (round_applicants old) (round_lots old numbers) outcomes facts.posed facts.best
 
   pub lists_given : AllZip HasListedSchool (round_applicants old) outcomes
@@ -138,7 +140,8 @@ module _ {old : State} {numbers : List ℕ} {outcomes : List Outcome} (facts : I
       }
 
   -- each place that is offered fits
-  pub offers_fit : (day : ℕ) (held : Bool) → is_from first_day last_day day ≡ true → held ≡ true → AllByRecursion (λ (p : PlaceRow). PlaceFits old.schools old.children old.applications held p.child p) (offers_on day outcomes)
+  pub offers_fit : (day : ℕ) (held : Bool) → is_from first_day last_day day ≡ true → held ≡ true
+      → AllByRecursion (λ (p : PlaceRow). PlaceFits old.schools old.children old.applications held p.child p) (offers_on day outcomes)
   offers_fit day held is_day was = in_all (λ (p : PlaceRow). PlaceFits old.schools old.children old.applications held p.child p) (offers_on day outcomes) (λ row at.
       let it = offered_is day row at in
       record {
@@ -150,7 +153,8 @@ module _ {old : State} {numbers : List ℕ} {outcomes : List Outcome} (facts : I
       })
 
   -- at a school that its child has not left
-  pub offers_apart : (day : ℕ) → AllByRecursion (λ (p : PlaceRow). (is_plan p.place.state || not (contains_key old.left (record { child = p.child; school = p.place.school }))) ≡ true) (offers_on day outcomes)
+  pub offers_apart : (day : ℕ) → AllByRecursion (λ (p : PlaceRow). (is_plan p.place.state
+      || not (contains_key old.left (record { child = p.child; school = p.place.school }))) ≡ true) (offers_on day outcomes)
   offers_apart day = in_all (λ (p : PlaceRow). (is_plan p.place.state || not (contains_key old.left (record { child = p.child; school = p.place.school }))) ≡ true) (offers_on day outcomes) (λ row at.
       let it = offered_is day row at in
       λ i. is_plan (it.state i) || not (it.not_left i))
@@ -165,11 +169,14 @@ module _ {old : State} {numbers : List ℕ} {outcomes : List Outcome} (facts : I
   tenant_is number row there other =
       let fits = facts.well.places.each number row there in
       let entitled = and_parts (has_first_round old.draws) (lists_school (get old.applications row.child) row.place.school)
-      (sym (ap (λ b. if b then not (is_some (get old.applications row.child)) else has_first_round old.draws && lists_school (get old.applications row.child) row.place.school) other) ∙ fits.entitled) in
-      elim (get old.applications row.child) as (λ o. get old.applications row.child ≡ o → lists_school o row.place.school ≡ true → (applicant : Applicant) × In applicant (round_applicants old) × (number_of applicant ≡ number) × (applicant.own ≡ Some row.place.school)) [
+      (sym (ap (λ b. if b then not (is_some (get old.applications row.child)) else has_first_round old.draws
+      && lists_school (get old.applications row.child) row.place.school) other) ∙ fits.entitled) in
+      elim (get old.applications row.child) as (λ o. get old.applications row.child ≡ o → lists_school o row.place.school ≡ true
+      → (applicant : Applicant) × In applicant (round_applicants old) × (number_of applicant ≡ number) × (applicant.own ≡ Some row.place.school)) [
         | None ↦ λ is lists. absurd (false≢true lists)
         | Some application ↦ λ is lists.
-            let found = applicant_there old facts.well number application (ap (get old.applications) (sym fits.own_number) ∙ is) (ap (λ b. b || nat_le application.day (closing old.season)) entitled.0) in
+            let found = applicant_there old facts.well number application (ap (get old.applications) (sym fits.own_number)
+            ∙ is) (ap (λ b. b || nat_le application.day (closing old.season)) entitled.0) in
             let entrant = entrant_is old facts.well found.0 found.1 in
             (found.0, found.1, found.2, entrant.own ∙ ap (λ n. own_school (get old.places n)) found.2 ∙ ap own_school there ∙ ap (λ b. cond b None (Some row.place.school)) other)
       ] refl entitled.1

@@ -69,7 +69,8 @@ module _ {old : State} {numbers : List ℕ} {outcomes : List Outcome} (facts : I
         (it, is, ap (λ o. has o code) school ∙ both.0)
 
     -- each place that is held at the school afterwards is an outcome there
-    has_outcome : (number : ℕ) (row : PlaceRow) → get new number ≡ Some row → is_unplanned_at (Some row) code ≡ true → (o : Outcome) × (at_key child_of outcomes number ≡ Some o) × (has o.school code ≡ true)
+    has_outcome : (number : ℕ) (row : PlaceRow) → get new number ≡ Some row → is_unplanned_at (Some row) code ≡ true
+        → (o : Outcome) × (at_key child_of outcomes number ≡ Some o) × (has o.school code ≡ true)
     has_outcome number row there held = by (at_key child_of outcomes number) refl (sym (at_child number) ∙ there)
       where
         offered : (o : Outcome) → at_key child_of outcomes number ≡ Some o → (made : Option PlaceRow) → offer_of day o ≡ made → option_or made (get old.places number) ≡ Some row
@@ -79,15 +80,18 @@ module _ {old : State} {numbers : List ℕ} {outcomes : List Outcome} (facts : I
             let school = (offer_made day o row (is ∙ now)).1 in
             (o, at, ap (λ s. has s code) school ∙ (and_parts (pointwise nat_eq row.place.school code) (not (is_plan row.place.state)) held).0)
 
-        by : (found : Option Outcome) → at_key child_of outcomes number ≡ found → over day found (get old.places number) ≡ Some row → (o : Outcome) × (at_key child_of outcomes number ≡ Some o) × (has o.school code ≡ true)
+        by : (found : Option Outcome) → at_key child_of outcomes number ≡ found → over day found (get old.places number) ≡ Some row
+            → (o : Outcome) × (at_key child_of outcomes number ≡ Some o) × (has o.school code ≡ true)
         by None at now = stays number row (at_key child_of outcomes number) refl now held (λ o is. absurd (none-some o (sym at ∙ is)))
         by (Some o) at now = offered o at (offer_of day o) refl now
 
     -- where none has the school afresh, each was held there before
-    was_held : has_fresh code outcomes ≡ false → (number : ℕ) (row : PlaceRow) → get new number ≡ Some row → is_unplanned_at (Some row) code ≡ true → is_unplanned_at (get old.places number) code ≡ true
+    was_held : has_fresh code outcomes ≡ false → (number : ℕ) (row : PlaceRow) → get new number ≡ Some row → is_unplanned_at (Some row) code ≡ true
+        → is_unplanned_at (get old.places number) code ≡ true
     was_held none number row there held = by (at_key child_of outcomes number) refl (sym (at_child number) ∙ there)
       where
-        offered : (o : Outcome) → at_key child_of outcomes number ≡ Some o → (made : Option PlaceRow) → offer_of day o ≡ made → option_or made (get old.places number) ≡ Some row → is_unplanned_at (get old.places number) code ≡ true
+        offered : (o : Outcome) → at_key child_of outcomes number ≡ Some o → (made : Option PlaceRow) → offer_of day o ≡ made
+            → option_or made (get old.places number) ≡ Some row → is_unplanned_at (get old.places number) code ≡ true
         offered o at None is now = ap (λ p. is_unplanned_at p code) now ∙ held
         offered o at (Some other) is now =
             let parts = offer_made day o row (is ∙ now) in
@@ -105,7 +109,8 @@ module _ {old : State} {numbers : List ℕ} {outcomes : List Outcome} (facts : I
     held_are_outcomes : places_outside_plans new code ≤ outcomes_at code outcomes
     held_are_outcomes =
         subst (λ os. places_outside_plans new code ≤ count_by (λ (o : Outcome). has o.school code) os) (values_by child_of outcomes)
-        (count_le (λ row. is_unplanned_at (Some row) code) (λ (o : Outcome). has o.school code) (entries new) (by_key child_of outcomes) (entries_in_order new) (λ number row there held. has_outcome number row (at_entries number ∙ there) held))
+        (count_le (λ row. is_unplanned_at (Some row) code) (λ (o : Outcome). has o.school code) (entries new) (by_key child_of outcomes) (entries_in_order new)
+        (λ number row there held. has_outcome number row (at_entries number ∙ there) held))
 
   -- at each school those that are held are at most its admission number
   pub room_after : AllRows (λ code (school : School). places_outside_plans new code ≤ school.pan) old.schools

@@ -29,7 +29,8 @@ pub refusal_of_new : (s : State) (row : ImportRow) → is_known s row ≡ false 
     → refusal_of_row s row ≡ or_next (first_failing (add_child.tests s row.child)) (first_failing (apply.further_tests s (application_of row)))
 unfolding apply.tests refusal_of_row row_tests
 refusal_of_new s row unknown new =
-    let there = ap is_some (get-insert nat_cmp_total s.children row.child.no row.child row.child.no ∙ ap (λ b. cond b (Some row.child) (get s.children row.child.no)) (tied nat_cmp_total row.child.no)) in
+    let there = ap is_some (get-insert nat_cmp_total s.children row.child.no row.child row.child.no
+    ∙ ap (λ b. cond b (Some row.child) (get s.children row.child.no)) (tied nat_cmp_total row.child.no)) in
     ap (λ b. if b then None else first_failing (row_tests s row)) unknown
     ∙ ap (λ b. if not b then first_failing (add_child.tests s row.child ++ apply.tests (after s (change_of_child row.child)) (application_of row)) else Some RowDiffers) new
     ∙ first_failing-append (add_child.tests s row.child) (apply.tests (after s (change_of_child row.child)) (application_of row))

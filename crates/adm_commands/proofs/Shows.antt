@@ -35,7 +35,8 @@ pub record Shows (command : Command) : Type 0 where
   -- where it is not refused, it changes something, or nothing, and answers
   pub some : Laws → (old : State) → WellFormed old → refused old command ≡ None → (change : Difference) × (reply : Reply) × MakesChange old command change reply
   -- what it changes fits
-  pub fits : (old : State) → KeptByTypes command → WellFormed old → AllotmentFits → refused old command ≡ None → (change : Difference) (reply : Reply) → MakesChange old command change reply → Fit old change
+  pub fits : (old : State) → KeptByTypes command → WellFormed old → AllotmentFits → refused old command ≡ None → (change : Difference) (reply : Reply)
+      → MakesChange old command change reply → Fit old change
   -- where it is not refused when it follows itself, it changes nothing more
   pub again : (old new : State) (change : Difference) (reply : Reply) → WellFormed old → refused old command ≡ None → MakesChange old command change reply → new ≡ after old change
       → refused new command ≡ None → (more : Difference) (second : Reply) → MakesChange new command more second → after new more ≡ new
@@ -55,7 +56,8 @@ pub record ShowsOnly (command : Command) (only : State → Difference) : Type 0 
   pub done : (old : State) → MakesChange old command (only old) Done
   pub is : (old : State) (change : Difference) (reply : Reply) → MakesChange old command change reply → (change ≡ only old) × (reply ≡ Done)
   pub fits : (old : State) → KeptByTypes command → WellFormed old → refused old command ≡ None → Fit old (only old)
-  pub again : (old : State) → WellFormed old → refused old command ≡ None → refused (after old (only old)) command ≡ None → after (after old (only old)) (only (after old (only old))) ≡ after old (only old)
+  pub again : (old : State) → WellFormed old → refused old command ≡ None → refused (after old (only old)) command ≡ None
+      → after (after old (only old)) (only (after old (only old))) ≡ after old (only old)
   pub no_draw : (old : State) → (only old).draws ≡ []
   pub no_import : (old : State) → (only old).imported ≡ []
 

@@ -23,6 +23,8 @@ use Rattle.adm_register.specs.Fits.{Fit}
 use Rattle.adm_register.specs.Waits.{waiting_at}
 use Rattle.adm_register.specs.WellFormed.{WellFormed}
 use Rattle.adm_commands.specs.Tests.{first_failing}
+use Rattle.adm_types.specs.declared.commands.Refusal.TheVariants as refusal
+use Rattle.adm_commands.proofs.Passed.{passed}
 use Rattle.adm_commands.specs.Commands.Round as round
 use Rattle.adm_commands.specs.Commands.Round.{sites, round_applicants, round_lots, round_market}
 use Rattle.adm_commands.specs.Commands.Fill as fill
@@ -37,7 +39,6 @@ use Rattle.adm_commands.proofs.ImportAgain.{IsKept, imports_known, each_new, row
 use Rattle.adm_commands.proofs.ImportFit.{import-fit}
 use Rattle.adm_commands.proofs.ImportWalk.{new_rows-addable}
 use Rattle.adm_commands.proofs.ImportsStay.{stay_beside, stay_alone}
-use Rattle.adm_commands.proofs.Keeps.{all_pass}
 use Rattle.adm_commands.proofs.Posed.{some_of, posed, lots_pass}
 use Rattle.adm_commands.proofs.RoundFit.{round-fit}
 use Rattle.adm_commands.proofs.RoundNext.{round-next}
@@ -49,12 +50,13 @@ round_again : (old new : State) (draw day : ℕ) (numbers : List ℕ) (outcomes 
     → new ≡ after old (round.change_of old draw day numbers outcomes) → first_failing (round.tests new draw day numbers) ≡ None → ⊥
 unfolding round.tests round.change_of
 round_again old new draw day numbers outcomes well first is passes =
-    let made = all_pass (round.tests old draw day numbers) first in
+    let made = passed (round.tests old draw day numbers) first in
     let tests = subst (λ s. first_failing (round.tests s draw day numbers) ≡ None) is passes in
-    let next = all_pass (round.tests (after old (round.change_of old draw day numbers outcomes)) draw day numbers) tests in
-    let one = (unsigned_Decides draw (so_far.draws + 1)).0 made.0 in
-    let two = (unsigned_Decides draw ((count_draws no_draws (values (after old (round.change_of old draw day numbers outcomes)).draws)).draws + 1)).0 next.0 in
-    let here = ap (λ ds. (count_draws no_draws ds).draws) (values_put old.draws old.season (row ∷ []) (λ number d there. (well.draws.each number d there).own_number) well.draws.in_order (round-next old draw day numbers outcomes first)) in
+    let next = passed (round.tests (after old (round.change_of old draw day numbers outcomes)) draw day numbers) tests in
+    let one = (unsigned_Decides draw (so_far.draws + 1)).0 (made refusal.WrongDraw) in
+    let two = (unsigned_Decides draw ((count_draws no_draws (values (after old (round.change_of old draw day numbers outcomes)).draws)).draws + 1)).0 (next refusal.WrongDraw) in
+    let here = ap (λ ds. (count_draws no_draws ds).draws) (values_put old.draws old.season (row ∷ [])
+    (λ number d there. (well.draws.each number d there).own_number) well.draws.in_order (round-next old draw day numbers outcomes first)) in
     let count = ap (λ (b : DrawsSoFar). b.draws) (with_draws-append no_draws (values old.draws) (row ∷ [])) in
     omega (arith, one, two, here, count)
   where
@@ -85,7 +87,8 @@ round_shows draw day lots = record {
   one_reply = λ law old one other first second x y.
       x.3 ∙ ap (round.reply_of old) (law (round.sites old) (round.round_applicants old) (round_lots old lots) x.0 y.0 x.1 y.1) ∙ sym y.3;
   draws = λ old new change reply ordered accepted held is.
-      one_more old new change (recorded_draw old draw day lots held.0) (ap (λ (c : Difference). c.draws) held.2) is ordered (round-next old draw day lots held.0 (no_row (first_failing (round.tests old draw day lots)) accepted));
+      one_more old new change (recorded_draw old draw day lots held.0) (ap (λ (c : Difference). c.draws) held.2) is ordered
+      (round-next old draw day lots held.0 (no_row (first_failing (round.tests old draw day lots)) accepted));
   imports = λ old new change reply known accepted held is. stay_alone old new change (ap (λ (c : Difference). c.imported) held.2) is known;
 }
 
@@ -111,7 +114,8 @@ fill_shows draw school day lots = record {
       let child = same_Some x.2 y.2 (sym x.3 ∙ ap (λ s. first_by_lot s (waiting_at old school) lots) row ∙ y.3) in
       x.5 ∙ ap Filled child ∙ sym y.5;
   draws = λ old new change reply ordered accepted filled is.
-      one_more old new change (fill.filled_draw old draw school day lots filled.2) (ap (λ (c : Difference). c.draws) filled.4) is ordered (fill-next old draw school day lots (no_row _ accepted) filled.2 ordered.in_order);
+      one_more old new change (fill.filled_draw old draw school day lots filled.2) (ap (λ (c : Difference). c.draws) filled.4) is ordered
+      (fill-next old draw school day lots (no_row _ accepted) filled.2 ordered.in_order);
   imports = λ old new change reply known accepted filled is. stay_alone old new change (ap (λ (c : Difference). c.imported) filled.4) is known;
 }
 

@@ -12,6 +12,8 @@ use Rattle.adm_register.specs.Change.{after}
 use Rattle.adm_register.specs.Plans.{is_plan_row}
 use Rattle.adm_register.specs.WellFormed.{is_unplanned_at}
 use Rattle.adm_commands.specs.Tests.{first_failing}
+use Rattle.adm_types.specs.declared.commands.Refusal.TheVariants as refusal
+use Rattle.adm_commands.proofs.Passed.{passed}
 use Rattle.adm_commands.specs.Commands.NamePlan as name_plan
 use Rattle.adm_commands.specs.Commands.Accept as accept
 use Rattle.adm_commands.specs.Commands.Decline as decline
@@ -20,7 +22,6 @@ use Rattle.adm_commands.specs.Commands.Lapse as lapse
 use Rattle.adm_commands.specs.Commands.LeaveList as leave_list
 use Rattle.adm_commands.specs.Offered.{offer_at, offer_days, is_reminded}
 use Rattle.adm_commands.proofs.Accepted.{name_plan-fit}
-use Rattle.adm_commands.proofs.Keeps.{all_pass}
 use Rattle.adm_commands.proofs.LeaveFit.{leave_list-fit, leave_again}
 use Rattle.adm_commands.proofs.OffersFit.{accept-fit, decline-fit, remind-fit, lapse-fit}
 use Rattle.adm_commands.proofs.PutAgain.{get-insert_same, gone, both, both_false}
@@ -37,7 +38,7 @@ name_plan_shows child school = shows_only (NamePlan child school) (λ old. name_
   is = λ old change reply done. done;
   fits = λ old kept well accepted. name_plan-fit old child school well (no_row _ accepted);
   again = λ old well first passes.
-      let unplanned = (all_pass (name_plan.tests (after old (name_plan.change_of child school)) child school) (no_row _ passes)).1.1.0 in
+      let unplanned = (passed (name_plan.tests (after old (name_plan.change_of child school)) child school) (no_row _ passes) refusal.HasPlan) in
       absurd (both (ap is_plan_row (has_put old child (record { school = school; state = Plan }))) unplanned);
   no_draw = λ old. refl;
   no_import = λ old. refl;
@@ -50,7 +51,7 @@ accept_shows child school = shows_only (Accept child school) (λ old. accept.cha
   is = λ old change reply done. done;
   fits = λ old kept well accepted. accept-fit old child school well (no_row _ accepted);
   again = λ old well first passes.
-      let offered = (all_pass (accept.tests (after old (accept.change_of child school)) child school) (no_row _ passes)).1.1.0 in
+      let offered = (passed (accept.tests (after old (accept.change_of child school)) child school) (no_row _ passes) refusal.NotOffered) in
       let accepted = ap (λ o. is_some (offer_at o school)) (has_put old child (record { school = school; state = Accepted })) in
       absurd (both_false offered (accepted ∙ none_accepted (pointwise nat_eq school school)));
   no_draw = λ old. refl;
@@ -68,7 +69,7 @@ decline_shows child school = shows_only (Decline child school) (λ old. decline.
   is = λ old change reply done. done;
   fits = λ old kept well accepted. decline-fit old child school well (no_row _ accepted);
   again = λ old well first passes.
-      let held = (all_pass (decline.tests (after old (decline.change_of child school)) child school) (no_row _ passes)).1.1.0 in
+      let held = (passed (decline.tests (after old (decline.change_of child school)) child school) (no_row _ passes) refusal.NotOffered) in
       absurd (both_false held (ap (λ o. is_unplanned_at o school) (gone nat_cmp_total old.places child)));
   no_draw = λ old. refl;
   no_import = λ old. refl;
@@ -81,7 +82,7 @@ lapse_shows child school day = shows_only (Lapse child school day) (λ old. decl
   is = λ old change reply done. done;
   fits = λ old kept well accepted. lapse-fit old child school day well (no_row _ accepted);
   again = λ old well first passes.
-      let offered = (all_pass (lapse.tests (after old (decline.change_of child school)) child school day) (no_row _ passes)).1.1.0 in
+      let offered = (passed (lapse.tests (after old (decline.change_of child school)) child school day) (no_row _ passes) refusal.NotOffered) in
       absurd (both_false offered (ap (λ o. is_some (offer_at o school)) (gone nat_cmp_total old.places child)));
   no_draw = λ old. refl;
   no_import = λ old. refl;
@@ -103,14 +104,14 @@ remind_again : (old new : State) (child : ℕ) (school : List ℕ) (day : ℕ) �
     → first_failing (remind.tests new child school day) ≡ None → ⊥
 unfolding remind.tests remind.change_of
 remind_again old new child school day first is passes =
-    by (offer_at (get old.places child) school) refl (all_pass (remind.tests old child school day) first).1.1.0
+    by (offer_at (get old.places child) school) refl (passed (remind.tests old child school day) first refusal.NotOffered)
   where
     by : (offer : Option (ℕ × Option ℕ)) → offer_at (get old.places child) school ≡ offer → is_some offer ≡ true → ⊥
     by None at some = absurd (both_false some refl)
     by (Some (offered, r)) at some =
         let change : new ≡ after old (remind.reminded_on child school day (Some (offered, r))) = is ∙ ap (λ o. after old (remind.reminded_on child school day o)) at in
         let tests = subst (λ s. first_failing (remind.tests s child school day) ≡ None) change passes in
-        let unreminded = (all_pass (remind.tests (after old (remind.reminded_on child school day (Some (offered, r)))) child school day) tests).1.1.1.0 in
+        let unreminded = (passed (remind.tests (after old (remind.reminded_on child school day (Some (offered, r)))) child school day) tests refusal.AlreadyReminded) in
         let there = ap (λ o. is_reminded (offer_at o school)) (has_put old child (record { school = school; state = Offered offered (Some day) })) in
         both (there ∙ ap (λ b. is_reminded (if b then Some (offered, Some day) else None)) ((bytes_decides school school).1 refl)) unreminded
 

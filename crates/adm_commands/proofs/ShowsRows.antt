@@ -9,11 +9,12 @@ use Rattle.adm_types.specs.declared.rows.Child.{Child}
 use Rattle.adm_types.specs.declared.rows.School.{School}
 use Rattle.adm_register.specs.Change.{after, change_of_child}
 use Rattle.adm_commands.specs.Commands.AddSchool as add_school
+use Rattle.adm_types.specs.declared.commands.Refusal.TheVariants as refusal
+use Rattle.adm_commands.proofs.Passed.{passed}
 use Rattle.adm_commands.specs.Commands.RaisePan as raise_pan
 use Rattle.adm_commands.specs.Commands.AddChild as add_child
 use Rattle.adm_commands.specs.Commands.Apply as apply
 use Rattle.adm_commands.proofs.Accepted.{add_school-fit, add_child-fit, amend-fit, apply-fit}
-use Rattle.adm_commands.proofs.Keeps.{all_pass}
 use Rattle.adm_commands.proofs.PutAgain.{insert_again, not_again}
 use Rattle.adm_commands.proofs.RaiseFit.{raise_pan-fit, raise_pan-again}
 use Rattle.adm_commands.proofs.Shows.{Shows, shows_only, no_row}
@@ -24,7 +25,8 @@ add_school_shows school = shows_only (AddSchool school) (λ old. add_school.chan
   done = λ old. (refl, refl);
   is = λ old change reply done. done;
   fits = λ old kept well accepted. add_school-fit old school kept well (no_row _ accepted);
-  again = λ old well first passes. absurd (not_again nat_list_cmp_total old.schools school.code school (all_pass (add_school.tests (after old (add_school.change_of school)) school) (no_row _ passes)).0);
+  again = λ old well first passes. absurd (not_again nat_list_cmp_total old.schools school.code school
+      (passed (add_school.tests (after old (add_school.change_of school)) school) (no_row _ passes) refusal.SchoolKnown));
   no_draw = λ old. refl;
   no_import = λ old. refl;
 })
@@ -35,7 +37,8 @@ add_child_shows child = shows_only (AddChild child) (λ old. change_of_child chi
   done = λ old. (refl, refl);
   is = λ old change reply done. done;
   fits = λ old kept well accepted. add_child-fit old child kept well (no_row _ accepted);
-  again = λ old well first passes. absurd (not_again nat_cmp_total old.children child.no child (all_pass (add_child.tests (after old (change_of_child child)) child) (no_row _ passes)).0);
+  again = λ old well first passes. absurd (not_again nat_cmp_total old.children child.no child
+      (passed (add_child.tests (after old (change_of_child child)) child) (no_row _ passes) refusal.ChildKnown));
   no_draw = λ old. refl;
   no_import = λ old. refl;
 })
@@ -56,7 +59,8 @@ apply_shows application = shows_only (Apply application) (λ old. apply.change_o
   done = λ old. (refl, refl);
   is = λ old change reply done. done;
   fits = λ old kept well accepted. apply-fit old application kept well (no_row _ accepted);
-  again = λ old well first passes. absurd (not_again nat_cmp_total old.applications application.child application (all_pass (apply.tests (after old (apply.change_of application)) application) (no_row _ passes)).1.1.0);
+  again = λ old well first passes. absurd (not_again nat_cmp_total old.applications application.child application
+      (passed (apply.tests (after old (apply.change_of application)) application) (no_row _ passes) refusal.AlreadyApplied));
   no_draw = λ old. refl;
   no_import = λ old. refl;
 })

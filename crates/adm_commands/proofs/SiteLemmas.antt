@@ -28,7 +28,11 @@ module _ {X Y : Type 0} (p : Y → Bool) (f : X → Y) (q : X → Bool) where
 
 -- the quotas by the schools of the places of plans
 pub sites_by_plans : (places : FinMap nat_cmp PlaceRow) (schools : List School)
-    → map (λ school. record { school = school; quota = school.pan - count_by (λ code. pointwise nat_eq code school.code) (map (λ row. row.place.school) (filter (λ row. is_plan row.place.state) (values places))) }) schools
+    → map (λ school. record {
+      school = school;
+      quota = school.pan - count_by (λ code. pointwise nat_eq code school.code)
+          (map (λ row. row.place.school) (filter (λ row. is_plan row.place.state) (values places)));
+    }) schools
     ≡ map {B = Site} (λ school. record { school = school; quota = school.pan - plans_at places school.code }) schools
 sites_by_plans places schools =
     let same : (code : List ℕ) → count_by (λ other. pointwise nat_eq other code) (map (λ row. row.place.school) (filter (λ row. is_plan row.place.state) (values places))) ≡ plans_at places code =

@@ -58,7 +58,8 @@ module _ {X : Type 0} (number : X → ℕ) where
   each_in_order P [] all = tt
   each_in_order P (x ∷ xs) all = each_put P x (in_order xs) all.0 (each_in_order P xs all.1)
 
-  put_rises : (x : X) (ys : List X) → AllByRecursion (λ k. eq_by_cmp nat_cmp (number x) k ≡ false) (map number ys) → IsStrictlySortedBy nat_cmp (map number ys) → IsStrictlySortedBy nat_cmp (map number (put x ys))
+  put_rises : (x : X) (ys : List X) → AllByRecursion (λ k. eq_by_cmp nat_cmp (number x) k ≡ false) (map number ys) → IsStrictlySortedBy nat_cmp (map number ys)
+      → IsStrictlySortedBy nat_cmp (map number (put x ys))
   unfolding IsStrictlySortedBy
   put_rises x [] apart rising = (tt, tt)
   put_rises x (y ∷ ys) apart rising =

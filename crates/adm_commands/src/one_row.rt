@@ -22,6 +22,7 @@ pub(crate) fn one_place(
 ) -> Result<Seq<PlaceRow>, AllocError>
     ensures { IfOk result (λ rows. rows ≡ record { child = child; place = record { school = school; state = state } } ∷ []) }
 {
+    // read by no one: without a value of this type the check does not know the module of `Option`, which a place has in it
     let unread: Option<Day> = None;
     let place = Place { school, state };
     let rows = one(alloc, PlaceRow { child, place })?;

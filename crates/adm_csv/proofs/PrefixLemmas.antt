@@ -26,7 +26,8 @@ Begins s fields field text n = (p : Read) × (next_record default_config s field
 
 -- a byte that ends no record
 passes : (s : State) (fields : Record) (field : Text) (b : ℕ) (text : Text) → is_end (step default_config s b).1 ≡ false
-    → next_record default_config s fields field (b ∷ text) ≡ next_record default_config (step default_config s b).0 (fields_after (step default_config s b).1 fields field) (field_after (step default_config s b).1 b field) text
+    → next_record default_config s fields field (b ∷ text) ≡ next_record default_config (step default_config s b).0
+    (fields_after (step default_config s b).1 fields field) (field_after (step default_config s b).1 b field) text
 unfolding next_record
 passes s fields field b text e = rw e refl
 
@@ -34,10 +35,12 @@ begins : (s : State) (fields : Record) (field text : Text) (n : ℕ) → suc n �
 unfolding next_record
 begins s fields field [] n ended = absurd (omega (arith, ended))
 begins s fields field (b ∷ text) n ended =
-    by (is_end (step default_config s b).1) refl (λ more. begins (step default_config s b).0 (fields_after (step default_config s b).1 fields field) (field_after (step default_config s b).1 b field) text n more)
+    by (is_end (step default_config s b).1) refl (λ more. begins (step default_config s b).0 (fields_after (step default_config s b).1 fields field)
+    (field_after (step default_config s b).1 b field) text n more)
   where
     by : (e : Bool) → is_end (step default_config s b).1 ≡ e
-        → (suc n ≤ ended_from (step default_config s b).0 text → Begins (step default_config s b).0 (fields_after (step default_config s b).1 fields field) (field_after (step default_config s b).1 b field) text n)
+        → (suc n ≤ ended_from (step default_config s b).0 text
+        → Begins (step default_config s b).0 (fields_after (step default_config s b).1 fields field) (field_after (step default_config s b).1 b field) text n)
         → Begins s fields field (b ∷ text) n
     by true e more =
         let one : ended_by s b ≡ 1 = ap (λ t. cond t 1 0) e in

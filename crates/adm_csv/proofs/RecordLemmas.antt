@@ -31,8 +31,14 @@ rests_after false end = refl
 in_field_rests : (c : ℕ) → Rests (in_field default_config c)
 in_field_rests c =
     let more : Rests (cond (ends_with default_config.terminator c) (after_end default_config.terminator c, act.EndRecord) (st.InField, act.Copy)) =
-    rests_else (ends_with default_config.terminator c) (after_end default_config.terminator c, act.EndRecord) (st.InField, act.Copy) (rests_after (c == carriage_return)) (rests_other st.InField act.Copy refl) in
-    rests_else (c == default_config.delimiter) (st.StartField, act.EndField) (cond (ends_with default_config.terminator c) (after_end default_config.terminator c, act.EndRecord) (st.InField, act.Copy)) (rests_other st.StartField act.EndField refl) more
+    rests_else (ends_with default_config.terminator c) (after_end default_config.terminator c, act.EndRecord) (
+      st.InField,
+      act.Copy,
+    ) (rests_after (c == carriage_return)) (rests_other st.InField act.Copy refl) in
+    rests_else (c == default_config.delimiter) (
+      st.StartField,
+      act.EndField,
+    ) (cond (ends_with default_config.terminator c) (after_end default_config.terminator c, act.EndRecord) (st.InField, act.Copy)) (rests_other st.StartField act.EndField refl) more
 
 start_rests : (c : ℕ) → Rests (step default_config st.StartField c)
 start_rests c = rests_else (c == default_config.quote) (st.InQuoted, act.Skip) (in_field default_config c) (rests_other st.InQuoted act.Skip refl) (in_field_rests c)

@@ -27,13 +27,15 @@ row_more width front k left r rs x is row =
     ∙ sym (ap (λ o. with_rows front (at_row k o >>= λ x. rows_from width (k + 1) rs >>= λ xs. Ok (x ∷ xs))) row)
     ∙ sym (ap (λ l. with_rows front (rows_from width k l)) is)
 
-fault_is : (width : ℕ) (front : List ImportRow) (k : ℕ) (left : List Record) (r : Record) (rs all : List Record) (e : Fault) → left ≡ r ∷ rs → with_rows front (rows_from width k left) ≡ rows_from width 1 all
+fault_is : (width : ℕ) (front : List ImportRow) (k : ℕ) (left : List Record) (r : Record) (rs all : List Record) (e : Fault) → left ≡ r ∷ rs
+    → with_rows front (rows_from width k left) ≡ rows_from width 1 all
     → import_row_at width k r ≡ Err e → rows_from width 1 all ≡ Err (record { row = k; fault = e })
 fault_is width front k left r rs all e is so_far row =
     sym so_far ∙ ap (λ l. with_rows front (rows_from width k l)) is ∙ ap (λ o. with_rows front (at_row k o >>= λ x. rows_from width (k + 1) rs >>= λ xs. Ok (x ∷ xs))) row
 
 -- a row with an error
-pub row_fault : (width : ℕ) (front : List ImportRow) (k : ℕ) (left : List Record) (r : Record) (rs all : List Record) (e : Fault) → left ≡ r ∷ rs → with_rows front (rows_from width k left) ≡ rows_from width 1 all
+pub row_fault : (width : ℕ) (front : List ImportRow) (k : ℕ) (left : List Record) (r : Record) (rs all : List Record) (e : Fault) → left ≡ r ∷ rs
+    → with_rows front (rows_from width k left) ≡ rows_from width 1 all
     → Fails e (import_row_at width k r) → FailsFrom width 1 (record { row = k; fault = e }) e all
 row_fault width front k left r rs all Memory is so_far row = tt
 row_fault width front k left r rs all Header is so_far row = fault_is width front k left r rs all Header is so_far row

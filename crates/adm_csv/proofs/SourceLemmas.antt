@@ -27,7 +27,8 @@ one_more : (s s2 : State) (text rest : Text) (f : Record) → Reached default_co
 one_more s s2 text rest f h =
     let first = first_of s s2 text rest f [] h in
     let last = end_of first.0.1 s2 first.0.2 rest first.3 in
-    left_more s text first.0 first.1 ∙ (ap (λ r. r ∷ records_remaining first.0.1 first.0.2) (sym first.2) ∙ (ap (λ t. f ∷ records_remaining t first.0.2) last.0 ∙ ap (λ t. f ∷ records_remaining s2 t) last.1))
+    left_more s text first.0 first.1 ∙ (ap (λ r. r ∷ records_remaining first.0.1 first.0.2) (sym first.2)
+    ∙ (ap (λ t. f ∷ records_remaining t first.0.2) last.0 ∙ ap (λ t. f ∷ records_remaining s2 t) last.1))
 
 known : (s : Source) (text : Text) → bytes_remaining s ≡ Some text → remaining_of s ≡ records_remaining s.rdr.state text
 known s text is = rw is refl

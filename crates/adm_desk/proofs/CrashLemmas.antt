@@ -23,7 +23,8 @@ use Rattle.sqlite.specs.Held.{Held}
 use Rattle.sqlite.specs.State.{State as Disk, HasCleanDisk, Survives}
 use Rattle.sqlite.specs.Tree.{Trees}
 use Rattle.sqlite.proofs.FileLemmas.{is_something}
-use Rattle.adm_register.specs.State.{State as Register, coded_state}
+use Rattle.adm_register.specs.State.{State as Register}
+use Rattle.adm_register.specs.CodedState.{coded_state}
 use Rattle.adm_rows.specs.Represents.{RepresentsNow, OneRegister, LeavesOnly, LeavesNone}
 use Rattle.adm_store.specs.Migration.{IsMigrated}
 use Rattle.adm_store.proofs.MigrationLemmas.{not_migrated, represents_register}

@@ -5,7 +5,8 @@ use base.Stored.{Coded-set}
 use Rattle.sqlite.specs.State.{State as Disk, HasCleanDisk, Survives}
 use Rattle.sqlite.specs.Tree.{Trees}
 use Rattle.adm_types.specs.declared.commands.Command.{Command}
-use Rattle.adm_register.specs.State.{State as Register, coded_state}
+use Rattle.adm_register.specs.State.{State as Register}
+use Rattle.adm_register.specs.CodedState.{coded_state}
 use Rattle.adm_commands.specs.Steps.{Accepts}
 use Rattle.adm_rows.specs.Represents.{RepresentsNow, Represents, LeavesOnly, LeavesNone}
 use Rattle.adm_store.specs.Migration.{IsMigrated}

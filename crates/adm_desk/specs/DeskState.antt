@@ -4,7 +4,8 @@ use Rattle.std.specs.Coded.{Coded, code_by, coded×, coded_bool}
 use Rattle.sqlite.specs.State.{State as Disk}
 use Rattle.adm_types.specs.declared.commands.Command.{Command}
 use Rattle.adm_types.specs.declared.commands.Reply.{Reply}
-use Rattle.adm_register.specs.State.{State as Register, coded_state}
+use Rattle.adm_register.specs.State.{State as Register}
+use Rattle.adm_register.specs.CodedState.{coded_state}
 use Rattle.adm_commands.specs.Steps.{Step, Accepts}
 use Rattle.adm_rows.specs.Represents.{LeavesOnly, LeavesEither}
 use Rattle.adm_desk.specs.declared.answer.Answer.{Answer}

@@ -22,7 +22,7 @@ fn what_if_answer(alloc: Global, register: &Register, asked: &WhatIf) -> WhatIfA
 }
 
 impl<S: Alter> Desk<S> {
-    /// Reads the bytes as a question, where a child would be by another list, and answers it. The
+    /// Reads the bytes as a question, which place a child would have with another list, and answers it. The
     /// desk stays as it is, and so does its file. It takes memory and time as the next round would.
     pub fn answer_question(&self, alloc: Global, bytes: &[u8]) -> LineAnswer
         ensures { AnswersWhatIf self.now bytes.now result }

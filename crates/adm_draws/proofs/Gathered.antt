@@ -118,14 +118,16 @@ module _ {I R : Type 0} (items : Draw → List I) (row : ℕ → I → R) (numbe
 
 -- ---- the draws
 
-pub complete : (done ds : List Draw) → IsStrictlySortedBy nat_cmp (map (λ draw. draw.number) ds) → draws_after done (map row_of ds) (flat_map offer_rows_of ds) (flat_map lot_rows_of ds) ≡ Some (done ++ ds)
+pub complete : (done ds : List Draw) → IsStrictlySortedBy nat_cmp (map (λ draw. draw.number) ds)
+    → draws_after done (map row_of ds) (flat_map offer_rows_of ds) (flat_map lot_rows_of ds) ≡ Some (done ++ ds)
 complete done [] sorted = ap Some (sym (append-nil done))
 complete done (d ∷ ds) sorted =
     let front_offers = first_front (λ e. e.outcomes) offer_row_of (λ r. r.draw) (λ r. r.outcome) (λ n x. refl) (λ n x. refl) (λ r. refl) d ds sorted in
     let later_offers = first_later (λ e. e.outcomes) offer_row_of (λ r. r.draw) (λ r. r.outcome) (λ n x. refl) (λ n x. refl) (λ r. refl) d ds sorted in
     let front_lots = first_front (λ e. e.lots) lot_row_of (λ r. r.draw) (λ r. r.lot) (λ n x. refl) (λ n x. refl) (λ r. refl) d ds sorted in
     let later_lots = first_later (λ e. e.lots) lot_row_of (λ r. r.draw) (λ r. r.lot) (λ n x. refl) (λ n x. refl) (λ r. refl) d ds sorted in
-    let outcomes : map (λ (r : OfferRow). r.outcome) (offer_rows_of d) ≡ d.outcomes = items_again (λ e. e.outcomes) offer_row_of (λ r. r.draw) (λ r. r.outcome) (λ n x. refl) (λ n x. refl) (λ r. refl) d.number d.outcomes in
+    let outcomes : map (λ (r : OfferRow). r.outcome) (offer_rows_of d) ≡ d.outcomes = items_again (λ e. e.outcomes) offer_row_of (λ r. r.draw) (λ r. r.outcome)
+    (λ n x. refl) (λ n x. refl) (λ r. refl) d.number d.outcomes in
     let lots : map (λ (r : LotRow). r.lot) (lot_rows_of d) ≡ d.lots = items_again (λ e. e.lots) lot_row_of (λ r. r.draw) (λ r. r.lot) (λ n x. refl) (λ n x. refl) (λ r. refl) d.number d.lots in
     let itself : draw_of (row_of d) (offer_rows_of d) (lot_rows_of d) ≡ d = λ i. record { number = d.number; round = d.round; school = d.school; day = d.day; outcomes = outcomes i; lots = lots i } in
     (λ i. draws_after (done ++ draw_of (row_of d) (front_offers i) (front_lots i) ∷ []) (map row_of ds) (later_offers i) (later_lots i))
@@ -141,7 +143,8 @@ pub record Gathers (done : List Draw) (heads : List DrawRow) (offers : List Offe
   pub own_offers : offers ≡ flat_map offer_rows_of more
   pub own_lots : lots ≡ flat_map lot_rows_of more
 
-pub sound : (done : List Draw) (heads : List DrawRow) (offers : List OfferRow) (lots : List LotRow) (draws : List Draw) → draws_after done heads offers lots ≡ Some draws → Gathers done heads offers lots draws
+pub sound : (done : List Draw) (heads : List DrawRow) (offers : List OfferRow) (lots : List LotRow) (draws : List Draw) → draws_after done heads offers lots ≡ Some draws
+    → Gathers done heads offers lots draws
 sound done [] [] [] draws h =
     let e : draws ≡ done = cc in
     record { more = []; all = e ∙ sym (append-nil done); own_heads = refl; own_offers = refl; own_lots = refl }

@@ -47,7 +47,8 @@ module _ {X : Type 0} {R : X → X → Ordering} (total : IsTotalOrder R) where
   rises_on x [] h = refl
   rises_on x (y ∷ ys) h = go (list_all (λ z. is_lt (R y z)) ys) refl
     where
-      go : (b : Bool) → list_all (λ z. is_lt (R y z)) ys ≡ b → ((is_lt (R x y) && list_all (λ z. is_lt (R x z)) ys) && (list_all (λ z. is_lt (R y z)) ys && rises R ys)) ≡ (list_all (λ z. is_lt (R y z)) ys && rises R ys)
+      go : (b : Bool) → list_all (λ z. is_lt (R y z)) ys ≡ b
+          → ((is_lt (R x y) && list_all (λ z. is_lt (R x z)) ys) && (list_all (λ z. is_lt (R y z)) ys && rises R ys)) ≡ (list_all (λ z. is_lt (R y z)) ys && rises R ys)
       go true all = λ i. (h i && below_more x y ys (less_of (R x y) h) all i) && (list_all (λ z. is_lt (R y z)) ys && rises R ys)
       go false all = (λ i. (is_lt (R x y) && list_all (λ z. is_lt (R x z)) ys) && (all i && rises R ys)) ∙ (and-false _ ∙ (λ i. sym all i && rises R ys))
 

@@ -22,7 +22,8 @@ use Rattle.adm_draws.proofs.Rising.{sorted_rises, rises_sorted}
 -- ---- lists on end
 
 -- two lists rise on end where the one is below the other
-rises_append : {X : Type 0} (R : X → X → Ordering) (xs ys : List X) → rises R xs ≡ true → rises R ys ≡ true → AllByRecursion (λ x. list_all (λ y. is_lt (R x y)) ys ≡ true) xs → rises R (xs ++ ys) ≡ true
+rises_append : {X : Type 0} (R : X → X → Ordering) (xs ys : List X) → rises R xs ≡ true → rises R ys ≡ true
+    → AllByRecursion (λ x. list_all (λ y. is_lt (R x y)) ys ≡ true) xs → rises R (xs ++ ys) ≡ true
 rises_append R [] ys up vp below = vp
 rises_append R (x ∷ xs) ys up vp below =
     and_from _ _ (list_all-append (λ y. is_lt (R x y)) xs ys ∙ and_from _ _ (first_so _ _ up) below.0) (rises_append R xs ys (second_so _ _ up) vp below.1)
@@ -130,7 +131,8 @@ lots_rise ds order =
     rows_rise (λ d. d.lots) lot_row_of lot_cmp lot_row_cmp (λ n x y. tied n (lot_cmp x y)) (λ n m x y h. less n m (lot_cmp x y) h) ds order.rising
     (second_of_both ds (both_ordered ds order.each))
 
-pub in_order_by_rows : (ds : List Draw) → rises head_cmp (map row_of ds) ≡ true → rises offer_row_cmp (flat_map offer_rows_of ds) ≡ true → rises lot_row_cmp (flat_map lot_rows_of ds) ≡ true → AreByNumber ds
+pub in_order_by_rows : (ds : List Draw) → rises head_cmp (map row_of ds) ≡ true → rises offer_row_cmp (flat_map offer_rows_of ds) ≡ true
+    → rises lot_row_cmp (flat_map lot_rows_of ds) ≡ true → AreByNumber ds
 in_order_by_rows ds heads offers lots = record {
   rising = rises_sorted nat_cmp (map (λ draw. draw.number) ds) (sym (heads_are ds) ∙ heads);
   each = All-from_recursion (λ draw. are_ordered draw ≡ true) ds (pair ds

@@ -5,8 +5,8 @@ use Rattle.adm_types.specs.declared.seasons.SeasonFault.{SeasonFault}
 use Rattle.adm_types.specs.declared.seasons.SeasonFault.TheVariants as season
 use Rattle.adm_csv.specs.declared.fault.Fault.{Fault as CsvFault}
 use Rattle.adm_csv.specs.declared.fault.Fault.TheVariants as csv
-use Rattle.adm_letters.specs.declared.fault.LetterFault.{LetterFault}
-use Rattle.adm_letters.specs.declared.fault.LetterFault.TheVariants as letter
+use Rattle.adm_letters.specs.declared.fault.TextFault.{TextFault}
+use Rattle.adm_letters.specs.declared.fault.TextFault.TheVariants as letter
 use Rattle.adm_words.specs.Lines.{ReadsArguments}
 use Rattle.adm_words.specs.declared.actions.Action.{Action}
 use Rattle.adm_words.specs.declared.actions.Action.TheVariants as action
@@ -116,7 +116,7 @@ of_run run.Read = Read
 of_run run.Write = Write
 of_run run.Memory = Memory
 
-abbrev pub of_letter : LetterFault → Fault
+abbrev pub of_letter : TextFault → Fault
 of_letter letter.UnknownChild = UnknownChild
 of_letter letter.UnknownSchool = UnknownSchool
 of_letter letter.NoRound = NoRound

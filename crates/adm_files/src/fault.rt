@@ -8,7 +8,7 @@ ghost use Rattle.adm_files.specs.declared.fault.Fault.TheVariants.{Memory};
 use crate::cause::{Cause, cause_of_kind};
 use adm_csv::RowFault;
 use adm_desk::RunFault;
-use adm_letters::LetterFault;
+use adm_letters::TextFault;
 use adm_rows::OpenFault;
 use adm_store::CreateFault;
 use adm_types::SeasonFault;
@@ -199,15 +199,15 @@ impl From<RunFault> for Fault {
     }
 }
 
-impl From<LetterFault> for Fault {
+impl From<TextFault> for Fault {
     ghost from_gives = { λ error fault. fault ≡ of_letter error };
 
-    fn from(fault: LetterFault) -> Fault {
+    fn from(fault: TextFault) -> Fault {
         match fault {
-            LetterFault::UnknownChild => Fault::UnknownChild,
-            LetterFault::UnknownSchool => Fault::UnknownSchool,
-            LetterFault::NoRound => Fault::NoRound,
-            LetterFault::Memory => Fault::Memory,
+            TextFault::UnknownChild => Fault::UnknownChild,
+            TextFault::UnknownSchool => Fault::UnknownSchool,
+            TextFault::NoRound => Fault::NoRound,
+            TextFault::Memory => Fault::Memory,
         }
     }
 }

@@ -11,7 +11,7 @@ use Rattle.std.proofs.lemmas.Grind.{common_steps}
 use Rattle.httparse.specs.Grammar.{RequestHead, IsRequestHead, print_request, ReadsRequest, HasNoRequest, MayBecomeRequest, AllPass, IsToken, IsField, LineEnd, is_uri_byte, crlf, print_blank, print_end, print_version, print_section}
 use Rattle.httparse.proofs.GrammarLemmas.{ReadsRequest-append, request_prefix_free, print_request-append}
 use Rattle.adm_http.specs.Heads.{window, HasHead, head_verdict}
-use Rattle.adm_http.specs.Reading.{HasBody, MustStop, MayGoOn, IsNotFarPast}
+use Rattle.adm_http.specs.Reading.{HasBody, MustStop, MayNeedMore, IsNotFarPast}
 use Rattle.adm_http.specs.declared.heads.Verdict.{Verdict}
 use Rattle.adm_http.specs.declared.heads.Verdict.TheVariants.{Reject, NotAllowed, Show, Run}
 use Rattle.adm_http.specs.declared.heads.Judgement.TheVariants.{Whole, Malformed, Unfinished}
@@ -140,7 +140,7 @@ HasBody-append len p more (Run purpose n) h =
     omega (arith, a, b, c, h)
 
 unfinished_front : (p more : List ℕ) → HasNoRequest (window (p ++ more)) → MayBecomeRequest (window (p ++ more))
-    → ¬ (8192 ≤ length (p ++ more)) → MayGoOn p
+    → ¬ (8192 ≤ length (p ++ more)) → MayNeedMore p
 unfinished_front p more none may short =
     let longer = length-append p more in
     let whole : length (p ++ more) ≤ 8192 = omega arith in
@@ -158,7 +158,7 @@ unfinished_front p more none may short =
 -- the head is whole in the beginning too
 whole_front : (p more : List ℕ) (len : ℕ) (v : Verdict) (h : RequestHead) (r : List ℕ) → HasHead (window (p ++ more)) h
     → len ≡ length (print_request h) → v ≡ head_verdict h → print_request h ++ r ≡ window p
-    → ¬ (HasBody (drop len (p ++ more)) v) → MayGoOn p
+    → ¬ (HasBody (drop len (p ++ more)) v) → MayNeedMore p
 whole_front p more len v h r has len_is v_is front unsettled = (
   Whole len v,
   record {
@@ -172,7 +172,7 @@ whole_front p more len v h r has len_is v_is front unsettled = (
 
 -- the head ends past the beginning
 part_front : (p more : List ℕ) (h : RequestHead) (b : ℕ) (q : List ℕ) → HasHead (window (p ++ more)) h
-    → print_request h ≡ window p ++ b ∷ q → MayGoOn p
+    → print_request h ≡ window p ++ b ∷ q → MayNeedMore p
 part_front p more h b q has head_is =
     let w = window (p ++ more) in
     let wp = window p in
@@ -197,7 +197,7 @@ part_front p more h b q has head_is =
       λ long. omega (arith, short, long),
     )
 
-pub goes_on_before : (p more : List ℕ) → MayGoOn (p ++ more) → MayGoOn p
+pub goes_on_before : (p more : List ℕ) → MayNeedMore (p ++ more) → MayNeedMore p
 goes_on_before p more (Unfinished, judged, unsettled) = unfinished_front p more judged.0 judged.1 unsettled
 goes_on_before p more (Malformed, judged, unsettled) = absurd (unsettled tt)
 goes_on_before p more (Whole len v, judged, unsettled) =
@@ -210,13 +210,13 @@ goes_on_before p more (Whole len v, judged, unsettled) =
 -- ---- reading on
 
 -- one more read, of at most 8,192 bytes, goes not far past
-pub reads_on : (input more : List ℕ) → MayGoOn input → length more ≤ 8192 → IsNotFarPast (input ++ more)
+pub reads_on : (input more : List ℕ) → MayNeedMore input → length more ≤ 8192 → IsNotFarPast (input ++ more)
 reads_on input more on few n inside must =
-    ⊎_elim (λ l. omega (arith, longer, l)) (λ r. absurd (early (omega arith) (goes_on_before (take n input) (drop n input) (subst MayGoOn (sym (take-append-drop n input)) on))))
+    ⊎_elim (λ l. omega (arith, longer, l)) (λ r. absurd (early (omega arith) (goes_on_before (take n input) (drop n input) (subst MayNeedMore (sym (take-append-drop n input)) on))))
     (cases_lt (length input) n)
   where
     longer : length (input ++ more) ≡ length input + length more
     longer = length-append input more
 
-    early : n ≤ length input → MayGoOn (take n input) → ⊥
+    early : n ≤ length input → MayNeedMore (take n input) → ⊥
     early short go = go.2 (subst MustStop (take-append-le n input more short) must go.0 go.1)

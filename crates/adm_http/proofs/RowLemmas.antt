@@ -60,7 +60,8 @@ first-after [] r t h = ap (λ l. first l t) (prepend-nil r)
 first-after (x ∷ w) r [] h = own-prepend x w r
 first-after (x ∷ w) r (y ∷ p) h = seek-lit x w r y p h.0 ∙ by (x == y) refl (first-after w r p h.1)
   where
-    by : (v : Bool) → (x == y) ≡ v → first (prepend w r) p ≡ option_and_then (first r) (after_prefix w p) → seek 0 (step y (prepend (x ∷ w) r)) p ≡ option_and_then (first r) (after_prefix (x ∷ w) (y ∷ p))
+    by : (v : Bool) → (x == y) ≡ v → first (prepend w r) p ≡ option_and_then (first r) (after_prefix w p)
+        → seek 0 (step y (prepend (x ∷ w) r)) p ≡ option_and_then (first r) (after_prefix (x ∷ w) (y ∷ p))
     by true e ih =
         let xy : x ≡ y = grind (arith, nat_tests) in
         rw (e, ← xy, step-hit x w r) ih

@@ -6,7 +6,7 @@ use Rattle.std.proofs.KnownBytes.{Consumes-trans, Consumes-kept}
 use Rattle.std.proofs.lemmas.List.{length-drop, length-append}
 use Rattle.httparse.specs.Grammar.{RequestHead, print_request}
 use Rattle.adm_http.specs.Heads.{window, HeadDecides, IsJudgement, IsInside}
-use Rattle.adm_http.specs.Reading.{MayGoOn, GoesOnTo, IsNotFarPast}
+use Rattle.adm_http.specs.Reading.{MayNeedMore, MayNeedMoreUpTo, IsNotFarPast}
 use Rattle.adm_http.specs.declared.heads.Verdict.{Verdict}
 use Rattle.adm_http.specs.declared.heads.Verdict.TheVariants.{Run}
 use Rattle.adm_http.specs.declared.routes.Purpose.{Purpose}
@@ -19,7 +19,7 @@ pub record ReadsOn (a c : Option (List ℕ)) (start more new : List ℕ) : Type 
   pub grown : new ≡ start ++ more
   pub near : IsNotFarPast new
 
-pub read_step : (a b c : Option (List ℕ)) (start seen input more new : List ℕ) → Consumes a b seen → input ≡ start ++ seen → MayGoOn input
+pub read_step : (a b c : Option (List ℕ)) (start seen input more new : List ℕ) → Consumes a b seen → input ≡ start ++ seen → MayNeedMore input
     → Consumes b c more → new ≡ input ++ more → length more ≤ 8192 → ReadsOn a c start (seen ++ more) new
 read_step a b c start seen input more new before input_is on now new_is few = record {
   consumed = Consumes-trans a b c seen more before now;
@@ -70,7 +70,7 @@ judged_same input more new len v judged inside is =
 
 -- a whole head whose body is not all there, and the number of bytes that end it
 pub body_goes_on : (input : List ℕ) (purpose : Purpose) (len n total : ℕ) → IsJudgement input (Whole len (Run purpose n)) → len ≤ length input → len ≤ 8192 → n ≤ 1048576
-    → total ≡ len + n → length input < total → GoesOnTo total input
+    → total ≡ len + n → length input < total → MayNeedMoreUpTo total input
 body_goes_on input purpose len n total judged inside low small total_is fewer = record {
   fewer = fewer;
   limit = omega arith;
@@ -85,15 +85,15 @@ body_goes_on input purpose len n total judged inside low small total_is fewer = 
 }
 
 -- an unfinished head wants one byte more
-pub head_goes_on : (input : List ℕ) (total : ℕ) → IsJudgement input Unfinished → length input < 8192 → total ≡ length input + 1 → GoesOnTo total input
+pub head_goes_on : (input : List ℕ) (total : ℕ) → IsJudgement input Unfinished → length input < 8192 → total ≡ length input + 1 → MayNeedMoreUpTo total input
 head_goes_on input total judged short total_is = record {
   fewer = omega arith;
   limit = omega arith;
   on = λ more few. by more (let longer = length-append input more in omega arith);
 }
   where
-    by : (more : List ℕ) → length more ≤ 0 → MayGoOn (input ++ more)
-    by [] none = subst MayGoOn (sym (append-nil input)) (Unfinished, judged, λ long. omega arith)
+    by : (more : List ℕ) → length more ≤ 0 → MayNeedMore (input ++ more)
+    by [] none = subst MayNeedMore (sym (append-nil input)) (Unfinished, judged, λ long. omega arith)
     by (b ∷ more) none = absurd (omega arith)
 
 -- a flag that was not set

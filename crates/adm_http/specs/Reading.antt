@@ -35,16 +35,6 @@ MayStop bytes = (judgement : Judgement) × IsJudgement bytes judgement × IsSett
 abbrev pub MustStop : List ℕ → Type 0
 MustStop bytes = (judgement : Judgement) → IsJudgement bytes judgement → IsSettled bytes judgement
 
--- reading may go on: the bytes may be judged as not settled
-abbrev pub MayGoOn : List ℕ → Type 0
-MayGoOn bytes = (judgement : Judgement) × IsJudgement bytes judgement × ¬ (IsSettled bytes judgement)
-
--- reading may go on until there are this many bytes, whatever they are, and there are fewer
-pub record GoesOnTo (total : ℕ) (bytes : List ℕ) : Type 0 where
-  pub fewer : length bytes < total
-  pub limit : total ≤ 1056768
-  pub on : (more : List ℕ) → length (bytes ++ more) < total → MayGoOn (bytes ++ more)
-
 -- at most 8,192 bytes were read past the first place where reading must have stopped
 abbrev pub IsNotFarPast : List ℕ → Type 0
 IsNotFarPast got = (n : ℕ) → n ≤ length got → MustStop (take n got) → length got ≤ n + 8192
@@ -96,3 +86,15 @@ is_write_fault (Ok a) = false
 is_write_fault (Err Read) = false
 is_write_fault (Err Write) = true
 is_write_fault (Err Memory) = false
+
+-- ---- for a private clause
+
+-- the bytes may be judged as not settled
+abbrev pub MayNeedMore : List ℕ → Type 0
+MayNeedMore bytes = (judgement : Judgement) × IsJudgement bytes judgement × ¬ (IsSettled bytes judgement)
+
+-- there are fewer bytes than this many, and they may be judged as not settled until there are, whatever follows
+pub record MayNeedMoreUpTo (total : ℕ) (bytes : List ℕ) : Type 0 where
+  pub fewer : length bytes < total
+  pub limit : total ≤ 1056768
+  pub on : (more : List ℕ) → length (bytes ++ more) < total → MayNeedMore (bytes ++ more)

@@ -30,7 +30,7 @@ pub enum Route {
 pub enum Purpose {
     /// A command, which is run.
     Command,
-    /// A question where a child would be by another list, which changes nothing.
+    /// A question: which place a child would have with another list. It changes nothing.
     Question,
 }
 

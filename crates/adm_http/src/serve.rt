@@ -2,7 +2,7 @@
 ghost use Rattle.std.specs.Prelude.{◌≡◌, ◌≢◌, ◌||◌, ◌≤◌, ◌⊎◌, ℕ, List, ◌++◌, drop, length, MatchResult, MatchBool, IfOk, IfErr};
 ghost use Rattle.std.specs.Io.KnownBytes.{Consumes, Keeps, IsAtEnd};
 ghost use Rattle.adm_http.specs.Heads.{IsJudgement, IsInside};
-ghost use Rattle.adm_http.specs.Reading.{HasBody, GoesOnTo, IsNotFarPast, HasRead, HasReadSome, Served, is_read_fault, is_write_fault};
+ghost use Rattle.adm_http.specs.Reading.{HasBody, MayNeedMoreUpTo, IsNotFarPast, HasRead, HasReadSome, Served, is_read_fault, is_write_fault};
 
 use crate::heads::{HEAD_LIMIT, Judgement, Verdict, judge};
 use crate::request_handler::RequestHandler;
@@ -136,7 +136,7 @@ fn read_body<R: Input>(
 
 // Reads until there are this many bytes (true), or to the end of the input.
 fn read_to<R: Input>(reader: &mut R, input: &mut Vec<u8>, total: usize) -> Result<bool, ServeFault>
-    requires on { GoesOnTo total input.old.items }
+    requires on { MayNeedMoreUpTo total input.old.items }
     requires near { IsNotFarPast input.old.items }
     ensures bytes { (more : List ℕ) × Consumes (R.remaining reader.old) (R.remaining reader.new) more
         × (input.new.items ≡ input.old.items ++ more) × IsNotFarPast input.new.items }

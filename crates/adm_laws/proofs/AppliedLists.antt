@@ -19,14 +19,15 @@ use Rattle.adm_commands.specs.Commands.Round.{round_applicants, round_lots, roun
 use Rattle.adm_commands.specs.Problem.{lots_fault}
 use Rattle.adm_commands.specs.Steps.{Accepts}
 use Rattle.adm_commands.proofs.Accepted.{no_place}
-use Rattle.adm_commands.proofs.Keeps.{all_pass}
+use Rattle.adm_types.specs.declared.commands.Refusal.TheVariants as refusal
+use Rattle.adm_commands.proofs.Passed.{passed}
 use Rattle.adm_commands.proofs.PutAgain.{get-insert_same}
 use Rattle.adm_commands.proofs.Shows.{no_row}
 use Rattle.adm_laws.specs.Registers.{first_listed, with_application, KeepsLots, NoLossByShorterList}
 use Rattle.adm_laws.specs.AfterCommand.{IsRoundAfter}
 use Rattle.adm_laws.specs.Applied.{NoLossApplied}
 
--- an accepted application is put, and nothing else changes
+-- an accepted application is written, and nothing else changes
 application_put : (old new : State) (application : Application) → Accepts old (Apply application) new → new ≡ with_application old application
 unfolding apply.change_of
 application_put old new application accepts = accepts.1.1.2 ∙ ap (after old) accepts.1.1.1.0
@@ -35,10 +36,10 @@ application_put old new application accepts = accepts.1.1.2 ∙ ap (after old) a
 no_place_yet : (old new : State) (application : Application) → WellFormed old → Accepts old (Apply application) new → get old.places application.child ≡ None
 unfolding apply.tests
 no_place_yet old new application well accepts =
-    let pass = all_pass (apply.tests old application) (no_row _ accepts.1.0) in
-    none_of (get old.places application.child) (ap not (no_place old application.child well (not-true _ pass.1.0) (not-true _ pass.1.1.0)))
+    let pass = passed (apply.tests old application) (no_row _ accepts.1.0) in
+    none_of (get old.places application.child) (ap not (no_place old application.child well (not-true _ (pass refusal.HasPlan)) (not-true _ (pass refusal.AlreadyApplied))))
 
--- of two applications of a child that are put, the second takes the place of the first
+-- of two applications of a child that are written, the second takes the place of the first
 put_over : (rows : FinMap nat_cmp Application) (child : ℕ) (one other : Application) → insert (insert rows child one) child other ≡ insert rows child other
 put_over rows child one other = same_map nat_cmp_total nat_cmp-IsAntisymmetric _ _ (λ q.
     get-insert nat_cmp_total (insert rows child one) child other q ∙ ap (cond (eq_by_cmp nat_cmp q child) (Some other)) (get-insert nat_cmp_total rows child one q)

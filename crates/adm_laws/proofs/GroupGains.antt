@@ -32,7 +32,8 @@ AllLost m group a rows =
 
 module _ (m now : Market) (group : ℕ → Bool) (a : Allocation) (d : Distinct m) (seats : Seated m) (hands : HandedIn group m now) (stable : IsStable now a) where
   -- one of the group that nobody holds is not the last of them to be rejected so
-  none_free : (rows : List Progress) → Sound m rows → (k : ℕ) (e : Candidate) (r : Progress) → slice_get m.entrants k ≡ Some e → slice_get rows k ≡ Some r → r.school ≡ None → group e.child ≡ true → AllLost m group a rows → ⊥
+  none_free : (rows : List Progress) → Sound m rows → (k : ℕ) (e : Candidate) (r : Progress) → slice_get m.entrants k ≡ Some e → slice_get rows k ≡ Some r
+      → r.school ≡ None → group e.child ≡ true → AllLost m group a rows → ⊥
   none_free rows sound k e r ek rk none in' all =
       let each : (l : ℕ) (c : Candidate) → slice_get m.entrants l ≡ Some c → group c.child ≡ true → lost m now group a rows d seats hands stable sound c.child ≡ true
       = λ l c cl c_in.
@@ -41,7 +42,8 @@ module _ (m now : Market) (group : ℕ → Bool) (a : Allocation) (d : Distinct 
       all_held m now group a rows d seats hands stable sound each k e r ek rk none (each k e ek in')
 
   -- a row with as many rejections says as much
-  lost_before : (rows : List Progress) (i : ℕ) (e : Candidate) (r v : Progress) → slice_get m.entrants i ≡ Some e → slice_get rows i ≡ Some r → (group e.child ≡ true → v.rejections ≡ r.rejections) → AllLost m group a (set rows i v) → AllLost m group a rows
+  lost_before : (rows : List Progress) (i : ℕ) (e : Candidate) (r v : Progress) → slice_get m.entrants i ≡ Some e → slice_get rows i ≡ Some r
+      → (group e.child ≡ true → v.rejections ≡ r.rejections) → AllLost m group a (set rows i v) → AllLost m group a rows
   lost_before rows i e r v ei ri same all k f q fk qk in' = elim (cases_eq k i) [
     | inl here ↦
         let f_is : f ≡ e = same_Some f e (sym fk ∙ (ap (slice_get m.entrants) here ∙ ei)) in
@@ -73,7 +75,8 @@ module _ (m now : Market) (group : ℕ → Bool) (a : Allocation) (d : Distinct 
       omega (arith, less)
 
   -- so not each of the group is better off
-  not_each : (k : ℕ) (e : Candidate) → slice_get m.entrants k ≡ Some e → group e.child ≡ true → (best : Allocation) → IsBest m best → ((l : ℕ) (c : Candidate) → slice_get m.entrants l ≡ Some c → group c.child ≡ true → assigned_rank c.list (a c.child) < assigned_rank c.list (best c.child)) → ⊥
+  not_each : (k : ℕ) (e : Candidate) → slice_get m.entrants k ≡ Some e → group e.child ≡ true → (best : Allocation) → IsBest m best
+      → ((l : ℕ) (c : Candidate) → slice_get m.entrants l ≡ Some c → group c.child ≡ true → assigned_rank c.list (a c.child) < assigned_rank c.list (best c.child)) → ⊥
   not_each k e ek in' best b better =
       let end = end_keeps m d NotAll not_all_kept (not_at_start k e ek in') in
       let given = found_in end.0 in
@@ -131,7 +134,10 @@ search group best a (e ∷ es) = elim (search group best a es) [
   ]
 ]
   where
-    more : (e : Candidate) (es : List Candidate) → ((k : ℕ) (c : Candidate) → slice_get es k ≡ Some c → group c.child ≡ true → assigned_rank c.list (a c.child) < assigned_rank c.list (best c.child)) → (group e.child ≡ true → assigned_rank e.list (a e.child) < assigned_rank e.list (best e.child)) → (k : ℕ) (c : Candidate) → slice_get (e ∷ es) k ≡ Some c → group c.child ≡ true → assigned_rank c.list (a c.child) < assigned_rank c.list (best c.child)
+    more : (e : Candidate) (es : List Candidate) → ((k : ℕ) (c : Candidate) → slice_get es k ≡ Some c → group c.child ≡ true
+        → assigned_rank c.list (a c.child) < assigned_rank c.list (best c.child))
+        → (group e.child ≡ true → assigned_rank e.list (a e.child) < assigned_rank e.list (best e.child)) → (k : ℕ) (c : Candidate) → slice_get (e ∷ es) k ≡ Some c
+        → group c.child ≡ true → assigned_rank c.list (a c.child) < assigned_rank c.list (best c.child)
     more e es none first zero c ck in' = subst (λ (x : Candidate). group x.child ≡ true → assigned_rank x.list (a x.child) < assigned_rank x.list (best x.child)) (same_Some e c ck) first in'
     more e es none first (suc k) c ck in' = none k c ck in'
 
@@ -141,5 +147,6 @@ no_group_gains_law m now group best a ok handed b stable some =
     let d = distinct m p in
     elim (search group best a m.entrants) [
       | inl found ↦ (found.0, found.1, slice_get_within m.entrants found.0 found.1 found.2, get_or_from_slice_get m.entrants found.0 found.1 found.1 found.2, (found.3, found.4))
-      | inr each ↦ absurd (not_each m now group a d (seated m p) (handed_in m now group d handed) stable some.0 some.1 (slice_get-get_or m.entrants some.0 some.1 some.2 ∙ ap Some some.3) some.4 best b each)
+      | inr each ↦ absurd (not_each m now group a d (seated m p) (handed_in m now group d handed) stable some.0 some.1 (slice_get-get_or m.entrants some.0 some.1 some.2
+          ∙ ap Some some.3) some.4 best b each)
     ]

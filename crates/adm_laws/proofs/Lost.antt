@@ -64,7 +64,8 @@ kept_has : (b : Bool) (o : Option Code) (s : Code) → has (kept b o) s ≡ true
 kept_has true o s h = (refl, (has_tells o s).0 h)
 kept_has false o s h = absurd (false≢true h)
 
-module _ (m now : Market) (group : ℕ → Bool) (a : Allocation) (rows : List Progress) (d : Distinct m) (seated : Seated m) (hands : HandedIn group m now) (stable : IsStable now a) (sound : Sound m rows) where
+module _ (m now : Market) (group : ℕ → Bool) (a : Allocation) (rows : List Progress) (d : Distinct m) (seated : Seated m) (hands : HandedIn group m now)
+    (stable : IsStable now a) (sound : Sound m rows) where
   rank_in : ℕ → ℕ
   rank_in child = unwrap_or (option_map (λ (e : Candidate). assigned_rank e.list (a child)) (find (λ (e : Candidate). e.child == child) m.entrants)) 0
 
@@ -109,7 +110,8 @@ module _ (m now : Market) (group : ℕ → Bool) (a : Allocation) (rows : List P
       let upto = sound.shaped.within k e r.0 ek r.1 in
       by r.0 (a e.child) refl ek r.1 less upto
     where
-      by : (r : Progress) (o : Option Code) → a e.child ≡ o → slice_get m.entrants k ≡ Some e → slice_get rows k ≡ Some r → assigned_rank e.list (a e.child) < r.rejections → r.rejections ≤ length e.list → (s : Code) × (a e.child ≡ Some s) × (preference_rank e.list s < length e.list) × IsRejected m rows e s
+      by : (r : Progress) (o : Option Code) → a e.child ≡ o → slice_get m.entrants k ≡ Some e → slice_get rows k ≡ Some r
+          → assigned_rank e.list (a e.child) < r.rejections → r.rejections ≤ length e.list → (s : Code) × (a e.child ≡ Some s) × (preference_rank e.list s < length e.list) × IsRejected m rows e s
       by r None is ek rk less upto = absurd (let none = ap (assigned_rank e.list) is in omega (arith, none, less, upto))
       by r (Some s) is ek rk less upto =
           let some : assigned_rank e.list (a e.child) ≡ preference_rank e.list s = ap (assigned_rank e.list) is in
@@ -120,7 +122,9 @@ module _ (m now : Market) (group : ℕ → Bool) (a : Allocation) (rows : List P
   -- ---- who is held by a school that rejected one of its own, and is not lost, has it
 
   module _ (all : (k : ℕ) (e : Candidate) → slice_get m.entrants k ≡ Some e → group e.child ≡ true → lost e.child ≡ true) where
-    held_has : (s : Code) (k : ℕ) (e : Candidate) → slice_get m.entrants k ≡ Some e → a e.child ≡ Some s → preference_rank e.list s < length e.list → IsRejected m rows e s → (l : ℕ) (c : Candidate) (x : Progress) → slice_get m.entrants l ≡ Some c → slice_get rows l ≡ Some x → x.school ≡ Some s → lost c.child ≡ false → has (a c.child) s ≡ true
+    held_has : (s : Code) (k : ℕ) (e : Candidate) → slice_get m.entrants k ≡ Some e → a e.child ≡ Some s → preference_rank e.list s < length e.list
+        → IsRejected m rows e s → (l : ℕ) (c : Candidate) (x : Progress) → slice_get m.entrants l ≡ Some c → slice_get rows l ≡ Some x → x.school ≡ Some s
+        → lost c.child ≡ false → has (a c.child) s ≡ true
     held_has s k e ek there e_listed out l c x cl xl held kept_on = elim (cases_Bool (has (a c.child) s)) [
       | inl hit ↦ hit
       | inr elsewhere ↦ absurd (
@@ -191,9 +195,12 @@ module _ (m now : Market) (group : ℕ → Bool) (a : Allocation) (rows : List P
           ap (λ (n : ℕ). has (a n) s) (ap (λ (x : Candidate). x.child) y_is ∙ h.2.child)) in
           let gives = gives_by m rows d.children sound.shaped in
           let held : held_at rows s ≡ count_by (λ e. has (found_in rows e.child) s) m.entrants
-          = count_beside (λ (r : Progress). has r.school s) (λ (e : Candidate). has (found_in rows e.child) s) rows m.entrants sound.shaped.same (λ j r z rj jz. ap (λ o. has o s) (sym (gives j z r jz rj))) in
-          let split_was = count_split (λ (e : Candidate). has (a e.child) s) (λ e. has (was e.child) s) (λ e. not (lost e.child) && has (a e.child) s) (λ e. kept_split (lost e.child) (a e.child) s) m.entrants in
-          let split_is = count_split (λ (e : Candidate). has (found_in rows e.child) s) (λ e. has (is e.child) s) (λ e. not (lost e.child) && has (found_in rows e.child) s) (λ e. kept_split (lost e.child) (found_in rows e.child) s) m.entrants in
+          = count_beside (λ (r : Progress). has r.school s) (λ (e : Candidate). has (found_in rows e.child) s) rows m.entrants sound.shaped.same
+          (λ j r z rj jz. ap (λ o. has o s) (sym (gives j z r jz rj))) in
+          let split_was = count_split (λ (e : Candidate). has (a e.child) s) (λ e. has (was e.child) s) (λ e. not (lost e.child) && has (a e.child) s)
+          (λ e. kept_split (lost e.child) (a e.child) s) m.entrants in
+          let split_is = count_split (λ (e : Candidate). has (found_in rows e.child) s) (λ e. has (is e.child) s)
+          (λ e. not (lost e.child) && has (found_in rows e.child) s) (λ e. kept_split (lost e.child) (found_in rows e.child) s) m.entrants in
           let others = count_upto (λ (e : Candidate). not (lost e.child) && has (a e.child) s) (λ e. not (lost e.child) && has (found_in rows e.child) s) m.entrants (λ l c cl both.
           let x = row_of l c cl in
           let two = and_parts (not (lost c.child)) (has (found_in rows c.child) s) both in
@@ -237,5 +244,6 @@ module _ (m now : Market) (group : ℕ → Bool) (a : Allocation) (rows : List P
         let gives = gives_by m rows d.children sound.shaped in
         let free = free_is e (gives k e r ek rk ∙ none) in
         let fewer = count_less (placed was) (placed is) m.entrants k e (λ j y jy in'. lost_was j y jy (is_lost j y in')) ek (lost_was k e ek hit) free in
-        let schools = sum_upto (λ (seat : Seats). count_by (λ e. has (was e.child) seat.code) m.entrants) (λ seat. count_by (λ e. has (is e.child) seat.code) m.entrants) m.seats (λ seat. as_many seat.code) in
+        let schools = sum_upto (λ (seat : Seats). count_by (λ e. has (was e.child) seat.code) m.entrants)
+        (λ seat. count_by (λ e. has (is e.child) seat.code) m.entrants) m.seats (λ seat. as_many seat.code) in
         omega (arith, fewer, placed_from m was seated was_acceptable, swap_sums was m.seats m.entrants, schools, swap_sums is m.seats m.entrants, placed_upto m is seated)

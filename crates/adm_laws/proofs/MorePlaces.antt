@@ -31,7 +31,8 @@ use Rattle.adm_commands.specs.declared.problems.DrawFault.TheVariants.{LotCount,
 use Rattle.adm_commands.specs.Commands.Round.{sites, round_applicants, quota, round_lots, round_market, round_pairs, AreOutcomes}
 use Rattle.adm_commands.specs.Rules.{without_row}
 use Rattle.adm_commands.specs.Steps.{Accepts}
-use Rattle.adm_commands.proofs.Keeps.{all_pass}
+use Rattle.adm_types.specs.declared.commands.Refusal.TheVariants as refusal
+use Rattle.adm_commands.proofs.Passed.{passed}
 use Rattle.adm_commands.proofs.RaiseFit.{raise_pan-fit}
 use Rattle.adm_laws.specs.Registers.{NoLossByRaise}
 use Rattle.adm_laws.proofs.Zips.{zip_map, put_zip}
@@ -56,14 +57,16 @@ module _ (old : State) (school : List ℕ) (pan : ℕ) (well : WellFormed old) w
       let here : get old.schools row.code ≡ Some row = ap (get old.schools) (well.base.schools_fit school row there).own_code ∙ there in
       let site : School → Site = λ s. record { school = s; quota = quota old s } in
       let P : School → School → Type 0 = λ a b. IsRaised (site a) (site b) in
-      let zipped = put_zip nat_list_cmp_total P (λ s. record { school = refl; quota = omega arith }) row.code row now (record { school = refl; quota = omega (arith, more) }) (entries old.schools) (entries_sorted old.schools) (sym (get-entries old.schools row.code) ∙ here) in
-      let put_in : AllZip P (values old.schools) (values (insert old.schools row.code now)) = subst (λ es. AllZip P (values old.schools) (map (λ e. e.1) es)) (sym (entries-insert nat_list_cmp_total old.schools row.code now)) zipped in
+      let zipped = put_zip nat_list_cmp_total P (λ s. record { school = refl; quota = omega arith }) row.code row now
+      (record { school = refl; quota = omega (arith, more) }) (entries old.schools) (entries_sorted old.schools) (sym (get-entries old.schools row.code) ∙ here) in
+      let put_in : AllZip P (values old.schools) (values (insert old.schools row.code now)) = subst (λ es. AllZip P (values old.schools) (map (λ e. e.1) es))
+      (sym (entries-insert nat_list_cmp_total old.schools row.code now)) zipped in
       zip_map IsRaised site site (values old.schools) (values (insert old.schools row.code now)) put_in
 
   -- what is known of a school that may have the number
   sites_after : first_failing (tests old school pan) ≡ None → AllZip IsRaised (sites old) (sites (after old (change_of old school pan)))
   unfolding tests change_of
-  sites_after passes = by (get old.schools school) refl (all_pass (tests old school pan) passes).1.0
+  sites_after passes = by (get old.schools school) refl (passed (tests old school pan) passes refusal.OutOfRange)
     where
       by : (o : Option School) → get old.schools school ≡ o → may_have o pan ≡ true → AllZip IsRaised (sites old) (sites (after old (record no_change { schools = with_pan o pan })))
       by None there may = cc
@@ -115,7 +118,8 @@ module _ (old new : State) (school : List ℕ) (pan : ℕ) (well : WellFormed ol
       ∙ ((λ i. market_of_round (sites next) (same i) (lots_of (pairs (sites next) (same i)) numbers))
       ∙ (λ i. market_of_round (sites next) (round_applicants old) (lots_of (same_pairs i) numbers)))
 
-  best_now : (numbers : List ℕ) (outcomes : List Outcome) (second : AreOutcomes new numbers outcomes) → AreBest (market_of_round (sites next) (round_applicants old) (round_lots old numbers)) (round_applicants old) outcomes
+  best_now : (numbers : List ℕ) (outcomes : List Outcome) (second : AreOutcomes new numbers outcomes)
+      → AreBest (market_of_round (sites next) (round_applicants old) (round_lots old numbers)) (round_applicants old) outcomes
   best_now numbers outcomes second = record {
     allocation = second.allocation;
     best = subst (λ m. IsBest m second.allocation) (market numbers) second.best;
@@ -130,7 +134,8 @@ module _ (old new : State) (school : List ℕ) (pan : ℕ) (well : WellFormed ol
       (subst (λ es. IsPosed (sites next) es (lots_of (pairs (sites next) es) numbers)) same whole)
 
   -- the best outcomes after it leave nobody worse off
-  pub no_loss_after : NoLossByQuotas → RoundIsPosed → (numbers : List ℕ) (before outcomes : List Outcome) (first : AreOutcomes old numbers before) (second : AreOutcomes new numbers outcomes) → lots_fault old numbers ≡ None → IsNoWorse (round_market old numbers).entrants second.allocation first.allocation
+  pub no_loss_after : NoLossByQuotas → RoundIsPosed → (numbers : List ℕ) (before outcomes : List Outcome) (first : AreOutcomes old numbers before)
+      (second : AreOutcomes new numbers outcomes) → lots_fault old numbers ≡ None → IsNoWorse (round_market old numbers).entrants second.allocation first.allocation
   unfolding best_now
   no_loss_after law poses numbers before outcomes first second none =
       law (sites old) (sites next) (round_applicants old) (round_lots old numbers) before outcomes first (best_now numbers outcomes second) more (fits numbers poses none)

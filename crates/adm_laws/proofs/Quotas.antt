@@ -8,10 +8,11 @@ use Rattle.adm_match.specs.Market.{Code, quota_of}
 use Rattle.adm_laws.specs.Changed.{with_quota, quotas_with}
 
 quota_cons : (x : Seats) (xs : List Seats) (s : Code) → quota_of (x ∷ xs) s ≡ cond (bytes_eq x.code s) x.quota (quota_of xs s)
-quota_cons x xs s = elim (bytes_eq x.code s) as (λ b. unwrap_or (option_map (λ (seat : Seats). seat.quota) (cond b (Some x) (find (λ (seat : Seats). bytes_eq seat.code s) xs))) 0 ≡ cond b x.quota (quota_of xs s)) [
-  | true ↦ refl
-  | false ↦ refl
-]
+quota_cons x xs s = elim (bytes_eq x.code s) as (λ b. unwrap_or
+    (option_map (λ (seat : Seats). seat.quota) (cond b (Some x) (find (λ (seat : Seats). bytes_eq seat.code s) xs))) 0 ≡ cond b x.quota (quota_of xs s)) [
+      | true ↦ refl
+      | false ↦ refl
+    ]
 
 module _ (school : Code) (quota : ℕ) where
   same_code : (x : Seats) (s : Code) → bytes_eq (with_quota school quota x).code s ≡ bytes_eq x.code s
@@ -44,7 +45,8 @@ module _ (school : Code) (quota : ℕ) where
   elsewhere : (s : Code) → bytes_eq s school ≡ false → (seats : List Seats) → quota_of (quotas_with school quota seats) s ≡ quota_of seats s
   elsewhere s other [] = refl
   elsewhere s other (x ∷ xs) =
-      let now = quota_cons (with_quota school quota x) (quotas_with school quota xs) s ∙ ap (λ b. cond b (with_quota school quota x).quota (quota_of (quotas_with school quota xs) s)) (same_code x s) in
+      let now = quota_cons (with_quota school quota x) (quotas_with school quota xs) s
+      ∙ ap (λ b. cond b (with_quota school quota x).quota (quota_of (quotas_with school quota xs) s)) (same_code x s) in
       let was = quota_cons x xs s in
       elim (cases_Bool (bytes_eq x.code s)) [
         | inl hit ↦

@@ -19,7 +19,8 @@ use Rattle.adm_laws.specs.Raised.{NoLossRaised}
 use Rattle.adm_laws.proofs.MorePlaces.{still_fault}
 
 module _ (old new : State) (command : Command) (numbers : List ℕ) (accepts : Accepts old command new) where
-  pub round_after : WellFormed new → (problem : Market) (given : Allocation) → problem ≡ round_market new numbers → lots_fault new numbers ≡ None → IsBest problem given → IsRoundAfter old command numbers given
+  pub round_after : WellFormed new → (problem : Market) (given : Allocation) → problem ≡ round_market new numbers → lots_fault new numbers ≡ None → IsBest problem given
+      → IsRoundAfter old command numbers given
   round_after well problem given same none best = record {
     new = new;
     accepted = accepts;
@@ -35,7 +36,8 @@ module _ (old new : State) (command : Command) (numbers : List ℕ) (accepts : A
   not_offered LotsRepeated (inr none) = cc
   not_offered Memory why = tt
 
-pub no_loss_raised : NoLossByRaise → (old : State) (school : List ℕ) (pan : ℕ) (numbers : List ℕ) (given : Allocation) → WellFormed old → IsRoundAfter old (RaisePan school pan) numbers given → NoLossRaised old numbers given
+pub no_loss_raised : NoLossByRaise → (old : State) (school : List ℕ) (pan : ℕ) (numbers : List ℕ) (given : Allocation) → WellFormed old
+    → IsRoundAfter old (RaisePan school pan) numbers given → NoLossRaised old numbers given
 no_loss_raised law old school pan numbers given well round before first =
     law old round.new school pan numbers before (outcomes_of given (round_applicants round.new)) first (record { allocation = given; best = round.best; given = refl })
     well round.accepted (sym (still_fault old round.new school pan well round.accepted numbers) ∙ round.posed)

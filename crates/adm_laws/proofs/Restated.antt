@@ -31,7 +31,8 @@ zip_itself : {X : Type 0} (R : X → X → Type 0) (f : X → X) (xs : List X) �
 zip_itself R f [] h = tt
 zip_itself R f (x ∷ xs) h = (h.0, zip_itself R f xs h.1)
 
-each_hands_in : (members es : List Candidate) → AllByRecursion (λ e. is_member members e.child ≡ true → MayHandIn (restated members e).list (restated members e).tenant e) es → AllByRecursion (λ e. HandsIn (is_member members) e (restated members e)) es
+each_hands_in : (members es : List Candidate) → AllByRecursion (λ e. is_member members e.child ≡ true
+    → MayHandIn (restated members e).list (restated members e).tenant e) es → AllByRecursion (λ e. HandsIn (is_member members) e (restated members e)) es
 each_hands_in members [] h = tt
 each_hands_in members (e ∷ es) h = (
   record {

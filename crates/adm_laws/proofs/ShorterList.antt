@@ -100,18 +100,21 @@ module _ (sites : List Site) (child : Child) (second first : Code → ℕ → �
           let here : second (code_of_site site) child.no ≡ first (code_of_site site) child.no = subst (λ c. second c child.no ≡ first c child.no) (sym (site_code sites code site at)) same in
           λ i. Some (record (wish_at first child site) { key = record (wish_at first child site).key { lot = here i } })
 
-  wishes_same : (codes : List Code) → AllByRecursion (λ code. second code child.no ≡ first code child.no) codes → wishes_for (site_of sites) second child codes ≡ wishes_for (site_of sites) first child codes
+  wishes_same : (codes : List Code) → AllByRecursion (λ code. second code child.no ≡ first code child.no) codes
+      → wishes_for (site_of sites) second child codes ≡ wishes_for (site_of sites) first child codes
   wishes_same [] same = refl
   wishes_same (code ∷ codes) same = λ i. cons_option (wish_same code same.0 i) (wishes_same codes same.1 i)
 
-wishes_append : (site : Code → Option Site) (lot : Code → ℕ → ℕ) (child : Child) (xs ys : List Code) → wishes_for site lot child (xs ++ ys) ≡ wishes_for site lot child xs ++ wishes_for site lot child ys
+wishes_append : (site : Code → Option Site) (lot : Code → ℕ → ℕ) (child : Child) (xs ys : List Code)
+    → wishes_for site lot child (xs ++ ys) ≡ wishes_for site lot child xs ++ wishes_for site lot child ys
 wishes_append site lot child xs ys = filter_map-append (λ code. option_map (wish_at lot child) (site code)) xs ys
 
 -- the applicant has at each school of its list the same lot by both
 abbrev SameLots : (Code → ℕ → ℕ) → (Code → ℕ → ℕ) → Applicant → Type 0
 SameLots second first applicant = All (λ code. second code (number_of applicant) ≡ first code (number_of applicant)) (listed applicant)
 
-candidate_cut : (sites : List Site) (second first : Code → ℕ → ℕ) (was now : Applicant) → IsShorter was now → SameLots second first now → IsCutFrom (candidate_of (site_of sites) second now) (candidate_of (site_of sites) first was)
+candidate_cut : (sites : List Site) (second first : Code → ℕ → ℕ) (was now : Applicant) → IsShorter was now → SameLots second first now
+    → IsCutFrom (candidate_of (site_of sites) second now) (candidate_of (site_of sites) first was)
 candidate_cut sites second first was now shorter lots =
     let wishes : (child : Child) → List Code → List Wish = wishes_for (site_of sites) first in
     let same : wishes_for (site_of sites) second now.child (listed now) ≡ wishes now.child (listed now)
@@ -119,7 +122,8 @@ candidate_cut sites second first was now shorter lots =
     elim shorter [
       | inl it ↦ record {
         child = ap number_of it;
-        list = subst (λ (ws : List Wish). ws ≡ take (length ws) (wishes was.child (listed was))) (sym (same ∙ ap (λ (a : Applicant). wishes a.child (listed a)) it)) (take_whole (wishes was.child (listed was)));
+        list = subst (λ (ws : List Wish). ws ≡ take (length ws) (wishes was.child (listed was))) (sym (same ∙ ap (λ (a : Applicant). wishes a.child (listed a)) it))
+            (take_whole (wishes was.child (listed was)));
         tenant = ap (λ (a : Applicant). a.own) it;
       }
       | inr it ↦
@@ -151,7 +155,8 @@ module _ (old : State) (application : Application) (count : ℕ) (there : get ol
 
   shorter : BothShorter (applicant_of old application) (applicant_of old now)
   shorter =
-      elim (takes_part old application) as (λ b. BothShorter (cond b (option_map (applicant application) (get old.children application.child)) None) (cond b (option_map (applicant now) (get old.children application.child)) None)) [
+      elim (takes_part old application) as (λ b. BothShorter (cond b (option_map (applicant application) (get old.children application.child)) None)
+      (cond b (option_map (applicant now) (get old.children application.child)) None)) [
         | false ↦ tt
         | true ↦ by (get old.children application.child)
       ]
@@ -177,8 +182,10 @@ module _ (old : State) (application : Application) (count : ℕ) (there : get ol
   entrants_shorter : AllZip IsShorter (round_applicants old) (round_applicants new)
   entrants_shorter =
       let P : Application → Application → Type 0 = λ a b. BothShorter (applicant_of old a) (applicant_of old b) in
-      let zipped = put_zip nat_cmp_total P (λ a. both_same (applicant_of old a)) application.child application now shorter (entries old.applications) (entries_sorted old.applications) (sym (get-entries old.applications application.child) ∙ there) in
-      let put_in : AllZip P (values old.applications) (values (insert old.applications application.child now)) = subst (λ es. AllZip P (values old.applications) (map (λ e. e.1) es)) (sym (entries-insert nat_cmp_total old.applications application.child now)) zipped in
+      let zipped = put_zip nat_cmp_total P (λ a. both_same (applicant_of old a)) application.child application now shorter (entries old.applications)
+      (entries_sorted old.applications) (sym (get-entries old.applications application.child) ∙ there) in
+      let put_in : AllZip P (values old.applications) (values (insert old.applications application.child now)) = subst
+      (λ es. AllZip P (values old.applications) (map (λ e. e.1) es)) (sym (entries-insert nat_cmp_total old.applications application.child now)) zipped in
       zip_some (applicant_of old) (values old.applications) (values (insert old.applications application.child now)) put_in
 
   generous : (numbers drawn : List ℕ) → KeepsLots new (round_lots old numbers) (round_lots new drawn) → IsAsGenerous (round_market new drawn) (round_market old numbers)
@@ -187,7 +194,8 @@ module _ (old : State) (application : Application) (count : ℕ) (there : get ol
       let second = lot_at (round_lots new drawn) in
       let was = candidate_of (site_of (sites old)) first in
       let is = candidate_of (site_of (sites old)) second in
-      let zipped = zip_with IsShorter (λ a b. IsCutFrom (is b) (was a)) (SameLots second first) (candidate_cut (sites old) second first) (round_applicants old) (round_applicants new) entrants_shorter (recursion_from_All (SameLots second first) (round_applicants new) keeps) in
+      let zipped = zip_with IsShorter (λ a b. IsCutFrom (is b) (was a)) (SameLots second first) (candidate_cut (sites old) second first) (round_applicants old)
+      (round_applicants new) entrants_shorter (recursion_from_All (SameLots second first) (round_applicants new) keeps) in
       record {
         entrants = zip_any (λ whole cut. IsCutFrom cut whole) (map was (round_applicants old)) (map is (round_applicants new)) (zip_pair was is (round_applicants old) (round_applicants new) zipped);
         places = λ s. omega arith;

@@ -44,7 +44,8 @@ zip_any R xs ys h k y within =
     (k, found.0, slice_get_within xs k found.0 found.1, get_or_from_slice_get xs k found.0 found.0 found.1, found.2)
 
 -- where a key has a value, a value put at it takes its place
-pub put_zip : {K V : Type 0} {R : K → K → Ordering} (total : IsTotalOrder R) (P : V → V → Type 0) → ((v : V) → P v v) → (k : K) (row now : V) → P row now → (es : List (K × V)) → T (is_sorted R es) → find R k es ≡ Some row → AllZip P (map (λ e. e.1) es) (map (λ e. e.1) (put R k now es))
+pub put_zip : {K V : Type 0} {R : K → K → Ordering} (total : IsTotalOrder R) (P : V → V → Type 0) → ((v : V) → P v v) → (k : K) (row now : V) → P row now
+    → (es : List (K × V)) → T (is_sorted R es) → find R k es ≡ Some row → AllZip P (map (λ e. e.1) es) (map (λ e. e.1) (put R k now es))
 put_zip total P same k row now up [] sorted there = absurd (none-some row there)
 put_zip {R = R} total P same k row now up (e ∷ es) sorted there =
     elim (R k e.0) as (λ o. R k e.0 ≡ o → AllZip P (map (λ x. x.1) (e ∷ es)) (map (λ x. x.1) (by_order o ((k, now) ∷ e ∷ es) ((e.0, now) ∷ es) (e ∷ put R k now es)))) [

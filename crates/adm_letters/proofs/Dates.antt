@@ -66,15 +66,34 @@ module _ (year month of_month day : ℕ) (is_civil : IsCivilDate (pos year) mont
   unfolding year_of_day
   year_is =
       first_is (λ y. nat_le day (day_number y 12 31)) 120 1990 year low high
-      (le-leb _ _ (omega (arith, number_count year 12 31 low (omega arith), day_count-last_of_year (pos year), day_count-day_of_year (pos year) month of_month is_civil.2.0, day_of_year_bound (pos year) month of_month is_civil)))
-      (λ y from before. after_is _ _ (omega (arith, number_count y 12 31 from (omega arith), day_count-lt_year (pos y) 12 31 (pos year) month of_month (last_is_civil y (omega arith)) is_civil.2.0 (omega (arith, signed_arith)))))
+      (le-leb _ _ (omega (
+        arith,
+        number_count year 12 31 low (omega arith),
+        day_count-last_of_year (pos year),
+        day_count-day_of_year (pos year) month of_month is_civil.2.0,
+        day_of_year_bound (pos year) month of_month is_civil,
+      )))
+      (λ y from before. after_is _ _ (omega (
+        arith,
+        number_count y 12 31 from (omega arith),
+        day_count-lt_year (pos y) 12 31 (pos year) month of_month (last_is_civil y (omega arith)) is_civil.2.0 (omega (arith, signed_arith)),
+      )))
 
   month_is : month_of year day ≡ month
   unfolding month_of
   month_is =
       first_is (λ m. nat_le day (day_number year m (days_in_month (pos year) m))) 11 1 month is_civil.1.0 (omega (arith, is_civil.1.1))
-      (le-leb _ _ (omega (arith, number_count year month (days_in_month (pos year) month) low (omega (arith, days_in_month_bounds (pos year) month)), day_count-day (pos year) month of_month (days_in_month (pos year) month) is_civil.2.0 (omega (arith, days_in_month_bounds (pos year) month)), is_civil.2.1)))
-      (λ m from before. after_is _ _ (omega (arith, number_count year m (days_in_month (pos year) m) low (omega (arith, days_in_month_bounds (pos year) m)), day_count-lt_month (pos year) m (days_in_month (pos year) m) month of_month (end_is_civil year m high from (omega (arith, is_civil.1.1))) is_civil.2.0 before)))
+      (le-leb _ _ (omega (
+        arith,
+        number_count year month (days_in_month (pos year) month) low (omega (arith, days_in_month_bounds (pos year) month)),
+        day_count-day (pos year) month of_month (days_in_month (pos year) month) is_civil.2.0 (omega (arith, days_in_month_bounds (pos year) month)),
+        is_civil.2.1,
+      )))
+      (λ m from before. after_is _ _ (omega (
+        arith,
+        number_count year m (days_in_month (pos year) m) low (omega (arith, days_in_month_bounds (pos year) m)),
+        day_count-lt_month (pos year) m (days_in_month (pos year) m) month of_month (end_is_civil year m high from (omega (arith, is_civil.1.1))) is_civil.2.0 before,
+      )))
 
   of_month_is : day + 1 - day_number year month 1 ≡ of_month
   of_month_is = omega (arith, number_count year month 1 low (omega arith), day_count-day (pos year) month of_month 1 is_civil.2.0 (omega arith))
@@ -93,7 +112,15 @@ early d before =
 late : (d : Date) → pos 2111 ≤ℤ d.year → pos last_day <ℤ epoch_day d
 late d after =
     let lt = day_count-lt_year (pos 2110) 12 31 d.year d.month d.day (last_is_civil 2110 (omega arith)) (omega (arith, (civil d).2.0)) (omega (arith, signed_arith)) in
-    omega (arith, signed_arith, days_from_civil-day_count, day_count-2111, day_count-last_of_year (pos 2110), day_count-next_year (pos 2110) (pos 2111) (omega (arith, signed_arith)) (omega (arith, signed_arith)), lt)
+    omega (
+      arith,
+      signed_arith,
+      days_from_civil-day_count,
+      day_count-2111,
+      day_count-last_of_year (pos 2110),
+      day_count-next_year (pos 2110) (pos 2111) (omega (arith, signed_arith)) (omega (arith, signed_arith)),
+      lt,
+    )
 
 form_at : (d : Date) (year day : ℕ) → d.year ≡ pos year → IsCivilDate d.year d.month d.day → pos day ≡ epoch_day d → first_day ≤ day → day ≤ last_day → date_text d ≡ day_text day
 form_at d year day is is_civil number low high =

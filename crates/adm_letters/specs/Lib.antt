@@ -3,7 +3,6 @@ pub mod Lines
 pub mod Days
 pub mod LetterLines
 pub mod Letters
-pub mod Waits
 pub mod Lists
 pub mod Pairs
 pub mod Reports

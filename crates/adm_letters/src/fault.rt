@@ -1,7 +1,7 @@
 // Why there is no such letter, list, report or list of pairs.
 ghost use Rattle.std.specs.Prelude.{◌≡◌};
-ghost use Rattle.adm_letters.specs.declared.fault.LetterFault.TheVariants.{Memory};
-ghost use Rattle.adm_letters.specs.Answers.{letter_fault_of};
+ghost use Rattle.adm_letters.specs.declared.fault.TextFault.TheVariants.{Memory};
+ghost use Rattle.adm_letters.specs.Answers.{text_fault_of};
 
 use adm_register::ListFault;
 use std::alloc::AllocError;
@@ -9,7 +9,7 @@ use thiserror::Error;
 
 /// Why there is no such text.
 #[derive(Clone, Copy, Debug, PartialEq, Eq, Error)]
-pub enum LetterFault {
+pub enum TextFault {
     /// There is no child of this number.
     #[error("UnknownChild")]
     UnknownChild = 1,
@@ -24,21 +24,21 @@ pub enum LetterFault {
     Memory = 4,
 }
 
-impl From<AllocError> for LetterFault {
+impl From<AllocError> for TextFault {
     ghost from_gives = { λ _ fault. fault ≡ Memory };
 
-    fn from(_error: AllocError) -> LetterFault {
-        LetterFault::Memory
+    fn from(_error: AllocError) -> TextFault {
+        TextFault::Memory
     }
 }
 
-impl From<ListFault> for LetterFault {
-    ghost from_gives = { λ list fault. fault ≡ letter_fault_of list };
+impl From<ListFault> for TextFault {
+    ghost from_gives = { λ list fault. fault ≡ text_fault_of list };
 
-    fn from(fault: ListFault) -> LetterFault {
+    fn from(fault: ListFault) -> TextFault {
         match fault {
-            ListFault::UnknownSchool => LetterFault::UnknownSchool,
-            ListFault::Memory => LetterFault::Memory,
+            ListFault::UnknownSchool => TextFault::UnknownSchool,
+            ListFault::Memory => TextFault::Memory,
         }
     }
 }

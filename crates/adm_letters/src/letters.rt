@@ -2,42 +2,41 @@
 ghost use Rattle.std.specs.Prelude.{◌≡◌, IfOk, [], ◌∷◌, map, string_bytes};
 ghost use Rattle.adm_register.specs.Rows.{place_of};
 ghost use Rattle.adm_letters.specs.Answers.{GivesText};
-ghost use Rattle.adm_letters.specs.declared.fault.LetterFault.TheVariants.{UnknownChild};
+ghost use Rattle.adm_letters.specs.declared.fault.TextFault.TheVariants.{UnknownChild};
 ghost use Rattle.adm_letters.specs.Lines.{AddsLines, lines_text};
 ghost use Rattle.adm_letters.specs.Days.{day_text};
 ghost use Rattle.adm_letters.specs.LetterLines.{head_line, child_line, phase_text, reminded_line, withdrawal_line};
 ghost use Rattle.adm_letters.specs.Letters.{offer_lines, place_lines, school_name, lines_of_place, wait_line, lines_of_waits, letter_lines, letter_text};
 
-use crate::LetterFault;
+use crate::TextFault;
 use crate::days::day_text;
 use crate::letter_lines::{
     accepted_line, child_line, head_line, no_place, offered_line, phase_text, plan_line,
     reminded_line, waiting_line, waits_nowhere, withdrawal_line,
 };
-use crate::waits::{Wait, waits_of};
-use adm_register::Register;
+use adm_register::{Register, Standing};
 use adm_types::{Child, ChildNo, Day, PlaceState, SchoolCode, Season};
 use std::alloc::{AllocError, Global};
 
 /// The letter to the child of this number: its place, and where it waits at which position. It takes
-/// memory for the text and, for each school that the child wants, for a pointer to each application
-/// and for each child that waits there; what it costs grows with the schools that the child wants,
-/// times the applications.
+/// memory for the text, for a pointer to each application that lists a school that the child wants,
+/// and for each child that waits there; what it costs grows with the applications, which are gone
+/// through once for all schools, and with those that list one of them.
 ///
 /// Where it is an error, there is no such child (`UnknownChild`), or memory ran out.
-pub fn letter(alloc: Global, register: &Register, child: ChildNo) -> Result<String, LetterFault>
+pub fn letter(alloc: Global, register: &Register, child: ChildNo) -> Result<String, TextFault>
     ensures { GivesText (letter_text register.now child) UnknownChild result }
 {
     match register.child(child) {
         Some(found) => Ok(letter_to(alloc, register, found)?),
-        None => Err(LetterFault::UnknownChild),
+        None => Err(TextFault::UnknownChild),
     }
 }
 
 fn letter_to(alloc: Global, register: &Register, child: &Child) -> Result<String, AllocError>
     ensures { IfOk result (λ text. string_bytes text ≡ lines_text (letter_lines register.now child.now)) }
 {
-    let waits = waits_of(alloc, register, child.no)?;
+    let waits = register.standings(alloc, child.no)?;
     let mut text = String::new(alloc);
     put_head(&mut text, register.season())?;
     put_child(&mut text, child)?;
@@ -122,7 +121,11 @@ fn put_place_of(text: &mut String, register: &Register, child: ChildNo) -> Resul
     }
 }
 
-fn put_waits(text: &mut String, register: &Register, waits: &[Wait]) -> Result<(), AllocError>
+fn put_waits(
+    text: &mut String,
+    register: &Register,
+    waits: &[(SchoolCode, Standing)],
+) -> Result<(), AllocError>
     ensures { IfOk result (λ _. AddsLines text.old (lines_of_waits register.now waits.now) text.new) }
 {
     match waits {
@@ -131,7 +134,11 @@ fn put_waits(text: &mut String, register: &Register, waits: &[Wait]) -> Result<(
     }
 }
 
-fn put_each_wait(text: &mut String, register: &Register, waits: &[Wait]) -> Result<(), AllocError>
+fn put_each_wait(
+    text: &mut String,
+    register: &Register,
+    waits: &[(SchoolCode, Standing)],
+) -> Result<(), AllocError>
     ensures { IfOk result (λ _. AddsLines text.old (map (wait_line register.now) waits.now) text.new) }
 {
     for wait in waits {
@@ -140,15 +147,18 @@ fn put_each_wait(text: &mut String, register: &Register, waits: &[Wait]) -> Resu
     Ok(())
 }
 
-fn put_wait(text: &mut String, register: &Register, wait: &Wait) -> Result<(), AllocError>
+fn put_wait(
+    text: &mut String,
+    register: &Register,
+    wait: &(SchoolCode, Standing),
+) -> Result<(), AllocError>
     ensures { IfOk result (λ _. AddsLines text.old (wait_line register.now wait.now ∷ []) text.new) }
 {
-    let school = wait.school;
     waiting_line(
         text,
-        school.as_str(),
-        school_name(register, school),
-        wait.standing.entry,
-        wait.standing.many,
+        wait.0.as_str(),
+        school_name(register, wait.0),
+        wait.1.entry,
+        wait.1.many,
     )
 }

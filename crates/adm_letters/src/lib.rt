@@ -10,9 +10,8 @@ mod letters;
 mod lists;
 mod pairs;
 mod reports;
-mod waits;
 
-pub use fault::LetterFault;
+pub use fault::TextFault;
 pub use letters::letter;
 pub use lists::list_text;
 pub use pairs::pairs_text;

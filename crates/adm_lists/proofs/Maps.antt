@@ -17,7 +17,7 @@ use Rattle.adm_lists.proofs.Members.{In}
 -- ---- one change
 
 module _ {K V : Type 0} {R : K → K → Ordering} (total : IsTotalOrder R) where
-  -- a key that was there is there after a row is put
+  -- a key that was there is there after a row is written
   pub contains_key-insert : (rows : FinMap R V) (key : K) (row : V) (q : K) → contains_key rows q ≡ true → contains_key (insert rows key row) q ≡ true
   contains_key-insert rows key row q there =
       ap is_some (get-insert total rows key row q)
@@ -50,7 +50,8 @@ none_at R key (e ∷ es) above = ap (λ r. cond (is_eq r) (Some e.1) (lookup (is
 
 module _ {K V : Type 0} {R : K → K → Ordering} (same : IsAntisymmetric R) where
   -- a row that is there after the first one is at another key
-  pub apart : (first : K) (rows : List (K × V)) → AllByRecursion (λ other. R first other ≡ Less) (keys_of rows) → (key : K) (row : V) → lookup (is_at (R key)) rows ≡ Some row → is_at (R key) first ≡ false
+  pub apart : (first : K) (rows : List (K × V)) → AllByRecursion (λ other. R first other ≡ Less) (keys_of rows) → (key : K) (row : V)
+      → lookup (is_at (R key)) rows ≡ Some row → is_at (R key) first ≡ false
   apart first rows above key row there =
       elim (is_at (R key) first) as (λ b. is_at (R key) first ≡ b → b ≡ false) [
         | true ↦ λ tie. absurd (none-some row (sym (none_at R first rows above) ∙ ap (λ q. lookup (is_at (R q)) rows) (sym (same_key same key first tie)) ∙ there))

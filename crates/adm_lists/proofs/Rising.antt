@@ -26,7 +26,8 @@ module _ {X Y K : Type 0} (cmp : K → K → Ordering) (key : X → K) (own : Y 
   pub sorted_filter_map : (xs : List X) → IsStrictlySortedBy cmp (map key xs) → IsStrictlySortedBy cmp (map own (filter_map h xs))
   unfolding IsStrictlySortedBy
   sorted_filter_map [] sorted = tt
-  sorted_filter_map (x ∷ xs) sorted = by (h x) (λ y is. subst (λ k. AllByRecursion (λ q. cmp k q ≡ Less) (map own (filter_map h xs))) (sym (same x y is)) (less_given (key x) xs sorted.0)) (sorted_filter_map xs sorted.1)
+  sorted_filter_map (x ∷ xs) sorted = by (h x) (λ y is. subst (λ k. AllByRecursion (λ q. cmp k q ≡ Less) (map own (filter_map h xs))) (sym (same x y is))
+      (less_given (key x) xs sorted.0)) (sorted_filter_map xs sorted.1)
     where
       by : (o : Option Y) → ((y : Y) → o ≡ Some y → AllByRecursion (λ q. cmp (own y) q ≡ Less) (map own (filter_map h xs))) → IsStrictlySortedBy cmp (map own (filter_map h xs))
           → IsStrictlySortedBy cmp (map own (cons_option o (filter_map h xs)))

@@ -33,7 +33,8 @@ guest_still e tenant may s free = elim (cases_Bool (has tenant s)) [
 ]
 
 -- what an entrant may hand in: no other tenancy, and its own keys at the schools that it truly lists
-pub listing : (m : Market) (k : ℕ) (e : Candidate) (list : List Wish) (tenant : Option Code) → Distinct m → slice_get m.entrants k ≡ Some e → MayHandIn list tenant e → Listing e (with_any_list list tenant e)
+pub listing : (m : Market) (k : ℕ) (e : Candidate) (list : List Wish) (tenant : Option Code) → Distinct m → slice_get m.entrants k ≡ Some e → MayHandIn list tenant e
+    → Listing e (with_any_list list tenant e)
 listing m k e list tenant d ek may = record {
   guest = guest_still e tenant may.tenancy;
   own = λ s here there.

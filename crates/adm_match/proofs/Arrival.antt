@@ -16,28 +16,35 @@ pub record Arrived (m : Market) (rows : List Progress) (i : ℕ) (s : Code) : Ty
   pub shaped : Shaped m rows
   pub within_quota_there : (t : Code) (k : ℕ) (e : Candidate) → t ≢ s → IsGuestAt m.entrants rows t k e → held_at rows t ≤ quota_of m.seats t
   pub within_quota_here : (k : ℕ) (e : Candidate) → k ≢ i → IsGuestAt m.entrants rows s k e → held_at rows s ≤ quota_of m.seats s + 1
-  pub rejected_there : (k : ℕ) (e : Candidate) (r : Progress) (j : ℕ) (w : Wish) → slice_get m.entrants k ≡ Some e → slice_get rows k ≡ Some r → j < r.rejections → slice_get e.list j ≡ Some w → w.school ≢ s → IsRejected m rows e w.school
-  pub guest_here : (k : ℕ) (e : Candidate) (r : Progress) (j : ℕ) (w : Wish) → slice_get m.entrants k ≡ Some e → slice_get rows k ≡ Some r → j < r.rejections → slice_get e.list j ≡ Some w → w.school ≡ s → is_tenant e s ≡ false
-  pub full_here : (k : ℕ) (e : Candidate) (r : Progress) (j : ℕ) (w : Wish) → slice_get m.entrants k ≡ Some e → slice_get rows k ≡ Some r → j < r.rejections → slice_get e.list j ≡ Some w → w.school ≡ s → quota_of m.seats s + 1 ≤ held_at rows s
-  pub outranked_here : (k : ℕ) (e : Candidate) (r : Progress) (j : ℕ) (w : Wish) → slice_get m.entrants k ≡ Some e → slice_get rows k ≡ Some r → j < r.rejections → slice_get e.list j ≡ Some w → w.school ≡ s → (l : ℕ) (d : Candidate) → l ≢ i → IsGuestAt m.entrants rows s l d → ranks_before s d e ≡ true
+  pub rejected_there : (k : ℕ) (e : Candidate) (r : Progress) (j : ℕ) (w : Wish) → slice_get m.entrants k ≡ Some e → slice_get rows k ≡ Some r → j < r.rejections
+      → slice_get e.list j ≡ Some w → w.school ≢ s → IsRejected m rows e w.school
+  pub guest_here : (k : ℕ) (e : Candidate) (r : Progress) (j : ℕ) (w : Wish) → slice_get m.entrants k ≡ Some e → slice_get rows k ≡ Some r → j < r.rejections
+      → slice_get e.list j ≡ Some w → w.school ≡ s → is_tenant e s ≡ false
+  pub full_here : (k : ℕ) (e : Candidate) (r : Progress) (j : ℕ) (w : Wish) → slice_get m.entrants k ≡ Some e → slice_get rows k ≡ Some r → j < r.rejections
+      → slice_get e.list j ≡ Some w → w.school ≡ s → quota_of m.seats s + 1 ≤ held_at rows s
+  pub outranked_here : (k : ℕ) (e : Candidate) (r : Progress) (j : ℕ) (w : Wish) → slice_get m.entrants k ≡ Some e → slice_get rows k ≡ Some r → j < r.rejections
+      → slice_get e.list j ≡ Some w → w.school ≡ s → (l : ℕ) (d : Candidate) → l ≢ i → IsGuestAt m.entrants rows s l d → ranks_before s d e ≡ true
   pub none_lost : NoneLost m rows
 
 -- a school that holds nobody new holds as many
-pub held_set_other : (rows : List Progress) (i : ℕ) (r v : Progress) (t : Code) → slice_get rows i ≡ Some r → has r.school t ≡ false → has v.school t ≡ false → held_at (set rows i v) t ≡ held_at rows t
+pub held_set_other : (rows : List Progress) (i : ℕ) (r v : Progress) (t : Code) → slice_get rows i ≡ Some r → has r.school t ≡ false → has v.school t ≡ false
+    → held_at (set rows i v) t ≡ held_at rows t
 held_set_other rows i r v t at was is =
     let e = count_set (λ row. has row.school t) rows i r v at in
     let w : one_if (has r.school t) ≡ 0 = ap one_if was in
     let n : one_if (has v.school t) ≡ 0 = ap one_if is in
     omega (arith, e, w, n)
 
-pub held_set_more : (rows : List Progress) (i : ℕ) (r v : Progress) (t : Code) → slice_get rows i ≡ Some r → has r.school t ≡ false → has v.school t ≡ true → held_at (set rows i v) t ≡ held_at rows t + 1
+pub held_set_more : (rows : List Progress) (i : ℕ) (r v : Progress) (t : Code) → slice_get rows i ≡ Some r → has r.school t ≡ false → has v.school t ≡ true
+    → held_at (set rows i v) t ≡ held_at rows t + 1
 held_set_more rows i r v t at was is =
     let e = count_set (λ row. has row.school t) rows i r v at in
     let w : one_if (has r.school t) ≡ 0 = ap one_if was in
     let n : one_if (has v.school t) ≡ 1 = ap one_if is in
     omega (arith, e, w, n)
 
-pub held_set_less : (rows : List Progress) (i : ℕ) (r v : Progress) (t : Code) → slice_get rows i ≡ Some r → has r.school t ≡ true → has v.school t ≡ false → held_at (set rows i v) t + 1 ≡ held_at rows t
+pub held_set_less : (rows : List Progress) (i : ℕ) (r v : Progress) (t : Code) → slice_get rows i ≡ Some r → has r.school t ≡ true → has v.school t ≡ false
+    → held_at (set rows i v) t + 1 ≡ held_at rows t
 held_set_less rows i r v t at was is =
     let e = count_set (λ row. has row.school t) rows i r v at in
     let w : one_if (has r.school t) ≡ 1 = ap one_if was in
@@ -59,7 +66,9 @@ pub same_entrant : (m : Market) (i k : ℕ) (d e : Candidate) → slice_get m.en
 same_entrant m i k d e a b h = same_Some d e (sym a ∙ (ap (slice_get m.entrants) (sym h) ∙ b))
 
 -- a fact about each entrant and its row is kept by a write that keeps it
-pub held_fact : (P : Candidate → Progress → Type 0) (m : Market) (rows : List Progress) (i : ℕ) (d : Candidate) (v : Progress) → slice_get m.entrants i ≡ Some d → P d v → ((k : ℕ) (e : Candidate) (r : Progress) → slice_get m.entrants k ≡ Some e → slice_get rows k ≡ Some r → P e r) → (k : ℕ) (e : Candidate) (r : Progress) → slice_get m.entrants k ≡ Some e → slice_get (set rows i v) k ≡ Some r → P e r
+pub held_fact : (P : Candidate → Progress → Type 0) (m : Market) (rows : List Progress) (i : ℕ) (d : Candidate) (v : Progress) → slice_get m.entrants i ≡ Some d → P d v
+    → ((k : ℕ) (e : Candidate) (r : Progress) → slice_get m.entrants k ≡ Some e → slice_get rows k ≡ Some r → P e r) → (k : ℕ) (e : Candidate) (r : Progress)
+    → slice_get m.entrants k ≡ Some e → slice_get (set rows i v) k ≡ Some r → P e r
 held_fact P m rows i d v at here all k e r ek rk =
     elim (after_set rows i k v r rk) [
       | inl h ↦ subst (λ (x : Progress). P e x) h.1 (subst (λ (x : Candidate). P x v) (same_entrant m i k d e at ek h.0) here)
@@ -67,7 +76,8 @@ held_fact P m rows i d v at here all k e r ek rk =
     ]
 
 -- a write keeps the shape
-pub shaped_set : (m : Market) (rows : List Progress) (i : ℕ) (d : Candidate) (v : Progress) → Shaped m rows → slice_get m.entrants i ≡ Some d → v.child ≡ d.child → IsHeldByNext d v → v.rejections ≤ length d.list → Shaped m (set rows i v)
+pub shaped_set : (m : Market) (rows : List Progress) (i : ℕ) (d : Candidate) (v : Progress) → Shaped m rows → slice_get m.entrants i ≡ Some d → v.child ≡ d.child
+    → IsHeldByNext d v → v.rejections ≤ length d.list → Shaped m (set rows i v)
 shaped_set m rows i d v h at child holds within = record {
   same = length-set rows i v ∙ h.same;
   children = held_fact (λ e r. r.child ≡ e.child) m rows i d v at child h.children;
@@ -76,7 +86,8 @@ shaped_set m rows i d v h at child holds within = record {
 }
 
 -- a guest after a write, of a school that the written row does not name, was one before
-pub guest_before : (m : Market) (rows : List Progress) (i : ℕ) (v : Progress) (s : Code) (k : ℕ) (e : Candidate) → has v.school s ≡ false → IsGuestAt m.entrants (set rows i v) s k e → (k ≢ i) × IsGuestAt m.entrants rows s k e
+pub guest_before : (m : Market) (rows : List Progress) (i : ℕ) (v : Progress) (s : Code) (k : ℕ) (e : Candidate) → has v.school s ≡ false
+    → IsGuestAt m.entrants (set rows i v) s k e → (k ≢ i) × IsGuestAt m.entrants rows s k e
 guest_before m rows i v s k e out g =
     elim (after_set rows i k v g.1.0 g.1.1) [
       | inl h ↦ absurd (not_has v.school s out (ap (λ x. x.school) h.1 ∙ g.1.2))
@@ -92,7 +103,8 @@ guest_elsewhere m rows i v s k e apart g =
     ]
 
 -- An entrant that no school holds proposes to the next school of its list.
-pub arrive : (m : Market) (rows : List Progress) (i : ℕ) (d : Candidate) (r : Progress) (w : Wish) → Sound m rows → slice_get m.entrants i ≡ Some d → slice_get rows i ≡ Some r → r.school ≡ None → slice_get d.list r.rejections ≡ Some w → Arrived m (set rows i (record r { school = Some w.school })) i w.school
+pub arrive : (m : Market) (rows : List Progress) (i : ℕ) (d : Candidate) (r : Progress) (w : Wish) → Sound m rows → slice_get m.entrants i ≡ Some d
+    → slice_get rows i ≡ Some r → r.school ≡ None → slice_get d.list r.rejections ≡ Some w → Arrived m (set rows i (record r { school = Some w.school })) i w.school
 arrive m rows i d r w h at row free next =
     let v : Progress = record r { school = Some w.school } in
     let s = w.school in
@@ -100,7 +112,8 @@ arrive m rows i d r w h at row free next =
     let others : (t : Code) → t ≢ s → held_at (set rows i v) t ≡ held_at rows t = λ t n. held_set_other rows i r v t row (none_has r.school t free) (other_has v.school s t refl n) in
     let out : (t : Code) → t ≢ s → has v.school t ≡ false = λ t n. other_has v.school s t refl n in
     -- what rejected an entrant is in the old rows, too
-    let back : (k : ℕ) (e : Candidate) (x : Progress) (j : ℕ) (z : Wish) → slice_get m.entrants k ≡ Some e → slice_get (set rows i v) k ≡ Some x → j < x.rejections → slice_get e.list j ≡ Some z → IsRejected m rows e z.school
+    let back : (k : ℕ) (e : Candidate) (x : Progress) (j : ℕ) (z : Wish) → slice_get m.entrants k ≡ Some e → slice_get (set rows i v) k ≡ Some x → j < x.rejections
+    → slice_get e.list j ≡ Some z → IsRejected m rows e z.school
     = λ k e x j z ek xk l jz. elim (after_set rows i k v x xk) [
       | inl g ↦ h.rejected k e r j z ek (ap (slice_get rows) g.0 ∙ row) (omega (arith, ap (λ y. y.rejections) g.1)) jz
       | inr g ↦ h.rejected k e x j z ek g.1 l jz
@@ -121,7 +134,8 @@ arrive m rows i d r w h at row free next =
     }
 
 -- Nobody is rejected: the school has room, or holds tenants alone.
-pub stay : (m : Market) (rows : List Progress) (i : ℕ) (s : Code) → Arrived m rows i s → (held_at rows s ≤ quota_of m.seats s) ⊎ ((k : ℕ) (e : Candidate) → IsGuestAt m.entrants rows s k e → ⊥) → Sound m rows
+pub stay : (m : Market) (rows : List Progress) (i : ℕ) (s : Code) → Arrived m rows i s
+    → (held_at rows s ≤ quota_of m.seats s) ⊎ ((k : ℕ) (e : Candidate) → IsGuestAt m.entrants rows s k e → ⊥) → Sound m rows
 stay m rows i s h may_stay = record {
   shaped = h.shaped;
   within_quota = λ t k e g. elim (same_or_not t s) [

@@ -38,12 +38,14 @@ next_wish : (ws : List Wish) (i : ℕ) (w : Wish) → i < length ws → w ≡ ge
 next_wish ws i w l at = rw add-one (take-suc ws i w l ∙ ap (λ z. take i ws ++ z ∷ []) (sym at))
 
 -- one wish more
-pub asked_more : (e : Candidate) (ws : List Wish) (i : ℕ) (w : Wish) (first old new : List Claim) → i < length ws → w ≡ get_or ws i w → old ≡ first ++ asked e (take i ws) → new ≡ old ++ asked e (w ∷ []) → new ≡ first ++ asked e (take (i + 1) ws)
+pub asked_more : (e : Candidate) (ws : List Wish) (i : ℕ) (w : Wish) (first old new : List Claim) → i < length ws → w ≡ get_or ws i w → old ≡ first ++ asked e (take i ws)
+    → new ≡ old ++ asked e (w ∷ []) → new ≡ first ++ asked e (take (i + 1) ws)
 asked_more e ws i w first old new l at was now =
     now ∙ (ap (λ (x : List Claim). x ++ asked e (w ∷ [])) was ∙ (append_assoc first (asked e (take i ws)) (asked e (w ∷ []))
     ∙ sym (ap (λ (x : List Wish). first ++ asked e x) (next_wish ws i w l at) ∙ ap (λ (x : List Claim). first ++ x) (asked_append e (take i ws) (w ∷ [])))))
 
-pub claims_more : (es : List Candidate) (i : ℕ) (e : Candidate) (old new : List Claim) → i < length es → e ≡ get_or es i e → old ≡ all_claims (take i es) → new ≡ old ++ claims_of e → new ≡ all_claims (take (i + 1) es)
+pub claims_more : (es : List Candidate) (i : ℕ) (e : Candidate) (old new : List Claim) → i < length es → e ≡ get_or es i e → old ≡ all_claims (take i es)
+    → new ≡ old ++ claims_of e → new ≡ all_claims (take (i + 1) es)
 claims_more es i e old new l at was now =
     now ∙ (ap (λ (x : List Claim). x ++ claims_of e) was
     ∙ sym (ap all_claims (next_entrant es i e l at) ∙ (flat_append (take i es) (e ∷ []) ∙ ap (λ (x : List Claim). all_claims (take i es) ++ x) (append-nil (claims_of e)))))
@@ -195,7 +197,8 @@ claims_ranks (e ∷ es) apart =
     pair_append same_claim (claims_of e) (all_claims es)
     ∙ (λ i. (own_claims e e.list parts.0 i || across i) || claims_ranks es parts.1 i)
 
-pub repeated_claims : (es : List Candidate) (claims : List Claim) → list_any (λ e. some_pair same_school e.list) es ≡ false → claims ≡ all_claims es → some_pair (λ a b. is_eq (claim_cmp a b)) claims ≡ some_pair share_rank es
+pub repeated_claims : (es : List Candidate) (claims : List Claim) → list_any (λ e. some_pair same_school e.list) es ≡ false → claims ≡ all_claims es
+    → some_pair (λ a b. is_eq (claim_cmp a b)) claims ≡ some_pair share_rank es
 repeated_claims es claims apart is =
     ap (some_pair (λ a b. is_eq (claim_cmp a b))) is
     ∙ (pair_same (λ a b. is_eq (claim_cmp a b)) same_claim (all_claims es) eq_claim ∙ claims_ranks es apart)

@@ -31,19 +31,24 @@ schools_twice list schools is =
     ∙ (pair_map (λ a b. is_eq (slice_cmp nat_cmp a b)) (λ (wish : Wish). wish.school) list
     ∙ pair_same (λ x y. is_eq (slice_cmp nat_cmp x.school y.school)) same_school list (λ x y. is_eq-slice_cmp x.school y.school))
 
-pub children_twice : (entrants : List Candidate) (children : List ℕ) → children ≡ map (λ entrant. entrant.child) entrants → some_pair (λ a b. is_eq (nat_cmp a b)) children ≡ some_pair same_child entrants
+pub children_twice : (entrants : List Candidate) (children : List ℕ) → children ≡ map (λ entrant. entrant.child) entrants
+    → some_pair (λ a b. is_eq (nat_cmp a b)) children ≡ some_pair same_child entrants
 children_twice entrants children is =
     ap (some_pair (λ a b. is_eq (nat_cmp a b))) is
     ∙ (pair_map (λ a b. is_eq (nat_cmp a b)) (λ (entrant : Candidate). entrant.child) entrants
     ∙ pair_same (λ x y. is_eq (nat_cmp x.child y.child)) same_child entrants (λ x y. eq_number x.child y.child))
 
 -- one more code goes into the set
-pub codes_more : (seats : List Seats) (old new : BTreeSet Code) (i : ℕ) (seat : Seats) → i < length seats → seat ≡ get_or seats i seat → ((code : Code) → contains (slice_cmp nat_cmp) old code ≡ list_any (λ seat. bytes_eq seat.code code) (take i seats)) → Updates (slice_cmp nat_cmp) old new seat.code true → (code : Code) → contains (slice_cmp nat_cmp) new code ≡ list_any (λ seat. bytes_eq seat.code code) (take (i + 1) seats)
+pub codes_more : (seats : List Seats) (old new : BTreeSet Code) (i : ℕ) (seat : Seats) → i < length seats → seat ≡ get_or seats i seat
+    → ((code : Code) → contains (slice_cmp nat_cmp) old code ≡ list_any (λ seat. bytes_eq seat.code code) (take i seats))
+    → Updates (slice_cmp nat_cmp) old new seat.code true → (code : Code) → contains (slice_cmp nat_cmp) new code ≡ list_any (λ seat. bytes_eq seat.code code) (take (i + 1) seats)
 codes_more seats old new i seat l at h up code =
     let step : take (i + 1) seats ≡ take i seats ++ seat ∷ [] = rw add-one (take-suc seats i seat l ∙ ap (λ z. take i seats ++ z ∷ []) (sym at)) in
     up.0 code ∙ ((λ j. cond (is_eq-slice_cmp seat.code code j) true (h code j))
     ∙ (or_test (bytes_eq seat.code code) (list_any (λ s. bytes_eq s.code code) (take i seats))
     ∙ sym (ap (list_any (λ (s : Seats). bytes_eq s.code code)) step ∙ list_any-append (λ s. bytes_eq s.code code) (take i seats) (seat ∷ []))))
 
-pub unknown_same : (entrants : List Candidate) (seats : List Seats) (codes : BTreeSet Code) → ((code : Code) → contains (slice_cmp nat_cmp) codes code ≡ list_any (λ seat. bytes_eq seat.code code) seats) → list_any (λ entrant. list_any (λ wish. not (contains (slice_cmp nat_cmp) codes wish.school)) entrant.list) entrants ≡ names_unknown (market_of entrants seats)
+pub unknown_same : (entrants : List Candidate) (seats : List Seats) (codes : BTreeSet Code)
+    → ((code : Code) → contains (slice_cmp nat_cmp) codes code ≡ list_any (λ seat. bytes_eq seat.code code) seats)
+    → list_any (λ entrant. list_any (λ wish. not (contains (slice_cmp nat_cmp) codes wish.school)) entrant.list) entrants ≡ names_unknown (market_of entrants seats)
 unknown_same entrants seats codes h = λ i. list_any (λ entrant. list_any (λ wish. not (h wish.school i)) entrant.list) entrants

@@ -24,7 +24,10 @@ held_wish e r s holds at = elim holds [
 -- The school holds more than its quota, and d is the guest there that ranks last. In a stable allocation with d
 -- at the school, of this problem or of one that it is within, another one of those held would not be
 -- there, and it and the school would block.
-pub not_lost : (m : Market) (rows : List Progress) (s : Code) (k : ℕ) (d : Candidate) (q : Progress) → WellListed m → Shaped m rows → NoneLost m rows → slice_get m.entrants k ≡ Some d → slice_get rows k ≡ Some q → q.school ≡ Some s → is_tenant d s ≡ false → quota_of m.seats s < held_at rows s → ((l : ℕ) (c : Candidate) → l ≢ k → IsGuestAt m.entrants rows s l c → ranks_before s c d ≡ true) → (o : Market) → IsWithin m o → (a : Allocation) → IsStable o a → q.rejections + 1 ≤ assigned_rank d.list (a d.child)
+pub not_lost : (m : Market) (rows : List Progress) (s : Code) (k : ℕ) (d : Candidate) (q : Progress) → WellListed m → Shaped m rows → NoneLost m rows
+    → slice_get m.entrants k ≡ Some d → slice_get rows k ≡ Some q → q.school ≡ Some s → is_tenant d s ≡ false → quota_of m.seats s < held_at rows s
+    → ((l : ℕ) (c : Candidate) → l ≢ k → IsGuestAt m.entrants rows s l c → ranks_before s c d ≡ true) → (o : Market) → IsWithin m o → (a : Allocation) → IsStable o a
+    → q.rejections + 1 ≤ assigned_rank d.list (a d.child)
 not_lost m rows s k d q well shaped lost at row here free over last o wide a stable =
     let w = held_wish d q s (shaped.holds k d q at row) here in
     elim (cases_lt q.rejections (assigned_rank d.list (a d.child))) [
@@ -72,7 +75,9 @@ not_lost m rows s k d q well shaped lost at row here free over last o wide a sta
     ]
 
 -- The school that holds one too many rejects the guest that ranks last.
-pub leave : (m : Market) (rows : List Progress) (i : ℕ) (s : Code) (k : ℕ) (d : Candidate) (q : Progress) → WellListed m → Arrived m rows i s → slice_get m.entrants k ≡ Some d → slice_get rows k ≡ Some q → q.school ≡ Some s → is_tenant d s ≡ false → quota_of m.seats s < held_at rows s → ((l : ℕ) (c : Candidate) → l ≢ k → IsGuestAt m.entrants rows s l c → ranks_before s c d ≡ true) → Sound m (set rows k (record q { school = None; rejections = q.rejections + 1 }))
+pub leave : (m : Market) (rows : List Progress) (i : ℕ) (s : Code) (k : ℕ) (d : Candidate) (q : Progress) → WellListed m → Arrived m rows i s
+    → slice_get m.entrants k ≡ Some d → slice_get rows k ≡ Some q → q.school ≡ Some s → is_tenant d s ≡ false → quota_of m.seats s < held_at rows s
+    → ((l : ℕ) (c : Candidate) → l ≢ k → IsGuestAt m.entrants rows s l c → ranks_before s c d ≡ true) → Sound m (set rows k (record q { school = None; rejections = q.rejections + 1 }))
 leave m rows i s k d q well h at row here free over last =
     let v : Progress = record q { school = None; rejections = q.rejections + 1 } in
     let now = set rows k v in
@@ -81,7 +86,8 @@ leave m rows i s k d q well h at row here free over last =
     let others : (t : Code) → t ≢ s → held_at now t ≡ held_at rows t = λ t n. held_set_other rows k q v t row (other_has q.school s t here n) refl in
     let before : (t : Code) (l : ℕ) (e : Candidate) → IsGuestAt m.entrants now t l e → (l ≢ k) × IsGuestAt m.entrants rows t l e = λ t l e g. guest_before m rows k v t l e refl g in
     let last_one : IsGuestAt m.entrants rows s k d = (at, (q, row, here), free) in
-    let old : (l : ℕ) (e : Candidate) (x : Progress) (j : ℕ) (z : Wish) → slice_get m.entrants l ≡ Some e → slice_get rows l ≡ Some x → j < x.rejections → slice_get e.list j ≡ Some z → IsRejected m now e z.school
+    let old : (l : ℕ) (e : Candidate) (x : Progress) (j : ℕ) (z : Wish) → slice_get m.entrants l ≡ Some e → slice_get rows l ≡ Some x → j < x.rejections
+    → slice_get e.list j ≡ Some z → IsRejected m now e z.school
     = λ l e x j z el xl lt jz. elim (same_or_not z.school s) [
       | inl is ↦ subst (λ (t : Code). IsRejected m now e t) (sym is) (record {
         guest = h.guest_here l e x j z el xl lt jz is;
@@ -133,5 +139,6 @@ leave m rows i s k d q well h at row here free over last =
                   })
             ])
       ];
-      none_lost = λ o wide a stable. held_fact (λ e x. x.rejections ≤ assigned_rank e.list (a e.child)) m rows k d v at (not_lost m rows s k d q well h.shaped h.none_lost at row here free over last o wide a stable) (h.none_lost o wide a stable);
+      none_lost = λ o wide a stable. held_fact (λ e x. x.rejections ≤ assigned_rank e.list (a e.child)) m rows k d v at
+          (not_lost m rows s k d q well h.shaped h.none_lost at row here free over last o wide a stable) (h.none_lost o wide a stable);
     }

@@ -61,7 +61,8 @@ module _ {V K : Type 0} (key : V → K) (items : List V) where
   }
 
   -- with the pair of one item more
-  pub one_pair : (pairs more : List (K × ℕ)) (n : ℕ) (v : V) (own : K) → n < length items → v ≡ get_or items n v → own ≡ key v → more ≡ pairs ++ (own, n) ∷ [] → PairsBelow pairs n → PairsBelow more (n + 1)
+  pub one_pair : (pairs more : List (K × ℕ)) (n : ℕ) (v : V) (own : K) → n < length items → v ≡ get_or items n v → own ≡ key v → more ≡ pairs ++ (own, n) ∷ []
+      → PairsBelow pairs n → PairsBelow more (n + 1)
   one_pair pairs more n v own within at is added h = subst (λ (ps : List (K × ℕ)). PairsBelow ps (n + 1)) (sym added) (record {
     each = λ k w below there. elim (cases_eq k n) [
       | inl same ↦
@@ -83,7 +84,8 @@ module _ {V K : Type 0} (key : V → K) (items : List V) where
       here = slice_get_read items (length items) n v refl within at
 
   -- those of all items, in the order of their keys
-  pub all_pairs : (R : K → K → Ordering) (pairs sorted : List (K × ℕ)) (n : ℕ) → length items ≡ n → PairsBelow pairs n → IsPermutation pairs sorted → IsSortedByKey (λ (pair : K × ℕ). pair.0) R sorted → FindsEach R key items sorted
+  pub all_pairs : (R : K → K → Ordering) (pairs sorted : List (K × ℕ)) (n : ℕ) → length items ≡ n → PairsBelow pairs n → IsPermutation pairs sorted
+      → IsSortedByKey (λ (pair : K × ℕ). pair.0) R sorted → FindsEach R key items sorted
   all_pairs R pairs sorted n whole h moved up = record {
     sorted = up;
     each = λ k v at. contains sorted (key v, k) (in_moved pairs sorted (key v, k) moved (h.each k v (omega (arith, slice_get_within items k v at)) at));

@@ -13,16 +13,19 @@ use Rattle.adm_match.proofs.SideBySide.{count_beside, element_at}
 use Rattle.adm_match.proofs.RanksAndBlocks.{All_at, list_any_gives, wish_at_rank, ranks_before_asym, guest_gives}
 
 -- what an entrant has is after the schools that rejected it
-pub rejections_is : (m : Market) (rows : List Progress) → WellListed m → Shaped m rows → AllDone m.entrants rows → (k : ℕ) (e : Candidate) (r : Progress) → slice_get m.entrants k ≡ Some e → slice_get rows k ≡ Some r → assigned_rank e.list r.school ≡ r.rejections
+pub rejections_is : (m : Market) (rows : List Progress) → WellListed m → Shaped m rows → AllDone m.entrants rows → (k : ℕ) (e : Candidate) (r : Progress)
+    → slice_get m.entrants k ≡ Some e → slice_get rows k ≡ Some r → assigned_rank e.list r.school ≡ r.rejections
 rejections_is m rows well h done k e r ek rk = elim (h.holds k e r ek rk) [
   | inl none ↦ ap (assigned_rank e.list) none ∙ (omega (arith, done k e r ek rk none, h.within k e r ek rk))
   | inr some ↦ ap (assigned_rank e.list) some.2 ∙ well.own_rank k e r.rejections some.0 ek some.1
 ]
 
-listed : (m : Market) (rows : List Progress) → WellListed m → Shaped m rows → (k : ℕ) (e : Candidate) (r : Progress) → slice_get m.entrants k ≡ Some e → slice_get rows k ≡ Some r → IfSome r.school (λ s. preference_rank e.list s < length e.list)
+listed : (m : Market) (rows : List Progress) → WellListed m → Shaped m rows → (k : ℕ) (e : Candidate) (r : Progress) → slice_get m.entrants k ≡ Some e
+    → slice_get rows k ≡ Some r → IfSome r.school (λ s. preference_rank e.list s < length e.list)
 listed m rows well h k e r ek rk = elim (h.holds k e r ek rk) [
   | inl none ↦ subst (λ (o : Option Code). IfSome o (λ s. preference_rank e.list s < length e.list)) (sym none) tt
-  | inr some ↦ subst (λ (o : Option Code). IfSome o (λ s. preference_rank e.list s < length e.list)) (sym some.2) (omega (arith, well.own_rank k e r.rejections some.0 ek some.1, slice_get_within e.list r.rejections some.0 some.1))
+  | inr some ↦ subst (λ (o : Option Code). IfSome o (λ s. preference_rank e.list s < length e.list)) (sym some.2)
+      (omega (arith, well.own_rank k e r.rejections some.0 ek some.1, slice_get_within e.list r.rejections some.0 some.1))
 ]
 
 -- each problem includes itself
@@ -34,7 +37,8 @@ itself m = record {
 }
 
 -- what the schools hold is no worse for an entrant than a stable allocation of a problem that includes this one
-pub ends_ahead : (m : Market) (rows : List Progress) (b : Allocation) → WellListed m → Sound m rows → AllDone m.entrants rows → AllotsWhatIsHeld m rows b → (o : Market) → IsWithin m o → (a : Allocation) → IsStable o a → All (λ e. assigned_rank e.list (b e.child) ≤ assigned_rank e.list (a e.child)) m.entrants
+pub ends_ahead : (m : Market) (rows : List Progress) (b : Allocation) → WellListed m → Sound m rows → AllDone m.entrants rows → AllotsWhatIsHeld m rows b → (o : Market)
+    → IsWithin m o → (a : Allocation) → IsStable o a → All (λ e. assigned_rank e.list (b e.child) ≤ assigned_rank e.list (a e.child)) m.entrants
 ends_ahead m rows b well h done gives o wide a stable = All_at (λ e. assigned_rank e.list (b e.child) ≤ assigned_rank e.list (a e.child)) m.entrants (λ k e ek.
     let r = element_at rows k (omega (arith, slice_get_within m.entrants k e ek, h.shaped.same)) in
     let at_rank : assigned_rank e.list (b e.child) ≡ r.0.rejections = ap (assigned_rank e.list) (gives k e r.0 ek r.1) ∙ rejections_is m rows well h.shaped done k e r.0 ek r.1 in

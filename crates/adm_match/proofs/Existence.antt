@@ -37,12 +37,14 @@ free_or_done (e ∷ es) (r ∷ rows) = elim (free_or_done es rows) [
         omega (arith, first (ap (λ (x : Progress). x.school) q_is ∙ none), ap (λ (x : Candidate). length x.list) d_is, ap (λ (x : Progress). x.rejections) q_is)
     later e es r rows done first (suc k) d q dk qk none = done k d q dk qk none
 
-    here : (e : Candidate) (es : List Candidate) (r : Progress) (rows : List Progress) → AllDone es rows → (r.school ≡ None) ⊎ ((s : Code) × (r.school ≡ Some s)) → (r.rejections < length e.list) ⊎ (length e.list ≤ r.rejections) → ((k : ℕ) × IsFree (e ∷ es) (r ∷ rows) k) ⊎ AllDone (e ∷ es) (r ∷ rows)
+    here : (e : Candidate) (es : List Candidate) (r : Progress) (rows : List Progress) → AllDone es rows → (r.school ≡ None) ⊎ ((s : Code) × (r.school ≡ Some s))
+        → (r.rejections < length e.list) ⊎ (length e.list ≤ r.rejections) → ((k : ℕ) × IsFree (e ∷ es) (r ∷ rows) k) ⊎ AllDone (e ∷ es) (r ∷ rows)
     here e es r rows done (inl none) (inl less) = inl (0, (e, r, refl, refl, none, less))
     here e es r rows done (inl none) (inr most) = inr (later e es r rows done (λ _. most))
     here e es r rows done (inr some) l = inr (later e es r rows done (λ none. absurd (none-some some.0 (sym none ∙ some.1))))
 
-last_below : (es : List Candidate) (rows : List Progress) (s : Code) → length rows ≡ length es → AreRanked es rows s → (i : ℕ) → i ≤ length es → ((k : ℕ) × IsLastBelow es rows s i k) ⊎ NoGuestBelow es rows s i
+last_below : (es : List Candidate) (rows : List Progress) (s : Code) → length rows ≡ length es → AreRanked es rows s → (i : ℕ) → i ≤ length es
+    → ((k : ℕ) × IsLastBelow es rows s i k) ⊎ NoGuestBelow es rows s i
 last_below es rows s same ranked zero upto = inr (λ k e l g. absurd (omega arith))
 last_below es rows s same ranked (suc i) upto =
     let e = element_at es i (omega arith) in
@@ -72,10 +74,12 @@ last_or_none es rows s same ranked = elim (last_below es rows s same ranked (len
 -- What each turn keeps: where an entrant comes to a school, which holds it, and where a school rejects one that it holds.
 pub record IsInvariant (m : Market) (keeps : List Progress → Type 0) : Type 0 where
   pub arrival : (rows : List Progress) (i : ℕ) (e : Candidate) (r : Progress) (s : Code) → slice_get m.entrants i ≡ Some e → slice_get rows i ≡ Some r → keeps rows → keeps (set rows i (held_by r s))
-  pub departure : (rows : List Progress) (k : ℕ) (e : Candidate) (r : Progress) → slice_get m.entrants k ≡ Some e → slice_get rows k ≡ Some r → Sound m (set rows k (with_rejection r)) → keeps rows → keeps (set rows k (with_rejection r))
+  pub departure : (rows : List Progress) (k : ℕ) (e : Candidate) (r : Progress) → slice_get m.entrants k ≡ Some e → slice_get rows k ≡ Some r
+      → Sound m (set rows k (with_rejection r)) → keeps rows → keeps (set rows k (with_rejection r))
 
 module _ (m : Market) (d : Distinct m) (keeps : List Progress → Type 0) (kept : IsInvariant m keeps) where
-  turn : (rows : List Progress) (i : ℕ) → Sound m rows → keeps rows → IsFree m.entrants rows i → (now : List Progress) × Sound m now × keeps now × (turns_left m.entrants now < turns_left m.entrants rows)
+  turn : (rows : List Progress) (i : ℕ) → Sound m rows → keeps rows → IsFree m.entrants rows i
+      → (now : List Progress) × Sound m now × keeps now × (turns_left m.entrants now < turns_left m.entrants rows)
   turn rows i sound before free =
       let w = element_at free.0.list free.1.rejections free.5 in
       let s = w.0.school in
@@ -113,7 +117,8 @@ module _ (m : Market) (d : Distinct m) (keeps : List Progress → Type 0) (kept 
       ends (turns_left m.entrants rows + 1) rows (omega arith) (starts m) before
 
 -- a best allocation, which is no worse for an entrant than any stable allocation of a problem that includes this one
-pub best_ahead : (m : Market) → Distinct m → (b : Allocation) × IsBest m b × ((o : Market) → IsWithin m o → (a : Allocation) → IsStable o a → All (λ e. assigned_rank e.list (b e.child) ≤ assigned_rank e.list (a e.child)) m.entrants)
+pub best_ahead : (m : Market) → Distinct m → (b : Allocation) × IsBest m b
+    × ((o : Market) → IsWithin m o → (a : Allocation) → IsStable o a → All (λ e. assigned_rank e.list (b e.child) ≤ assigned_rank e.list (a e.child)) m.entrants)
 best_ahead m h =
     let end = end_keeps m h (λ _. ⊤) (record { arrival = λ rows i e r s ek rk _. tt; departure = λ rows k e r ek rk sound _. tt }) tt in
     let b : Allocation = found_in end.0 in

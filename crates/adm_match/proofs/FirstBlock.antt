@@ -13,7 +13,8 @@ use Rattle.adm_match.specs.Blocks.{earlier}
 use Rattle.adm_match.proofs.RanksAndBlocks.{wish_at_rank, All_at}
 
 -- what `find` says
-pub found_at : {X : Type 0} (p : X → Bool) (xs : List X) (x : X) → find p xs ≡ Some x → (k : ℕ) × (slice_get xs k ≡ Some x) × (p x ≡ true) × ((j : ℕ) (y : X) → j < k → slice_get xs j ≡ Some y → p y ≡ false)
+pub found_at : {X : Type 0} (p : X → Bool) (xs : List X) (x : X) → find p xs ≡ Some x
+    → (k : ℕ) × (slice_get xs k ≡ Some x) × (p x ≡ true) × ((j : ℕ) (y : X) → j < k → slice_get xs j ≡ Some y → p y ≡ false)
 found_at p [] x e = absurd (none-some x e)
 found_at p (y ∷ ys) x e = elim (cases_Bool (p y)) [
   | inl hit ↦
@@ -24,7 +25,8 @@ found_at p (y ∷ ys) x e = elim (cases_Bool (p y)) [
       (suc rest.0, rest.1, rest.2, before p y ys rest.0 miss rest.3)
 ]
   where
-    before : {X : Type 0} (p : X → Bool) (y : X) (ys : List X) (k : ℕ) → p y ≡ false → ((j : ℕ) (z : X) → j < k → slice_get ys j ≡ Some z → p z ≡ false) → (j : ℕ) (z : X) → j < suc k → slice_get (y ∷ ys) j ≡ Some z → p z ≡ false
+    before : {X : Type 0} (p : X → Bool) (y : X) (ys : List X) (k : ℕ) → p y ≡ false → ((j : ℕ) (z : X) → j < k → slice_get ys j ≡ Some z → p z ≡ false) → (j : ℕ) (z : X)
+        → j < suc k → slice_get (y ∷ ys) j ≡ Some z → p z ≡ false
     before p y ys k miss h zero z l a = ap p (sym (same_Some y z a)) ∙ miss
     before p y ys k miss h (suc j) z l a = h j z (omega arith) a
 
@@ -63,12 +65,14 @@ blocks_listed m a e s h =
     omega (arith, ltb-true _ _ parts.0, rank_within e.list (a e.child))
 
 -- a test that fails at each wish before an index fails at each school before it
-fails_before : (m : Market) (a : Allocation) (e : Candidate) (k : ℕ) → ((j : ℕ) (w : Wish) → j < k → slice_get e.list j ≡ Some w → blocks m a e w.school ≡ false) → (s : Code) → preference_rank e.list s < k → preference_rank e.list s < length e.list → blocks m a e s ≡ false
+fails_before : (m : Market) (a : Allocation) (e : Candidate) (k : ℕ) → ((j : ℕ) (w : Wish) → j < k → slice_get e.list j ≡ Some w → blocks m a e w.school ≡ false)
+    → (s : Code) → preference_rank e.list s < k → preference_rank e.list s < length e.list → blocks m a e s ≡ false
 fails_before m a e k h s early inside =
     let w = wish_at_rank e.list s inside in
     subst (λ (t : Code). blocks m a e t ≡ false) w.2 (h (preference_rank e.list s) w.0 early w.1)
 
-pub first_of : (m : Market) (a : Allocation) (e : Candidate) (o : Option Wish) → find (λ w. blocks m a e w.school) e.list ≡ o → MatchOption (option_map (λ (w : Wish). w.school) o) (IsContent m a e) (IsFirstOfList m a e)
+pub first_of : (m : Market) (a : Allocation) (e : Candidate) (o : Option Wish) → find (λ w. blocks m a e w.school) e.list ≡ o
+    → MatchOption (option_map (λ (w : Wish). w.school) o) (IsContent m a e) (IsFirstOfList m a e)
 first_of m a e None none = λ s. elim (cases_Bool (blocks m a e s)) [
   | inr unblocked ↦ unblocked
   | inl blocking ↦
@@ -98,7 +102,9 @@ same_at m i k d e a b below most =
     let same : k ≡ i = omega arith in
     same_Some d e (sym a ∙ (ap (slice_get m.entrants) (sym same) ∙ b))
 
-pub block_more : (m : Market) (a : Allocation) (i : ℕ) (o : Option (ℕ × Code)) (e : Candidate) (found : Option Code) → MatchOption o (ContentBelow m a i) (FirstBelow m a i) → slice_get m.entrants i ≡ Some e → MatchOption found (IsContent m a e) (IsFirstOfList m a e) → MatchOption (earlier o e.child found) (ContentBelow m a (i + 1)) (FirstBelow m a (i + 1))
+pub block_more : (m : Market) (a : Allocation) (i : ℕ) (o : Option (ℕ × Code)) (e : Candidate) (found : Option Code)
+    → MatchOption o (ContentBelow m a i) (FirstBelow m a i) → slice_get m.entrants i ≡ Some e → MatchOption found (IsContent m a e) (IsFirstOfList m a e)
+    → MatchOption (earlier o e.child found) (ContentBelow m a (i + 1)) (FirstBelow m a (i + 1))
 block_more m a i None e None h ei f = λ k d below dk. elim (cases_lt k i) [
   | inl less ↦ h k d less dk
   | inr most ↦ subst (λ (x : Candidate). IsContent m a x) (same_at m i k e d ei dk below most) f
@@ -143,12 +149,14 @@ block_found m a i (Some p) far h = record {
   smallest = All_at (λ e. e.child < p.0 → IsContent m a e) m.entrants (λ k e ek. h.1 k e (omega (arith, far, slice_get_within m.entrants k e ek)) ek);
 }
 
-pub block_none : (m : Market) (a : Allocation) (i : ℕ) (o : Option (ℕ × Code)) → length m.entrants ≤ i → MatchOption o (ContentBelow m a i) (FirstBelow m a i) → IfNone o (All (IsContent m a) m.entrants)
+pub block_none : (m : Market) (a : Allocation) (i : ℕ) (o : Option (ℕ × Code)) → length m.entrants ≤ i → MatchOption o (ContentBelow m a i) (FirstBelow m a i)
+    → IfNone o (All (IsContent m a) m.entrants)
 block_none m a i None far h = All_at (IsContent m a) m.entrants (λ k e ek. h k e (omega (arith, far, slice_get_within m.entrants k e ek)) ek)
 block_none m a i (Some p) far h = tt
 
 -- what the code finds on the list
-pub listed_some : (m : Market) (a : Allocation) (e : Candidate) (list : List Wish) (r : Option Code) → list ≡ e.list → r ≡ option_map (λ (w : Wish). w.school) (find (λ w. blocks m a e w.school) list) → IfSome r (IsFirstOfList m a e)
+pub listed_some : (m : Market) (a : Allocation) (e : Candidate) (list : List Wish) (r : Option Code) → list ≡ e.list
+    → r ≡ option_map (λ (w : Wish). w.school) (find (λ w. blocks m a e w.school) list) → IfSome r (IsFirstOfList m a e)
 listed_some m a e list r same is =
     subst (λ o. IfSome o (IsFirstOfList m a e)) (sym (is ∙ ap (λ l. option_map (λ (w : Wish). w.school) (find (λ w. blocks m a e w.school) l)) same))
     (some_of _ (first_of m a e _ refl))
@@ -157,7 +165,8 @@ listed_some m a e list r same is =
     some_of None h = tt
     some_of (Some s) h = h
 
-pub listed_none : (m : Market) (a : Allocation) (e : Candidate) (list : List Wish) (r : Option Code) → list ≡ e.list → r ≡ option_map (λ (w : Wish). w.school) (find (λ w. blocks m a e w.school) list) → IfNone r (IsContent m a e)
+pub listed_none : (m : Market) (a : Allocation) (e : Candidate) (list : List Wish) (r : Option Code) → list ≡ e.list
+    → r ≡ option_map (λ (w : Wish). w.school) (find (λ w. blocks m a e w.school) list) → IfNone r (IsContent m a e)
 listed_none m a e list r same is =
     subst (λ o. IfNone o (IsContent m a e)) (sym (is ∙ ap (λ l. option_map (λ (w : Wish). w.school) (find (λ w. blocks m a e w.school) l)) same))
     (none_of _ (first_of m a e _ refl))

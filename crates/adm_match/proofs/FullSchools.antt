@@ -46,7 +46,8 @@ equal_numbers m best a d b h s = elim (cases_lt (count_at m best s) (count_at m 
 ]
 
 -- who is at a school with room has it in the best allocation, and the other way round
-same_children : (m : Market) (best a : Allocation) → Seated m → IsBest m best → IsStable m a → (s : Code) → count_at m a s < quota_of m.seats s → (k : ℕ) (e : Candidate) → slice_get m.entrants k ≡ Some e → has (best e.child) s ≡ has (a e.child) s
+same_children : (m : Market) (best a : Allocation) → Seated m → IsBest m best → IsStable m a → (s : Code) → count_at m a s < quota_of m.seats s → (k : ℕ) (e : Candidate)
+    → slice_get m.entrants k ≡ Some e → has (best e.child) s ≡ has (a e.child) s
 same_children m best a d b h s room k e ek =
     let kept : (j : ℕ) (x : Candidate) → slice_get m.entrants j ≡ Some x → has (best x.child) s ≡ true → has (a x.child) s ≡ true
     = λ j x jx there. elim (cases_Bool (has (a x.child) s)) [

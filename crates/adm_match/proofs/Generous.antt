@@ -36,12 +36,15 @@ and_not_false true b h = ap not (sym h)
 and_not_false false b h = refl
 
 -- where each child is among others, and none is repeated, no test passes for more of them than of the others
-counts_within : (test : ℕ → Bool) (xs ys : List Candidate) → ChildrenOnce xs → ((k : ℕ) (e : Candidate) → slice_get xs k ≡ Some e → (j : ℕ) × (f : Candidate) × (slice_get ys j ≡ Some f) × (e.child ≡ f.child)) → count_by (λ e. test e.child) xs ≤ count_by (λ e. test e.child) ys
+counts_within : (test : ℕ → Bool) (xs ys : List Candidate) → ChildrenOnce xs
+    → ((k : ℕ) (e : Candidate) → slice_get xs k ≡ Some e → (j : ℕ) × (f : Candidate) × (slice_get ys j ≡ Some f) × (e.child ≡ f.child))
+    → count_by (λ e. test e.child) xs ≤ count_by (λ e. test e.child) ys
 counts_within test [] ys once there = omega arith
 counts_within test (x ∷ xs) ys once there =
     let all : Candidate → Bool = λ y. test y.child in
     let rest : Candidate → Bool = λ y. test y.child && not (y.child == x.child) in
-    let below : count_by rest xs ≤ count_by rest ys = counts_within (λ n. test n && not (n == x.child)) xs ys (λ i j d e di ej less same. once (suc i) (suc j) d e di ej (omega (arith, less)) same) (λ k e ek. there (suc k) e ek) in
+    let below : count_by rest xs ≤ count_by rest ys = counts_within (λ n. test n && not (n == x.child)) xs ys
+    (λ i j d e di ej less same. once (suc i) (suc j) d e di ej (omega (arith, less)) same) (λ k e ek. there (suc k) e ek) in
     let alike : count_by all xs ≡ count_by rest xs = count_beside all rest xs xs refl (λ k y z yk zk.
     let same : y ≡ z = same_Some y z (sym yk ∙ zk) in
     ap all same ∙ (elim (cases_Bool (z.child == x.child)) [

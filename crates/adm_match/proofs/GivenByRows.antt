@@ -34,7 +34,8 @@ find_none p (y ∷ ys) h =
     ap (λ b. cond b (Some y) (find p ys)) (h 0 y refl) ∙ find_none p ys (λ j z a. h (suc j) z a)
 
 -- each entrant is given the school that holds it, where no child is at two indices
-pub gives_by : (m : Market) (rows : List Progress) → ((i j : ℕ) (d e : Candidate) → slice_get m.entrants i ≡ Some d → slice_get m.entrants j ≡ Some e → i < j → d.child ≡ e.child → ⊥) → Shaped m rows → AllotsWhatIsHeld m rows (found_in rows)
+pub gives_by : (m : Market) (rows : List Progress) → ((i j : ℕ) (d e : Candidate) → slice_get m.entrants i ≡ Some d → slice_get m.entrants j ≡ Some e → i < j
+    → d.child ≡ e.child → ⊥) → Shaped m rows → AllotsWhatIsHeld m rows (found_in rows)
 gives_by m rows once h k e r ek rk =
     let test : Progress → Bool = λ row. row.child == e.child in
     let found : find test rows ≡ Some r =
@@ -60,14 +61,16 @@ gives_others_none m rows h child out =
           (eq-eqb d.0.child child (sym (h.children j d.0 y d.1 jy) ∙ eqb-true y.child child hit))))
     ]))
 
-sum_alike : {X Y : Type 0} (f : X → ℕ) (g : Y → ℕ) (xs : List X) (ys : List Y) → length xs ≡ length ys → ((k : ℕ) (x : X) (y : Y) → slice_get xs k ≡ Some x → slice_get ys k ≡ Some y → f x ≡ g y) → sum_by f xs ≡ sum_by g ys
+sum_alike : {X Y : Type 0} (f : X → ℕ) (g : Y → ℕ) (xs : List X) (ys : List Y) → length xs ≡ length ys
+    → ((k : ℕ) (x : X) (y : Y) → slice_get xs k ≡ Some x → slice_get ys k ≡ Some y → f x ≡ g y) → sum_by f xs ≡ sum_by g ys
 sum_alike f g [] [] e h = refl
 sum_alike f g [] (y ∷ ys) e h = absurd (omega arith)
 sum_alike f g (x ∷ xs) [] e h = absurd (omega arith)
 sum_alike f g (x ∷ xs) (y ∷ ys) e h =
     omega (arith, sum_by-cons f x xs, sum_by-cons g y ys, h 0 x y refl refl, sum_alike f g xs ys (omega arith) (λ k a b p q. h (suc k) a b p q))
 
-reached_is : (e : Candidate) (r : Progress) → ((j : ℕ) (w : Wish) → slice_get e.list j ≡ Some w → preference_rank e.list w.school ≡ j) → IsHeldByNext e r → (r.school ≡ None → length e.list ≤ r.rejections) → r.rejections ≤ length e.list → reached r ≡ gone_through e.list r.school
+reached_is : (e : Candidate) (r : Progress) → ((j : ℕ) (w : Wish) → slice_get e.list j ≡ Some w → preference_rank e.list w.school ≡ j) → IsHeldByNext e r
+    → (r.school ≡ None → length e.list ≤ r.rejections) → r.rejections ≤ length e.list → reached r ≡ gone_through e.list r.school
 reached_is e r well holds done within = elim holds [
   | inl none ↦
       let a : reached r ≡ r.rejections + 0 = ap (λ o. r.rejections + cond (is_some o) 1 0) none in
@@ -104,13 +107,15 @@ gives_best m rows offers h is =
 pub gives_none : (m : Market) (rows : List Progress) (offers : Allotment) → Settled m rows → IsGiven rows offers → (child : ℕ) → is_entrant m child ≡ false → school_of offers child ≡ None
 gives_none m rows offers h is child out = is child ∙ gives_others_none m rows h.sound.shaped child out
 
-pub gives_proposals : (m : Market) (rows : List Progress) (offers : Allotment) → Settled m rows → IsGiven rows offers → offers.proposals ≡ sum_by reached rows → offers.proposals ≡ proposals_of m (school_of offers)
+pub gives_proposals : (m : Market) (rows : List Progress) (offers : Allotment) → Settled m rows → IsGiven rows offers → offers.proposals ≡ sum_by reached rows
+    → offers.proposals ≡ proposals_of m (school_of offers)
 gives_proposals m rows offers h is n =
     subst (λ (a : Allocation). offers.proposals ≡ proposals_of m a) (λ i child. sym (is child) i)
     (n ∙ reached_all m rows (found_in rows) h.distinct.well h.sound.shaped h.done (gives_by m rows h.distinct.children h.sound.shaped))
 
 -- what the scan has settled, of the problem that the caller sees
-pub settled : (now : Market) (es es' : List Candidate) (ss ss' : List Seats) (rows : List Progress) → market_of es ss ≡ now → first_fault (market_of es ss) ≡ None → es' ≡ es → ss' ≡ ss → Sound (market_of es' ss') rows → AllDone es' rows → Settled now rows
+pub settled : (now : Market) (es es' : List Candidate) (ss ss' : List Seats) (rows : List Progress) → market_of es ss ≡ now → first_fault (market_of es ss) ≡ None
+    → es' ≡ es → ss' ≡ ss → Sound (market_of es' ss') rows → AllDone es' rows → Settled now rows
 settled now es es' ss ss' rows is ok e s h done =
     let same : market_of es' ss' ≡ now = (λ i. market_of (e i) (s i)) ∙ is in
     record {
@@ -124,11 +129,13 @@ pub best_if : {E : Type 0} (m : Market) (rows : List Progress) (result : Result 
 best_if m rows (Ok offers) h is = gives_best m rows offers h is
 best_if m rows (Err e) h is = tt
 
-pub none_if : {E : Type 0} (m : Market) (rows : List Progress) (result : Result Allotment E) → Settled m rows → IfOk result (IsGiven rows) → IfOk result (λ offers. (child : ℕ) → is_entrant m child ≡ false → school_of offers child ≡ None)
+pub none_if : {E : Type 0} (m : Market) (rows : List Progress) (result : Result Allotment E) → Settled m rows → IfOk result (IsGiven rows)
+    → IfOk result (λ offers. (child : ℕ) → is_entrant m child ≡ false → school_of offers child ≡ None)
 none_if m rows (Ok offers) h is = gives_none m rows offers h is
 none_if m rows (Err e) h is = tt
 
-pub proposals_if : {E : Type 0} (m : Market) (rows rows' : List Progress) (result : Result Allotment E) → Settled m rows → IfOk result (IsGiven rows) → rows' ≡ rows → IfOk result (λ offers. offers.proposals ≡ sum_by reached rows') → IfOk result (λ offers. offers.proposals ≡ proposals_of m (school_of offers))
+pub proposals_if : {E : Type 0} (m : Market) (rows rows' : List Progress) (result : Result Allotment E) → Settled m rows → IfOk result (IsGiven rows) → rows' ≡ rows
+    → IfOk result (λ offers. offers.proposals ≡ sum_by reached rows') → IfOk result (λ offers. offers.proposals ≡ proposals_of m (school_of offers))
 proposals_if m rows rows' (Ok offers) h is same n = gives_proposals m rows offers h is (n ∙ ap (sum_by reached) same)
 proposals_if m rows rows' (Err e) h is same n = tt
 

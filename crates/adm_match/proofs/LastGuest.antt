@@ -23,13 +23,15 @@ same_guest : (entrants : List Candidate) (rows : List Progress) (s : Code) (k l 
 same_guest entrants rows s k l d e g at h = same_Some d e (sym g.0 ∙ (ap (slice_get entrants) h ∙ at))
 
 -- the index i has no guest
-pub none_more : (entrants : List Candidate) (rows : List Progress) (s : Code) (i : ℕ) → NoGuestBelow entrants rows s i → ((e : Candidate) → IsGuestAt entrants rows s i e → ⊥) → NoGuestBelow entrants rows s (i + 1)
+pub none_more : (entrants : List Candidate) (rows : List Progress) (s : Code) (i : ℕ) → NoGuestBelow entrants rows s i
+    → ((e : Candidate) → IsGuestAt entrants rows s i e → ⊥) → NoGuestBelow entrants rows s (i + 1)
 none_more entrants rows s i before here k e l g = elim (cases_lt k i) [
   | inl less ↦ before k e less g
   | inr most ↦ here e (subst (λ (n : ℕ). IsGuestAt entrants rows s n e) (omega arith) g)
 ]
 
-pub last_more : (entrants : List Candidate) (rows : List Progress) (s : Code) (i k : ℕ) → IsLastBelow entrants rows s i k → ((e : Candidate) → IsGuestAt entrants rows s i e → ⊥) → IsLastBelow entrants rows s (i + 1) k
+pub last_more : (entrants : List Candidate) (rows : List Progress) (s : Code) (i k : ℕ) → IsLastBelow entrants rows s i k
+    → ((e : Candidate) → IsGuestAt entrants rows s i e → ⊥) → IsLastBelow entrants rows s (i + 1) k
 last_more entrants rows s i k before here = (
   before.0,
   omega (arith, before.1),
@@ -41,11 +43,13 @@ last_more entrants rows s i k before here = (
 )
 
 -- the first guest
-pub last_first : (entrants : List Candidate) (rows : List Progress) (s : Code) (i : ℕ) (e : Candidate) → NoGuestBelow entrants rows s i → IsGuestAt entrants rows s i e → IsLastBelow entrants rows s (i + 1) i
+pub last_first : (entrants : List Candidate) (rows : List Progress) (s : Code) (i : ℕ) (e : Candidate) → NoGuestBelow entrants rows s i → IsGuestAt entrants rows s i e
+    → IsLastBelow entrants rows s (i + 1) i
 last_first entrants rows s i e before here = (e, omega arith, here, λ l c below apart g. absurd (before l c (omega (arith, below, apart)) g))
 
 -- a guest that ranks after the last so far
-pub last_takes : (entrants : List Candidate) (rows : List Progress) (s : Code) (i k : ℕ) (d e : Candidate) → IsLastBelow entrants rows s i k → IsGuestAt entrants rows s i e → slice_get entrants k ≡ Some d → ranks_before s d e ≡ true → IsLastBelow entrants rows s (i + 1) i
+pub last_takes : (entrants : List Candidate) (rows : List Progress) (s : Code) (i k : ℕ) (d e : Candidate) → IsLastBelow entrants rows s i k
+    → IsGuestAt entrants rows s i e → slice_get entrants k ≡ Some d → ranks_before s d e ≡ true → IsLastBelow entrants rows s (i + 1) i
 last_takes entrants rows s i k d e before here at after = (
   e,
   omega arith,
@@ -59,7 +63,8 @@ last_takes entrants rows s i k d e before here at after = (
 )
 
 -- a guest that ranks before the last so far
-pub last_stays : (entrants : List Candidate) (rows : List Progress) (s : Code) (i k : ℕ) (d e : Candidate) → AreRanked entrants rows s → IsLastBelow entrants rows s i k → IsGuestAt entrants rows s i e → slice_get entrants k ≡ Some d → ranks_before s d e ≡ false → IsLastBelow entrants rows s (i + 1) k
+pub last_stays : (entrants : List Candidate) (rows : List Progress) (s : Code) (i k : ℕ) (d e : Candidate) → AreRanked entrants rows s → IsLastBelow entrants rows s i k
+    → IsGuestAt entrants rows s i e → slice_get entrants k ≡ Some d → ranks_before s d e ≡ false → IsLastBelow entrants rows s (i + 1) k
 last_stays entrants rows s i k d e ranked before here at after =
     let d_is : before.0 ≡ d = same_guest entrants rows s k k before.0 d before.2 at refl in (
       before.0,
@@ -76,12 +81,14 @@ last_stays entrants rows s i k d e ranked before here at after =
     )
 
 -- what the test of an index says
-pub guest_at : (entrants : List Candidate) (rows : List Progress) (s : Code) (i : ℕ) (e : Candidate) (r : Progress) → slice_get entrants i ≡ Some e → slice_get rows i ≡ Some r → (has r.school s && not (is_tenant e s)) ≡ true → IsGuestAt entrants rows s i e
+pub guest_at : (entrants : List Candidate) (rows : List Progress) (s : Code) (i : ℕ) (e : Candidate) (r : Progress) → slice_get entrants i ≡ Some e
+    → slice_get rows i ≡ Some r → (has r.school s && not (is_tenant e s)) ≡ true → IsGuestAt entrants rows s i e
 guest_at entrants rows s i e r ei ri h =
     let parts = and_parts (has r.school s) (not (is_tenant e s)) h in
     (ei, (r, ri, (has_tells r.school s).0 parts.0), not-true (is_tenant e s) parts.1)
 
-pub no_guest_at : (entrants : List Candidate) (rows : List Progress) (s : Code) (i : ℕ) (e : Candidate) (r : Progress) → slice_get entrants i ≡ Some e → slice_get rows i ≡ Some r → (has r.school s && not (is_tenant e s)) ≡ false → (d : Candidate) → IsGuestAt entrants rows s i d → ⊥
+pub no_guest_at : (entrants : List Candidate) (rows : List Progress) (s : Code) (i : ℕ) (e : Candidate) (r : Progress) → slice_get entrants i ≡ Some e
+    → slice_get rows i ≡ Some r → (has r.school s && not (is_tenant e s)) ≡ false → (d : Candidate) → IsGuestAt entrants rows s i d → ⊥
 no_guest_at entrants rows s i e r ei ri h d g =
     let d_is : d ≡ e = same_Some d e (sym g.0 ∙ ei) in
     let r_is : g.1.0 ≡ r = same_Some g.1.0 r (sym g.1.1 ∙ ri) in
@@ -90,10 +97,12 @@ no_guest_at entrants rows s i e r ei ri h d g =
     false≢true (sym h ∙ and_from (has r.school s) (not (is_tenant e s)) (has_true r.school s here) (not_from_false (is_tenant e s) free))
 
 -- below the length is everywhere
-pub last_all : (entrants : List Candidate) (rows : List Progress) (s : Code) (i : ℕ) (o : Option ℕ) → length entrants ≤ i → MatchOption o (NoGuestBelow entrants rows s i) (IsLastBelow entrants rows s i) → IfSome o (λ k. IsLast entrants rows s k)
+pub last_all : (entrants : List Candidate) (rows : List Progress) (s : Code) (i : ℕ) (o : Option ℕ) → length entrants ≤ i
+    → MatchOption o (NoGuestBelow entrants rows s i) (IsLastBelow entrants rows s i) → IfSome o (λ k. IsLast entrants rows s k)
 last_all entrants rows s i None far h = tt
 last_all entrants rows s i (Some k) far h = (h.0, h.2, λ l c apart g. h.3 l c (omega (arith, far, slice_get_within entrants l c g.0)) apart g)
 
-pub none_all : (entrants : List Candidate) (rows : List Progress) (s : Code) (i : ℕ) (o : Option ℕ) → length entrants ≤ i → MatchOption o (NoGuestBelow entrants rows s i) (IsLastBelow entrants rows s i) → IfNone o (NoGuest entrants rows s)
+pub none_all : (entrants : List Candidate) (rows : List Progress) (s : Code) (i : ℕ) (o : Option ℕ) → length entrants ≤ i
+    → MatchOption o (NoGuestBelow entrants rows s i) (IsLastBelow entrants rows s i) → IfNone o (NoGuest entrants rows s)
 none_all entrants rows s i None far h = λ k e g. h k e (omega (arith, far, slice_get_within entrants k e g.0)) g
 none_all entrants rows s i (Some k) far h = tt

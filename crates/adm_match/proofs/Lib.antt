@@ -23,6 +23,7 @@ pub mod Heap
 pub mod Mirror
 pub mod DirectoryLemmas
 pub mod Turning
+pub mod NextTurn
 pub mod QueueLemmas
 pub mod Ready
 pub mod RepeatedElements

@@ -29,16 +29,19 @@ use Rattle.std.proofs.lemmas.List.Sums.{sum_by-cons, get_or-le-sum_by}
 use Rattle.adm_match.proofs.SideBySide.{count_no}
 
 -- the entry of a guest, and of one that is none
-pub entry_is : (e : Candidate) (r : Progress) (s : Code) (key : RankKey) → r.school ≡ Some s → is_tenant e s ≡ false → key_at e.list s ≡ Some key → guest_entry e r s ≡ (record { key = key; child = e.child } ∷ [])
+pub entry_is : (e : Candidate) (r : Progress) (s : Code) (key : RankKey) → r.school ≡ Some s → is_tenant e s ≡ false → key_at e.list s ≡ Some key
+    → guest_entry e r s ≡ (record { key = key; child = e.child } ∷ [])
 entry_is e r s key at free k =
-    ap (λ b. cond b (option_to_list (option_map (λ (q : RankKey). record { key = q; child = e.child }) (key_at e.list s))) []) (and_from (has r.school s) (not (is_tenant e s)) (has_true r.school s at) (not_from_false (is_tenant e s) free))
+    ap (λ b. cond b (option_to_list (option_map (λ (q : RankKey). record { key = q; child = e.child }) (key_at e.list s))) [])
+    (and_from (has r.school s) (not (is_tenant e s)) (has_true r.school s at) (not_from_false (is_tenant e s) free))
     ∙ ap (λ o. option_to_list (option_map (λ (q : RankKey). record { key = q; child = e.child }) o)) k
 
 pub entry_none : (e : Candidate) (r : Progress) (s : Code) → (has r.school s && not (is_tenant e s)) ≡ false → guest_entry e r s ≡ []
 entry_none e r s out = ap (λ b. cond b (option_to_list (option_map (λ (q : RankKey). record { key = q; child = e.child }) (key_at e.list s))) []) out
 
 -- one row is written: the guests before and after, with the entries of that row
-pub guests_set : (es : List Candidate) (rows : List Progress) (s : Code) (i : ℕ) (e : Candidate) (r v : Progress) → slice_get es i ≡ Some e → slice_get rows i ≡ Some r → IsPermutation (guest_entry e v s ++ guests_of es rows s) (guest_entry e r s ++ guests_of es (set rows i v) s)
+pub guests_set : (es : List Candidate) (rows : List Progress) (s : Code) (i : ℕ) (e : Candidate) (r v : Progress) → slice_get es i ≡ Some e → slice_get rows i ≡ Some r
+    → IsPermutation (guest_entry e v s ++ guests_of es rows s) (guest_entry e r s ++ guests_of es (set rows i v) s)
 guests_set [] rows s i e r v ei ri = absurd (none-some e ei)
 guests_set (d ∷ es) [] s i e r v ei ri = absurd (none-some r ri)
 guests_set (d ∷ es) (q ∷ rows) s zero e r v ei ri =
@@ -62,7 +65,8 @@ guests_set (d ∷ es) (q ∷ rows) s (suc i) e r v ei ri =
         rw (← append_assoc) (rw (← append_assoc) (IsPermutation-append_left zs (xs ++ ys) (ys ++ xs) (IsPermutation-append_comm xs ys)))
 
 -- the guest that an entry is of
-pub guest_behind : (es : List Candidate) (rows : List Progress) (s : Code) (g : Guest) → Contains (guests_of es rows s) g → (k : ℕ) × (e : Candidate) × IsGuestAt es rows s k e × (key_at e.list s ≡ Some g.key) × (e.child ≡ g.child)
+pub guest_behind : (es : List Candidate) (rows : List Progress) (s : Code) (g : Guest) → Contains (guests_of es rows s) g
+    → (k : ℕ) × (e : Candidate) × IsGuestAt es rows s k e × (key_at e.list s ≡ Some g.key) × (e.child ≡ g.child)
 guest_behind [] rows s g h = absurd (omega (arith, h.1))
 guest_behind (e ∷ es) [] s g h = absurd (omega (arith, h.1))
 guest_behind (e ∷ es) (r ∷ rows) s g h = elim (Contains-append_cases (guest_entry e r s) (guests_of es rows s) g h) [
@@ -72,7 +76,8 @@ guest_behind (e ∷ es) (r ∷ rows) s g h = elim (Contains-append_cases (guest_
       (suc w.0, w.1, w.2, w.3, w.4)
 ]
   where
-    in_entry : (b : Bool) (o : Option RankKey) (child : ℕ) (g : Guest) → Contains (cond b (option_to_list (option_map (λ (q : RankKey). record { key = q; child = child }) o)) []) g → (b ≡ true) × (o ≡ Some g.key) × (child ≡ g.child)
+    in_entry : (b : Bool) (o : Option RankKey) (child : ℕ) (g : Guest)
+        → Contains (cond b (option_to_list (option_map (λ (q : RankKey). record { key = q; child = child }) o)) []) g → (b ≡ true) × (o ≡ Some g.key) × (child ≡ g.child)
     in_entry false o child g h = absurd (omega (arith, h.1))
     in_entry true None child g h = absurd (omega (arith, h.1))
     in_entry true (Some q) child g h = one h.0 h.1 h.2
@@ -81,14 +86,16 @@ guest_behind (e ∷ es) (r ∷ rows) s g h = elim (Contains-append_cases (guest_
         one zero l is = (refl, ap (λ (x : Guest). Some x.key) is, ap (λ (x : Guest). x.child) is)
         one (suc k) l is = absurd (omega arith)
 
-    first : (e : Candidate) (es : List Candidate) (r : Progress) (rows : List Progress) (s : Code) (g : Guest) → Contains (guest_entry e r s) g → (o : Option RankKey) → key_at e.list s ≡ o → (k : ℕ) × (d : Candidate) × IsGuestAt (e ∷ es) (r ∷ rows) s k d × (key_at d.list s ≡ Some g.key) × (d.child ≡ g.child)
+    first : (e : Candidate) (es : List Candidate) (r : Progress) (rows : List Progress) (s : Code) (g : Guest) → Contains (guest_entry e r s) g → (o : Option RankKey)
+        → key_at e.list s ≡ o → (k : ℕ) × (d : Candidate) × IsGuestAt (e ∷ es) (r ∷ rows) s k d × (key_at d.list s ≡ Some g.key) × (d.child ≡ g.child)
     first e es r rows s g here o is =
         let f = in_entry (has r.school s && not (is_tenant e s)) (key_at e.list s) e.child g here in
         let parts = and_parts (has r.school s) (not (is_tenant e s)) f.0 in
         (0, e, (refl, (r, refl, (has_tells r.school s).0 parts.0), not-true (is_tenant e s) parts.1), f.1, f.2)
 
 -- a guest has its entry
-pub entry_behind : (es : List Candidate) (rows : List Progress) (s : Code) (k : ℕ) (e : Candidate) (key : RankKey) → IsGuestAt es rows s k e → key_at e.list s ≡ Some key → Contains (guests_of es rows s) (record { key = key; child = e.child })
+pub entry_behind : (es : List Candidate) (rows : List Progress) (s : Code) (k : ℕ) (e : Candidate) (key : RankKey) → IsGuestAt es rows s k e → key_at e.list s ≡ Some key
+    → Contains (guests_of es rows s) (record { key = key; child = e.child })
 entry_behind [] rows s k e key g h = absurd (none-some e g.0)
 entry_behind (d ∷ es) [] s k e key g h = absurd (none-some g.1.0 g.1.1)
 entry_behind (d ∷ es) (q ∷ rows) s zero e key g h =
@@ -146,7 +153,9 @@ bag_contains xs ys g h c =
     subst (λ (x : Guest). Contains ys x) (sym (same_if g there.0 there.2)) there.1
 
 -- The guest that a heap of the school's guests rejects is the one that ranks last.
-pub last_from_heap : (m : Market) (rows : List Progress) (s : Code) (all left : List Guest) (child : ℕ) → Distinct m → Shaped m rows → SameBag (guests_of m.entrants rows s) all → (last : RanksLast all left child) → (k : ℕ) × (is_last : IsLast m.entrants rows s k) × (is_last.0.child ≡ child) × (key_at is_last.0.list s ≡ Some last.guest.key)
+pub last_from_heap : (m : Market) (rows : List Progress) (s : Code) (all left : List Guest) (child : ℕ) → Distinct m → Shaped m rows
+    → SameBag (guests_of m.entrants rows s) all → (last : RanksLast all left child)
+    → (k : ℕ) × (is_last : IsLast m.entrants rows s k) × (is_last.0.child ≡ child) × (key_at is_last.0.list s ≡ Some last.guest.key)
 last_from_heap m rows s all left child d shaped bag last =
     let top : Contains all last.guest = Contains-permutation (last.guest ∷ left) all last.guest (IsPermutation-sym all (last.guest ∷ left) last.others) (0, omega arith, refl) in
     let w = guest_behind m.entrants rows s last.guest (bag_contains all (guests_of m.entrants rows s) last.guest (λ p. sym (bag p)) top) in
@@ -165,7 +174,8 @@ last_from_heap m rows s all left child d shaped bag last =
             elim (contains_cons last.guest left _ mine) [
               | inl same ↦ absurd (one_index m d l k c e g.0 w.2.0 apart (ap (λ (x : Guest). x.child) (sym same) ∙ sym w.4))
               | inr there ↦
-                  let before : ranks_before s e c ≡ false = (λ i. both_precede (w.3 i) (c_key i)) ∙ All-contains (λ (other : Guest). precedes last.guest.key other.key ≡ false) left _ last.last there in
+                  let before : ranks_before s e c ≡ false = (λ i. both_precede (w.3 i) (c_key i))
+                  ∙ All-contains (λ (other : Guest). precedes last.guest.key other.key ≡ false) left _ last.last there in
                   ranked_of m rows s d shaped k l e c (λ h. apart (sym h)) w.2 g before
             ],
       ),

@@ -65,7 +65,8 @@ differs_set m k e e' here child = record {
   child = child;
 }
 
-any_beside : {X Y : Type 0} (p : X → Bool) (q : Y → Bool) (xs : List X) (ys : List Y) → length xs ≡ length ys → ((j : ℕ) (x : X) (y : Y) → slice_get xs j ≡ Some x → slice_get ys j ≡ Some y → p x ≡ q y) → list_any p xs ≡ list_any q ys
+any_beside : {X Y : Type 0} (p : X → Bool) (q : Y → Bool) (xs : List X) (ys : List Y) → length xs ≡ length ys
+    → ((j : ℕ) (x : X) (y : Y) → slice_get xs j ≡ Some x → slice_get ys j ≡ Some y → p x ≡ q y) → list_any p xs ≡ list_any q ys
 any_beside p q [] [] e h = refl
 any_beside p q [] (y ∷ ys) e h = absurd (omega arith)
 any_beside p q (x ∷ xs) [] e h = absurd (omega arith)
@@ -75,7 +76,8 @@ any_beside p q (x ∷ xs) (y ∷ ys) e h =
     λ i. first i || rest i
 
 -- a fact about the two entrants at an index, where they are the same or the two that differ
-beside : {X : Type 0} (f g : Candidate → X) (m m' : Market) (k : ℕ) (e e' : Candidate) → Differs m m' k e e' → g e' ≡ f e → ((x : Candidate) → g x ≡ f x) → (j : ℕ) (x y : Candidate) → slice_get m'.entrants j ≡ Some x → slice_get m.entrants j ≡ Some y → g x ≡ f y
+beside : {X : Type 0} (f g : Candidate → X) (m m' : Market) (k : ℕ) (e e' : Candidate) → Differs m m' k e e' → g e' ≡ f e → ((x : Candidate) → g x ≡ f x)
+    → (j : ℕ) (x y : Candidate) → slice_get m'.entrants j ≡ Some x → slice_get m.entrants j ≡ Some y → g x ≡ f y
 beside f g m m' k e e' h here all j x y xj yj = elim (cases_eq j k) [
   | inl is ↦
       let x_is : e' ≡ x = same_Some e' x (sym h.here' ∙ (ap (slice_get m'.entrants) (sym is) ∙ xj)) in
@@ -113,22 +115,26 @@ after_same e e' d d' a s child alike key = elim (cases_Bool (has (a e.child) s))
       ∙ sym (and_left (is_guest a s e) (ranks_before s d e) (and_left (has (a e.child) s) (not (is_tenant e s)) out))
 ]
 
-some_after_same : (m m' : Market) (k : ℕ) (e e' d d' : Candidate) (a : Allocation) (s : Code) → Differs m m' k e e' → RanksAlike a e e' → key_at d'.list s ≡ key_at d.list s → list_any (ranks_after a s d') m'.entrants ≡ list_any (ranks_after a s d) m.entrants
+some_after_same : (m m' : Market) (k : ℕ) (e e' d d' : Candidate) (a : Allocation) (s : Code) → Differs m m' k e e' → RanksAlike a e e'
+    → key_at d'.list s ≡ key_at d.list s → list_any (ranks_after a s d') m'.entrants ≡ list_any (ranks_after a s d) m.entrants
 some_after_same m m' k e e' d d' a s h alike key =
     any_beside (ranks_after a s d') (ranks_after a s d) m'.entrants m.entrants h.same
     (beside (ranks_after a s d) (ranks_after a s d') m m' k e e' h (after_same e e' d d' a s h.child alike key)
     (λ x i. is_guest a s x && both_precede (key i) (key_at x.list s)))
 
 -- what entitles an entrant to a school stays
-entitled_same : (m m' : Market) (k : ℕ) (e e' d d' : Candidate) (a : Allocation) (s : Code) → Differs m m' k e e' → RanksAlike a e e' → is_tenant d' s ≡ is_tenant d s → key_at d'.list s ≡ key_at d.list s
-    → (is_tenant d' s || (nat_lt (count_at m' a s) (quota_of m'.seats s) || list_any (ranks_after a s d') m'.entrants)) ≡ (is_tenant d s || (nat_lt (count_at m a s) (quota_of m.seats s) || list_any (ranks_after a s d) m.entrants))
+entitled_same : (m m' : Market) (k : ℕ) (e e' d d' : Candidate) (a : Allocation) (s : Code) → Differs m m' k e e' → RanksAlike a e e' → is_tenant d' s ≡ is_tenant d s
+    → key_at d'.list s ≡ key_at d.list s
+    → (is_tenant d' s || (nat_lt (count_at m' a s) (quota_of m'.seats s) || list_any (ranks_after a s d') m'.entrants)) ≡ (is_tenant d s
+    || (nat_lt (count_at m a s) (quota_of m.seats s) || list_any (ranks_after a s d) m.entrants))
 entitled_same m m' k e e' d d' a s h alike tenant key =
     let c = count_same m m' k e e' a s h in
     let r = some_after_same m m' k e e' d d' a s h alike key in
     λ i. tenant i || (nat_lt (c i) (quota_of (h.seats i) s) || r i)
 
 -- a pair of the entrant that differs stays unblocked, where it was preferred before
-pub unblocked_moves : (m m' : Market) (k : ℕ) (e e' : Candidate) (a : Allocation) (s : Code) → Differs m m' k e e' → RanksAlike a e e' → is_tenant e' s ≡ is_tenant e s → key_at e'.list s ≡ key_at e.list s → prefers a e s ≡ true → blocks m a e s ≡ false → blocks m' a e' s ≡ false
+pub unblocked_moves : (m m' : Market) (k : ℕ) (e e' : Candidate) (a : Allocation) (s : Code) → Differs m m' k e e' → RanksAlike a e e' → is_tenant e' s ≡ is_tenant e s
+    → key_at e'.list s ≡ key_at e.list s → prefers a e s ≡ true → blocks m a e s ≡ false → blocks m' a e' s ≡ false
 unblocked_moves m m' k e e' a s h alike tenant key wants unblocked =
     let now = entitled_same m m' k e e' e e' a s h alike tenant key in
     elim (cases_Bool (blocks m' a e' s)) [
@@ -139,7 +145,8 @@ unblocked_moves m m' k e e' a s h alike tenant key wants unblocked =
     ]
 
 -- An allocation stays stable, where the entrant ranks as before at the school that it has, and is content.
-pub stable_moves : (m m' : Market) (k : ℕ) (e e' : Candidate) (a : Allocation) → Differs m m' k e e' → RanksAlike a e e' → ((s : Code) → a e.child ≡ Some s → preference_rank e'.list s < length e'.list) → IsContent m' a e' → IsStable m a → IsStable m' a
+pub stable_moves : (m m' : Market) (k : ℕ) (e e' : Candidate) (a : Allocation) → Differs m m' k e e' → RanksAlike a e e'
+    → ((s : Code) → a e.child ≡ Some s → preference_rank e'.list s < length e'.list) → IsContent m' a e' → IsStable m a → IsStable m' a
 stable_moves m m' k e e' a h alike listed content stable = record {
   acceptable = All_at (λ x. IfSome (a x.child) (λ s. preference_rank x.list s < length x.list)) m'.entrants (λ j x xj. elim (cases_eq j k) [
     | inl is ↦

@@ -26,7 +26,10 @@ pub record Part (m : Market) (k : ℕ) (e e' : Candidate) : Type 0 where
   pub free : (j : ℕ) (w : Wish) → slice_get e'.list j ≡ Some w → is_tenant e' w.school ≡ false → is_tenant e w.school ≡ false
 
 -- an entrant of the changed problem, and the one whose index it has
-origin : (m m' : Market) (k : ℕ) (e e' : Candidate) → Differs m m' k e e' → Part m k e e' → (j : ℕ) (x : Candidate) → slice_get m'.entrants j ≡ Some x → (y : Candidate) × (slice_get m.entrants j ≡ Some y) × (x.child ≡ y.child) × ((i : ℕ) (w : Wish) → slice_get x.list i ≡ Some w → is_tenant x w.school ≡ false → ((n : ℕ) × (slice_get y.list n ≡ Some w)) × (is_tenant y w.school ≡ false)) × ((i : ℕ) (w : Wish) → slice_get x.list i ≡ Some w → (n : ℕ) × (slice_get y.list n ≡ Some w))
+origin : (m m' : Market) (k : ℕ) (e e' : Candidate) → Differs m m' k e e' → Part m k e e' → (j : ℕ) (x : Candidate) → slice_get m'.entrants j ≡ Some x
+    → (y : Candidate) × (slice_get m.entrants j ≡ Some y) × (x.child ≡ y.child)
+    × ((i : ℕ) (w : Wish) → slice_get x.list i ≡ Some w → is_tenant x w.school ≡ false → ((n : ℕ) × (slice_get y.list n ≡ Some w)) × (is_tenant y w.school ≡ false))
+    × ((i : ℕ) (w : Wish) → slice_get x.list i ≡ Some w → (n : ℕ) × (slice_get y.list n ≡ Some w))
 origin m m' k e e' h part j x xj = elim (cases_eq j k) [
   | inl is ↦
       let x_is : e' ≡ x = same_Some e' x (sym h.here' ∙ (ap (slice_get m'.entrants) (sym is) ∙ xj)) in (
@@ -141,7 +144,9 @@ one_content m a e w s is at = λ t.
 
 -- The school s, of which c is no tenant, is before what the best allocation gives c. Then no list of c leads to
 -- a stable allocation that gives it s.
-pub never_gained : (m m' : Market) (k : ℕ) (e e' : Candidate) (b a : Allocation) (w : Wish) → Differs m m' k e e' → Distinct m → Seated m → IsBest m b → IsStable m' a → Wanted m k e (preference_rank e.list w.school) w → a e.child ≡ Some w.school → is_tenant e' w.school ≡ false → key_at e'.list w.school ≡ Some w.key → preference_rank e.list w.school < assigned_rank e.list (b e.child) → ⊥
+pub never_gained : (m m' : Market) (k : ℕ) (e e' : Candidate) (b a : Allocation) (w : Wish) → Differs m m' k e e' → Distinct m → Seated m → IsBest m b → IsStable m' a
+    → Wanted m k e (preference_rank e.list w.school) w → a e.child ≡ Some w.school → is_tenant e' w.school ≡ false → key_at e'.list w.school ≡ Some w.key
+    → preference_rank e.list w.school < assigned_rank e.list (b e.child) → ⊥
 never_gained m m' k e e' b a w h d seated best stable wanted at free' key' gain =
     let s = w.school in
     let n = preference_rank e.list s in
@@ -173,7 +178,12 @@ never_gained m m' k e e' b a w h d seated best stable wanted at free' key' gain 
       | inl out ↦
           let back = differs_on m m2 m1 k e e2 e1 h2 h1 in
           let nothing : RanksAlike b2.0 e2 e1 = λ t is. absurd (none-some t (sym out ∙ is)) in
-          let wants : prefers b2.0 e2 s ≡ true = lt-ltb _ _ (omega (arith, p2.own_rank n w (front_at e.list n w wanted.at), ap (assigned_rank e2.list) out, slice_get_within e2.list n w (front_at e.list n w wanted.at))) in
+          let wants : prefers b2.0 e2 s ≡ true = lt-ltb _ _ (omega (
+            arith,
+            p2.own_rank n w (front_at e.list n w wanted.at),
+            ap (assigned_rank e2.list) out,
+            slice_get_within e2.list n w (front_at e.list n w wanted.at),
+          )) in
           let unblocked : blocks m2 b2.0 e2 s ≡ false = at_All (IsContent m2 b2.0) m2.entrants k e2 b2.1.stable.unblocked h2.here' s in
           let content : IsContent m1 b2.0 e1 = λ t. elim (cases_Bool (prefers b2.0 e1 t)) [
             | inr unblocked' ↦ and_left (prefers b2.0 e1 t) _ unblocked'
@@ -213,7 +223,8 @@ never_gained m m' k e e' b a w h d seated best stable wanted at free' key' gain 
                 unblocked_moves m2 m k e2 e b2.0 u back alike2 (free_at u u_early) (sym (key_take e.list (n + 1) u u_early)) wants2 unblocked2
           ] in
           let c2 : IsStable m b2.0 = stable_moves m2 m k e2 e b2.0 back alike2 listed2 content b2.1.stable in
-          let least : assigned_rank e.list (b e.child) ≤ assigned_rank e.list (b2.0 e.child) = at_All (λ x. assigned_rank x.list (b x.child) ≤ assigned_rank x.list (b2.0 x.child)) m.entrants k e (best.none_better b2.0 c2) wanted.here in
+          let least : assigned_rank e.list (b e.child) ≤ assigned_rank e.list (b2.0 e.child) = at_All
+          (λ x. assigned_rank x.list (b x.child) ≤ assigned_rank x.list (b2.0 x.child)) m.entrants k e (best.none_better b2.0 c2) wanted.here in
           omega (arith, least, t_rank, early, gain)
     ]
   where
@@ -236,7 +247,8 @@ pub record Listing (e e' : Candidate) : Type 0 where
 
 -- Whatever such list the child hands in: no stable allocation of that problem gives it a school before the one
 -- that it has in the best allocation.
-pub no_gain : (m m' : Market) (k : ℕ) (e e' : Candidate) (b a : Allocation) → Differs m m' k e e' → Listing e e' → Distinct m → Seated m → ((s : Code) → is_tenant e s ≡ true → preference_rank e.list s + 1 ≡ length e.list) → IsBest m b → IsStable m' a → assigned_rank e.list (b e.child) ≤ assigned_rank e.list (a e.child)
+pub no_gain : (m m' : Market) (k : ℕ) (e e' : Candidate) (b a : Allocation) → Differs m m' k e e' → Listing e e' → Distinct m → Seated m
+    → ((s : Code) → is_tenant e s ≡ true → preference_rank e.list s + 1 ≡ length e.list) → IsBest m b → IsStable m' a → assigned_rank e.list (b e.child) ≤ assigned_rank e.list (a e.child)
 no_gain m m' k e e' b a h listing d seated tenant_last best stable = elim (given_or_not (a e.child)) [
   | inl out ↦ omega (arith, rank_within e.list (b e.child), ap (assigned_rank e.list) out)
   | inr given ↦

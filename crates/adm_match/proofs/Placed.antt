@@ -23,7 +23,8 @@ on_list m a k e s h ek at =
     (at_All (λ e. IfSome (a e.child) (λ t. preference_rank e.list t < length e.list)) m.entrants k e h ek)
 
 -- the test of a block, from its parts
-pub blocks_from : (m : Market) (a : Allocation) (e : Candidate) (s : Code) → prefers a e s ≡ true → (is_tenant e s || (nat_lt (count_at m a s) (quota_of m.seats s) || list_any (ranks_after a s e) m.entrants)) ≡ true → blocks m a e s ≡ true
+pub blocks_from : (m : Market) (a : Allocation) (e : Candidate) (s : Code) → prefers a e s ≡ true
+    → (is_tenant e s || (nat_lt (count_at m a s) (quota_of m.seats s) || list_any (ranks_after a s e) m.entrants)) ≡ true → blocks m a e s ≡ true
 blocks_from m a e s p q = and_from (prefers a e s) _ p q
 
 -- a pair that is preferred and does not block: its school is full, and the entrant is no tenant of it
@@ -40,11 +41,13 @@ full_if_unblocked m a e s p unblocked =
     (parts.0, ltb-false _ _ full.0)
 
 -- what differs in the best allocation is preferred there
-pub prefers_best : (m : Market) (best a : Allocation) (k : ℕ) (e : Candidate) (s : Code) → IsBest m best → IsStable m a → slice_get m.entrants k ≡ Some e → best e.child ≡ Some s → (a e.child ≡ Some s → ⊥) → prefers a e s ≡ true
+pub prefers_best : (m : Market) (best a : Allocation) (k : ℕ) (e : Candidate) (s : Code) → IsBest m best → IsStable m a → slice_get m.entrants k ≡ Some e
+    → best e.child ≡ Some s → (a e.child ≡ Some s → ⊥) → prefers a e s ≡ true
 prefers_best m best a k e s b h ek at other =
     let inside = on_list m best k e s b.stable.acceptable ek at in
     let w = wish_at_rank e.list s inside in
-    let least : assigned_rank e.list (best e.child) ≤ assigned_rank e.list (a e.child) = at_All (λ e. assigned_rank e.list (best e.child) ≤ assigned_rank e.list (a e.child)) m.entrants k e (b.none_better a h) ek in
+    let least : assigned_rank e.list (best e.child) ≤ assigned_rank e.list (a e.child) = at_All
+    (λ e. assigned_rank e.list (best e.child) ≤ assigned_rank e.list (a e.child)) m.entrants k e (b.none_better a h) ek in
     let here : assigned_rank e.list (best e.child) ≡ preference_rank e.list s = ap (assigned_rank e.list) at in
     let apart : assigned_rank e.list (a e.child) ≡ preference_rank e.list s → ⊥ = λ same. other (same_rank e.list (a e.child) (preference_rank e.list s) w.0 w.1 same ∙ ap Some w.2) in
     lt-ltb _ _ (omega (arith, least, here, apart))
@@ -88,7 +91,13 @@ swap_sums a seats [] = sum_zero seats
 swap_sums a seats (e ∷ es) =
     let split : sum_by (λ seat. count_by (λ x. has (a x.child) seat.code) (e ∷ es)) seats ≡ sum_by (λ seat. one_if (has (a e.child) seat.code) + count_by (λ x. has (a x.child) seat.code) es) seats
     = ap (λ (f : Seats → ℕ). sum_by f seats) (λ i seat. sum_by-cons (λ (x : Candidate). one_if (has (a x.child) seat.code)) e es i) in
-    omega (arith, split, sum_plus (λ (seat : Seats). one_if (has (a e.child) seat.code)) (λ seat. count_by (λ x. has (a x.child) seat.code) es) seats, swap_sums a seats es, sum_by-cons (λ (x : Candidate). at_seats seats (a x.child)) e es)
+    omega (
+      arith,
+      split,
+      sum_plus (λ (seat : Seats). one_if (has (a e.child) seat.code)) (λ seat. count_by (λ x. has (a x.child) seat.code) es) seats,
+      swap_sums a seats es,
+      sum_by-cons (λ (x : Candidate). at_seats seats (a x.child)) e es,
+    )
 
 none_of : (x : Seats) (t : Code) (xs : List Seats) → t ≡ x.code → list_any (same_code x) xs ≡ false → at_seats xs (Some t) ≡ 0
 none_of x t [] is h = refl
@@ -154,7 +163,8 @@ pub placed_upto : (m : Market) (a : Allocation) → Seated m → sum_by (λ e. a
 placed_upto m a h = sum_upto (λ e. at_seats m.seats (a e.child)) (λ e. one_if (placed a e)) m.entrants (λ e. seats_once m.seats (a e.child) h.once)
 
 -- a test that passes wherever another one does, and once more, passes more often
-pub count_less : {X : Type 0} (p q : X → Bool) (xs : List X) (k : ℕ) (x : X) → ((j : ℕ) (y : X) → slice_get xs j ≡ Some y → q y ≡ true → p y ≡ true) → slice_get xs k ≡ Some x → p x ≡ true → q x ≡ false → count_by q xs < count_by p xs
+pub count_less : {X : Type 0} (p q : X → Bool) (xs : List X) (k : ℕ) (x : X) → ((j : ℕ) (y : X) → slice_get xs j ≡ Some y → q y ≡ true → p y ≡ true)
+    → slice_get xs k ≡ Some x → p x ≡ true → q x ≡ false → count_by q xs < count_by p xs
 count_less p q xs k x all at in' out = elim (cases_lt (count_by q xs) (count_by p xs)) [
   | inl less ↦ less
   | inr most ↦ absurd (differ p q xs (upto p q xs all) most k x at in' out)
@@ -175,7 +185,8 @@ count_less p q xs k x all at in' out = elim (cases_lt (count_by q xs) (count_by 
           ]
         ]
 
-    differ : {X : Type 0} (p q : X → Bool) (xs : List X) → ((j : ℕ) (y : X) → slice_get xs j ≡ Some y → q y ≡ true → p y ≡ true) → count_by p xs ≤ count_by q xs → (k : ℕ) (x : X) → slice_get xs k ≡ Some x → p x ≡ true → q x ≡ false → ⊥
+    differ : {X : Type 0} (p q : X → Bool) (xs : List X) → ((j : ℕ) (y : X) → slice_get xs j ≡ Some y → q y ≡ true → p y ≡ true) → count_by p xs ≤ count_by q xs
+        → (k : ℕ) (x : X) → slice_get xs k ≡ Some x → p x ≡ true → q x ≡ false → ⊥
     differ p q [] h most k x at in' out = none-some x at
     differ p q (y ∷ ys) h most zero x at in' out =
         let same : y ≡ x = same_Some y x at in
@@ -191,12 +202,14 @@ count_less p q xs k x all at in' out = elim (cases_lt (count_by q xs) (count_by 
         differ p q ys (λ j z a t. h (suc j) z a t) rest k x at in' out
 
 -- who is placed in a stable allocation is placed in the best one
-pub placed_in_best : (m : Market) (best a : Allocation) → IsBest m best → IsStable m a → (k : ℕ) (e : Candidate) → slice_get m.entrants k ≡ Some e → is_some (a e.child) ≡ true → is_some (best e.child) ≡ true
+pub placed_in_best : (m : Market) (best a : Allocation) → IsBest m best → IsStable m a → (k : ℕ) (e : Candidate) → slice_get m.entrants k ≡ Some e
+    → is_some (a e.child) ≡ true → is_some (best e.child) ≡ true
 placed_in_best m best a b h k e ek in' =
     let s = some_of (a e.child) in' in
     let inside = on_list m a k e s.0 h.acceptable ek s.1 in
     let there : assigned_rank e.list (a e.child) ≡ preference_rank e.list s.0 = ap (assigned_rank e.list) s.1 in
-    let least : assigned_rank e.list (best e.child) ≤ assigned_rank e.list (a e.child) = at_All (λ e. assigned_rank e.list (best e.child) ≤ assigned_rank e.list (a e.child)) m.entrants k e (b.none_better a h) ek in
+    let least : assigned_rank e.list (best e.child) ≤ assigned_rank e.list (a e.child) = at_All
+    (λ e. assigned_rank e.list (best e.child) ≤ assigned_rank e.list (a e.child)) m.entrants k e (b.none_better a h) ek in
     elim (cases_Bool (is_some (best e.child))) [
       | inl t ↦ t
       | inr f ↦ absurd (omega (arith, inside, there, least, ap (assigned_rank e.list) (none_if (best e.child) f)))
@@ -207,15 +220,18 @@ placed_in_best m best a b h k e ek in' =
     none_if (Some s) h = absurd (true≢false h)
 
 -- and the other way round
-pub placed_in_all : (m : Market) (best a : Allocation) → Seated m → IsBest m best → IsStable m a → (k : ℕ) (e : Candidate) → slice_get m.entrants k ≡ Some e → is_some (best e.child) ≡ true → is_some (a e.child) ≡ true
+pub placed_in_all : (m : Market) (best a : Allocation) → Seated m → IsBest m best → IsStable m a → (k : ℕ) (e : Candidate) → slice_get m.entrants k ≡ Some e
+    → is_some (best e.child) ≡ true → is_some (a e.child) ≡ true
 placed_in_all m best a seated b h k e ek in' = elim (cases_Bool (is_some (a e.child))) [
   | inl t ↦ t
   | inr out ↦ absurd (
       let fewer = count_less (placed best) (placed a) m.entrants k e (λ j y jy t. placed_in_best m best a b h j y jy t) ek in' out in
-      let schools : sum_by (λ seat. count_at m best seat.code) m.seats ≤ sum_by (λ seat. count_at m a seat.code) m.seats = sum_upto (λ (seat : Seats). count_at m best seat.code) (λ seat. count_at m a seat.code) m.seats (λ seat. no_more m best a seat.code b h) in
+      let schools : sum_by (λ seat. count_at m best seat.code) m.seats ≤ sum_by (λ seat. count_at m a seat.code) m.seats = sum_upto
+      (λ (seat : Seats). count_at m best seat.code) (λ seat. count_at m a seat.code) m.seats (λ seat. no_more m best a seat.code b h) in
       omega (arith, fewer, schools, placed_from m best seated b.stable.acceptable, placed_upto m a seated, swap_sums best m.seats m.entrants, swap_sums a m.seats m.entrants))
 ]
 
 -- all stable allocations place the same children
-pub same_placed : (m : Market) (best a a' : Allocation) → Seated m → IsBest m best → IsStable m a → IsStable m a' → (k : ℕ) (e : Candidate) → slice_get m.entrants k ≡ Some e → is_some (a e.child) ≡ true → is_some (a' e.child) ≡ true
+pub same_placed : (m : Market) (best a a' : Allocation) → Seated m → IsBest m best → IsStable m a → IsStable m a' → (k : ℕ) (e : Candidate)
+    → slice_get m.entrants k ≡ Some e → is_some (a e.child) ≡ true → is_some (a' e.child) ≡ true
 same_placed m best a a' seated b h h' k e ek t = placed_in_all m best a' seated b h' k e ek (placed_in_best m best a b h k e ek t)

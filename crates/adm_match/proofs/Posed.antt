@@ -89,7 +89,8 @@ pub precedes_total' : (a b : RankKey) → is_key (Some a) b ≡ false → preced
 precedes_total' a b n p = grind (arith, nat_tests)
 
 -- two that share no rank have different keys at a school of the first one's list
-pub keys_apart : (one other : Candidate) (j : ℕ) (w : Wish) → share_rank one other ≡ false → slice_get one.list j ≡ Some w → is_tenant one w.school ≡ false → is_tenant other w.school ≡ false → is_key (key_at other.list w.school) w.key ≡ false
+pub keys_apart : (one other : Candidate) (j : ℕ) (w : Wish) → share_rank one other ≡ false → slice_get one.list j ≡ Some w → is_tenant one w.school ≡ false
+    → is_tenant other w.school ≡ false → is_key (key_at other.list w.school) w.key ≡ false
 keys_apart one other j w h jw free free' =
     let test : Wish → Bool = λ wish. is_key (key_at other.list wish.school) wish.key && (not (is_tenant one wish.school) && not (is_tenant other wish.school)) in
     let none : test w ≡ false = list_any_not test one.list j w h jw in
@@ -99,7 +100,9 @@ keys_apart one other j w h jw free free' =
     ]
 
 -- two guests of a school, in the order of the entrants
-pub ranked_by : (m : Market) → Posed m → (s : Code) (k l : ℕ) (d c : Candidate) (j i : ℕ) (w z : Wish) → k < l → slice_get m.entrants k ≡ Some d → slice_get m.entrants l ≡ Some c → slice_get d.list j ≡ Some w → slice_get c.list i ≡ Some z → w.school ≡ s → z.school ≡ s → is_tenant d s ≡ false → is_tenant c s ≡ false → (key_at d.list s ≡ Some w.key) × (key_at c.list s ≡ Some z.key) × (is_key (Some z.key) w.key ≡ false)
+pub ranked_by : (m : Market) → Posed m → (s : Code) (k l : ℕ) (d c : Candidate) (j i : ℕ) (w z : Wish) → k < l → slice_get m.entrants k ≡ Some d
+    → slice_get m.entrants l ≡ Some c → slice_get d.list j ≡ Some w → slice_get c.list i ≡ Some z → w.school ≡ s → z.school ≡ s → is_tenant d s ≡ false
+    → is_tenant c s ≡ false → (key_at d.list s ≡ Some w.key) × (key_at c.list s ≡ Some z.key) × (is_key (Some z.key) w.key ≡ false)
 ranked_by m h s k l d c j i w z less dk cl jw iz ws zs free free' =
     let d_key : key_at d.list s ≡ Some w.key = subst (λ (t : Code). key_at d.list t ≡ Some w.key) ws (key_is d.list j w (list_apart m h k d dk) jw) in
     let c_key : key_at c.list s ≡ Some z.key = subst (λ (t : Code). key_at c.list t ≡ Some z.key) zs (key_is c.list i z (list_apart m h l c cl) iz) in

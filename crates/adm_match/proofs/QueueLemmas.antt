@@ -48,7 +48,8 @@ is_pushed : (k : ℕ) (xs : List ℕ) (y : ℕ) → y ≡ k → list_any (λ q. 
 is_pushed k xs y h = list_any-append (λ q. q == k) xs (y ∷ []) ∙ or_right (list_any (λ q. q == k) xs) _ (or_left (y == k) false (eq-eqb y k h))
 
 -- the entrant that the test finds free is free, and no other
-pub free_if : (es : List Candidate) (rows : List Progress) (k : ℕ) (e : Candidate) (r : Progress) → slice_get es k ≡ Some e → slice_get rows k ≡ Some r → (is_none r.school && nat_lt r.rejections (length e.list)) ≡ true → IsFree es rows k
+pub free_if : (es : List Candidate) (rows : List Progress) (k : ℕ) (e : Candidate) (r : Progress) → slice_get es k ≡ Some e → slice_get rows k ≡ Some r
+    → (is_none r.school && nat_lt r.rejections (length e.list)) ≡ true → IsFree es rows k
 free_if es rows k e r ek rk h =
     let parts = and_parts (is_none r.school) (nat_lt r.rejections (length e.list)) h in
     (e, r, ek, rk, none_of r.school parts.0, ltb-true _ _ parts.1)
@@ -57,7 +58,8 @@ free_if es rows k e r ek rk h =
     none_of None h = refl
     none_of (Some s) h = absurd (false≢true h)
 
-pub not_free_if : (es : List Candidate) (rows : List Progress) (k : ℕ) (e : Candidate) (r : Progress) → slice_get es k ≡ Some e → slice_get rows k ≡ Some r → (is_none r.school && nat_lt r.rejections (length e.list)) ≡ false → IsFree es rows k → ⊥
+pub not_free_if : (es : List Candidate) (rows : List Progress) (k : ℕ) (e : Candidate) (r : Progress) → slice_get es k ≡ Some e → slice_get rows k ≡ Some r
+    → (is_none r.school && nat_lt r.rejections (length e.list)) ≡ false → IsFree es rows k → ⊥
 not_free_if es rows k e r ek rk h f =
     let e_is : f.0 ≡ e = same_Some f.0 e (sym f.2 ∙ ek) in
     let r_is : f.1 ≡ r = same_Some f.1 r (sym f.3 ∙ rk) in
@@ -66,7 +68,8 @@ not_free_if es rows k e r ek rk h f =
     false≢true (sym h ∙ and_from (is_none r.school) (nat_lt r.rejections (length e.list)) none (lt-ltb _ _ less))
 
 -- an index that is not free is skipped
-pub skipped : (m : Market) (directory : Directory) (rows : List Progress) (schools : List Holding) (index : ℕ) (queue rest : List ℕ) → BetweenTurns m directory rows schools queue → queue ≡ index ∷ rest → (IsFree m.entrants rows index → ⊥) → BetweenTurns m directory rows schools rest
+pub skipped : (m : Market) (directory : Directory) (rows : List Progress) (schools : List Holding) (index : ℕ) (queue rest : List ℕ)
+    → BetweenTurns m directory rows schools queue → queue ≡ index ∷ rest → (IsFree m.entrants rows index → ⊥) → BetweenTurns m directory rows schools rest
 skipped m directory rows schools index queue rest h is not_free =
     let q : Queued m.entrants rows (index ∷ rest) = subst (λ (x : List ℕ). Queued m.entrants rows x) is h.queued in
     record {
@@ -80,7 +83,8 @@ skipped m directory rows schools index queue rest h is not_free =
     }
 
 -- nobody was rejected
-pub nobody_back : (m : Market) (directory : Directory) (old new : List Progress) (schools now : List Holding) (index : ℕ) (queue rest : List ℕ) → BetweenTurns m directory old schools queue → queue ≡ index ∷ rest → Turned m old new now index None → BetweenTurns m directory new now rest
+pub nobody_back : (m : Market) (directory : Directory) (old new : List Progress) (schools now : List Holding) (index : ℕ) (queue rest : List ℕ)
+    → BetweenTurns m directory old schools queue → queue ≡ index ∷ rest → Turned m old new now index None → BetweenTurns m directory new now rest
 nobody_back m directory old new schools now index queue rest h is t =
     let q : Queued m.entrants old (index ∷ rest) = subst (λ (x : List ℕ). Queued m.entrants old x) is h.queued in
     record {
@@ -97,7 +101,8 @@ nobody_back m directory old new schools now index queue rest h is t =
     }
 
 -- the one who was rejected joins the queue
-pub one_back : (m : Market) (directory : Directory) (old new : List Progress) (schools now : List Holding) (index back_at : ℕ) (queue rest queue' : List ℕ) → BetweenTurns m directory old schools queue → queue ≡ index ∷ rest → Turned m old new now index (Some back_at) → queue' ≡ rest ++ back_at ∷ [] → BetweenTurns m directory new now queue'
+pub one_back : (m : Market) (directory : Directory) (old new : List Progress) (schools now : List Holding) (index back_at : ℕ) (queue rest queue' : List ℕ)
+    → BetweenTurns m directory old schools queue → queue ≡ index ∷ rest → Turned m old new now index (Some back_at) → queue' ≡ rest ++ back_at ∷ [] → BetweenTurns m directory new now queue'
 one_back m directory old new schools now index back_at queue rest queue' h is t pushed =
     let q : Queued m.entrants old (index ∷ rest) = subst (λ (x : List ℕ). Queued m.entrants old x) is h.queued in
     subst (λ (x : List ℕ). BetweenTurns m directory new now x) (sym pushed) (record {
@@ -113,19 +118,22 @@ one_back m directory old new schools now index back_at queue rest queue' h is t 
       };
     })
 
-pub some_back : (m : Market) (directory : Directory) (old new : List Progress) (schools now : List Holding) (index : ℕ) (out : Option ℕ) (queue rest queue' : List ℕ) → BetweenTurns m directory old schools queue → queue ≡ index ∷ rest → Turned m old new now index out → queue' ≡ rest ++ option_to_list out → BetweenTurns m directory new now queue'
+pub some_back : (m : Market) (directory : Directory) (old new : List Progress) (schools now : List Holding) (index : ℕ) (out : Option ℕ) (queue rest queue' : List ℕ)
+    → BetweenTurns m directory old schools queue → queue ≡ index ∷ rest → Turned m old new now index out → queue' ≡ rest ++ option_to_list out → BetweenTurns m directory new now queue'
 some_back m directory old new schools now index None queue rest queue' h is t pushed =
     subst (λ (x : List ℕ). BetweenTurns m directory new now x) (sym (pushed ∙ append-nil rest)) (nobody_back m directory old new schools now index queue rest h is t)
 some_back m directory old new schools now index (Some back_at) queue rest queue' h is t pushed =
     one_back m directory old new schools now index back_at queue rest queue' h is t pushed
 
 -- the index that leaves the queue is one of an entrant
-pub queued_within : (m : Market) (directory : Directory) (rows : List Progress) (schools : List Holding) (index : ℕ) (queue rest : List ℕ) → BetweenTurns m directory rows schools queue → queue ≡ index ∷ rest → index < length m.entrants
+pub queued_within : (m : Market) (directory : Directory) (rows : List Progress) (schools : List Holding) (index : ℕ) (queue rest : List ℕ)
+    → BetweenTurns m directory rows schools queue → queue ≡ index ∷ rest → index < length m.entrants
 queued_within m directory rows schools index queue rest h is =
     first_of_all (λ x. x < length m.entrants) index rest (subst (λ (x : List ℕ). All (λ x. x < length m.entrants) x) is h.queued.within)
 
 -- where the queue is empty no turn remains
-pub empty_done : (m : Market) (directory : Directory) (rows : List Progress) (schools : List Holding) (queue : List ℕ) → BetweenTurns m directory rows schools queue → queue ≡ [] → AllDone m.entrants rows
+pub empty_done : (m : Market) (directory : Directory) (rows : List Progress) (schools : List Holding) (queue : List ℕ) → BetweenTurns m directory rows schools queue
+    → queue ≡ [] → AllDone m.entrants rows
 empty_done m directory rows schools queue h is k e r ek rk none = elim (cases_lt r.rejections (length e.list)) [
   | inr most ↦ most
   | inl less ↦ absurd (false≢true (ap (list_any (λ q. q == k)) (sym is) ∙ h.queued.waiting k (e, r, ek, rk, none, less)))
@@ -143,14 +151,17 @@ no_guests : (es : List Candidate) (s : Code) → guests_of es (map start_of es) 
 no_guests [] s = refl
 no_guests (e ∷ es) s = no_guests es s
 
-pub between_turns_first : (m : Market) (directory : Directory) (rows : List Progress) (schools : List Holding) (queue : List ℕ) → FindsMarket m directory → rows ≡ map start_of m.entrants → schools ≡ map nobody_held m.seats → ((k : ℕ) → k < length m.entrants → list_any (λ q. q == k) queue ≡ true) → All (λ q. q < length m.entrants) queue → BetweenTurns m directory rows schools queue
+pub between_turns_first : (m : Market) (directory : Directory) (rows : List Progress) (schools : List Holding) (queue : List ℕ) → FindsMarket m directory
+    → rows ≡ map start_of m.entrants → schools ≡ map nobody_held m.seats → ((k : ℕ) → k < length m.entrants → list_any (λ q. q == k) queue ≡ true)
+    → All (λ q. q < length m.entrants) queue → BetweenTurns m directory rows schools queue
 between_turns_first m directory rows schools queue directs rows_is schools_is waiting within = record {
   directs = directs;
   sound = subst (λ (x : List Progress). Sound m x) (sym rows_is) (starts m);
   mirrored = record {
     same = ap length schools_is ∙ length_of m.seats;
     each = λ j seat held at there.
-        let held_is : nobody_held seat ≡ held = same_Some (nobody_held seat) held (sym (slice_get-map nobody_held m.seats j ∙ ap (option_map nobody_held) at) ∙ (ap (λ (x : List Holding). slice_get x j) (sym schools_is) ∙ there)) in
+        let held_is : nobody_held seat ≡ held = same_Some (nobody_held seat) held (sym (slice_get-map nobody_held m.seats j ∙ ap (option_map nobody_held) at)
+        ∙ (ap (λ (x : List Holding). slice_get x j) (sym schools_is) ∙ there)) in
         subst (λ (k : Holding). IsMirror m rows seat k) held_is (record {
           quota = refl;
           count = sym (ap (λ (x : List Progress). held_at x seat.code) rows_is ∙ none_held m.entrants seat.code);
@@ -165,7 +176,8 @@ between_turns_first m directory rows schools queue directs rows_is schools_is wa
     length_of (s ∷ ss) = ap suc (length_of ss)
 
 -- one more index is lined up
-pub line_more : (n i : ℕ) (old new : List ℕ) → i < n → ((k : ℕ) → k < i → list_any (λ q. q == k) old ≡ true) × All (λ q. q < n) old → new ≡ old ++ i ∷ [] → ((k : ℕ) → k < i + 1 → list_any (λ q. q == k) new ≡ true) × All (λ q. q < n) new
+pub line_more : (n i : ℕ) (old new : List ℕ) → i < n → ((k : ℕ) → k < i → list_any (λ q. q == k) old ≡ true) × All (λ q. q < n) old → new ≡ old ++ i ∷ []
+    → ((k : ℕ) → k < i + 1 → list_any (λ q. q == k) new ≡ true) × All (λ q. q < n) new
 line_more n i old new l h is = subst (λ (x : List ℕ). ((k : ℕ) → k < i + 1 → list_any (λ q. q == k) x ≡ true) × All (λ q. q < n) x) (sym is) (
   λ k lk. elim (cases_eq i k) [
     | inl same ↦ is_pushed k old i same
@@ -192,7 +204,8 @@ written n new old same is = rw (drop_all old (length new) same) (rw append-nil (
         all [] = refl
         all (x ∷ xs) = ap (λ (ys : List _). x ∷ ys) (all xs)
 
-pub between_turns_as : (m : Market) (directory : Directory) (rows' rows : List Progress) (schools' schools : List Holding) (queue : List ℕ) → rows' ≡ rows → schools' ≡ schools → BetweenTurns m directory rows schools queue → BetweenTurns m directory rows' schools' queue
+pub between_turns_as : (m : Market) (directory : Directory) (rows' rows : List Progress) (schools' schools : List Holding) (queue : List ℕ) → rows' ≡ rows
+    → schools' ≡ schools → BetweenTurns m directory rows schools queue → BetweenTurns m directory rows' schools' queue
 between_turns_as m directory rows' rows schools' schools queue r s h =
     subst (λ (x : List Progress). BetweenTurns m directory x schools' queue) (sym r) (subst (λ (x : List Holding). BetweenTurns m directory rows x queue) (sym s) h)
 

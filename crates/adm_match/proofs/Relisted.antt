@@ -33,7 +33,8 @@ changed_there child new (Some x) h = elim (cases_Bool (x.child == child)) [
   | inr miss ↦ ap (λ b. Some (cond b (new x) x)) miss
 ]
 
-pub differs_changed : (m : Market) (new : Candidate → Candidate) (k : ℕ) (e : Candidate) → Distinct m → slice_get m.entrants k ≡ Some e → (new e).child ≡ e.child → Differs m (record m { entrants = map (changed e.child new) m.entrants }) k e (new e)
+pub differs_changed : (m : Market) (new : Candidate → Candidate) (k : ℕ) (e : Candidate) → Distinct m → slice_get m.entrants k ≡ Some e → (new e).child ≡ e.child
+    → Differs m (record m { entrants = map (changed e.child new) m.entrants }) k e (new e)
 differs_changed m new k e d here child = record {
   seats = refl;
   same = length-map m.entrants (changed e.child new);
@@ -126,7 +127,8 @@ one_best_law m ok =
           same_thing m best.0 other k e (best.0 e.child) (other e.child) refl refl best.1.stable o.stable ek same),
     )
   where
-    same_thing : (m : Market) (a b : Allocation) (k : ℕ) (e : Candidate) (o p : Option Code) → a e.child ≡ o → b e.child ≡ p → IsStable m a → IsStable m b → slice_get m.entrants k ≡ Some e → assigned_rank e.list p ≡ assigned_rank e.list o → o ≡ p
+    same_thing : (m : Market) (a b : Allocation) (k : ℕ) (e : Candidate) (o p : Option Code) → a e.child ≡ o → b e.child ≡ p → IsStable m a → IsStable m b
+        → slice_get m.entrants k ≡ Some e → assigned_rank e.list p ≡ assigned_rank e.list o → o ≡ p
     same_thing m a b k e None None ao bp h g ek same = refl
     same_thing m a b k e None (Some t) ao bp h g ek same = absurd (omega (arith, same, on_list m b k e t g.acceptable ek bp))
     same_thing m a b k e (Some s) p ao bp h g ek same =

@@ -57,7 +57,8 @@ pub record SeenAll {K : Type 0} (cmp : K → K → Ordering) (keys : List K) (se
   pub held : (q : K) → contains cmp seen q ≡ list_any (λ key. is_eq (cmp key q)) (take n keys)
   pub apart : some_pair (λ a b. is_eq (cmp a b)) (take n keys) ≡ false
 
-pub seen_more : {K : Type 0} (cmp : K → K → Ordering) (keys : List K) (old new : BTreeSet K) (i : ℕ) (x : K) (added : Bool) → i < length keys → x ≡ get_or keys i x → SeenAll cmp keys old i → Updates cmp old new x true → added ≡ not (contains cmp old x) → added ≡ true → SeenAll cmp keys new (i + 1)
+pub seen_more : {K : Type 0} (cmp : K → K → Ordering) (keys : List K) (old new : BTreeSet K) (i : ℕ) (x : K) (added : Bool) → i < length keys → x ≡ get_or keys i x
+    → SeenAll cmp keys old i → Updates cmp old new x true → added ≡ not (contains cmp old x) → added ≡ true → SeenAll cmp keys new (i + 1)
 seen_more cmp keys old new i x added l at h up is fresh =
     let step = next_of keys i x l at in
     let absent : contains cmp old x ≡ false = not-true (contains cmp old x) (sym is ∙ fresh) in
@@ -70,7 +71,8 @@ seen_more cmp keys old new i x added l at h up is fresh =
     }
 
 -- a key that was there makes a pair
-pub seen_twice : {K : Type 0} (cmp : K → K → Ordering) (keys : List K) (old : BTreeSet K) (i : ℕ) (x : K) (added : Bool) → i < length keys → x ≡ get_or keys i x → SeenAll cmp keys old i → added ≡ not (contains cmp old x) → added ≡ false → true ≡ some_pair (λ a b. is_eq (cmp a b)) keys
+pub seen_twice : {K : Type 0} (cmp : K → K → Ordering) (keys : List K) (old : BTreeSet K) (i : ℕ) (x : K) (added : Bool) → i < length keys → x ≡ get_or keys i x
+    → SeenAll cmp keys old i → added ≡ not (contains cmp old x) → added ≡ false → true ≡ some_pair (λ a b. is_eq (cmp a b)) keys
 seen_twice cmp keys old i x added l at h is twice =
     let step = next_of keys i x l at in
     let there : contains cmp old x ≡ true = not-false (contains cmp old x) (sym is ∙ twice) in

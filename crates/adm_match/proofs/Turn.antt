@@ -16,7 +16,8 @@ use Rattle.adm_match.proofs.Departure.{leave, held_wish}
 use Rattle.adm_match.proofs.Posed.{posed, well_listed}
 
 -- a sum of smaller terms, index by index
-pub sum_beside : {X Y : Type 0} (f : X → ℕ) (g : Y → ℕ) (xs : List X) (ys : List Y) → length xs ≡ length ys → ((k : ℕ) (x : X) (y : Y) → slice_get xs k ≡ Some x → slice_get ys k ≡ Some y → f x ≤ g y) → sum_by f xs ≤ sum_by g ys
+pub sum_beside : {X Y : Type 0} (f : X → ℕ) (g : Y → ℕ) (xs : List X) (ys : List Y) → length xs ≡ length ys
+    → ((k : ℕ) (x : X) (y : Y) → slice_get xs k ≡ Some x → slice_get ys k ≡ Some y → f x ≤ g y) → sum_by f xs ≤ sum_by g ys
 sum_beside f g [] ys e h = omega arith
 sum_beside f g (x ∷ xs) [] e h = absurd (omega arith)
 sum_beside f g (x ∷ xs) (y ∷ ys) e h =
@@ -31,7 +32,8 @@ rejected_few : (m : Market) (rows : List Progress) → Shaped m rows → sum_by 
 rejected_few m rows h = sum_beside (λ r. r.rejections) (λ e. length e.list) rows m.entrants h.same (λ k r e rk ek. h.within k e r ek rk)
 
 -- one that proposes to a school is one less that no school holds
-pub turns_left_arrive : (m : Market) (rows : List Progress) (i : ℕ) (r : Progress) (s : Code) → Shaped m rows → slice_get rows i ≡ Some r → r.school ≡ None → turns_left m.entrants (set rows i (record r { school = Some s })) + 1 ≡ turns_left m.entrants rows
+pub turns_left_arrive : (m : Market) (rows : List Progress) (i : ℕ) (r : Progress) (s : Code) → Shaped m rows → slice_get rows i ≡ Some r → r.school ≡ None
+    → turns_left m.entrants (set rows i (record r { school = Some s })) + 1 ≡ turns_left m.entrants rows
 turns_left_arrive m rows i r s h at free =
     let v : Progress = record r { school = Some s } in
     let c = count_set (λ x. is_none x.school) rows i r v at in
@@ -40,7 +42,8 @@ turns_left_arrive m rows i r s h at free =
     omega (arith, c, was, same, rejected_few m rows h)
 
 -- one that is rejected has one school less
-pub turns_left_leave : (m : Market) (rows : List Progress) (k : ℕ) (q : Progress) (s : Code) → slice_get rows k ≡ Some q → q.school ≡ Some s → turns_left m.entrants (set rows k (record q { school = None; rejections = q.rejections + 1 })) ≡ turns_left m.entrants rows
+pub turns_left_leave : (m : Market) (rows : List Progress) (k : ℕ) (q : Progress) (s : Code) → slice_get rows k ≡ Some q → q.school ≡ Some s
+    → turns_left m.entrants (set rows k (record q { school = None; rejections = q.rejections + 1 })) ≡ turns_left m.entrants rows
 turns_left_leave m rows k q s at here =
     let v : Progress = record q { school = None; rejections = q.rejections + 1 } in
     let c = count_set (λ x. is_none x.school) rows k q v at in
@@ -68,7 +71,8 @@ starts m =
     }
 
 -- the wish that the code reads is the next one
-pub next_wish : (es : List Candidate) (rows : List Progress) (i : ℕ) (free : IsFree es rows i) (e : Candidate) (items : List Wish) (row : Progress) (w : Wish) → e ≡ get_or es i e → items ≡ e.list → w ≡ get_or items (get_or rows i row).rejections w → slice_get free.0.list free.1.rejections ≡ Some w
+pub next_wish : (es : List Candidate) (rows : List Progress) (i : ℕ) (free : IsFree es rows i) (e : Candidate) (items : List Wish) (row : Progress) (w : Wish)
+    → e ≡ get_or es i e → items ≡ e.list → w ≡ get_or items (get_or rows i row).rejections w → slice_get free.0.list free.1.rejections ≡ Some w
 next_wish es rows i free e items row w e_is list_is w_is =
     let e_same : e ≡ free.0 = e_is ∙ get_or_from_slice_get es i free.0 e free.2 in
     let row_same : get_or rows i row ≡ free.1 = get_or_from_slice_get rows i free.1 row free.3 in
@@ -77,14 +81,16 @@ next_wish es rows i free e items row w e_is list_is w_is =
     slice_get_read free.0.list (length free.0.list) free.1.rejections w refl free.5 read
 
 -- the entrant proposes to the school of its next wish
-pub came : (m : Market) (rows now : List Progress) (i : ℕ) (w : Wish) (free : IsFree m.entrants rows i) → Sound m rows → slice_get free.0.list free.1.rejections ≡ Some w → now ≡ set rows i (held_by free.1 w.school) → Arrived m now i w.school × (turns_left m.entrants now + 1 ≡ turns_left m.entrants rows)
+pub came : (m : Market) (rows now : List Progress) (i : ℕ) (w : Wish) (free : IsFree m.entrants rows i) → Sound m rows → slice_get free.0.list free.1.rejections ≡ Some w
+    → now ≡ set rows i (held_by free.1 w.school) → Arrived m now i w.school × (turns_left m.entrants now + 1 ≡ turns_left m.entrants rows)
 came m rows now i w free h next now_is = (
   subst (λ (x : List Progress). Arrived m x i w.school) (sym now_is) (arrive m rows i free.0 free.1 w h free.2 free.3 free.4 next),
   ap (λ (x : List Progress). turns_left m.entrants x + 1) now_is ∙ turns_left_arrive m rows i free.1 w.school h.shaped free.3 free.4,
 )
 
 -- the guest that ranks last leaves
-pub left_school : (m : Market) (rows now : List Progress) (i : ℕ) (s : Code) (k : ℕ) (last : IsLast m.entrants rows s k) → first_fault m ≡ None → Arrived m rows i s → quota_of m.seats s < held_at rows s → now ≡ set rows k (with_rejection last.1.1.0) → Sound m now × (turns_left m.entrants now ≡ turns_left m.entrants rows)
+pub left_school : (m : Market) (rows now : List Progress) (i : ℕ) (s : Code) (k : ℕ) (last : IsLast m.entrants rows s k) → first_fault m ≡ None → Arrived m rows i s
+    → quota_of m.seats s < held_at rows s → now ≡ set rows k (with_rejection last.1.1.0) → Sound m now × (turns_left m.entrants now ≡ turns_left m.entrants rows)
 left_school m rows now i s k last ok h over now_is =
     let g = last.1 in (
       subst (λ (x : List Progress). Sound m x) (sym now_is) (leave m rows i s k last.0 g.1.0 (well_listed m (posed m ok)) h g.0 g.1.1 g.1.2 g.2 over last.2),
@@ -92,7 +98,8 @@ left_school m rows now i s k last ok h over now_is =
     )
 
 -- the guest that ranks last has the school on its list
-pub last_listed : (m : Market) (rows : List Progress) (s : Code) (k : ℕ) (last : IsLast m.entrants rows s k) → Shaped m rows → (e : Candidate) (row : Progress) → e ≡ get_or m.entrants k e → slice_get rows k ≡ Some row → row.rejections < length e.list
+pub last_listed : (m : Market) (rows : List Progress) (s : Code) (k : ℕ) (last : IsLast m.entrants rows s k) → Shaped m rows → (e : Candidate) (row : Progress)
+    → e ≡ get_or m.entrants k e → slice_get rows k ≡ Some row → row.rejections < length e.list
 last_listed m rows s k last h e row e_is rk =
     let g = last.1 in
     let w = held_wish last.0 g.1.0 s (h.holds k last.0 g.1.0 g.0 g.1.1) g.1.2 in

@@ -1,9 +1,9 @@
 -- One turn of the queue: the rows, the schools' holdings and the queue after it.
-use Rattle.std.proofs.Common.{◌≡◌, ◌≢◌, ◌⊎◌, ℕ, ◌+◌, ◌<◌, ◌≤◌, List, [], ◌∷◌, ◌++◌, length, set, get_or, Option, None, Some, Bool, false, cond, not, ◌&&◌, inl, inr, refl, sym, ap, ◌∙◌, subst, arith, length-set}
+use Rattle.std.proofs.Common.{◌≡◌, ◌≢◌, ◌⊎◌, ℕ, ◌+◌, ◌<◌, ◌≤◌, List, [], ◌∷◌, ◌++◌, length, set, Option, None, Some, Bool, false, cond, not, ◌&&◌, inl, inr, refl, sym, ap, ◌∙◌, subst, arith, length-set}
 use Rattle.std.specs.Prelude.{option_map, unwrap_or, bytes_eq, count_by}
 use Rattle.std.specs.List.{slice_get}
 use Rattle.std.proofs.lemmas.Bool.{cases_Bool, cases_order, false≢true}
-use Rattle.std.proofs.lemmas.Option.{none-some, same_Some, slice_get_within, get_or_from_slice_get, slice_get_read}
+use Rattle.std.proofs.lemmas.Option.{none-some, same_Some, slice_get_within}
 use Rattle.std.proofs.lemmas.Slice.Eq.{bytes_eq-Decides}
 use Rattle.std.proofs.lemmas.List.Sorted.{length_permutation}
 use Rattle.std.proofs.lemmas.List.Sums.{sum_by-cons}
@@ -15,15 +15,14 @@ use Rattle.adm_match.specs.declared.progress.Progress.{Progress}
 use Rattle.adm_match.specs.Market.{Code, Candidate, Market, is_tenant, key_at, quota_of, some_pair, same_code}
 use Rattle.adm_match.specs.Turns.{held_at, Shaped, Sound, IsFree, IsLast, NoGuest, held_by, with_rejection}
 use Rattle.adm_match.specs.Distinct.{Distinct, Seated, ChildrenOnce}
-use Rattle.adm_match.specs.Holding.{Holding, tenants_with, guests_with, HoldsAll, Rejects, Considers, guest_entry, guests_of, SameBag}
-use Rattle.adm_match.specs.Queue.{StandsAt, SeatedAt, IsMirror, Mirrored, Turned}
+use Rattle.adm_match.specs.Holding.{Holding, Proposal, tenants_with, guests_with, HoldsAll, Rejects, Considers, guest_entry, guests_of, SameBag}
+use Rattle.adm_match.specs.Queue.{StandsAt, IsMirror, Mirrored, Turned}
 use Rattle.adm_match.proofs.SideBySide.{after_set}
-use Rattle.adm_match.proofs.RanksAndBlocks.{has_true, list_any_gives}
+use Rattle.adm_match.proofs.RanksAndBlocks.{has_true}
 use Rattle.adm_match.proofs.Arrival.{stay, held_set_more, held_set_less, held_set_other, none_has, other_has}
 use Rattle.adm_match.proofs.Departure.{leave, held_wish}
 use Rattle.adm_match.proofs.Posed.{some_pair_not}
-use Rattle.adm_match.proofs.Turn.{came, turns_left_leave, last_listed}
-use Rattle.adm_rank.specs.declared.keys.RankKey.{RankKey}
+use Rattle.adm_match.proofs.Turn.{came, turns_left_leave}
 use Rattle.adm_match.proofs.GivenByRows.{find_is}
 use Rattle.adm_match.proofs.Mirror.{entry_is, entry_none, guests_set, entry_behind, bag_of, bag_rest, bag_contains, last_from_heap}
 
@@ -45,15 +44,26 @@ quota_at m j seat h at =
     (λ i other less io. some_pair_not same_code m.seats i j other seat h.once io at less))
 
 -- a written row that names neither before nor after the school leaves its guests
-bag_other : (es : List Candidate) (rows : List Progress) (t : Code) (i : ℕ) (e : Candidate) (r v : Progress) → slice_get es i ≡ Some e → slice_get rows i ≡ Some r → has r.school t ≡ false → has v.school t ≡ false → SameBag (guests_of es (set rows i v) t) (guests_of es rows t)
+bag_other : (es : List Candidate) (rows : List Progress) (t : Code) (i : ℕ) (e : Candidate) (r v : Progress) → slice_get es i ≡ Some e → slice_get rows i ≡ Some r
+    → has r.school t ≡ false → has v.school t ≡ false → SameBag (guests_of es (set rows i v) t) (guests_of es rows t)
 bag_other es rows t i e r v ei ri was is p =
     let before : guest_entry e r t ≡ [] = entry_none e r t (ap (λ b. b && not (is_tenant e t)) was) in
     let after : guest_entry e v t ≡ [] = entry_none e v t (ap (λ b. b && not (is_tenant e t)) is) in
     let moved = bag_of _ _ (guests_set es rows t i e r v ei ri) p in
     sym ((λ k. count_by p (sym after k ++ guests_of es rows t)) ∙ (moved ∙ (λ k. count_by p (before k ++ guests_of es (set rows i v) t))))
 
+-- what an entrant proposes to the school of a wish, as a tenant of it or not
+abbrev proposed : Candidate → Wish → Bool → Proposal
+proposed e w tenant = record { child = e.child; key = w.key; tenant = tenant }
+
+abbrev pub proposal_of : Candidate → Wish → Proposal
+proposal_of e w = proposed e w (is_tenant e w.school)
+
 -- the newcomer's school: how many it holds now, and which guests
-came_here : (m : Market) (rows : List Progress) (i : ℕ) (e : Candidate) (r : Progress) (w : Wish) (seat : Seats) (old : Holding) → Distinct m → slice_get m.entrants i ≡ Some e → slice_get rows i ≡ Some r → r.school ≡ None → slice_get e.list r.rejections ≡ Some w → IsMirror m rows seat old → seat.code ≡ w.school → (length (tenants_with old e.child (is_tenant e w.school)) + length (guests_with old e.child w.key (is_tenant e w.school)) ≡ held_at (set rows i (held_by r w.school)) w.school) × SameBag (guests_of m.entrants (set rows i (held_by r w.school)) w.school) (guests_with old e.child w.key (is_tenant e w.school))
+pub came_here : (m : Market) (rows : List Progress) (i : ℕ) (e : Candidate) (r : Progress) (w : Wish) (seat : Seats) (old : Holding) → Distinct m
+    → slice_get m.entrants i ≡ Some e → slice_get rows i ≡ Some r → r.school ≡ None → slice_get e.list r.rejections ≡ Some w → IsMirror m rows seat old
+    → seat.code ≡ w.school → (length (tenants_with old (proposal_of e w)) + length (guests_with old (proposal_of e w)) ≡ held_at
+    (set rows i (held_by r w.school)) w.school) × SameBag (guests_of m.entrants (set rows i (held_by r w.school)) w.school) (guests_with old (proposal_of e w))
 came_here m rows i e r w seat old d ei ri free next mirror code =
     let s = w.school in
     let v = held_by r s in
@@ -67,14 +77,16 @@ came_here m rows i e r w seat old d ei ri free next mirror code =
     elim (cases_Bool (is_tenant e s)) [
       | inl tenant ↦
           let after : guest_entry e v s ≡ [] = entry_none e v s ((λ k. has v.school s && not (tenant k)) ∙ ap (λ b. b && false) (has_true v.school s refl)) in (
-            subst (λ b. length (tenants_with old e.child b) + length (guests_with old e.child w.key b) ≡ held_at now s) (sym tenant) (omega (arith, more, count, length_more old.tenants e.child)),
-            λ p. sym (moved p) ∙ ((λ k. count_by p (after k ++ guests_of m.entrants rows s)) ∙ (bag p ∙ (λ k. count_by p (guests_with old e.child w.key (sym tenant k))))),
+            subst (λ b. length (tenants_with old (proposed e w b)) + length (guests_with old (proposed e w b)) ≡ held_at now s) (sym tenant)
+                (omega (arith, more, count, length_more old.tenants e.child)),
+            λ p. sym (moved p) ∙ ((λ k. count_by p (after k ++ guests_of m.entrants rows s)) ∙ (bag p ∙ (λ k. count_by p (guests_with old (proposed e w (sym tenant k)))))),
           )
       | inr guest ↦
           let g : Guest = record { key = w.key; child = e.child } in
           let after : guest_entry e v s ≡ (g ∷ []) = entry_is e v s w.key refl guest (d.key_of i e r.rejections w ei next) in (
-            subst (λ b. length (tenants_with old e.child b) + length (guests_with old e.child w.key b) ≡ held_at now s) (sym guest) (omega (arith, more, count)),
-            λ p. sym (moved p) ∙ ((λ k. count_by p (after k ++ guests_of m.entrants rows s)) ∙ (one_more p g (guests_of m.entrants rows s) old.guests (bag p) ∙ (λ k. count_by p (guests_with old e.child w.key (sym guest k))))),
+            subst (λ b. length (tenants_with old (proposed e w b)) + length (guests_with old (proposed e w b)) ≡ held_at now s) (sym guest) (omega (arith, more, count)),
+            λ p. sym (moved p) ∙ ((λ k. count_by p (after k ++ guests_of m.entrants rows s))
+                ∙ (one_more p g (guests_of m.entrants rows s) old.guests (bag p) ∙ (λ k. count_by p (guests_with old (proposed e w (sym guest k)))))),
           )
     ]
   where
@@ -86,7 +98,8 @@ came_here m rows i e r w seat old d ei ri free next mirror code =
     one_more p g xs ys h = omega (arith, h, sum_by-cons (λ x. cond (p x) 1 0) g xs, sum_by-cons (λ x. cond (p x) 1 0) g ys)
 
 -- the mirror of a school at another index than the one written
-other_mirror : (m : Market) (rows : List Progress) (i : ℕ) (e : Candidate) (r v : Progress) (seat : Seats) (held : Holding) → slice_get m.entrants i ≡ Some e → slice_get rows i ≡ Some r → has r.school seat.code ≡ false → has v.school seat.code ≡ false → IsMirror m rows seat held → IsMirror m (set rows i v) seat held
+other_mirror : (m : Market) (rows : List Progress) (i : ℕ) (e : Candidate) (r v : Progress) (seat : Seats) (held : Holding) → slice_get m.entrants i ≡ Some e
+    → slice_get rows i ≡ Some r → has r.school seat.code ≡ false → has v.school seat.code ≡ false → IsMirror m rows seat held → IsMirror m (set rows i v) seat held
 other_mirror m rows i e r v seat held ei ri was is h = record {
   quota = h.quota;
   count = h.count ∙ sym (held_set_other rows i r v seat.code ri was is);
@@ -94,7 +107,9 @@ other_mirror m rows i e r v seat held ei ri was is h = record {
 }
 
 -- one school's holding is written
-mirrored_set : (m : Market) (rows now : List Progress) (schools : List Holding) (at : ℕ) (seat : Seats) (new : Holding) → Mirrored m rows schools → slice_get m.seats at ≡ Some seat → IsMirror m now seat new → ((j : ℕ) (other : Seats) (held : Holding) → j ≢ at → slice_get m.seats j ≡ Some other → IsMirror m rows other held → IsMirror m now other held) → Mirrored m now (set schools at new)
+mirrored_set : (m : Market) (rows now : List Progress) (schools : List Holding) (at : ℕ) (seat : Seats) (new : Holding) → Mirrored m rows schools
+    → slice_get m.seats at ≡ Some seat → IsMirror m now seat new
+    → ((j : ℕ) (other : Seats) (held : Holding) → j ≢ at → slice_get m.seats j ≡ Some other → IsMirror m rows other held → IsMirror m now other held) → Mirrored m now (set schools at new)
 mirrored_set m rows now schools at seat new h here mine rest = record {
   same = length-set schools at new ∙ h.same;
   each = λ j other held jo jk. elim (after_set schools at j new held jk) [
@@ -133,7 +148,8 @@ free_after_leaving es rows k q l f = elim (after_set rows k l (with_rejection q)
   | inr is ↦ inr (f.0, f.1, f.2, is.1, f.4, f.5)
 ]
 
-empty_bag : (es : List Candidate) (rows : List Progress) (s : Code) (gs : List Guest) (m : Market) → m.entrants ≡ es → Distinct m → Shaped m rows → SameBag (guests_of es rows s) gs → gs ≡ [] → NoGuest es rows s
+empty_bag : (es : List Candidate) (rows : List Progress) (s : Code) (gs : List Guest) (m : Market) → m.entrants ≡ es → Distinct m → Shaped m rows
+    → SameBag (guests_of es rows s) gs → gs ≡ [] → NoGuest es rows s
 empty_bag es rows s gs m es_is d shaped bag none k e g =
     let ek : slice_get m.entrants k ≡ Some e = ap (λ (x : List Candidate). slice_get x k) es_is ∙ g.0 in
     let z = held_wish e g.1.0 s (shaped.holds k e g.1.0 ek g.1.1) g.1.2 in
@@ -142,7 +158,8 @@ empty_bag es rows s gs m es_is d shaped bag none k e g =
     omega (arith, there.1, ap length none)
 
 -- nobody is rejected
-pub turn_holds : (m : Market) (rows now : List Progress) (schools : List Holding) (i at : ℕ) (e : Candidate) (r : Progress) (w : Wish) (seat : Seats) (old new : Holding) → Coming m rows schools i at e r w seat old → now ≡ set rows i (held_by r w.school) → Considers old new e.child w.key (is_tenant e w.school) None → Turned m rows now (set schools at new) i None
+pub turn_holds : (m : Market) (rows now : List Progress) (schools : List Holding) (i at : ℕ) (e : Candidate) (r : Progress) (w : Wish) (seat : Seats) (old new : Holding)
+    → Coming m rows schools i at e r w seat old → now ≡ set rows i (held_by r w.school) → Considers old new (proposal_of e w) None → Turned m rows now (set schools at new) i None
 turn_holds m rows now schools i at e r w seat old new c now_is considers =
     subst (λ (x : List Progress). Turned m rows x (set schools at new) i None) (sym now_is) (
     let s = w.school in
@@ -150,10 +167,10 @@ turn_holds m rows now schools i at e r w seat old new c now_is considers =
     let here = came m rows mid i w (e, r, c.entrant, c.row, c.free, c.less) c.sound c.next refl in
     let mine = came_here m rows i e r w seat old c.distinct c.entrant c.row c.free c.next (c.mirrored.each at seat old c.seat_at c.held_at) c.code in
     let quota : quota_of m.seats s ≡ old.quota = ap (quota_of m.seats) (sym c.code) ∙ (quota_at m at seat c.seated c.seat_at ∙ sym (c.mirrored.each at seat old c.seat_at c.held_at).quota) in
-    let holds : HoldsAll old new e.child w.key (is_tenant e s) = considers.guests in
+    let holds : HoldsAll old new (proposal_of e w) = considers.guests in
     let may_stay : (held_at mid s ≤ quota_of m.seats s) ⊎ NoGuest m.entrants mid s = elim holds.may_stay [
       | inl room ↦ inl (omega (arith, room, mine.0, quota))
-      | inr none ↦ inr (empty_bag m.entrants mid s (guests_with old e.child w.key (is_tenant e s)) m refl c.distinct here.0.shaped mine.1 none)
+      | inr none ↦ inr (empty_bag m.entrants mid s (guests_with old (proposal_of e w)) m refl c.distinct here.0.shaped mine.1 none)
     ] in
     record {
       sound = stay m mid i s here.0 may_stay;
@@ -175,14 +192,16 @@ pub record Leaving (m : Market) (mid : List Progress) (s : Code) (k : ℕ) (gues
   pub child : last.0.child ≡ guest.child
   pub key : key_at last.0.list s ≡ Some guest.key
 
-pub leaving : (m : Market) (rows mid : List Progress) (schools : List Holding) (i at : ℕ) (e : Candidate) (r : Progress) (w : Wish) (seat : Seats) (old new : Holding) (out out_at : ℕ) → Coming m rows schools i at e r w seat old → mid ≡ set rows i (held_by r w.school) → (considers : Considers old new e.child w.key (is_tenant e w.school) (Some out)) → StandsAt m.entrants out out_at → Leaving m mid w.school out_at considers.guests.last.guest
+pub leaving : (m : Market) (rows mid : List Progress) (schools : List Holding) (i at : ℕ) (e : Candidate) (r : Progress) (w : Wish) (seat : Seats) (old new : Holding)
+    (out out_at : ℕ) → Coming m rows schools i at e r w seat old → mid ≡ set rows i (held_by r w.school) → (considers : Considers old new (proposal_of e w) (Some out))
+    → StandsAt m.entrants out out_at → Leaving m mid w.school out_at considers.guests.last.guest
 leaving m rows mid schools i at e r w seat old new out out_at c mid_is considers stands =
     let s = w.school in
     let here = came m rows mid i w (e, r, c.entrant, c.row, c.free, c.less) c.sound c.next mid_is in
     let mine = came_here m rows i e r w seat old c.distinct c.entrant c.row c.free c.next (c.mirrored.each at seat old c.seat_at c.held_at) c.code in
-    let bag : SameBag (guests_of m.entrants mid s) (guests_with old e.child w.key (is_tenant e s)) = λ p. ap (λ (x : List Progress). count_by p (guests_of m.entrants x s)) mid_is ∙ mine.1 p in
-    let gone : Rejects old new e.child w.key (is_tenant e s) out = considers.guests in
-    let last = last_from_heap m mid s (guests_with old e.child w.key (is_tenant e s)) new.guests out c.distinct here.0.shaped bag gone.last in
+    let bag : SameBag (guests_of m.entrants mid s) (guests_with old (proposal_of e w)) = λ p. ap (λ (x : List Progress). count_by p (guests_of m.entrants x s)) mid_is ∙ mine.1 p in
+    let gone : Rejects old new (proposal_of e w) out = considers.guests in
+    let last = last_from_heap m mid s (guests_with old (proposal_of e w)) new.guests out c.distinct here.0.shaped bag gone.last in
     let same : last.0 ≡ out_at = one_index m.entrants c.distinct.children last.0 out_at last.1.0 stands.0 last.1.1.0 stands.1 (last.2 ∙ sym stands.2) in
     subst (λ k. Leaving m mid s k gone.last.guest) same (record { last = last.1; child = last.2 ∙ sym gone.last.is_child; key = last.3 })
   where
@@ -192,17 +211,20 @@ leaving m rows mid schools i at e r w seat old new out out_at c mid_is considers
       | inr other ↦ elim other [ inl less ↦ absurd (d i j a b ia jb less same) | inr more ↦ absurd (d j i b a jb ia more (sym same)) ]
     ]
 
-pub turn_rejects : (m : Market) (rows mid now : List Progress) (schools : List Holding) (i at : ℕ) (e : Candidate) (r : Progress) (w : Wish) (seat : Seats) (old new : Holding) (out k : ℕ) → Coming m rows schools i at e r w seat old → mid ≡ set rows i (held_by r w.school) → (considers : Considers old new e.child w.key (is_tenant e w.school) (Some out)) → (gone : Leaving m mid w.school k considers.guests.last.guest) → now ≡ set mid k (with_rejection gone.last.1.1.0) → Turned m rows now (set schools at new) i (Some k)
+pub turn_rejects : (m : Market) (rows mid now : List Progress) (schools : List Holding) (i at : ℕ) (e : Candidate) (r : Progress) (w : Wish) (seat : Seats)
+    (old new : Holding) (out k : ℕ) → Coming m rows schools i at e r w seat old → mid ≡ set rows i (held_by r w.school)
+    → (considers : Considers old new (proposal_of e w) (Some out)) → (gone : Leaving m mid w.school k considers.guests.last.guest)
+    → now ≡ set mid k (with_rejection gone.last.1.1.0) → Turned m rows now (set schools at new) i (Some k)
 turn_rejects m rows mid now schools i at e r w seat old new out k c mid_is considers gone now_is =
     let s = w.school in
     let here = came m rows mid i w (e, r, c.entrant, c.row, c.free, c.less) c.sound c.next mid_is in
     let mine = came_here m rows i e r w seat old c.distinct c.entrant c.row c.free c.next (c.mirrored.each at seat old c.seat_at c.held_at) c.code in
     let mirror = c.mirrored.each at seat old c.seat_at c.held_at in
     let quota : quota_of m.seats s ≡ old.quota = ap (quota_of m.seats) (sym c.code) ∙ (quota_at m at seat c.seated c.seat_at ∙ sym mirror.quota) in
-    let rejects : Rejects old new e.child w.key (is_tenant e s) out = considers.guests in
+    let rejects : Rejects old new (proposal_of e w) out = considers.guests in
     let guest = rejects.last.guest in
-    let all = guests_with old e.child w.key (is_tenant e s) in
-    let count : length (tenants_with old e.child (is_tenant e s)) + length all ≡ held_at mid s = mine.0 ∙ ap (λ (x : List Progress). held_at x s) (sym mid_is) in
+    let all = guests_with old (proposal_of e w) in
+    let count : length (tenants_with old (proposal_of e w)) + length all ≡ held_at mid s = mine.0 ∙ ap (λ (x : List Progress). held_at x s) (sym mid_is) in
     let bag : SameBag (guests_of m.entrants mid s) all = λ p. ap (λ (x : List Progress). count_by p (guests_of m.entrants x s)) mid_is ∙ mine.1 p in
     let d = gone.last.0 in
     let g = gone.last.1 in
@@ -214,7 +236,8 @@ turn_rejects m rows mid now schools i at e r w seat old new out k c mid_is consi
     let was_entry : guest_entry d q s ≡ (guest ∷ []) = entry_is d q s guest.key g.1.2 g.2 gone.key ∙ (λ l. record { key = guest.key; child = gone.child l } ∷ []) in
     let no_entry : guest_entry d v s ≡ [] = entry_none d v s refl in
     let split : SameBag (guests_of m.entrants mid s) (guest ∷ guests_of m.entrants after s)
-    = λ p. (λ l. count_by p (sym no_entry l ++ guests_of m.entrants mid s)) ∙ (bag_of _ _ (guests_set m.entrants mid s k d q v g.0 g.1.1) p ∙ (λ l. count_by p (was_entry l ++ guests_of m.entrants after s))) in
+    = λ p. (λ l. count_by p (sym no_entry l ++ guests_of m.entrants mid s))
+    ∙ (bag_of _ _ (guests_set m.entrants mid s k d q v g.0 g.1.1) p ∙ (λ l. count_by p (was_entry l ++ guests_of m.entrants after s))) in
     let left_bag : SameBag (guests_of m.entrants after s) new.guests
     = bag_rest guest (guests_of m.entrants after s) new.guests (λ p. sym (split p) ∙ (bag p ∙ bag_of all (guest ∷ new.guests) rejects.last.others p)) in
     subst (λ (x : List Progress). Turned m rows x (set schools at new) i (Some k)) (sym now_is) (record {
@@ -235,67 +258,3 @@ turn_rejects m rows mid now schools i at e r w seat old new out k c mid_is consi
       ];
       within = omega (arith, length-set mid k v, slice_get_within mid k q g.1.1);
     })
-
--- what the code reads of the entrant that it takes on
-pub record Ahead (m : Market) (rows : List Progress) (i : ℕ) (e : Candidate) (r : Progress) (w : Wish) : Type 0 where
-  pub entrant : slice_get m.entrants i ≡ Some e
-  pub row : slice_get rows i ≡ Some r
-  pub free : r.school ≡ None
-  pub less : r.rejections < length e.list
-  pub next : slice_get e.list r.rejections ≡ Some w
-  pub seat : (j : ℕ) × SeatedAt m.seats w.school j
-
-pub ahead_of : (m : Market) (rows : List Progress) (i : ℕ) (e : Candidate) (items : List Wish) (r : Progress) (w : Wish) (free : IsFree m.entrants rows i) → Seated m → e ≡ get_or m.entrants i e → items ≡ e.list → r ≡ get_or rows i r → w ≡ get_or items (get_or rows i r).rejections w → Ahead m rows i e r w
-ahead_of m rows i e items r w free seated e_is items_is r_is w_is =
-    let e_same : e ≡ free.0 = e_is ∙ get_or_from_slice_get m.entrants i free.0 e free.2 in
-    let r_same : r ≡ free.1 = r_is ∙ get_or_from_slice_get rows i free.1 r free.3 in
-    let ei : slice_get m.entrants i ≡ Some e = free.2 ∙ ap Some (sym e_same) in
-    let less : r.rejections < length e.list = omega (arith, free.5, ap (λ (x : Progress). x.rejections) r_same, ap (λ (x : Candidate). length x.list) e_same) in
-    let read : w ≡ get_or e.list r.rejections w = w_is ∙ (λ j. get_or (items_is j) (sym r_is j).rejections w) in
-    let next : slice_get e.list r.rejections ≡ Some w = slice_get_read e.list (length e.list) r.rejections w refl less read in
-    let one = list_any_gives (λ (seat : Seats). bytes_eq seat.code w.school) m.seats (seated.known i e r.rejections w ei next) in
-    record {
-      entrant = ei;
-      row = free.3 ∙ ap Some (sym r_same);
-      free = ap (λ (x : Progress). x.school) r_same ∙ free.4;
-      less = less;
-      next = next;
-      seat = (one.0, (one.1, one.2, (bytes_eq-Decides one.1.code w.school).0 one.3));
-    }
-
-pub coming_of : (m : Market) (rows : List Progress) (schools : List Holding) (i at : ℕ) (e : Candidate) (r : Progress) (w : Wish) (old : Holding) → Ahead m rows i e r w → Distinct m → Seated m → Sound m rows → Mirrored m rows schools → (seat : SeatedAt m.seats w.school at) → slice_get schools at ≡ Some old → Coming m rows schools i at e r w seat.0 old
-coming_of m rows schools i at e r w old a distinct seated sound mirrored seat there = record {
-  distinct = distinct;
-  seated = seated;
-  sound = sound;
-  mirrored = mirrored;
-  entrant = a.entrant;
-  row = a.row;
-  free = a.free;
-  less = a.less;
-  next = a.next;
-  seat_at = seat.1;
-  code = seat.2;
-  held_at = there;
-}
-
-pub considers_as : (old new : Holding) (child child' : ℕ) (key : RankKey) (tenant tenant' : Bool) (out out' : Option ℕ) → child ≡ child' → tenant ≡ tenant' → out ≡ out' → Considers old new child key tenant out → Considers old new child' key tenant' out'
-considers_as old new child child' key tenant tenant' out out' c t o h =
-    subst (λ (x : ℕ). Considers old new x key tenant' out') c (subst (λ (b : Bool). Considers old new child key b out') t (subst (λ (x : Option ℕ). Considers old new child key tenant x) o h))
-
--- the one who is rejected is among the entrants
-pub rejected_stands : (m : Market) (rows mid : List Progress) (schools : List Holding) (i at : ℕ) (e : Candidate) (r : Progress) (w : Wish) (seat : Seats) (old new : Holding) (out : ℕ) → Coming m rows schools i at e r w seat old → mid ≡ set rows i (held_by r w.school) → (considers : Considers old new e.child w.key (is_tenant e w.school) (Some out)) → (k : ℕ) × StandsAt m.entrants out k
-rejected_stands m rows mid schools i at e r w seat old new out c mid_is considers =
-    let s = w.school in
-    let here = came m rows mid i w (e, r, c.entrant, c.row, c.free, c.less) c.sound c.next mid_is in
-    let mine = came_here m rows i e r w seat old c.distinct c.entrant c.row c.free c.next (c.mirrored.each at seat old c.seat_at c.held_at) c.code in
-    let bag : SameBag (guests_of m.entrants mid s) (guests_with old e.child w.key (is_tenant e s)) = λ p. ap (λ (x : List Progress). count_by p (guests_of m.entrants x s)) mid_is ∙ mine.1 p in
-    let gone : Rejects old new e.child w.key (is_tenant e s) out = considers.guests in
-    let last = last_from_heap m mid s (guests_with old e.child w.key (is_tenant e s)) new.guests out c.distinct here.0.shaped bag gone.last in
-    (last.0, (last.1.0, last.1.1.0, last.2))
-
--- the row of the one who is rejected has a school left to go on from
-pub row_listed : (m : Market) (rows mid : List Progress) (schools : List Holding) (i at : ℕ) (e : Candidate) (r : Progress) (w : Wish) (seat : Seats) (old : Holding) (k : ℕ) → Coming m rows schools i at e r w seat old → mid ≡ set rows i (held_by r w.school) → (last : IsLast m.entrants mid w.school k) → (d : Candidate) → d ≡ get_or m.entrants k d → (row : Progress) → slice_get mid k ≡ Some row → row.rejections < length d.list
-row_listed m rows mid schools i at e r w seat old k c mid_is last d d_is row rk =
-    let here = came m rows mid i w (e, r, c.entrant, c.row, c.free, c.less) c.sound c.next mid_is in
-    last_listed m mid w.school k last here.0.shaped d row d_is rk

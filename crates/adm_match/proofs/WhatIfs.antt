@@ -33,7 +33,8 @@ codes_same schools = pair_same (λ a b. is_eq (slice_cmp nat_cmp a b)) bytes_eq 
 pub wishes_append : (list : List Wish) (xs ys : List Code) → wishes_among list (xs ++ ys) ≡ wishes_among list xs ++ wishes_among list ys
 wishes_append list xs ys = filter_map-append (λ school. find (λ wish. bytes_eq wish.school school) list) xs ys
 
-pub wishes_more : (list : List Wish) (schools : List Code) (i : ℕ) (school : Code) (first old new : List Wish) → i < length schools → school ≡ get_or schools i school → old ≡ first ++ wishes_among list (take i schools) → new ≡ old ++ wishes_among list (school ∷ []) → new ≡ first ++ wishes_among list (take (i + 1) schools)
+pub wishes_more : (list : List Wish) (schools : List Code) (i : ℕ) (school : Code) (first old new : List Wish) → i < length schools → school ≡ get_or schools i school
+    → old ≡ first ++ wishes_among list (take i schools) → new ≡ old ++ wishes_among list (school ∷ []) → new ≡ first ++ wishes_among list (take (i + 1) schools)
 wishes_more list schools i school first old new l at was now =
     let step : take (i + 1) schools ≡ take i schools ++ school ∷ [] = rw add-one (take-suc schools i school l ∙ ap (λ z. take i schools ++ z ∷ []) (sym at)) in
     now ∙ (ap (λ (x : List Wish). x ++ wishes_among list (school ∷ [])) was ∙ (append_assoc first (wishes_among list (take i schools)) (wishes_among list (school ∷ []))
@@ -47,7 +48,8 @@ wishes_without list (c ∷ cs) s h = one list (wishes_among list cs) c s (find (
     parts : (bytes_eq s c ≡ false) × (list_any (bytes_eq s) cs ≡ false)
     parts = or_parts (bytes_eq s c) (list_any (bytes_eq s) cs) h
 
-    one : (list rest : List Wish) (c s : Code) (o : Option Wish) → find (λ wish. bytes_eq wish.school c) list ≡ o → bytes_eq s c ≡ false → list_any (λ z. bytes_eq s z.school) rest ≡ false → list_any (λ z. bytes_eq s z.school) (cons_option o rest) ≡ false
+    one : (list rest : List Wish) (c s : Code) (o : Option Wish) → find (λ wish. bytes_eq wish.school c) list ≡ o → bytes_eq s c ≡ false
+        → list_any (λ z. bytes_eq s z.school) rest ≡ false → list_any (λ z. bytes_eq s z.school) (cons_option o rest) ≡ false
     one list rest c s None is apart h = h
     one list rest c s (Some w) is apart h =
         let found = found_at (λ (wish : Wish). bytes_eq wish.school c) list w is in
@@ -62,7 +64,8 @@ wishes_apart list (c ∷ cs) h = one list (wishes_among list cs) c (find (λ wis
     parts : (list_any (bytes_eq c) cs ≡ false) × (some_pair bytes_eq cs ≡ false)
     parts = or_parts (list_any (bytes_eq c) cs) (some_pair bytes_eq cs) h
 
-    one : (list rest : List Wish) (c : Code) (o : Option Wish) → find (λ wish. bytes_eq wish.school c) list ≡ o → list_any (λ z. bytes_eq c z.school) rest ≡ false → some_pair same_school rest ≡ false → some_pair same_school (cons_option o rest) ≡ false
+    one : (list rest : List Wish) (c : Code) (o : Option Wish) → find (λ wish. bytes_eq wish.school c) list ≡ o → list_any (λ z. bytes_eq c z.school) rest ≡ false
+        → some_pair same_school rest ≡ false → some_pair same_school (cons_option o rest) ≡ false
     one list rest c None is without apart = apart
     one list rest c (Some w) is without apart =
         let found = found_at (λ (wish : Wish). bytes_eq wish.school c) list w is in
@@ -74,7 +77,9 @@ wishes_old : (list : List Wish) (schools : List Code) (j : ℕ) (w : Wish) → s
 wishes_old list [] j w at = absurd (none-some w at)
 wishes_old list (c ∷ cs) j w at = one list (wishes_among list cs) c (find (λ wish. bytes_eq wish.school c) list) refl (wishes_old list cs) j w at
   where
-    one : (list rest : List Wish) (c : Code) (o : Option Wish) → find (λ wish. bytes_eq wish.school c) list ≡ o → ((j : ℕ) (w : Wish) → slice_get rest j ≡ Some w → (i : ℕ) × (slice_get list i ≡ Some w)) → (j : ℕ) (w : Wish) → slice_get (cons_option o rest) j ≡ Some w → (i : ℕ) × (slice_get list i ≡ Some w)
+    one : (list rest : List Wish) (c : Code) (o : Option Wish) → find (λ wish. bytes_eq wish.school c) list ≡ o
+        → ((j : ℕ) (w : Wish) → slice_get rest j ≡ Some w → (i : ℕ) × (slice_get list i ≡ Some w)) → (j : ℕ) (w : Wish) → slice_get (cons_option o rest) j ≡ Some w
+        → (i : ℕ) × (slice_get list i ≡ Some w)
     one list rest c None is h j w at = h j w at
     one list rest c (Some x) is h zero w at =
         let found = found_at (λ (wish : Wish). bytes_eq wish.school c) list x is in
@@ -115,10 +120,12 @@ part_of m k e schools ok =
     }
 
 -- a child that may list the schools is an entrant
-pub may : (m : Market) (child : ℕ) (schools : List Code) → what_if_fault m child schools ≡ None → (k : ℕ) × (e : Candidate) × (slice_get m.entrants k ≡ Some e) × (e.child ≡ child) × (may_list e schools ≡ true)
+pub may : (m : Market) (child : ℕ) (schools : List Code) → what_if_fault m child schools ≡ None
+    → (k : ℕ) × (e : Candidate) × (slice_get m.entrants k ≡ Some e) × (e.child ≡ child) × (may_list e schools ≡ true)
 may m child schools ok = one m child schools (find (λ entrant. entrant.child == child) m.entrants) refl ok
   where
-    one : (m : Market) (child : ℕ) (schools : List Code) (o : Option Candidate) → find (λ entrant. entrant.child == child) m.entrants ≡ o → list_fault o schools ≡ None → (k : ℕ) × (e : Candidate) × (slice_get m.entrants k ≡ Some e) × (e.child ≡ child) × (may_list e schools ≡ true)
+    one : (m : Market) (child : ℕ) (schools : List Code) (o : Option Candidate) → find (λ entrant. entrant.child == child) m.entrants ≡ o → list_fault o schools ≡ None
+        → (k : ℕ) × (e : Candidate) × (slice_get m.entrants k ≡ Some e) × (e.child ≡ child) × (may_list e schools ≡ true)
     one m child schools None is ok = absurd (none-some UnknownChild (sym ok))
     one m child schools (Some e) is ok =
         let found = found_at (λ (entrant : Candidate). entrant.child == child) m.entrants e is in
@@ -145,12 +152,15 @@ pub record Told (now : Market) (child : ℕ) (schools : List Code) (es : List Ca
   pub ok : first_fault now ≡ None
   pub allowed : what_if_fault now child schools ≡ None
 
-pub told_fault : (now : Market) (child : ℕ) (schools : List Code) (es : List Candidate) (ss : List Seats) (es0 : List Candidate) (fault : Option WhatIfFault) → market_of es ss ≡ now → es0 ≡ es → fault ≡ list_fault (find (λ entrant. entrant.child == child) es0) schools → what_if_fault now child schools ≡ fault
+pub told_fault : (now : Market) (child : ℕ) (schools : List Code) (es : List Candidate) (ss : List Seats) (es0 : List Candidate) (fault : Option WhatIfFault)
+    → market_of es ss ≡ now → es0 ≡ es → fault ≡ list_fault (find (λ entrant. entrant.child == child) es0) schools → what_if_fault now child schools ≡ fault
 told_fault now child schools es ss es0 fault view e0 f =
     sym (f ∙ ap (λ (x : List Candidate). list_fault (find (λ entrant. entrant.child == child) x) schools) (e0 ∙ ap (λ (m : Market). m.entrants) view))
 
-pub told : (now : Market) (child : ℕ) (schools : List Code) (es : List Candidate) (ss : List Seats) (es0 es1 es2 es3 : List Candidate) (ss3 : List Seats) (fault : Option WhatIfFault) → market_of es ss ≡ now → first_fault (market_of es ss) ≡ None → es0 ≡ es → fault ≡ list_fault (find (λ entrant. entrant.child == child) es0) schools → fault ≡ None → es1 ≡ es → es2 ≡ map (relist child schools) es1 → es3 ≡ es2 → ss3 ≡ ss → Told now child schools es3 ss3
-told now child schools es ss es0 es1 es2 es3 ss3 fault view ok e0 f none e1 e2 e3 s3 = record {
+pub reported : (now : Market) (child : ℕ) (schools : List Code) (es : List Candidate) (ss : List Seats) (es0 es1 es2 es3 : List Candidate) (ss3 : List Seats)
+    (fault : Option WhatIfFault) → market_of es ss ≡ now → first_fault (market_of es ss) ≡ None → es0 ≡ es
+    → fault ≡ list_fault (find (λ entrant. entrant.child == child) es0) schools → fault ≡ None → es1 ≡ es → es2 ≡ map (relist child schools) es1 → es3 ≡ es2 → ss3 ≡ ss → Told now child schools es3 ss3
+reported now child schools es ss es0 es1 es2 es3 ss3 fault view ok e0 f none e1 e2 e3 s3 = record {
   same = ap (λ (m : Market). relisted m child schools) (sym view)
       ∙ (λ i. market_of (sym (e3 ∙ (e2 ∙ ap (map (relist child schools)) e1)) i) (sym s3 i));
   ok = subst (λ (m : Market). first_fault m ≡ None) view ok;
@@ -163,11 +173,13 @@ told_distinct now child schools es ss t = subst (λ (m : Market). Distinct m) t.
 pub told_seated : (now : Market) (child : ℕ) (schools : List Code) (es : List Candidate) (ss : List Seats) → Told now child schools es ss → Seated (market_of es ss)
 told_seated now child schools es ss t = subst (λ (m : Market). Seated m) t.same (relisted_ready now child schools t.ok t.allowed).1
 
-pub told_answer : (now : Market) (child : ℕ) (schools : List Code) (es : List Candidate) (ss : List Seats) (offers : Allotment) (school : Option Code) → Told now child schools es ss → IsBest (market_of es ss) (school_of offers) → school ≡ school_of offers child → (what_if_fault now child schools ≡ None) × IsWhatIf now child schools school
+pub told_answer : (now : Market) (child : ℕ) (schools : List Code) (es : List Candidate) (ss : List Seats) (offers : Allotment) (school : Option Code)
+    → Told now child schools es ss → IsBest (market_of es ss) (school_of offers) → school ≡ school_of offers child → (what_if_fault now child schools ≡ None) × IsWhatIf now child schools school
 told_answer now child schools es ss offers school t best is =
     (t.allowed, (school_of offers, subst (λ (m : Market). IsBest m (school_of offers)) (sym t.same) best, is))
 
-pub told_gain : (now : Market) (child : ℕ) (schools : List Code) (es : List Candidate) (ss : List Seats) (offers : Allotment) (school : Option Code) → Told now child schools es ss → IsBest (market_of es ss) (school_of offers) → school ≡ school_of offers child → IsNoGain now child school
+pub told_gain : (now : Market) (child : ℕ) (schools : List Code) (es : List Candidate) (ss : List Seats) (offers : Allotment) (school : Option Code)
+    → Told now child schools es ss → IsBest (market_of es ss) (school_of offers) → school ≡ school_of offers child → IsNoGain now child school
 told_gain now child schools es ss offers school t best is =
     subst (λ (o : Option Code). IsNoGain now child o) (sym is)
     (λ own b. no_gain_law now child schools own (school_of offers) t.ok b (subst (λ (m : Market). IsBest m (school_of offers)) (sym t.same) best))

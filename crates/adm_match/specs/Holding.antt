@@ -28,13 +28,19 @@ guest_cmp a b =
     (ordering_then (nat_cmp a.key.class b.key.class) (ordering_then (nat_cmp a.key.distance b.key.distance) (nat_cmp a.key.lot b.key.lot)))
     (nat_cmp a.child b.child)
 
--- with one more tenant, or one more guest
-abbrev pub tenants_with : Holding → ℕ → Bool → List ℕ
-tenants_with held child tenant = if tenant then held.tenants ++ child ∷ [] else held.tenants
+-- a child that proposes to a school, with its key there, and whether it is a tenant of the school
+pub record Proposal : Type 0 where
+  pub child : ℕ
+  pub key : RankKey
+  pub tenant : Bool
+
+-- the tenants with one more child, if that child is a tenant
+abbrev pub tenants_with : Holding → Proposal → List ℕ
+tenants_with held proposal = if proposal.tenant then held.tenants ++ proposal.child ∷ [] else held.tenants
 
 -- the guests with one more child, unless that child is a tenant
-abbrev pub guests_with : Holding → ℕ → RankKey → Bool → List Guest
-guests_with held child key tenant = if tenant then held.guests else record { key = key; child = child } ∷ held.guests
+abbrev pub guests_with : Holding → Proposal → List Guest
+guests_with held proposal = if proposal.tenant then held.guests else record { key = proposal.key; child = proposal.child } ∷ held.guests
 
 -- the guest is one of these, the others remain, and none of them ranks after it
 pub record RanksLast (guests : List Guest) (remaining : List Guest) (child : ℕ) : Type 0 where
@@ -44,26 +50,26 @@ pub record RanksLast (guests : List Guest) (remaining : List Guest) (child : ℕ
   pub last : All (λ other. precedes guest.key other.key ≡ false) remaining
 
 -- Nobody is rejected: there is room, or there are tenants alone.
-pub record HoldsAll (old new : Holding) (child : ℕ) (key : RankKey) (tenant : Bool) : Type 0 where
-  pub guests : IsPermutation (guests_with old child key tenant) new.guests
-  pub may_stay : (length (tenants_with old child tenant) + length (guests_with old child key tenant) ≤ old.quota) ⊎ (guests_with old child key tenant ≡ [])
+pub record HoldsAll (old new : Holding) (proposal : Proposal) : Type 0 where
+  pub guests : IsPermutation (guests_with old proposal) new.guests
+  pub may_stay : (length (tenants_with old proposal) + length (guests_with old proposal) ≤ old.quota) ⊎ (guests_with old proposal ≡ [])
 
 -- More than the quota are held, and the guest that ranks last is rejected.
-pub record Rejects (old new : Holding) (child : ℕ) (key : RankKey) (tenant : Bool) (out : ℕ) : Type 0 where
-  pub over : old.quota < length (tenants_with old child tenant) + length (guests_with old child key tenant)
-  pub last : RanksLast (guests_with old child key tenant) new.guests out
+pub record Rejects (old new : Holding) (proposal : Proposal) (out : ℕ) : Type 0 where
+  pub over : old.quota < length (tenants_with old proposal) + length (guests_with old proposal)
+  pub last : RanksLast (guests_with old proposal) new.guests out
 
 -- the guests afterwards: all are held where nobody is rejected, and else all but the rejected child
-abbrev pub GuestsAfter : Holding → Holding → ℕ → RankKey → Bool → Option ℕ → Type 0
-GuestsAfter old new child key tenant None = HoldsAll old new child key tenant
-GuestsAfter old new child key tenant (Some out) = Rejects old new child key tenant out
+abbrev pub GuestsAfter : Holding → Holding → Proposal → Option ℕ → Type 0
+GuestsAfter old new proposal None = HoldsAll old new proposal
+GuestsAfter old new proposal (Some out) = Rejects old new proposal out
 
 -- What a school does when one more child proposes: it holds the child, and where that is one too many it rejects the
 -- guest that ranks last (Gale and Shapley 1962).
-pub record Considers (old new : Holding) (child : ℕ) (key : RankKey) (tenant : Bool) (out : Option ℕ) : Type 0 where
+pub record Considers (old new : Holding) (proposal : Proposal) (out : Option ℕ) : Type 0 where
   pub quota : new.quota ≡ old.quota
-  pub tenants : new.tenants ≡ tenants_with old child tenant
-  pub guests : GuestsAfter old new child key tenant out
+  pub tenants : new.tenants ≡ tenants_with old proposal
+  pub guests : GuestsAfter old new proposal out
 
 -- the guest's entry at a school that holds it and of which it is no tenant, or nothing
 abbrev pub guest_entry : Candidate → Progress → Code → List Guest

@@ -109,11 +109,13 @@ abbrev pub is_key : Option RankKey → RankKey → Bool
 is_key None key = false
 is_key (Some other) key = other.class == key.class && (other.distance == key.distance && other.lot == key.lot)
 
--- whether both list the wish's school with its key, and neither is a tenant there
+-- whether neither is a tenant of the school, so that both compete for its seats
+abbrev pub both_compete : Code → Candidate → Candidate → Bool
+both_compete school one other = not (is_tenant one school) && not (is_tenant other school)
+
+-- whether the second lists the school of the first one's wish with the same key, and both compete for it
 abbrev pub shares : Candidate → Candidate → Wish → Bool
-shares one other wish =
-    is_key (key_at other.list wish.school) wish.key
-    && (not (is_tenant one wish.school) && not (is_tenant other wish.school))
+shares one other wish = is_key (key_at other.list wish.school) wish.key && both_compete wish.school one other
 
 -- whether the two list a school with equal keys, and neither is its tenant
 abbrev pub share_rank : Candidate → Candidate → Bool

@@ -70,7 +70,7 @@ impl Held {
         key: RankKey,
         tenant: bool,
     ) -> Result<Option<ChildNo>, AllocError>
-        ensures ok { IfOk result (Considers self.old self.new child key tenant) }
+        ensures ok { IfOk result (Considers self.old self.new (record { child = child; key = key; tenant = tenant })) }
         // After an error it holds whom it held.
         ensures err { OnErr result (self.new ≡ self.old) }
     {
@@ -95,7 +95,7 @@ pub(crate) fn consider_at(
     tenant: bool,
 ) -> Result<Option<ChildNo>, AllocError>
     requires { at < length schools.old }
-    ensures ok { IfOk result (λ out. (old : Holding) → slice_get schools.old at ≡ Some old → (new : Holding) × (schools.new ≡ slice_set schools.old at new) × Considers old new child key tenant out) }
+    ensures ok { IfOk result (λ out. (old : Holding) → slice_get schools.old at ≡ Some old → (new : Holding) × (schools.new ≡ slice_set schools.old at new) × Considers old new (record { child = child; key = key; tenant = tenant }) out) }
     ensures err { OnErr result (schools.new ≡ schools.old) }
 {
     let held = &mut schools[at];

@@ -104,7 +104,7 @@ pub struct Seats {
 #[derive(Clone, Copy, Debug, PartialEq, Eq, Error)]
 pub enum BadProblem {
     /// A school is repeated, among the seats or on one list.
-    #[error("a school comes twice")]
+    #[error("a school is repeated")]
     RepeatedSchool = 1,
     /// A list names a school without seats.
     #[error("a list names a school without seats")]
@@ -119,7 +119,7 @@ pub enum BadProblem {
     #[error("out of memory")]
     Memory = 5,
     /// A child is repeated.
-    #[error("a child comes twice")]
+    #[error("a child is repeated")]
     RepeatedChild = 6,
 }
 

@@ -56,6 +56,7 @@ pub(crate) fn reject(entrant: &Entrant, rows: &mut [Progress], index: usize)
     ensures { (row : Progress) → slice_get rows.old index ≡ Some row → rows.new ≡ slice_set rows.old index (with_rejection row) }
 {
     let row = &mut rows[index];
+    // stated for the proof: the count of rejections does not overflow
     prove!(row.rejections < entrant.list.len());
     row.school = None;
     row.rejections += 1;

@@ -21,7 +21,7 @@ pub enum WhatIfFault {
     #[error("the child is no entrant")]
     UnknownChild = 1,
     /// A school is not among those that the child wants, or is repeated.
-    #[error("a school is not among the child's wanted ones, or comes twice")]
+    #[error("a school is not among the child's wanted ones, or is repeated")]
     NotItsSchools = 2,
     /// Memory ran out.
     #[error("out of memory")]

@@ -1,7 +1,8 @@
 // The class of a child at a school.
 ghost use Rattle.std.specs.Prelude.{◌≡◌, ◌≤◌, IsTrue, length};
 ghost use Rattle.std.specs.List.{position_or_len, list_all};
-ghost use Rattle.adm_types.specs.Limits.{is_school_in_range, is_child_in_range, is_criterion, is_on_map};
+ghost use Rattle.adm_types.specs.Limits.{is_school_in_range, is_child_in_range, is_on_map};
+ghost use Rattle.adm_types.specs.Criteria.{is_criterion};
 ghost use Rattle.adm_types.specs.Flags.{has_flag};
 ghost use Rattle.adm_rank.specs.Class.{meets, class_of};
 
@@ -22,7 +23,7 @@ fn meets(school: &School, child: &Child, criterion: Criterion) -> bool
     requires school { IsTrue (is_on_map school.now.at) }
     requires child { IsTrue (is_on_map child.now.home) }
     requires criterion { IsTrue (is_criterion criterion) }
-    ensures { result ≡ meets school.now child.now criterion }
+    ensures { result ≡ meets school.now.code school.now.at child.now criterion }
 {
     match criterion {
         Criterion::Sibling => is_listed(child.siblings.as_slice(), &school.code),
@@ -37,7 +38,7 @@ fn first_met(school: &School, child: &Child, criteria: &[Criterion]) -> usize
     requires school { IsTrue (is_on_map school.now.at) }
     requires child { IsTrue (is_on_map child.now.home) }
     requires criteria { IsTrue (list_all is_criterion criteria.now) }
-    ensures value { result ≡ position_or_len (meets school.now child.now) criteria.now }
+    ensures value { result ≡ position_or_len (meets school.now.code school.now.at child.now) criteria.now }
     ensures upper { result ≤ length criteria.now }
 {
     match criteria.split_first() {

@@ -9,7 +9,8 @@ use Rattle.adm_types.specs.declared.rows.Application.{Application}
 use Rattle.adm_types.specs.declared.rows.Child.{Child}
 use Rattle.adm_types.specs.declared.rows.School.{School}
 use Rattle.adm_types.specs.Limits.{code_cmp}
-use Rattle.adm_register.specs.WellFormed.{ApplicationFits, fits_application, is_application}
+use Rattle.adm_register.specs.WellFormed.{ApplicationFits}
+use Rattle.adm_register.specs.RowTests.{fits_application, is_application}
 
 pub application_decided : (last_list_day : ℕ) (schools : FinMap code_cmp School) (children : FinMap nat_cmp Child) (number : ℕ) (application : Application)
     → (fits_application last_list_day schools children number application ≡ true) ↔ ApplicationFits last_list_day schools children number application

@@ -7,7 +7,8 @@ use Rattle.std.proofs.lemmas.Bool.{and_parts}
 use Rattle.adm_types.specs.declared.rows.Child.{Child}
 use Rattle.adm_types.specs.declared.rows.School.{School}
 use Rattle.adm_types.specs.Limits.{code_cmp}
-use Rattle.adm_register.specs.WellFormed.{ChildFits, fits_child, is_child}
+use Rattle.adm_register.specs.WellFormed.{ChildFits}
+use Rattle.adm_register.specs.RowTests.{fits_child, is_child}
 
 pub child_decided : (schools : FinMap code_cmp School) (number : ℕ) (child : Child) → (fits_child schools number child ≡ true) ↔ ChildFits schools number child
 child_decided schools number child = (

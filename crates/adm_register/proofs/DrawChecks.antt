@@ -13,7 +13,8 @@ use Rattle.adm_types.specs.declared.draws.Draw.{Draw}
 use Rattle.adm_draws.specs.Draws.{is_draw}
 use Rattle.adm_types.specs.Limits.{code_cmp}
 use Rattle.adm_register.specs.WellFormed.{AllRows}
-use Rattle.adm_register.specs.Draws.{DrawFits, fits_known_draw, is_known_draw}
+use Rattle.adm_register.specs.Draws.{DrawFits}
+use Rattle.adm_register.specs.RowTests.{fits_known_draw, is_known_draw}
 use Rattle.adm_register.proofs.SameRows.{values_hold, rows_hold}
 
 -- the form is omitted

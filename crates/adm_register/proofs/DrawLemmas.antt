@@ -36,7 +36,8 @@ pub with_draws-append : (before : DrawsSoFar) (xs ys : List Draw) → count_draw
 with_draws-append before [] ys = refl
 with_draws-append before (draw ∷ xs) ys = with_draws-append (count_draw before draw) xs ys
 
-pub are_in_order-append : (season : SeasonFacts) (before : DrawsSoFar) (xs ys : List Draw) → are_in_order season before xs ≡ true → are_in_order season (count_draws before xs) ys ≡ true → are_in_order season before (xs ++ ys) ≡ true
+pub are_in_order-append : (season : SeasonFacts) (before : DrawsSoFar) (xs ys : List Draw) → are_in_order season before xs ≡ true
+    → are_in_order season (count_draws before xs) ys ≡ true → are_in_order season before (xs ++ ys) ≡ true
 are_in_order-append season before [] ys first second = second
 are_in_order-append season before (draw ∷ xs) ys first second =
     let both = and_parts (is_next season before draw) _ first in
@@ -60,7 +61,8 @@ numbers_up_to season before (draw ∷ draws) in_order =
     let more = more_draws (count_draw before draw) draws in
     All-cons (λ (d : Draw). d.number ≤ (count_draws (count_draw before draw) draws).draws) draw draws (omega (arith, number, more)) (numbers_up_to season (count_draw before draw) draws both.1)
 
-numbers_from : (season : SeasonFacts) (before : DrawsSoFar) (draws : List Draw) (n : ℕ) → n ≤ before.draws → are_in_order season before draws ≡ true → AllByRecursion (λ (draw : Draw). n < draw.number) draws
+numbers_from : (season : SeasonFacts) (before : DrawsSoFar) (draws : List Draw) (n : ℕ) → n ≤ before.draws → are_in_order season before draws ≡ true
+    → AllByRecursion (λ (draw : Draw). n < draw.number) draws
 numbers_from season before [] n least in_order = tt
 numbers_from season before (draw ∷ draws) n least in_order =
     let both = and_parts (is_next season before draw) _ in_order in
@@ -69,7 +71,8 @@ numbers_from season before (draw ∷ draws) n least in_order =
 
 -- ---- the draws of a register, and more of them
 
-put_last : (number : ℕ) (draw : Draw) (es : List (ℕ × Draw)) → map (λ (d : Draw). d.number) (values_of es) ≡ keys_of es → All (λ (d : Draw). d.number < number) (values_of es) → put nat_cmp number draw es ≡ es ++ (number, draw) ∷ []
+put_last : (number : ℕ) (draw : Draw) (es : List (ℕ × Draw)) → map (λ (d : Draw). d.number) (values_of es) ≡ keys_of es
+    → All (λ (d : Draw). d.number < number) (values_of es) → put nat_cmp number draw es ≡ es ++ (number, draw) ∷ []
 put_last number draw [] own below = refl
 put_last number draw (e ∷ es) own below =
     let first : e.1.number ≡ e.0 = cc (own) in
@@ -98,7 +101,8 @@ put_next rows season draw own in_order next =
     let so_far = count_draws no_draws (values rows) in
     let number = next_number season so_far draw next in
     let below = All-below so_far.draws draw.number (values rows) (omega (arith, number)) (numbers_up_to season no_draws (values rows) in_order) in
-    ap values_of (entries-insert nat_cmp_total rows draw.number draw ∙ put_last draw.number draw (entries rows) (entries_at_own_keys nat_cmp_total nat_cmp-IsAntisymmetric (λ (d : Draw). d.number) rows own) below)
+    ap values_of (entries-insert nat_cmp_total rows draw.number draw
+    ∙ put_last draw.number draw (entries rows) (entries_at_own_keys nat_cmp_total nat_cmp-IsAntisymmetric (λ (d : Draw). d.number) rows own) below)
     ∙ values_of-append (entries rows) draw.number draw
 
 append_assoc : (xs : List Draw) (draw : Draw) (ys : List Draw) → (xs ++ draw ∷ []) ++ ys ≡ xs ++ draw ∷ ys
@@ -126,7 +130,8 @@ values_put rows season (draw ∷ draws) own in_order next =
     let here = put_next rows season draw own in_order both.0 in
     let reached : count_draws no_draws (values (insert rows draw.number draw)) ≡ count_draw so_far draw = ap (count_draws no_draws) here ∙ with_draws-append no_draws (values rows) (draw ∷ []) in
     let one : are_in_order season so_far (draw ∷ []) ≡ true = λ i. both.0 i && true in
-    let ordered : are_in_order season no_draws (values (insert rows draw.number draw)) ≡ true = ap (are_in_order season no_draws) here ∙ are_in_order-append season no_draws (values rows) (draw ∷ []) in_order one in
+    let ordered : are_in_order season no_draws (values (insert rows draw.number draw)) ≡ true = ap (are_in_order season no_draws) here
+    ∙ are_in_order-append season no_draws (values rows) (draw ∷ []) in_order one in
     values_put (insert rows draw.number draw) season draws (own-put rows draw own) ordered (ap (λ before. are_in_order season before draws) reached ∙ both.1)
     ∙ ap (λ xs. xs ++ draws) here ∙ append_assoc (values rows) draw draws
 

@@ -36,7 +36,8 @@ module _ {K V : Type 0} {R : K → K → Ordering} (p : K → V → Bool) (total
   passes [] sorted all = refl
   passes (e ∷ es) sorted all =
       let here : p e.0 e.1 ≡ true = all e.0 e.1 (ap (λ b. cond b (Some e.1) (row_at R es e.0)) (tied total e.0)) in
-      let rest : list_all (λ e. p e.0 e.1) es ≡ true = passes es sorted.1 (λ key row there. all key row (ap (λ b. cond b (Some e.1) (row_at R es key)) (apart same e.0 es sorted.0 key row there) ∙ there)) in
+      let rest : list_all (λ e. p e.0 e.1) es ≡ true = passes es sorted.1
+      (λ key row there. all key row (ap (λ b. cond b (Some e.1) (row_at R es key)) (apart same e.0 es sorted.0 key row there) ∙ there)) in
       λ i. here i && rest i
 
   -- and the map of every row

@@ -101,7 +101,8 @@ module _ {K V : Type 0} {R : K → K → Ordering} (total : IsTotalOrder R) (sam
   put_at-sorted key (row ∷ put) sorted q there =
       put_at-sorted key put sorted.1 q (cond (is_at (R (key row)) q) (Some row) there)
       ∙ ap (λ b. or_else (row_at R (pairs key put) q) (cond b (Some row) there)) ((eq_by_cmp_equiv total).symm (key row) q)
-      ∙ elim (is_at (R q) (key row)) as (λ b. is_at (R q) (key row) ≡ b → or_else (row_at R (pairs key put) q) (cond b (Some row) there) ≡ or_else (cond b (Some row) (row_at R (pairs key put) q)) there) [
+      ∙ elim (is_at (R q) (key row)) as (λ b. is_at (R q) (key row) ≡ b
+      → or_else (row_at R (pairs key put) q) (cond b (Some row) there) ≡ or_else (cond b (Some row) (row_at R (pairs key put) q)) there) [
         | true ↦ λ tie.
             let above = subst (AllByRecursion (λ k. R (key row) k ≡ Less)) (sym (keys_of-pairs key put)) sorted.0 in
             let none = ap (row_at R (pairs key put)) (same_key same q (key row) tie) ∙ none_at R (key row) (pairs key put) above in
@@ -115,7 +116,8 @@ module _ {K V : Type 0} {R : K → K → Ordering} (total : IsTotalOrder R) (sam
   found-filter : (p : V → Bool) (es : List (K × V)) → IsStrictlySortedBy R (keys_of es) → (q : K) → row_at R (filter (λ e. p e.1) es) q ≡ option_filter p (row_at R es q)
   found-filter p es sorted q = lookup-filter-values (eq_by_cmp_equiv total) p q es (IsDistinct-from_sorted R (keys_of es) sorted)
 
-  module _ (key : V → K) (test : V → V → Bool) (decides : (x y : V) → (test x y ≡ true) ↔ (x ≡ y)) (old : FinMap R V) (own : AllRows (λ k v. key v ≡ k) old) (cut : List K) (put : List V) (tidy : IsTidyIn R key cut put) where
+  module _ (key : V → K) (test : V → V → Bool) (decides : (x y : V)
+      → (test x y ≡ true) ↔ (x ≡ y)) (old : FinMap R V) (own : AllRows (λ k v. key v ≡ k) old) (cut : List K) (put : List V) (tidy : IsTidyIn R key cut put) where
     abbrev new : FinMap R V
     new = put_all key (cut_all old cut) put
 
@@ -144,7 +146,7 @@ module _ {K V : Type 0} {R : K → K → Ordering} (total : IsTotalOrder R) (sam
       | Some row ↦ refl
     ]
 
-    -- the rows that are put and differ are just those that are new
+    -- the rows that are written and differ are just those that are new
     pub exactly_new : AreNew key old new (filter differs put)
     exactly_new = record {
       is_new = differs;
@@ -196,7 +198,8 @@ module _ {K : Type 0} {R : K → K → Ordering} (total : IsTotalOrder R) (same 
       elim (eq_by_cmp R q x) as (λ b. eq_by_cmp R q x ≡ b → list_any (eq_by_cmp R q) (cond (p x) (x ∷ filter p xs) (filter p xs)) ≡ ((b || list_any (eq_by_cmp R q) xs) && p q)) [
         | true ↦ λ tie. elim (p x) as (λ b. p x ≡ b → list_any (eq_by_cmp R q) (cond b (x ∷ filter p xs) (filter p xs)) ≡ p q) [
           | true ↦ λ is. ap (λ b. b || list_any (eq_by_cmp R q) (filter p xs)) tie ∙ sym (ap p (same_key same q x tie) ∙ is)
-          | false ↦ λ is. any-filter p xs q ∙ ap (λ b. list_any (eq_by_cmp R q) xs && b) (ap p (same_key same q x tie) ∙ is) ∙ and-false (list_any (eq_by_cmp R q) xs) ∙ sym (ap p (same_key same q x tie) ∙ is)
+          | false ↦ λ is. any-filter p xs q ∙ ap (λ b. list_any (eq_by_cmp R q) xs && b) (ap p (same_key same q x tie) ∙ is) ∙ and-false (list_any (eq_by_cmp R q) xs)
+              ∙ sym (ap p (same_key same q x tie) ∙ is)
         ] refl
         | false ↦ λ tie. elim (p x) as (λ b. list_any (eq_by_cmp R q) (cond b (x ∷ filter p xs) (filter p xs)) ≡ (list_any (eq_by_cmp R q) xs && p q)) [
           | true ↦ ap (λ b. b || list_any (eq_by_cmp R q) (filter p xs)) tie ∙ any-filter p xs q
@@ -225,7 +228,8 @@ module _ {K : Type 0} {R : K → K → Ordering} (total : IsTotalOrder R) (same 
       both true false = refl
       both false b = refl
 
-module _ {K V : Type 0} {R : K → K → Ordering} (total : IsTotalOrder R) (same : IsAntisymmetric R) (key : V → K) (old : FinMap R V) (own : AllRows (λ k v. key v ≡ k) old) (cut : List K) (put : List V) (tidy : IsTidyIn R key cut put) where
+module _ {K V : Type 0} {R : K → K → Ordering} (total : IsTotalOrder R) (same : IsAntisymmetric R) (key : V
+    → K) (old : FinMap R V) (own : AllRows (λ k v. key v ≡ k) old) (cut : List K) (put : List V) (tidy : IsTidyIn R key cut put) where
   abbrev changed : FinMap R V
   changed = put_all key (cut_all old cut) put
 
@@ -242,7 +246,8 @@ module _ {K V : Type 0} {R : K → K → Ordering} (total : IsTotalOrder R) (sam
   unfolding or_else
   gone q =
       ap (λ o. contains_key old q && not (is_some o)) (at q)
-      ∙ elim (list_any (eq_by_cmp R q) cut) as (λ b. list_any (eq_by_cmp R q) cut ≡ b → (contains_key old q && not (is_some (or_else (row_at R (pairs key put) q) (cond b None (get old q))))) ≡ (b && contains_key old q)) [
+      ∙ elim (list_any (eq_by_cmp R q) cut) as (λ b. list_any (eq_by_cmp R q) cut ≡ b
+      → (contains_key old q && not (is_some (or_else (row_at R (pairs key put) q) (cond b None (get old q))))) ≡ (b && contains_key old q)) [
         | true ↦ λ among. ap (λ o. contains_key old q && not (is_some (or_else o None))) (not_put q among) ∙ and_true (contains_key old q)
         | false ↦ λ among. stays (row_at R (pairs key put) q) (get old q)
       ] refl
@@ -257,7 +262,7 @@ module _ {K V : Type 0} {R : K → K → Ordering} (total : IsTotalOrder R) (sam
       stays (Some row) None = refl
       stays (Some row) (Some other) = refl
 
-  -- the keys that are cut and were there are just those of the rows that ended
+  -- the keys that are deleted and were there are just those of the rows that ended
   pub exactly_ended : filter (contains_key old) cut ≡ map key (filter (λ v. not (contains_key changed (key v))) (values old))
   exactly_ended =
       let p : K → Bool = λ k. not (contains_key changed k) in
@@ -269,13 +274,19 @@ module _ {K V : Type 0} {R : K → K → Ordering} (total : IsTotalOrder R) (sam
 -- what of a tidy change differs from a register is its difference from the state after the change
 pub differing_is : (old : State) (change : Difference) → WellFormed old → IsTidy change → IsDifference old (after old change) (differing old change)
 differing_is old change well tidy = record {
-  schools = exactly_new nat_list_cmp_total code_cmp-IsAntisymmetric (λ (s : School). s.code) is_same_school same_school old.schools (λ k s there. (well.base.schools_fit k s there).own_code) [] change.schools tidy.schools;
-  children = exactly_new nat_cmp_total nat_cmp-IsAntisymmetric (λ (c : Child). c.no) is_same_child same_child old.children (λ k c there. (well.base.children_fit k c there).own_number) [] change.children tidy.children;
-  applications = exactly_new nat_cmp_total nat_cmp-IsAntisymmetric (λ (a : Application). a.child) is_same_application same_application old.applications (λ k a there. (well.base.applications_fit k a there).own_number) change.ended change.applications tidy.applications;
-  places = exactly_new nat_cmp_total nat_cmp-IsAntisymmetric (λ (p : PlaceRow). p.child) is_same_place same_place old.places (λ k p there. (well.places.each k p there).own_number) change.vacated change.places tidy.places;
+  schools = exactly_new nat_list_cmp_total code_cmp-IsAntisymmetric (λ (s : School). s.code) is_same_school same_school old.schools
+      (λ k s there. (well.base.schools_fit k s there).own_code) [] change.schools tidy.schools;
+  children = exactly_new nat_cmp_total nat_cmp-IsAntisymmetric (λ (c : Child). c.no) is_same_child same_child old.children
+      (λ k c there. (well.base.children_fit k c there).own_number) [] change.children tidy.children;
+  applications = exactly_new nat_cmp_total nat_cmp-IsAntisymmetric (λ (a : Application). a.child) is_same_application same_application old.applications
+      (λ k a there. (well.base.applications_fit k a there).own_number) change.ended change.applications tidy.applications;
+  places = exactly_new nat_cmp_total nat_cmp-IsAntisymmetric (λ (p : PlaceRow). p.child) is_same_place same_place old.places
+      (λ k p there. (well.places.each k p there).own_number) change.vacated change.places tidy.places;
   left = exactly_new left_cmp-total left_cmp-IsAntisymmetric (λ (p : LeftPair). p) is_same_left same_left old.left (λ k p there. (well.left k p there).own_key) [] change.left tidy.left;
   draws = exactly_new nat_cmp_total nat_cmp-IsAntisymmetric (λ (d : Draw). d.number) is_same_draw same_draw old.draws (λ k d there. (well.draws.each k d there).own_number) [] change.draws tidy.draws;
-  imported = exactly_new nat_cmp_total nat_cmp-IsAntisymmetric (λ (r : ImportRow). r.child.no) is_same_import same_import old.imported (λ k r there. (well.imported k r there).child.own_number) [] change.imported tidy.imported;
-  ended = exactly_ended nat_cmp_total nat_cmp-IsAntisymmetric (λ (a : Application). a.child) old.applications (λ k a there. (well.base.applications_fit k a there).own_number) change.ended change.applications tidy.applications;
+  imported = exactly_new nat_cmp_total nat_cmp-IsAntisymmetric (λ (r : ImportRow). r.child.no) is_same_import same_import old.imported
+      (λ k r there. (well.imported k r there).child.own_number) [] change.imported tidy.imported;
+  ended = exactly_ended nat_cmp_total nat_cmp-IsAntisymmetric (λ (a : Application). a.child) old.applications
+      (λ k a there. (well.base.applications_fit k a there).own_number) change.ended change.applications tidy.applications;
   vacated = exactly_ended nat_cmp_total nat_cmp-IsAntisymmetric (λ (p : PlaceRow). p.child) old.places (λ k p there. (well.places.each k p there).own_number) change.vacated change.places tidy.places;
 }

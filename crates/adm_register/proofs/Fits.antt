@@ -59,7 +59,8 @@ module _ (schools new_schools : FinMap code_cmp School) (children new_children :
     application = ApplicationFits-grows last number (application_of r) fits.application;
   }
 
-  PlaceFits-grows : (applications new_applications : FinMap nat_cmp Application) (held new_held : Bool) → (held ≡ true → new_held ≡ true) → (number : ℕ) (row : PlaceRow) → get new_applications row.child ≡ get applications row.child
+  PlaceFits-grows : (applications new_applications : FinMap nat_cmp Application) (held new_held : Bool) → (held ≡ true → new_held ≡ true) → (number : ℕ) (row : PlaceRow)
+      → get new_applications row.child ≡ get applications row.child
       → PlaceFits schools children applications held number row → PlaceFits new_schools new_children new_applications new_held number row
   PlaceFits-grows applications new_applications held new_held more number row same fits = record {
     own_number = fits.own_number;
@@ -69,11 +70,13 @@ module _ (schools new_schools : FinMap code_cmp School) (children new_children :
     entitled = entitled-grows held new_held more (get new_applications row.child) row (subst (λ o. is_entitled held o row.place ≡ true) (sym same) fits.entitled);
   }
     where
-      entitled-grows : (held new_held : Bool) → (held ≡ true → new_held ≡ true) → (o : Option Application) (row : PlaceRow) → is_entitled held o row.place ≡ true → is_entitled new_held o row.place ≡ true
+      entitled-grows : (held new_held : Bool) → (held ≡ true → new_held ≡ true) → (o : Option Application) (row : PlaceRow) → is_entitled held o row.place ≡ true
+          → is_entitled new_held o row.place ≡ true
       entitled-grows held new_held more o row is =
           by (is_plan row.place.state) is
         where
-          by : (plan : Bool) → (if plan then not (is_some o) else held && lists_school o row.place.school) ≡ true → (if plan then not (is_some o) else new_held && lists_school o row.place.school) ≡ true
+          by : (plan : Bool) → (if plan then not (is_some o) else held && lists_school o row.place.school) ≡ true
+              → (if plan then not (is_some o) else new_held && lists_school o row.place.school) ≡ true
           by true is = is
           by false is = let both = and_parts held (lists_school o row.place.school) is in λ i. more both.0 i && both.1 i
 
@@ -87,7 +90,8 @@ module _ (old : State) (change : Difference) where
   more_children : Grows old.children new.children
   more_children = put_all-grows nat_cmp_total (λ (c : Child). c.no) old.children change.children
 
-  few : {K V : Type 0} {R : K → K → Ordering} (key : V → K) (limit : ℕ) (rows : FinMap R V) (put : List V) → len rows ≤ limit → FewAfter limit (put_all key rows put) put → len (put_all key rows put) ≤ limit
+  few : {K V : Type 0} {R : K → K → Ordering} (key : V → K) (limit : ℕ) (rows : FinMap R V) (put : List V) → len rows ≤ limit → FewAfter limit (put_all key rows put) put
+      → len (put_all key rows put) ≤ limit
   few key limit rows [] was now = was
   few key limit rows (row ∷ put) was now = now
 
@@ -96,11 +100,13 @@ module _ (old : State) (change : Difference) where
   base_fits base put = record {
     season_is = base.season_is;
     few_schools = few (λ (s : School). s.code) most_schools old.schools change.schools base.few_schools put.few_schools;
-    schools_fit = AllRows-put_all nat_list_cmp_total code_cmp-IsAntisymmetric (λ (s : School). s.code) SchoolFits old.schools change.schools (λ code row there still. base.schools_fit code row there) put.schools;
+    schools_fit = AllRows-put_all nat_list_cmp_total code_cmp-IsAntisymmetric (λ (s : School). s.code) SchoolFits old.schools change.schools
+        (λ code row there still. base.schools_fit code row there) put.schools;
     few_children = few (λ (c : Child). c.no) most_children old.children change.children base.few_children put.few_children;
     children_fit = AllRows-put_all nat_cmp_total nat_cmp-IsAntisymmetric (λ (c : Child). c.no) (ChildFits new.schools) old.children change.children
         (λ number row there still. ChildFits-grows old.schools new.schools more_schools number row (base.children_fit number row there)) put.children;
-    applications_fit = AllRows-put_all nat_cmp_total nat_cmp-IsAntisymmetric (λ (a : Application). a.child) (ApplicationFits (lists_end old.season) new.schools new.children) (cut_all old.applications change.ended) change.applications
+    applications_fit = AllRows-put_all nat_cmp_total nat_cmp-IsAntisymmetric (λ (a : Application). a.child)
+        (ApplicationFits (lists_end old.season) new.schools new.children) (cut_all old.applications change.ended) change.applications
         (λ number row there still. ApplicationFits-grows old.schools new.schools old.children new.children more_schools more_children (lists_end old.season) number row
         (base.applications_fit number row (there_before nat_cmp_total old.applications change.ended number row there))) put.applications;
   }
@@ -109,14 +115,18 @@ module _ (old : State) (change : Difference) where
   more_rounds = put_all-grows nat_cmp_total (λ (d : Draw). d.number) old.draws change.draws 1
 
   -- the places fit after the change
-  places_fit : PlacesFit old.schools old.children old.applications old.places (has_first_round old.draws) → PlacesPut old change → PlacesFit new.schools new.children new.applications new.places (has_first_round new.draws)
+  places_fit : PlacesFit old.schools old.children old.applications old.places (has_first_round old.draws) → PlacesPut old change
+      → PlacesFit new.schools new.children new.applications new.places (has_first_round new.draws)
   places_fit places put = record {
-    each = AllRows-put_all nat_cmp_total nat_cmp-IsAntisymmetric (λ (p : PlaceRow). p.child) (PlaceFits new.schools new.children new.applications (has_first_round new.draws)) (cut_all old.places change.vacated) change.places
+    each = AllRows-put_all nat_cmp_total nat_cmp-IsAntisymmetric (λ (p : PlaceRow). p.child)
+        (PlaceFits new.schools new.children new.applications (has_first_round new.draws)) (cut_all old.places change.vacated) change.places
         (λ number row there still.
         let before = there_before nat_cmp_total old.places change.vacated number row there in
         let fits = places.each number row before in
-        let same : get new.applications row.child ≡ get old.applications row.child = subst (λ n. get new.applications n ≡ get old.applications n) (sym fits.own_number) (put.kept number row before still) in
-        PlaceFits-grows old.schools new.schools old.children new.children more_schools more_children old.applications new.applications (has_first_round old.draws) (has_first_round new.draws) more_rounds number row same fits) put.places;
+        let same : get new.applications row.child ≡ get old.applications row.child = subst (λ n. get new.applications n ≡ get old.applications n) (sym fits.own_number)
+        (put.kept number row before still) in
+        PlaceFits-grows old.schools new.schools old.children new.children more_schools more_children old.applications new.applications (has_first_round old.draws)
+        (has_first_round new.draws) more_rounds number row same fits) put.places;
     room = put.room;
   }
 
@@ -134,7 +144,8 @@ module _ (old : State) (change : Difference) where
   -- a child's place is not at a school that it had left
   not_held : LeftFits old.schools old.children old.places old.left → LeftPut old change → (number : ℕ) (row : PlaceRow) → get new.places number ≡ Some row
       → (school : List ℕ) → contains_key old.left (record { child = number; school = school }) ≡ true → is_unplanned_at (Some row) school ≡ false
-  not_held left put = AllRows-put_all nat_cmp_total nat_cmp-IsAntisymmetric (λ (p : PlaceRow). p.child) (λ number row. (school : List ℕ) → contains_key old.left (record { child = number; school = school }) ≡ true → is_unplanned_at (Some row) school ≡ false)
+  not_held left put = AllRows-put_all nat_cmp_total nat_cmp-IsAntisymmetric (λ (p : PlaceRow). p.child) (λ number row. (school : List ℕ)
+      → contains_key old.left (record { child = number; school = school }) ≡ true → is_unplanned_at (Some row) school ≡ false)
       (cut_all old.places change.vacated) change.places
       (λ number row there still school gone. was number row (there_before nat_cmp_total old.places change.vacated number row there) school gone) (each change.places put.places)
     where
@@ -142,7 +153,8 @@ module _ (old : State) (change : Difference) where
       absent true e = cc
       absent false e = refl
 
-      was : (number : ℕ) (row : PlaceRow) → get old.places number ≡ Some row → (school : List ℕ) → contains_key old.left (record { child = number; school = school }) ≡ true → is_unplanned_at (Some row) school ≡ false
+      was : (number : ℕ) (row : PlaceRow) → get old.places number ≡ Some row → (school : List ℕ)
+          → contains_key old.left (record { child = number; school = school }) ≡ true → is_unplanned_at (Some row) school ≡ false
       was number row there school gone =
           let pair : LeftPair = record { child = number; school = school } in
           elim (get old.left pair) as (λ o. get old.left pair ≡ o → is_some o ≡ true → is_unplanned_at (Some row) school ≡ false) [
@@ -180,7 +192,12 @@ module _ (old : State) (change : Difference) where
       (λ key pair there still.
       let fits = left key pair there in
       let here : contains_key old.left pair ≡ true = subst (λ k. contains_key old.left k ≡ true) (sym fits.own_key) (ap is_some there) in
-      record { own_key = fits.own_key; child = more_children pair.child fits.child; school = more_schools pair.school fits.school; no_place = free pair here (get new.places pair.child) refl }) put.left
+      record {
+        own_key = fits.own_key;
+        child = more_children pair.child fits.child;
+        school = more_schools pair.school fits.school;
+        no_place = free pair here (get new.places pair.child) refl;
+      }) put.left
     where
       free : (pair : LeftPair) → contains_key old.left pair ≡ true → (o : Option PlaceRow) → get new.places pair.child ≡ o → not (is_unplanned_at (get new.places pair.child) pair.school) ≡ true
       free pair here None is = ap (λ o. not (is_unplanned_at o pair.school)) is
@@ -188,12 +205,19 @@ module _ (old : State) (change : Difference) where
 
   -- the imported rows fit after the change
   imported_fit : ImportedFit old.season old.schools old.children old.imported → ImportedPut old change → ImportedFit new.season new.schools new.children new.imported
-  imported_fit imported put = AllRows-put_all nat_cmp_total nat_cmp-IsAntisymmetric (λ (r : ImportRow). r.child.no) (ImportFits (lists_end old.season) new.schools new.children) old.imported change.imported
+  imported_fit imported put = AllRows-put_all nat_cmp_total nat_cmp-IsAntisymmetric (λ (r : ImportRow). r.child.no)
+      (ImportFits (lists_end old.season) new.schools new.children) old.imported change.imported
       (λ number row there still. ImportFits-grows old.schools new.schools old.children new.children more_schools more_children (lists_end old.season) number row (imported number row there)) put.each
 
   -- so the state after the change is a register
   pub after-keeps : WellFormed old → Fit old change → WellFormed new
-  after-keeps well fit = record { base = base_fits well.base fit.base; places = places_fit well.places fit.places; left = left_fit well.left fit.left; draws = draws_fit well.draws fit.draws; imported = imported_fit well.imported fit.imported }
+  after-keeps well fit = record {
+    base = base_fits well.base fit.base;
+    places = places_fit well.places fit.places;
+    left = left_fit well.left fit.left;
+    draws = draws_fit well.draws fit.draws;
+    imported = imported_fit well.imported fit.imported;
+  }
 
   -- the draws that it puts are counted on
   pub after-so_far : WellFormed old → Fit old change → draws_so_far new ≡ count_draws (draws_so_far old) change.draws
@@ -213,7 +237,7 @@ module _ (old : State) (change : Difference) where
     imported = all_stay nat_cmp_total nat_cmp-IsAntisymmetric (λ (r : ImportRow). r.child.no) old.imported change.imported fit.imported.new_rows;
   }
 
-  -- each school is kept where those that are put are new or keep what was
+  -- each school is kept where those that are written are new or keep what was
   pub after-keeps_schools : BasePut old change → KeepsSchools old new
   after-keeps_schools base = λ code was now there here. each code now here was there
     where
@@ -221,5 +245,6 @@ module _ (old : State) (change : Difference) where
       kept school = record { number = omega arith; others = refl }
 
       each : AllRows (λ code now. (was : School) → get old.schools code ≡ Some was → IsRaised was now) new.schools
-      each = AllRows-put_all nat_list_cmp_total code_cmp-IsAntisymmetric (λ (s : School). s.code) (λ code now. (was : School) → get old.schools code ≡ Some was → IsRaised was now) old.schools change.schools
+      each = AllRows-put_all nat_list_cmp_total code_cmp-IsAntisymmetric (λ (s : School). s.code) (λ code now. (was : School) → get old.schools code ≡ Some was
+          → IsRaised was now) old.schools change.schools
           (λ code row there still was same. subst (λ it. IsRaised it row) (same_Some row was (sym there ∙ same)) (kept row)) base.kept_schools

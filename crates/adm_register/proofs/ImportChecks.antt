@@ -9,7 +9,8 @@ use Rattle.adm_types.specs.declared.rows.ImportRow.{ImportRow}
 use Rattle.adm_types.specs.declared.rows.School.{School}
 use Rattle.adm_types.specs.Limits.{code_cmp}
 use Rattle.adm_register.specs.State.{application_of}
-use Rattle.adm_register.specs.WellFormed.{ImportFits, fits_import, fits_child, fits_application}
+use Rattle.adm_register.specs.WellFormed.{ImportFits}
+use Rattle.adm_register.specs.RowTests.{fits_import, fits_child, fits_application}
 use Rattle.adm_register.proofs.ApplicationChecks.{application_decided}
 use Rattle.adm_register.proofs.ChildChecks.{child_decided}
 

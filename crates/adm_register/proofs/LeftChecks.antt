@@ -10,7 +10,8 @@ use Rattle.adm_types.specs.declared.rows.PlaceRow.{PlaceRow}
 use Rattle.adm_types.specs.declared.rows.School.{School}
 use Rattle.adm_table.specs.Same.{is_same_left}
 use Rattle.adm_types.specs.Limits.{code_cmp}
-use Rattle.adm_register.specs.WellFormed.{LeftPairFits, fits_left, is_left}
+use Rattle.adm_register.specs.WellFormed.{LeftPairFits}
+use Rattle.adm_register.specs.RowTests.{fits_left, is_left}
 use Rattle.adm_register.proofs.SameLemmas.{same_left}
 
 pub left_decided : (schools : FinMap code_cmp School) (children : FinMap nat_cmp Child) (places : FinMap nat_cmp PlaceRow) (key pair : LeftPair)

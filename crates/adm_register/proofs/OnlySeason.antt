@@ -23,7 +23,10 @@ only_season-WellFormed season is = record {
     children_fit = AllRows-empty nat_cmp (ChildFits empty);
     applications_fit = AllRows-empty nat_cmp (ApplicationFits (lists_end season) empty empty);
   };
-  places = record { each = AllRows-empty nat_cmp (PlaceFits empty empty empty (has_first_round empty)); room = AllRows-empty code_cmp (λ code (school : School). places_outside_plans empty code ≤ school.pan) };
+  places = record {
+    each = AllRows-empty nat_cmp (PlaceFits empty empty empty (has_first_round empty));
+    room = AllRows-empty code_cmp (λ code (school : School). places_outside_plans empty code ≤ school.pan);
+  };
   left = AllRows-empty left_cmp (LeftPairFits empty empty empty);
   draws = record { each = AllRows-empty nat_cmp (DrawFits empty empty); in_order = ap (are_in_order season no_draws) (values-empty nat_cmp Draw) };
   imported = AllRows-empty nat_cmp (ImportFits (lists_end season) empty empty);

@@ -52,8 +52,11 @@ module _ {K V : Type 0} where
       ap (find p) (values-more place pieces piece within at) ∙ find-append p (values_of (rows_of_pieces (take place pieces))) (values_of piece.rows.value.entries)
 
   -- one that is found before a place is the first of all
-  pub find-first : (p : V → Bool) (place : ℕ) (pieces : List (Piece K V)) (row : V) → find p (values_of (rows_of_pieces (take place pieces))) ≡ Some row → find p (values_of (rows_of_pieces pieces)) ≡ Some row
+  pub find-first : (p : V → Bool) (place : ℕ) (pieces : List (Piece K V)) (row : V) → find p (values_of (rows_of_pieces (take place pieces))) ≡ Some row
+      → find p (values_of (rows_of_pieces pieces)) ≡ Some row
   find-first p place pieces row found =
       let whole : values_of (rows_of_pieces pieces) ≡ values_of (rows_of_pieces (take place pieces)) ++ values_of (rows_of_pieces (drop place pieces)) =
-      ap values_of (ap rows_of_pieces (sym (take-append-drop place pieces)) ∙ rows-both (take place pieces) (drop place pieces)) ∙ map-append (λ e. e.1) (rows_of_pieces (take place pieces)) (rows_of_pieces (drop place pieces)) in
-      ap (find p) whole ∙ find-append p (values_of (rows_of_pieces (take place pieces))) (values_of (rows_of_pieces (drop place pieces))) ∙ ap (λ o. option_or o (find p (values_of (rows_of_pieces (drop place pieces))))) found
+      ap values_of (ap rows_of_pieces (sym (take-append-drop place pieces)) ∙ rows-both (take place pieces) (drop place pieces))
+      ∙ map-append (λ e. e.1) (rows_of_pieces (take place pieces)) (rows_of_pieces (drop place pieces)) in
+      ap (find p) whole ∙ find-append p (values_of (rows_of_pieces (take place pieces))) (values_of (rows_of_pieces (drop place pieces)))
+      ∙ ap (λ o. option_or o (find p (values_of (rows_of_pieces (drop place pieces))))) found

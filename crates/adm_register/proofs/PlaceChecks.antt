@@ -10,7 +10,8 @@ use Rattle.adm_types.specs.declared.rows.Child.{Child}
 use Rattle.adm_types.specs.declared.rows.PlaceRow.{PlaceRow}
 use Rattle.adm_types.specs.declared.rows.School.{School}
 use Rattle.adm_types.specs.Limits.{code_cmp}
-use Rattle.adm_register.specs.WellFormed.{PlaceFits, fits_place, is_place}
+use Rattle.adm_register.specs.WellFormed.{PlaceFits}
+use Rattle.adm_register.specs.RowTests.{fits_place, is_place}
 
 pub place_decided : (schools : FinMap code_cmp School) (children : FinMap nat_cmp Child) (applications : FinMap nat_cmp Application) (held : Bool) (number : ℕ) (row : PlaceRow)
     → (fits_place schools children applications held number row ≡ true) ↔ PlaceFits schools children applications held number row

@@ -55,13 +55,13 @@ module _ {K V : Type 0} {R : K → K → Ordering} (total : IsTotalOrder R) wher
         | false ↦ λ is. is
       ] (sym (get-remove total rows key q) ∙ there_before (remove rows key) cut q row there)
 
-  -- a row of a key that is put nowhere stays
+  -- a row of a key that is written nowhere stays
   pub stays : (key : V → K) (rows : FinMap R V) (put : List V) (q : K) → AllByRecursion (λ row. eq_by_cmp R q (key row) ≡ false) put → get (put_all key rows put) q ≡ get rows q
   stays key rows [] q others = refl
   stays key rows (row ∷ put) q others =
       stays key (insert rows (key row) row) put q others.1 ∙ get-insert total rows (key row) row q ∙ ap (λ b. cond b (Some row) (get rows q)) others.0
 
-  -- so the rows that were there stay where each that is put is new
+  -- so the rows that were there stay where each that is written is new
   pub all_stay : IsAntisymmetric R → (key : V → K) (rows : FinMap R V) (put : List V) → AllByRecursion (λ row. not (contains_key rows (key row)) ≡ true) put
       → (q : K) (row : V) → get rows q ≡ Some row → get (put_all key rows put) q ≡ Some row
   all_stay same key rows put new q row there = stays key rows put q (others put new) ∙ there
@@ -76,7 +76,7 @@ module _ {K V : Type 0} {R : K → K → Ordering} (total : IsTotalOrder R) wher
         others them news.1,
       )
 
-  -- the rows that were there fit where they stay, and so do those that are put
+  -- the rows that were there fit where they stay, and so do those that are written
   pub AllRows-put_all : IsAntisymmetric R → (key : V → K) (P : K → V → Type 0) (rows : FinMap R V) (put : List V)
       → ((q : K) (row : V) → get rows q ≡ Some row → get (put_all key rows put) q ≡ Some row → P q row)
       → AllByRecursion (λ row. P (key row) row) put → AllRows P (put_all key rows put)
@@ -89,11 +89,12 @@ module _ {K V : Type 0} {R : K → K → Ordering} (total : IsTotalOrder R) wher
       ] refl (sym (get-insert total rows (key first) first q) ∙ there)) fit.1
 
 module _ {X K V : Type 0} {R : K → K → Ordering} (total : IsTotalOrder R) (key : V → K) (f : X → V) where
-  -- what is put is there
+  -- what is written is there
   pub there_each : (rows : FinMap R V) (xs : List X) → AllByRecursion (λ x. contains_key (put_all key rows (map f xs)) (key (f x)) ≡ true) xs
   there_each rows [] = tt
   there_each rows (x ∷ xs) = (
-    put_all-grows total key (insert rows (key (f x)) (f x)) (map f xs) (key (f x)) (ap is_some (get-insert total rows (key (f x)) (f x) (key (f x)) ∙ ap (λ b. cond b (Some (f x)) (get rows (key (f x)))) (tied total (key (f x))))),
+    put_all-grows total key (insert rows (key (f x)) (f x)) (map f xs) (key (f x))
+        (ap is_some (get-insert total rows (key (f x)) (f x) (key (f x)) ∙ ap (λ b. cond b (Some (f x)) (get rows (key (f x)))) (tied total (key (f x))))),
     there_each (insert rows (key (f x)) (f x)) xs,
   )
 

@@ -1,4 +1,4 @@
--- Rows by their keys: those of a map, and what is put of those of a list that rises.
+-- Rows by their keys: those of a map, and what is written of those of a list that rises.
 use Rattle.std.proofs.Common.{◌≡◌, ◌∙◌, ap, sym, subst, refl, cond, Bool, true, false, ℕ, List, [], ◌∷◌, map, Option, Some, None}
 use Rattle.std.specs.declared.cmp.Ordering.{Ordering}
 use Rattle.std.specs.Ordering.{nat_cmp}
@@ -19,7 +19,8 @@ use Rattle.adm_register.proofs.SameRows.{values_hold}
 module _ {K V : Type 0} {R : K → K → Ordering} (total : IsTotalOrder R) (same : IsAntisymmetric R) (m : FinMap R V) where
   -- a value of a map, each of whose rows is at its own key, is at its key
   pub from_values : (key : V → K) → AllRows (λ k v. key v ≡ k) m → (v : V) → In v (values m) → get m (key v) ≡ Some v
-  from_values key own v at = All_in (λ w. get m (key w) ≡ Some w) (values m) v (values_hold total same (λ w. get m (key w) ≡ Some w) m (λ k w there. subst (λ q. get m q ≡ Some w) (sym (own k w there)) there)) at
+  from_values key own v at = All_in (λ w. get m (key w) ≡ Some w) (values m) v
+      (values_hold total same (λ w. get m (key w) ≡ Some w) m (λ k w there. subst (λ q. get m q ≡ Some w) (sym (own k w there)) there)) at
 
 module _ {X V : Type 0} (key : X → ℕ) (own : V → ℕ) (h : X → Option V) (same : (x : X) (v : V) → h x ≡ Some v → own v ≡ key x) where
   put_one : (o : Option V) (rest : List V) (q : ℕ) (there : Option V) → (b : Bool) → ((v : V) → o ≡ Some v → is_at (nat_cmp (own v)) q ≡ b)
@@ -35,7 +36,8 @@ module _ {X V : Type 0} (key : X → ℕ) (own : V → ℕ) (h : X → Option V)
   put_given [] sorted q there = refl
   put_given (x ∷ xs) sorted q there =
       let symm = (eq_by_cmp_equiv nat_cmp_total).symm in
-      elim (is_at (nat_cmp q) (key x)) as (λ b. is_at (nat_cmp q) (key x) ≡ b → put_at nat_cmp own (cons_option (h x) (filter_map h xs)) q there ≡ put_over h (cond b (Some x) (at_key key xs q)) there) [
+      elim (is_at (nat_cmp q) (key x)) as (λ b. is_at (nat_cmp q) (key x) ≡ b
+      → put_at nat_cmp own (cons_option (h x) (filter_map h xs)) q there ≡ put_over h (cond b (Some x) (at_key key xs q)) there) [
         | true ↦ λ tie.
             let none : at_key key xs q ≡ None = ap (at_key key xs) (same_key nat_cmp-IsAntisymmetric q (key x) tie) ∙ none_at nat_cmp (key x) (by_key key xs) (rising key x xs sorted.0) in
             put_one (h x) (filter_map h xs) q there true (λ v is. ap (λ k. is_at (nat_cmp k) q) (same x v is) ∙ symm (key x) q ∙ tie)

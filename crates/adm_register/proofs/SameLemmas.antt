@@ -10,8 +10,7 @@ use Rattle.std.proofs.lemmas.Bool.{and_parts}
 use Rattle.adm_fields.specs.Lists.{Format, child_fields}
 use Rattle.adm_fields.specs.Records.{child_of, child_values}
 use Rattle.adm_types.specs.declared.rows.Point.{Point}
-use Rattle.adm_types.specs.declared.rows.Criterion.{Criterion}
-use Rattle.adm_types.specs.declared.rows.Criterion.TheVariants.{Sibling, Within, Flag, Feeder}
+use Rattle.adm_types.specs.declared.criteria.Criterion.{Criterion}
 use Rattle.adm_types.specs.declared.rows.PlaceState.{PlaceState}
 use Rattle.adm_types.specs.declared.rows.PlaceState.TheVariants.{Offered, Accepted, Plan}
 use Rattle.adm_types.specs.declared.rows.School.{School}
@@ -25,8 +24,9 @@ use Rattle.adm_types.specs.declared.draws.Outcome.{Outcome}
 use Rattle.adm_types.specs.declared.draws.Lot.{Lot}
 use Rattle.adm_types.specs.contracts.draws.OutcomePartialEq.TheImpl.{eq-value as outcome_eq}
 use Rattle.adm_types.specs.contracts.draws.LotPartialEq.TheImpl.{eq-value as lot_eq}
-use Rattle.adm_types.specs.contracts.rows.CriterionPartialEq.TheImpl.{eq-value as criterion_eq}
+use Rattle.adm_types.specs.contracts.criteria.CriterionPartialEq.TheImpl.{eq-value as criterion_eq}
 use Rattle.adm_types.specs.contracts.rows.PlaceStatePartialEq.TheImpl.{eq-value as state_eq}
+use Rattle.adm_types.proofs.CriteriaLemmas.{same_criterion}
 use Rattle.adm_table.specs.Same.{is_same_school, is_same_child, is_same_application, is_same_place, is_same_left, is_same_draw, is_same_import, is_other}
 
 not_true : {A : Type 0} → false ≡ true → A
@@ -35,7 +35,7 @@ not_true e = absurd (true≢false (sym e))
 -- a test that is true of each value and itself, and of no others
 module _ {A : Type 0} (test : A → A → Bool) where
   decided : ((x y : A) → test x y ≡ true → x ≡ y) → ((x : A) → test x x ≡ true) → (x y : A) → (test x y ≡ true) ↔ (x ≡ y)
-  decided told itself x y = (told x y, λ e. subst (λ z. test x z ≡ true) e (itself x))
+  decided equal itself x y = (equal x y, λ e. subst (λ z. test x z ≡ true) e (itself x))
 
 same_nat : (m n : ℕ) → (nat_eq m n ≡ true) ↔ (m ≡ n)
 same_nat m n = unsigned_Decides m n
@@ -44,13 +44,13 @@ same_codes : (xs ys : List (List ℕ)) → (pointwise (pointwise nat_eq) xs ys �
 same_codes = pointwise_decides bytes_decides
 
 same_option : {A : Type 0} (test : A → A → Bool) → ((x y : A) → (test x y ≡ true) ↔ (x ≡ y)) → (x y : Option A) → (option_eq test x y ≡ true) ↔ (x ≡ y)
-same_option test each = decided (option_eq test) told itself
+same_option test each = decided (option_eq test) equal itself
   where
-    told : (x y : Option _) → option_eq test x y ≡ true → x ≡ y
-    told None None e = refl
-    told None (Some y) e = not_true e
-    told (Some x) None e = not_true e
-    told (Some x) (Some y) e = ap Some ((each x y).0 e)
+    equal : (x y : Option _) → option_eq test x y ≡ true → x ≡ y
+    equal None None e = refl
+    equal None (Some y) e = not_true e
+    equal (Some x) None e = not_true e
+    equal (Some x) (Some y) e = ap Some ((each x y).0 e)
 
     itself : (x : Option _) → option_eq test x x ≡ true
     itself None = refl
@@ -67,46 +67,19 @@ same_point = decided (λ x y. nat_eq x.east y.east && nat_eq x.north y.north)
     (λ x y e i. let parts = and_parts _ _ e in record { east = (same_nat x.east y.east).0 parts.0 i; north = (same_nat x.north y.north).0 parts.1 i })
     (λ x i. (same_nat x.east x.east).1 refl i && (same_nat x.north x.north).1 refl i)
 
-same_criterion : (x y : Criterion) → (criterion_eq.it x y ≡ true) ↔ (x ≡ y)
-same_criterion = decided criterion_eq.it told itself
-  where
-    told : (x y : Criterion) → criterion_eq.it x y ≡ true → x ≡ y
-    told Sibling Sibling e = refl
-    told Sibling (Within n) e = not_true e
-    told Sibling (Flag n) e = not_true e
-    told Sibling (Feeder n) e = not_true e
-    told (Within m) Sibling e = not_true e
-    told (Within m) (Within n) e = ap Within ((same_nat m n).0 e)
-    told (Within m) (Flag n) e = not_true e
-    told (Within m) (Feeder n) e = not_true e
-    told (Flag m) Sibling e = not_true e
-    told (Flag m) (Within n) e = not_true e
-    told (Flag m) (Flag n) e = ap Flag ((same_nat m n).0 e)
-    told (Flag m) (Feeder n) e = not_true e
-    told (Feeder m) Sibling e = not_true e
-    told (Feeder m) (Within n) e = not_true e
-    told (Feeder m) (Flag n) e = not_true e
-    told (Feeder m) (Feeder n) e = ap Feeder ((bytes_decides m n).0 e)
-
-    itself : (x : Criterion) → criterion_eq.it x x ≡ true
-    itself Sibling = refl
-    itself (Within m) = (same_nat m m).1 refl
-    itself (Flag m) = (same_nat m m).1 refl
-    itself (Feeder m) = (bytes_decides m m).1 refl
-
 same_state : (x y : PlaceState) → (state_eq.it x y ≡ true) ↔ (x ≡ y)
-same_state = decided state_eq.it told itself
+same_state = decided state_eq.it equal itself
   where
-    told : (x y : PlaceState) → state_eq.it x y ≡ true → x ≡ y
-    told (Offered a b) (Offered d e) h = λ i. Offered ((same_nat a d).0 (first_so (nat_eq a d) (option_eq nat_eq b e) h) i) ((same_day b e).0 (second_so (nat_eq a d) (option_eq nat_eq b e) h) i)
-    told (Offered a b) Accepted h = not_true h
-    told (Offered a b) Plan h = not_true h
-    told Accepted (Offered d e) h = not_true h
-    told Accepted Accepted h = refl
-    told Accepted Plan h = not_true h
-    told Plan (Offered d e) h = not_true h
-    told Plan Accepted h = not_true h
-    told Plan Plan h = refl
+    equal : (x y : PlaceState) → state_eq.it x y ≡ true → x ≡ y
+    equal (Offered a b) (Offered d e) h = λ i. Offered ((same_nat a d).0 (first_so (nat_eq a d) (option_eq nat_eq b e) h) i) ((same_day b e).0 (second_so (nat_eq a d) (option_eq nat_eq b e) h) i)
+    equal (Offered a b) Accepted h = not_true h
+    equal (Offered a b) Plan h = not_true h
+    equal Accepted (Offered d e) h = not_true h
+    equal Accepted Accepted h = refl
+    equal Accepted Plan h = not_true h
+    equal Plan (Offered d e) h = not_true h
+    equal Plan Accepted h = not_true h
+    equal Plan Plan h = refl
 
     itself : (x : PlaceState) → state_eq.it x x ≡ true
     itself (Offered a b) = λ i. (same_nat a a).1 refl i && (same_day b b).1 refl i
@@ -140,11 +113,11 @@ same_school = decided is_same_school
 -- a test that is true of two values just where they are equal
 record Decider (A : Type 0) : Type 0 where
   test : A → A → Bool
-  told : (x y : A) → test x y ≡ true → x ≡ y
+  equal : (x y : A) → test x y ≡ true → x ≡ y
   itself : (x : A) → test x x ≡ true
 
 abbrev decider : {A : Type 0} (test : A → A → Bool) → ((x y : A) → (test x y ≡ true) ↔ (x ≡ y)) → Decider A
-decider test decides = record { test = test; told = λ x y. (decides x y).0; itself = λ x. (decides x x).1 refl }
+decider test decides = record { test = test; equal = λ x y. (decides x y).0; itself = λ x. (decides x x).1 refl }
 
 both_true : (a b : Bool) → a ≡ true → b ≡ true → (a && b) ≡ true
 both_true a b p q = λ i. p i && q i
@@ -154,10 +127,10 @@ abbrev deciding : Format Decider Decider
 deciding = record {
   field = λ name otherwise kind others. record {
     test = λ x y. kind.test x.0 y.0 && others.test x.1 y.1;
-    told = λ x y e. let parts = and_parts _ _ e in λ i. (kind.told x.0 y.0 parts.0 i, others.told x.1 y.1 parts.1 i);
+    equal = λ x y e. let parts = and_parts _ _ e in λ i. (kind.equal x.0 y.0 parts.0 i, others.equal x.1 y.1 parts.1 i);
     itself = λ x. both_true _ _ (kind.itself x.0) (others.itself x.1);
   };
-  no_more = record { test = λ x y. true; told = λ x y e. refl; itself = λ x. refl };
+  no_more = record { test = λ x y. true; equal = λ x y e. refl; itself = λ x. refl };
   a_child = decider nat_eq same_nat;
   a_code_or_none = decider (option_eq (pointwise nat_eq)) same_choice;
   a_text = decider (pointwise nat_eq) bytes_decides;
@@ -171,7 +144,7 @@ deciding = record {
 pub same_child : (x y : Child) → (is_same_child x y ≡ true) ↔ (x ≡ y)
 same_child x y =
     let d = child_fields deciding in
-    (λ e. ap child_of (d.told (child_values x) (child_values y) e), λ e. subst (λ z. is_same_child x z ≡ true) e (d.itself (child_values x)))
+    (λ e. ap child_of (d.equal (child_values x) (child_values y) e), λ e. subst (λ z. is_same_child x z ≡ true) e (d.itself (child_values x)))
 
 pub same_application : (x y : Application) → (is_same_application x y ≡ true) ↔ (x ≡ y)
 same_application = decided is_same_application

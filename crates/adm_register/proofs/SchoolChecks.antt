@@ -8,7 +8,8 @@ use borrow.Author.Tests.{le-leb, leb-true}
 use Rattle.std.proofs.lemmas.Bool.{and_parts}
 use Rattle.adm_types.specs.declared.rows.PlaceRow.{PlaceRow}
 use Rattle.adm_types.specs.declared.rows.School.{School}
-use Rattle.adm_register.specs.WellFormed.{SchoolFits, fits_school, fits_school_with, is_school, places_outside_plans}
+use Rattle.adm_register.specs.WellFormed.{SchoolFits, places_outside_plans}
+use Rattle.adm_register.specs.RowTests.{fits_school, fits_school_with, is_school}
 
 pub school_decided : (code : List ℕ) (school : School) → (fits_school code school ≡ true) ↔ SchoolFits code school
 school_decided code school = (
@@ -22,7 +23,8 @@ school_decided code school = (
 )
 
 -- and the test beside the places, that there is room too
-pub school_decided_with : (places : FinMap nat_cmp PlaceRow) (code : List ℕ) (school : School) → (fits_school_with places code school ≡ true) ↔ (SchoolFits code school × (places_outside_plans places code ≤ school.pan))
+pub school_decided_with : (places : FinMap nat_cmp PlaceRow) (code : List ℕ) (school : School)
+    → (fits_school_with places code school ≡ true) ↔ (SchoolFits code school × (places_outside_plans places code ≤ school.pan))
 school_decided_with places code school = (
   λ test. let both = and_parts (fits_school code school) _ test in ((school_decided code school).0 both.0, le_told both.1),
   λ fits i. (school_decided code school).1 fits.0 i && le_test fits.1 i,

@@ -55,9 +55,11 @@ on_list (Some row) list code at = from_take (prefix_len (λ other. not (pointwis
 
 module _ (old : State) (well : WellFormed old) where
   -- a school that is wanted is on the list, and its child has not left it
-  pub wants_is : (application : Application) (code : List ℕ) → is_listed (wanted_of old application) code ≡ true → (is_listed application.list code ≡ true) × (has_left old.left application.child code ≡ false)
+  pub wants_is : (application : Application) (code : List ℕ) → is_listed (wanted_of old application) code ≡ true
+      → (is_listed application.list code ≡ true) × (has_left old.left application.child code ≡ false)
   wants_is application code wanted =
-      let both = from_filter (λ other. not (has_left old.left application.child other)) (above (get old.places application.child) application.list) code (listed_in (wanted_of old application) code wanted) in
+      let both = from_filter (λ other. not (has_left old.left application.child other)) (above (get old.places application.child) application.list) code
+      (listed_in (wanted_of old application) code wanted) in
       (in_listed application.list code (on_list (get old.places application.child) application.list code both.0), not-true (has_left old.left application.child code) both.1)
 
 -- what is above a place is on the list
@@ -95,7 +97,8 @@ apart_from p None list code wanted = refl
 apart_from p (Some row) list code wanted =
     by (pointwise nat_eq row.place.school code) (is_plan row.place.state) (own_apart p (Some row) list) refl
   where
-    by : (here plan : Bool) → IfSome (cond plan None (Some row.place.school)) (λ own. is_listed (filter p (above (Some row) list)) own ≡ false) → pointwise nat_eq row.place.school code ≡ here → (here && not plan) ≡ false
+    by : (here plan : Bool) → IfSome (cond plan None (Some row.place.school)) (λ own. is_listed (filter p (above (Some row) list)) own ≡ false)
+        → pointwise nat_eq row.place.school code ≡ here → (here && not plan) ≡ false
     by false plan apart at = refl
     by true true apart at = refl
     by true false apart at = absurd (false≢true (sym apart ∙ ap (is_listed (filter p (above (Some row) list))) ((bytes_decides row.place.school code).0 at) ∙ wanted))
@@ -131,7 +134,8 @@ module _ (s : State) (well : WellFormed s) (code : List ℕ) where
       let found = from_filter_map (waiting_child s code) (values s.applications) child at in
       let application = found.0 in
       let parts = chosen (waits s application code) (get s.children application.child) child found.2 in
-      let there = from_values nat_cmp_total nat_cmp-IsAntisymmetric s.applications (λ (a : Application). a.child) (λ number row here. (well.base.applications_fit number row here).own_number) application found.1 in
+      let there = from_values nat_cmp_total nat_cmp-IsAntisymmetric s.applications (λ (a : Application). a.child)
+      (λ number row here. (well.base.applications_fit number row here).own_number) application found.1 in
       let number : child.no ≡ application.child = (well.base.children_fit application.child child parts.1).own_number in
       record {
         application = application;
@@ -152,5 +156,6 @@ module _ (s : State) (well : WellFormed s) (code : List ℕ) where
   -- and are in their limits
   pub waiters_fit : (children : List Child) → children ≡ waiting_at s code → All (λ child. is_child_in_range child ≡ true) children
   waiters_fit children are =
-      subst (All (λ child. is_child_in_range child ≡ true)) (sym are) (All-from_recursion (λ child. is_child_in_range child ≡ true) (waiting_at s code) (in_all (λ child. is_child_in_range child ≡ true) (waiting_at s code) (λ child at.
+      subst (All (λ child. is_child_in_range child ≡ true)) (sym are)
+      (All-from_recursion (λ child. is_child_in_range child ≡ true) (waiting_at s code) (in_all (λ child. is_child_in_range child ≡ true) (waiting_at s code) (λ child at.
       (well.base.children_fit child.no child (waiter_is child at).there).in_range)))

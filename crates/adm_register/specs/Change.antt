@@ -1,4 +1,4 @@
--- A change of the rows, as data: what is put into each table, and what is cut.
+-- A change of the rows, as data: what is written to each table, and what is deleted.
 use Rattle.std.specs.Prelude.{List, [], ◌∷◌}
 use Rattle.std.specs.declared.cmp.Ordering.{Ordering}
 use Rattle.std.specs.FinMap.{FinMap, insert, remove}
@@ -22,15 +22,15 @@ abbrev pub cut_all : {K V : Type 0} {R : K → K → Ordering} → FinMap R V �
 cut_all rows [] = rows
 cut_all rows (key ∷ more) = cut_all (remove rows key) more
 
--- nothing is put and nothing is cut
+-- nothing is written and nothing is deleted
 abbrev pub no_change : Difference
 no_change = record { schools = []; children = []; applications = []; places = []; left = []; draws = []; imported = []; ended = []; vacated = [] }
 
--- a child's data are put, in place of those that were there
+-- a child's data are written, in place of those that were there
 abbrev pub change_of_child : Child → Difference
 change_of_child child = record no_change { children = child ∷ [] }
 
--- the state after the change: in each table what is cut is cut first
+-- the state after the change: in each table rows are deleted before rows are written
 abbrev pub after : State → Difference → State
 after old change = record {
   season = old.season;

@@ -3,7 +3,7 @@ use Rattle.std.specs.Prelude.{◌≡◌, ℕ, ◌+◌, ◌≤◌, Bool, true, �
 use Rattle.std.specs.List.{list_all}
 use Rattle.std.specs.Ordering.{nat_cmp}
 use Rattle.std.specs.FinMap.{FinMap, values, contains_key}
-use Rattle.adm_types.specs.Limits.{first_day, most_draws, most_lots}
+use Rattle.adm_types.specs.Limits.{first_day, most_draws, most_lots, code_cmp}
 use Rattle.adm_types.specs.Seasons.{SeasonFacts, reaches_offer_day, lists_end}
 use Rattle.adm_types.specs.declared.rows.School.{School}
 use Rattle.adm_types.specs.declared.rows.Child.{Child}
@@ -11,7 +11,6 @@ use Rattle.adm_types.specs.declared.draws.Draw.{Draw}
 use Rattle.adm_types.specs.declared.draws.Outcome.{Outcome}
 use Rattle.adm_types.specs.declared.draws.Lot.{Lot}
 use Rattle.adm_draws.specs.Draws.{is_draw}
-use Rattle.adm_types.specs.Limits.{code_cmp}
 use Rattle.adm_register.specs.State.{State}
 use Rattle.adm_register.specs.declared.draws_so_far.DrawsSoFar.{DrawsSoFar}
 
@@ -94,12 +93,3 @@ pub record DrawFits (schools : FinMap code_cmp School) (children : FinMap nat_cm
   pub school : IsTrue (is_choice schools draw.school)
   pub outcomes : IsTrue (list_all (is_known_outcome schools children) draw.outcomes)
   pub lots : IsTrue (list_all (is_known_lot schools children) draw.lots)
-
--- the test of all but its form and its key
-abbrev pub is_known_draw : FinMap code_cmp School → FinMap nat_cmp Child → Draw → Bool
-is_known_draw schools children draw =
-    nat_le first_day draw.day && is_choice schools draw.school && list_all (is_known_outcome schools children) draw.outcomes
-    && list_all (is_known_lot schools children) draw.lots
-
-abbrev pub fits_known_draw : FinMap code_cmp School → FinMap nat_cmp Child → ℕ → Draw → Bool
-fits_known_draw schools children number draw = nat_eq draw.number number && is_known_draw schools children draw

@@ -27,7 +27,7 @@ abbrev pub FewAfter : {K V : Type 0} {R : K → K → Ordering} → ℕ → FinM
 FewAfter limit rows [] = ⊤
 FewAfter limit rows (row ∷ put) = len rows ≤ limit
 
--- what is put into the schools, the children and the applications fits the rows after the change; the schools are new, or what they were but for a number that is not smaller
+-- what is written to the schools, the children and the applications fits the rows after the change; the schools are new, or what they were but for a number that is not smaller
 pub record BasePut (old : State) (change : Difference) : Type 0 where
   pub schools : AllByRecursion (λ (s : School). SchoolFits s.code s) change.schools
   pub kept_schools : AllByRecursion (λ (s : School). (was : School) → get old.schools s.code ≡ Some was → IsRaised was s) change.schools
@@ -36,28 +36,28 @@ pub record BasePut (old : State) (change : Difference) : Type 0 where
   pub few_children : FewAfter most_children (after old change).children change.children
   pub applications : AllByRecursion (λ (a : Application). ApplicationFits (lists_end old.season) (after old change).schools (after old change).children a.child a) change.applications
 
--- What is put into the places fits the rows after the change. A child that keeps its place keeps its application, if it has one. There is room at each school.
+-- What is written to the places fits the rows after the change. A child that keeps its place keeps its application, if it has one. There is room at each school.
 pub record PlacesPut (old : State) (change : Difference) : Type 0 where
   pub places : AllByRecursion (λ (p : PlaceRow). PlaceFits (after old change).schools (after old change).children (after old change).applications (has_first_round (after old change).draws) p.child p) change.places
   pub kept : (number : ℕ) (row : PlaceRow) → get old.places number ≡ Some row → get (after old change).places number ≡ Some row → get (after old change).applications number ≡ get old.applications number
   pub room : AllRows (λ code (school : School). places_outside_plans (after old change).places code ≤ school.pan) (after old change).schools
 
--- what is put into the left pairs fits the rows after the change, and each place that is put is that of a plan, or at a school that its child has not left
+-- what is written to the left pairs fits the rows after the change, and each place that is written is that of a plan, or at a school that its child has not left
 pub record LeftPut (old : State) (change : Difference) : Type 0 where
   pub left : AllByRecursion (λ (p : LeftPair). LeftPairFits (after old change).schools (after old change).children (after old change).places p p) change.left
   pub places : AllByRecursion (λ (p : PlaceRow). (is_plan p.place.state || not (contains_key old.left (record { child = p.child; school = p.place.school }))) ≡ true) change.places
 
--- the draws that are put fit the rows after the change, and each is the next after those before it
+-- the draws that are written fit the rows after the change, and each is the next after those before it
 pub record DrawsPut (old : State) (change : Difference) : Type 0 where
   pub each : AllByRecursion (λ (d : Draw). DrawFits (after old change).schools (after old change).children d.number d) change.draws
   pub in_order : are_in_order old.season (count_draws no_draws (values old.draws)) change.draws ≡ true
 
--- the imported rows that are put fit the rows after the change, and are new
+-- the imported rows that are written fit the rows after the change, and are new
 pub record ImportedPut (old : State) (change : Difference) : Type 0 where
   pub each : AllByRecursion (λ (r : ImportRow). ImportFits (lists_end old.season) (after old change).schools (after old change).children r.child.no r) change.imported
   pub new_rows : AllByRecursion (λ (r : ImportRow). not (contains_key old.imported r.child.no) ≡ true) change.imported
 
--- what is put is in the order of its keys, and so is what is cut; nothing is both put and cut
+-- what is written is in the order of its keys, and so is what is deleted; nothing is both written and deleted
 pub record IsTidyIn {K V : Type 0} (R : K → K → Ordering) (key : V → K) (cut : List K) (put : List V) : Type 0 where
   pub put_sorted : IsStrictlySortedBy R (map key put)
   pub cut_sorted : IsStrictlySortedBy R cut

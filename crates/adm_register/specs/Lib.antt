@@ -1,7 +1,9 @@
 pub mod State
+pub mod CodedState
 pub mod Groups
 pub mod Draws
 pub mod WellFormed
+pub mod RowTests
 pub mod Plans
 pub mod Change
 pub mod Wanted

@@ -1,5 +1,5 @@
 -- The register as lists of rows, and the numbers that are read off them.
-use Rattle.std.specs.Prelude.{◌≡◌, ℕ, ◌-◌, List, map, find, Option, None, count_by, nat_eq, if◌then◌else◌, bytes_eq}
+use Rattle.std.specs.Prelude.{◌≡◌, ℕ, ◌-◌, List, map, find, Option, None, Some, Bool, count_by, nat_eq, if◌then◌else◌, bytes_eq}
 use Rattle.std.specs.List.{flat_map}
 use Rattle.std.specs.Option.{option_map}
 use Rattle.std.specs.List.Sorted.{IsPermutation}
@@ -9,7 +9,9 @@ use Rattle.adm_types.specs.declared.draws.Draw.{Draw}
 use Rattle.adm_register.specs.declared.register_rows.Rows.{Rows}
 use Rattle.adm_draws.specs.Draws.{row_of, offer_rows_of, lot_rows_of}
 use Rattle.adm_draws.specs.Draws as draw_rows
+use Rattle.adm_types.specs.declared.rows.PlaceRow.{PlaceRow}
 use Rattle.adm_register.specs.State.{State}
+use Rattle.adm_register.specs.WellFormed.{is_unplanned_at}
 
 -- the rows of a state, each table's in the order of its key
 abbrev pub rows_in_order : State → Rows
@@ -52,3 +54,9 @@ vacancies s code = option_map (λ school. school.pan - places_at s code) (get s.
 -- the draw of the round of a number, from 1: none where there was no such round
 abbrev pub round_of : State → ℕ → Option Draw
 round_of s number = if nat_eq number 0 then None else find (λ draw. nat_eq draw.round number) (values s.draws)
+
+-- ---- for a private clause
+
+-- whether this is a place at the school, which may also be that of a plan or not
+abbrev pub is_counted : Bool → List ℕ → PlaceRow → Bool
+is_counted with_plans code row = if with_plans then bytes_eq row.place.school code else is_unplanned_at (Some row) code

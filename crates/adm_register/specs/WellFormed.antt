@@ -1,5 +1,5 @@
 -- Which states are registers: what each row must fit, table by table.
-use Rattle.std.specs.Prelude.{◌≡◌, ℕ, ◌+◌, ◌≤◌, Bool, true, false, not, is_some, nat_le, count_by, if◌then◌else◌, ◌&&◌, nat_eq, nat_lt, List, length, IsTrue, Option, Some, None, bytes_eq}
+use Rattle.std.specs.Prelude.{◌≡◌, ℕ, ◌+◌, ◌≤◌, Bool, true, false, not, is_some, count_by, if◌then◌else◌, ◌&&◌, nat_lt, List, length, IsTrue, Option, Some, None, bytes_eq}
 use Rattle.std.specs.List.{list_all}
 use Rattle.std.specs.Ordering.{nat_cmp}
 use Rattle.std.specs.declared.cmp.Ordering.{Ordering}
@@ -7,7 +7,7 @@ use Rattle.std.specs.FinMap.{FinMap, get, len, values, contains_key}
 use Rattle.std.specs.Str.{is_utf8}
 use Rattle.adm_types.specs.Code.{is_code}
 use Rattle.adm_types.specs.Seasons.{SeasonFacts, IsSeason, lists_end}
-use Rattle.adm_types.specs.Limits.{is_from, is_child_number, first_day, last_day, most_schools, most_children, most_preferences, is_name, is_school_in_range, is_child_in_range, is_listed, is_without_repeat}
+use Rattle.adm_types.specs.Limits.{is_from, is_child_number, first_day, last_day, most_schools, most_children, most_preferences, is_name, is_school_in_range, is_child_in_range, is_listed, is_without_repeat, code_cmp}
 use Rattle.adm_types.specs.declared.rows.School.{School}
 use Rattle.adm_types.specs.declared.rows.Child.{Child}
 use Rattle.adm_types.specs.declared.rows.Application.{Application}
@@ -18,9 +18,7 @@ use Rattle.adm_types.specs.declared.rows.PlaceState.TheVariants.{Offered, Accept
 use Rattle.adm_types.specs.declared.rows.PlaceRow.{PlaceRow}
 use Rattle.adm_types.specs.declared.rows.LeftPair.{LeftPair}
 use Rattle.adm_types.specs.declared.draws.Draw.{Draw}
-use Rattle.adm_types.specs.Limits.{code_cmp}
 use Rattle.adm_register.specs.State.{State, left_cmp, is_plan, application_of}
-use Rattle.adm_table.specs.Same.{is_same_left}
 use Rattle.adm_register.specs.Draws.{DrawFits, are_in_order, no_draws}
 
 -- P holds of each row and its key
@@ -39,13 +37,6 @@ pub record SchoolFits (code : List ℕ) (school : School) : Type 0 where
   pub name : IsTrue (is_name school.name)
   pub in_range : IsTrue (is_school_in_range school)
 
--- the test of all but its key
-abbrev pub is_school : School → Bool
-is_school school = is_code school.code && is_utf8 school.name && is_name school.name && is_school_in_range school
-
-abbrev pub fits_school : List ℕ → School → Bool
-fits_school code school = bytes_eq school.code code && is_school school
-
 -- a child is at its own number, with a name and numbers in their limits, 16 flags, and siblings at schools that are there
 pub record ChildFits (schools : FinMap code_cmp School) (number : ℕ) (child : Child) : Type 0 where
   pub own_number : child.no ≡ number
@@ -56,14 +47,6 @@ pub record ChildFits (schools : FinMap code_cmp School) (number : ℕ) (child : 
   pub flags : IsTrue (nat_lt child.flags 65536)
   pub siblings : IsTrue (are_schools schools child.siblings)
 
--- the test of all but its key
-abbrev pub is_child : FinMap code_cmp School → Child → Bool
-is_child schools child =
-    is_child_number child.no && is_utf8 child.name && is_name child.name && is_child_in_range child && nat_lt child.flags 65536 && are_schools schools child.siblings
-
-abbrev pub fits_child : FinMap code_cmp School → ℕ → Child → Bool
-fits_child schools number child = nat_eq child.no number && is_child schools child
-
 -- 1 to 10 schools that are there, without repeat, by the last day of the lists, for a child that is there
 pub record ApplicationFits (last_list_day : ℕ) (schools : FinMap code_cmp School) (children : FinMap nat_cmp Child) (number : ℕ) (application : Application) : Type 0 where
   pub own_number : application.child ≡ number
@@ -72,15 +55,6 @@ pub record ApplicationFits (last_list_day : ℕ) (schools : FinMap code_cmp Scho
   pub list_length : IsTrue (is_from 1 most_preferences (length application.list))
   pub without_repeat : IsTrue (is_without_repeat application.list)
   pub known : IsTrue (are_schools schools application.list)
-
--- the test of all but its key
-abbrev pub is_application : ℕ → FinMap code_cmp School → FinMap nat_cmp Child → Application → Bool
-is_application last_list_day schools children application =
-    contains_key children application.child && is_from first_day last_list_day application.day && is_from 1 most_preferences (length application.list)
-    && is_without_repeat application.list && are_schools schools application.list
-
-abbrev pub fits_application : ℕ → FinMap code_cmp School → FinMap nat_cmp Child → ℕ → Application → Bool
-fits_application last_list_day schools children number application = nat_eq application.child number && is_application last_list_day schools children application
 
 -- whether a round was held: the first draw is a round's
 abbrev pub has_first_round : FinMap nat_cmp Draw → Bool
@@ -110,14 +84,6 @@ pub record PlaceFits (schools : FinMap code_cmp School) (children : FinMap nat_c
   pub state : IsTrue (has_days_in_order row.place.state)
   pub entitled : IsTrue (is_entitled had_round (get applications row.child) row.place)
 
--- the test of all but its key
-abbrev pub is_place : FinMap code_cmp School → FinMap nat_cmp Child → FinMap nat_cmp Application → Bool → PlaceRow → Bool
-is_place schools children applications had_round row =
-    contains_key children row.child && contains_key schools row.place.school && has_days_in_order row.place.state && is_entitled had_round (get applications row.child) row.place
-
-abbrev pub fits_place : FinMap code_cmp School → FinMap nat_cmp Child → FinMap nat_cmp Application → Bool → ℕ → PlaceRow → Bool
-fits_place schools children applications had_round number row = nat_eq row.child number && is_place schools children applications had_round row
-
 -- whether this is a place at the school, and not that of a plan
 abbrev pub is_unplanned_at : Option PlaceRow → List ℕ → Bool
 is_unplanned_at None school = false
@@ -129,13 +95,6 @@ pub record LeftPairFits (schools : FinMap code_cmp School) (children : FinMap na
   pub child : IsTrue (contains_key children pair.child)
   pub school : IsTrue (contains_key schools pair.school)
   pub no_place : IsTrue (not (is_unplanned_at (get places pair.child) pair.school))
-
--- the test of all but its key
-abbrev pub is_left : FinMap code_cmp School → FinMap nat_cmp Child → FinMap nat_cmp PlaceRow → LeftPair → Bool
-is_left schools children places pair = contains_key children pair.child && contains_key schools pair.school && not (is_unplanned_at (get places pair.child) pair.school)
-
-abbrev pub fits_left : FinMap code_cmp School → FinMap nat_cmp Child → FinMap nat_cmp PlaceRow → LeftPair → LeftPair → Bool
-fits_left schools children places key pair = is_same_left pair key && is_left schools children places pair
 
 -- the season and the values are in their limits, each child and school that a row names is there, and there are at most 200 schools and 2,000 children
 pub record BaseFits (season : SeasonFacts) (schools : FinMap code_cmp School) (children : FinMap nat_cmp Child) (applications : FinMap nat_cmp Application) : Type 0 where
@@ -149,10 +108,6 @@ pub record BaseFits (season : SeasonFacts) (schools : FinMap code_cmp School) (c
 -- how many places at the school are not those of a plan
 abbrev pub places_outside_plans : FinMap nat_cmp PlaceRow → List ℕ → ℕ
 places_outside_plans places school = count_by (λ row. is_unplanned_at (Some row) school) (values places)
-
--- the test of a school beside the places
-abbrev pub fits_school_with : FinMap nat_cmp PlaceRow → List ℕ → School → Bool
-fits_school_with places code school = fits_school code school && nat_le (places_outside_plans places code) school.pan
 
 -- each place fits the rows that it names, and at each school those that are not a plan's are at most its admission number
 pub record PlacesFit (schools : FinMap code_cmp School) (children : FinMap nat_cmp Child) (applications : FinMap nat_cmp Application) (places : FinMap nat_cmp PlaceRow) (had_round : Bool) : Type 0 where
@@ -172,10 +127,6 @@ pub record DrawsFit (season : SeasonFacts) (schools : FinMap code_cmp School) (c
 pub record ImportFits (last_list_day : ℕ) (schools : FinMap code_cmp School) (children : FinMap nat_cmp Child) (number : ℕ) (row : ImportRow) : Type 0 where
   pub child : ChildFits schools number row.child
   pub application : ApplicationFits last_list_day schools children number (application_of row)
-
--- the test of it
-abbrev pub fits_import : ℕ → FinMap code_cmp School → FinMap nat_cmp Child → ℕ → ImportRow → Bool
-fits_import last_list_day schools children number row = fits_child schools number row.child && fits_application last_list_day schools children number (application_of row)
 
 -- each imported row fits the rows that it names
 abbrev pub ImportedFit : SeasonFacts → FinMap code_cmp School → FinMap nat_cmp Child → FinMap nat_cmp ImportRow → Type 0

@@ -5,8 +5,9 @@ ghost use Rattle.std.specs.FinMap.{get, len};
 ghost use Rattle.std.specs.List.Sorted.{IsStrictlySortedBy};
 ghost use Rattle.std.specs.Map.{keys_of};
 ghost use Rattle.adm_types.specs.Limits.{most_schools, most_children};
-ghost use Rattle.adm_register.specs.WellFormed.{WellFormed, fits_school_with, is_school, fits_place, is_place, fits_left, is_left, has_days_in_order, is_entitled, has_first_round};
-ghost use Rattle.adm_register.specs.Draws.{are_in_order, no_draws, fits_known_draw, is_known_draw, is_choice, is_known_outcome, is_known_lot};
+ghost use Rattle.adm_register.specs.WellFormed.{WellFormed, has_days_in_order, is_entitled, has_first_round};
+ghost use Rattle.adm_register.specs.RowTests.{fits_school_with, is_school, fits_place, is_place, fits_left, is_left, fits_known_draw, is_known_draw};
+ghost use Rattle.adm_register.specs.Draws.{are_in_order, no_draws, is_choice, is_known_outcome, is_known_lot};
 ghost use Rattle.adm_draws.specs.Draws.{is_draw};
 
 use crate::draws_so_far::are_in_order;

@@ -2,7 +2,7 @@
 ghost use Rattle.std.specs.Prelude.{◌≡◌, ◌&&◌, length};
 ghost use Rattle.adm_types.specs.Limits.{is_from, is_without_repeat, most_preferences};
 ghost use Rattle.adm_types.specs.Seasons.{lists_end};
-ghost use Rattle.adm_register.specs.WellFormed.{fits_child, is_child, fits_application, is_application, fits_import};
+ghost use Rattle.adm_register.specs.RowTests.{fits_child, is_child, fits_application, is_application, fits_import};
 
 use crate::checks::Checked;
 use crate::tables::Tables;
@@ -52,7 +52,7 @@ fn is_application(tables: &Tables, child: ChildNo, day: Day, list: &[SchoolCode]
 }
 
 /// Whether there are 1 to 10 schools, none twice.
-fn is_preference_list(list: &[SchoolCode]) -> bool
+pub fn is_preference_list(list: &[SchoolCode]) -> bool
     ensures { result ≡ (is_from 1 most_preferences (length list.now) && is_without_repeat list.now) }
 {
     let count = 1 <= list.len() && list.len() <= MOST_PREFERENCES;

@@ -43,7 +43,7 @@ impl Drop for Difference {
 }
 
 impl Difference {
-    /// No row is put and none is cut. It takes no memory.
+    /// No row is written and none is deleted. It takes no memory.
     pub fn none(alloc: Global) -> Difference
         ensures { result ≡ no_change }
     {

@@ -21,6 +21,7 @@ mod tables;
 mod waits;
 mod wanted;
 
+pub use child_checks::is_preference_list;
 pub use difference::Difference;
 pub use draws_so_far::DrawsSoFar;
 pub use laws::same_is_equal;

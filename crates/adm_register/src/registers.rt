@@ -10,7 +10,7 @@ ghost use Rattle.adm_register.specs.Difference.{IsDifference};
 ghost use Rattle.adm_register.specs.Draws.{IsWithin, draws_so_far};
 ghost use Rattle.adm_register.specs.Rows.{rows_in_order, AreRowsOf, place_of, round_of, vacancies};
 ghost use Rattle.adm_register.specs.Wanted.{wanted};
-ghost use Rattle.adm_register.specs.Waits.{is_waiting, list_of, standing_of, standings_of};
+ghost use Rattle.adm_register.specs.Waits.{is_waiting, list_of, standings_of};
 
 use crate::checks::is_well_formed;
 use crate::tables::Tables;
@@ -30,7 +30,8 @@ pub struct Register {
 
 impl Model for Register {
     ghost use Rattle.std.specs.Prelude.{◌≡◌};
-    ghost use Rattle.adm_register.specs.State.{State, coded_state};
+    ghost use Rattle.adm_register.specs.State.{State};
+    ghost use Rattle.adm_register.specs.CodedState.{coded_state};
     ghost use Rattle.adm_register.specs.WellFormed.{WellFormed};
     ghost use Rattle.adm_register.specs.Draws.{IsWithin, draws_so_far};
 
@@ -134,25 +135,11 @@ impl Register {
         self.tables.waiting(alloc, school)
     }
 
-    /// The position of the child on the waiting list of the school, and how many wait there; none
-    /// where it does not wait there. It takes memory for a pointer to each application that lists
-    /// the school, and for each child that waits. What it costs grows with the applications.
-    pub fn standing(
-        &self,
-        alloc: Global,
-        child: ChildNo,
-        school: SchoolCode,
-    ) -> Result<Option<Standing>, AllocError>
-        ensures { IfOk result (λ found. found ≡ standing_of self.now child school) }
-    {
-        self.tables.standing_of(alloc, child, school)
-    }
-
     /// The position of the child at each school that it wants and waits at, the most wanted first,
-    /// beside the school's code. It takes memory for a pointer to each application that lists one
-    /// of these schools, and for each child that waits there. What it costs grows with the
-    /// applications, which are gone through once for all schools, and with those that list one of
-    /// them.
+    /// beside the school's code: its entry on the waiting list there, and how many wait. It takes
+    /// memory for a pointer to each application that lists one of these schools, and for each child
+    /// that waits there. What it costs grows with the applications, which are gone through once for
+    /// all schools, and with those that list one of them.
     pub fn standings(
         &self,
         alloc: Global,

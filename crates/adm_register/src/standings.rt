@@ -20,23 +20,6 @@ pub struct Standing {
 }
 
 impl Tables {
-    /// The position of the child on the waiting list of the school, if it waits there.
-    pub(crate) fn standing_of(
-        &self,
-        alloc: Global,
-        child: ChildNo,
-        school: SchoolCode,
-    ) -> Result<Option<Standing>, AllocError>
-        requires { WellFormed self.now }
-        ensures { IfOk result (λ found. found ≡ standing_of self.now child school) }
-    {
-        if !self.is_waiting(child, school) {
-            return Ok(None);
-        }
-        let applications = self.listing(alloc, &[school])?;
-        self.standing_among(alloc, child, school, &applications)
-    }
-
     /// The position of the child at each school that it wants and waits at. The applications are
     /// walked once for all of them.
     pub(crate) fn standings_of(

@@ -1,9 +1,9 @@
 // The rows of a register as tables, without any invariant, and what is read off them.
-ghost use Rattle.std.specs.Prelude.{◌≡◌, IfOk, Some, option_copied, count_by, bytes_eq};
+ghost use Rattle.std.specs.Prelude.{◌≡◌, IfOk, Some, option_copied, count_by};
 ghost use Rattle.std.specs.FinMap as map;
 ghost use Rattle.std.specs.Map.{values_of};
 ghost use Rattle.adm_register.specs.Plans.{has_plan};
-ghost use Rattle.adm_register.specs.Rows.{place_of, places_at, vacancies};
+ghost use Rattle.adm_register.specs.Rows.{place_of, places_at, vacancies, is_counted};
 ghost use Rattle.adm_register.specs.State.{only_season, is_plan};
 ghost use Rattle.adm_register.specs.WellFormed.{are_schools, places_outside_plans, is_unplanned_at, has_first_round};
 
@@ -30,7 +30,8 @@ impl Drop for Tables {
 }
 
 impl Model for Tables {
-    ghost use Rattle.adm_register.specs.State.{State, coded_state};
+    ghost use Rattle.adm_register.specs.State.{State};
+    ghost use Rattle.adm_register.specs.CodedState.{coded_state};
     ghost use Rattle.adm_register.specs.Groups.{state_of};
 
     ghost Value = { State };
@@ -173,30 +174,31 @@ impl Tables {
         self.base.children.len()
     }
 
-    /// How many places there are at the school.
-    fn places_at(&self, code: SchoolCode) -> usize
-        ensures { result ≡ places_at self.now code }
+    /// How many places there are at the school: all, or all but those of a plan.
+    fn count_places(&self, code: SchoolCode, with_plans: bool) -> usize
+        ensures { result ≡ count_by (is_counted with_plans code) (map.values self.now.places) }
     {
         // read only so that the check sees that the rows are in the order of their keys
         let _all = self.course.places.len();
         let mut count = 0;
         for piece in self.course.places.pieces() {
-            count += count_at(piece, code);
+            count += count_in_piece(piece, code, with_plans);
         }
         count
+    }
+
+    /// How many places there are at the school.
+    fn places_at(&self, code: SchoolCode) -> usize
+        ensures { result ≡ places_at self.now code }
+    {
+        self.count_places(code, true)
     }
 
     /// How many places at the school are not those of a plan.
     pub(crate) fn places_outside_plans(&self, code: SchoolCode) -> usize
         ensures { result ≡ places_outside_plans self.now.places code }
     {
-        // read only so that the check sees that the rows are in the order of their keys
-        let _all = self.course.places.len();
-        let mut count = 0;
-        for piece in self.course.places.pieces() {
-            count += count_unplanned(piece, code);
-        }
-        count
+        self.count_places(code, false)
     }
 
     /// The draw of a number.
@@ -227,26 +229,26 @@ impl Tables {
     }
 }
 
-/// How many of the places of a piece are at the school.
-fn count_at(places: &Piece<ChildNo, PlaceRow>, code: SchoolCode) -> usize
-    ensures { result ≡ count_by (λ row. bytes_eq row.place.school code) (values_of places.now.rows.value.entries) }
+/// How many of the places of a piece are at the school: all, or all but those of a plan.
+fn count_in_piece(places: &Piece<ChildNo, PlaceRow>, code: SchoolCode, with_plans: bool) -> usize
+    ensures { result ≡ count_by (is_counted with_plans code) (values_of places.now.rows.value.entries) }
 {
     places
         .rows()
         .values()
-        .filter(|row| row.place.school == code)
+        .filter(|row| is_counted(row, code, with_plans))
         .count()
 }
 
-/// How many of the places of a piece are at the school, and not those of a plan.
-fn count_unplanned(places: &Piece<ChildNo, PlaceRow>, code: SchoolCode) -> usize
-    ensures { result ≡ count_by (λ row. is_unplanned_at (Some row) code) (values_of places.now.rows.value.entries) }
+/// Whether this is a place at the school, which may also be that of a plan or not.
+fn is_counted(row: &PlaceRow, code: SchoolCode, with_plans: bool) -> bool
+    ensures { result ≡ is_counted with_plans code row.now }
 {
-    places
-        .rows()
-        .values()
-        .filter(|row| is_unplanned_at(row, code))
-        .count()
+    if with_plans {
+        row.place.school == code
+    } else {
+        is_unplanned_at(row, code)
+    }
 }
 
 /// Whether this is a place at the school, and not that of a plan.

@@ -62,7 +62,8 @@ lot_found lots code child lot i s n =
       is = ap (λ (o : Option Lot). unwrap_or (option_map (λ (l : Lot). l.lot) o) 0) f.1;
     }
 
-has_lot : (sites : List Site) (applicants : List Applicant) (lots : List Lot) (a : Applicant) (code : Code) → map pair_of lots ≡ pairs sites applicants → In a applicants → is_site sites code ≡ true → wants code a ≡ true → LotAt lots code (number_of a)
+has_lot : (sites : List Site) (applicants : List Applicant) (lots : List Lot) (a : Applicant) (code : Code) → map pair_of lots ≡ pairs sites applicants → In a applicants
+    → is_site sites code ≡ true → wants code a ≡ true → LotAt lots code (number_of a)
 has_lot sites applicants lots a code drawn i known wanted =
     let s = site_known sites code known in
     let here : wants (code_of_site s.site) a ≡ true = ap (λ c. wants c a) s.at_code ∙ wanted in
@@ -102,7 +103,8 @@ some_same [] = refl
 some_same (lot ∷ lots) = ap (λ b. list_any (is_same_lot lot) lots || b) (some_same lots)
 
 -- two children that want a school have different lots there
-lots_apart : (sites : List Site) (applicants : List Applicant) (lots : List Lot) (a b : Applicant) (code : Code) → IsPosed sites applicants lots → In a applicants → In b applicants → is_site sites code ≡ true → wants code a ≡ true → wants code b ≡ true → (number_of a ≡ number_of b → ⊥) → lot_at lots code (number_of a) ≡ lot_at lots code (number_of b) → ⊥
+lots_apart : (sites : List Site) (applicants : List Applicant) (lots : List Lot) (a b : Applicant) (code : Code) → IsPosed sites applicants lots → In a applicants
+    → In b applicants → is_site sites code ≡ true → wants code a ≡ true → wants code b ≡ true → (number_of a ≡ number_of b → ⊥) → lot_at lots code (number_of a) ≡ lot_at lots code (number_of b) → ⊥
 lots_apart sites applicants lots a b code h i j known wa wb apart same =
     let one = has_lot sites applicants lots a code h.lots_drawn i known wa in
     let other = has_lot sites applicants lots b code h.lots_drawn j known wb in
@@ -137,7 +139,8 @@ module _ (sites : List Site) (applicants : List Applicant) (lots : List Lot) (h 
   pub its_schools : (a : Applicant) → In a applicants → map school_of_wish (list_of a) ≡ listed a
   its_schools a i = schools_are sites (lot_at lots) a.child (listed a) (known_of a i)
 
-  one_apart : (a b : Applicant) → In a applicants → In b applicants → (number_of a ≡ number_of b → ⊥) → (w : Wish) → In w (list_of a) → shares (candidate_of (site_of sites) (lot_at lots) a) (candidate_of (site_of sites) (lot_at lots) b) w ≡ true → ⊥
+  one_apart : (a b : Applicant) → In a applicants → In b applicants → (number_of a ≡ number_of b → ⊥) → (w : Wish) → In w (list_of a)
+      → shares (candidate_of (site_of sites) (lot_at lots) a) (candidate_of (site_of sites) (lot_at lots) b) w ≡ true → ⊥
   one_apart a b i j apart w k t =
       let parts = and_parts (is_key (key_at (list_of b) w.school) w.key) (not (has a.own w.school) && not (has b.own w.school)) t in
       let free = and_parts (not (has a.own w.school)) (not (has b.own w.school)) parts.1 in
@@ -151,7 +154,8 @@ module _ (sites : List Site) (applicants : List Applicant) (lots : List Lot) (h 
       apart
       (sym mine.1 ∙ (sym z.3 ∙ (its.1 ∙ ap (λ c. lot_at lots c (number_of b)) z.2)))
 
-  ranks_apart : (a b : Applicant) → In a applicants → In b applicants → (number_of a ≡ number_of b → ⊥) → share_rank (candidate_of (site_of sites) (lot_at lots) a) (candidate_of (site_of sites) (lot_at lots) b) ≡ false
+  ranks_apart : (a b : Applicant) → In a applicants → In b applicants → (number_of a ≡ number_of b → ⊥)
+      → share_rank (candidate_of (site_of sites) (lot_at lots) a) (candidate_of (site_of sites) (lot_at lots) b) ≡ false
   ranks_apart a b i j apart =
       none_any (shares (candidate_of (site_of sites) (lot_at lots) a) (candidate_of (site_of sites) (lot_at lots) b)) (list_of a) (λ w k.
       elim (cases_Bool (shares (candidate_of (site_of sites) (lot_at lots) a) (candidate_of (site_of sites) (lot_at lots) b) w)) [
@@ -202,6 +206,8 @@ module _ (sites : List Site) (applicants : List Applicant) (lots : List Lot) (h 
       (or_from (some_pair same_code m.seats) (list_any (λ e. some_pair same_school e.list) m.entrants) seats_once lists_once) known_seats children_once tenants_last ranks_differ
 
 -- the entrants and seats that were made are those of the round
-pub same_market : (sites : List Site) (applicants : List Applicant) (lots : List Lot) (round_index : RoundIndex) (entrants : List Candidate) (seats : List Seats) → IsRoundIndex sites lots round_index → entrants ≡ map (candidate_of (site_in sites round_index) (lot_in round_index)) applicants → seats ≡ map seats_of sites → match.market_of entrants seats ≡ market_of_round sites applicants lots
+pub same_market : (sites : List Site) (applicants : List Applicant) (lots : List Lot) (round_index : RoundIndex) (entrants : List Candidate) (seats : List Seats)
+    → IsRoundIndex sites lots round_index → entrants ≡ map (candidate_of (site_in sites round_index) (lot_in round_index)) applicants → seats ≡ map seats_of sites
+    → match.market_of entrants seats ≡ market_of_round sites applicants lots
 same_market sites applicants lots round_index entrants seats is e s =
     λ i. match.market_of ((e ∙ (λ j. map (candidate_of (λ code. is.sites_found code j) (λ school child. is.lots_found school child j)) applicants)) i) (s i)

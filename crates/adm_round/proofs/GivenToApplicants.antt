@@ -56,7 +56,8 @@ find_seats (z ∷ zs) seat i h =
 blocked : (a b c : Bool) → a ≡ true → b ≡ true → (a && (b || c)) ≡ false → ⊥
 blocked a b c s t none = false≢true (sym none ∙ (λ i. s i && (t i || c)))
 
-module _ (sites : List Site) (applicants : List Applicant) (lots : List Lot) (h : IsPosed sites applicants lots) (a : Allocation) (outcomes : List Outcome) (best : IsBest (market_of_round sites applicants lots) a) (given : outcomes ≡ outcomes_of a applicants) where
+module _ (sites : List Site) (applicants : List Applicant) (lots : List Lot) (h : IsPosed sites applicants lots) (a : Allocation) (outcomes : List Outcome)
+    (best : IsBest (market_of_round sites applicants lots) a) (given : outcomes ≡ outcomes_of a applicants) where
   pub are_best : AreBest (market_of_round sites applicants lots) applicants outcomes
   are_best = record { allocation = a; best = best; given = given }
 

@@ -47,7 +47,8 @@ abbrev pub school_of_wish : Wish → Code
 school_of_wish w = w.school
 
 -- each school of a list whose schools are sites gets a wish
-pub schools_are : (sites : List Site) (lot : Code → ℕ → ℕ) (child : Child) (codes : List Code) → ((code : Code) → In code codes → is_site sites code ≡ true) → map school_of_wish (wishes_for (site_of sites) lot child codes) ≡ codes
+pub schools_are : (sites : List Site) (lot : Code → ℕ → ℕ) (child : Child) (codes : List Code) → ((code : Code) → In code codes → is_site sites code ≡ true)
+    → map school_of_wish (wishes_for (site_of sites) lot child codes) ≡ codes
 schools_are sites lot child [] h = refl
 schools_are sites lot child (c ∷ cs) h =
     let s = site_known sites c (h c (inl refl)) in
@@ -55,7 +56,8 @@ schools_are sites lot child (c ∷ cs) h =
     ∙ (λ i. s.at_code i ∷ schools_are sites lot child cs (λ x l. h x (inr l)) i)
 
 -- a wish is at a school of the list, with the child's lot there
-pub wish_is : (sites : List Site) (lot : Code → ℕ → ℕ) (child : Child) (codes : List Code) (w : Wish) → ((code : Code) → In code codes → is_site sites code ≡ true) → In w (wishes_for (site_of sites) lot child codes) → In w.school codes × (w.key.lot ≡ lot w.school child.no)
+pub wish_is : (sites : List Site) (lot : Code → ℕ → ℕ) (child : Child) (codes : List Code) (w : Wish) → ((code : Code) → In code codes → is_site sites code ≡ true)
+    → In w (wishes_for (site_of sites) lot child codes) → In w.school codes × (w.key.lot ≡ lot w.school child.no)
 wish_is sites lot child codes w h i =
     let f = from_filter_map (λ code. option_map (wish_at lot child) (site_of sites code)) codes w i in
     let s = site_known sites f.0 (h f.0 f.1) in
@@ -108,7 +110,8 @@ listed_once : (wanted : List Code) (own : Option Code) → is_without_repeat wan
 listed_once wanted None h n = ap is_without_repeat (append-nil wanted) ∙ h
 listed_once wanted (Some own) h n = once_more wanted own h n
 
-pub no_repeat : (ws : List Wish) (wanted : List Code) (own : Option Code) → map school_of_wish ws ≡ wanted ++ option_to_list own → is_without_repeat wanted ≡ true → IfSome own (λ o. is_listed wanted o ≡ false) → some_pair same_school ws ≡ false
+pub no_repeat : (ws : List Wish) (wanted : List Code) (own : Option Code) → map school_of_wish ws ≡ wanted ++ option_to_list own → is_without_repeat wanted ≡ true
+    → IfSome own (λ o. is_listed wanted o ≡ false) → some_pair same_school ws ≡ false
 no_repeat ws wanted own is h n =
     pair_schools ws ∙ (ap (some_pair bytes_eq) is ∙ once_pairs (wanted ++ option_to_list own) (listed_once wanted own h n))
 
@@ -116,7 +119,8 @@ pub none_any : {X : Type 0} (p : X → Bool) (xs : List X) → ((x : X) → In x
 none_any p [] h = refl
 none_any p (x ∷ xs) h = λ i. h x (inl refl) i || none_any p xs (λ y l. h y (inr l)) i
 
-pub no_unknown : (known : Code → Bool) (ws : List Wish) (codes : List Code) → map school_of_wish ws ≡ codes → ((code : Code) → In code codes → known code ≡ true) → list_any (λ w. not (known w.school)) ws ≡ false
+pub no_unknown : (known : Code → Bool) (ws : List Wish) (codes : List Code) → map school_of_wish ws ≡ codes → ((code : Code) → In code codes → known code ≡ true)
+    → list_any (λ w. not (known w.school)) ws ≡ false
 no_unknown known ws codes is h =
     any_schools (λ c. not (known c)) ws
     ∙ (ap (list_any (λ c. not (known c))) is ∙ none_any (λ c. not (known c)) codes (λ c l. not_from_true (known c) (h c l)))
@@ -137,7 +141,8 @@ rank_at_end ws wanted own is n =
     omega (arith, rank, all, own_rank wanted own n)
 
 -- the own school is the last of the list
-pub own_last : (ws : List Wish) (wanted : List Code) (own : Option Code) → map school_of_wish ws ≡ wanted ++ option_to_list own → IfSome own (λ o. is_listed wanted o ≡ false) → is_not_last ws own ≡ false
+pub own_last : (ws : List Wish) (wanted : List Code) (own : Option Code) → map school_of_wish ws ≡ wanted ++ option_to_list own
+    → IfSome own (λ o. is_listed wanted o ≡ false) → is_not_last ws own ≡ false
 own_last ws wanted None is n = refl
 own_last ws wanted (Some own) is n =
     not_from_true (preference_rank ws own + 1 == length ws) (eq-eqb (preference_rank ws own + 1) (length ws) (rank_at_end ws wanted own is n))

@@ -1,37 +1,27 @@
 -- More places before a round never hurt an applicant in it.
-use Rattle.std.proofs.Common.{◌≡◌, ℕ, ◌+◌, ◌≤◌, List, [], ◌∷◌, map, Option, Some, true, false, cond, inl, inr, refl, sym, ap, ◌∙◌, subst, arith}
-use Rattle.std.specs.Prelude.{All, Any, bytes_eq, find, option_map, unwrap_or, if◌then◌else◌}
-use Rattle.std.specs.List.{AllZip, cons_option, position_or_len}
+use Rattle.std.proofs.Common.{◌≡◌, ℕ, ◌≤◌, List, [], ◌∷◌, map, Some, true, false, cond, inl, inr, refl, sym, ap, ◌∙◌, subst, arith}
+use Rattle.std.specs.Prelude.{All, Any, bytes_eq, find, option_map, unwrap_or}
+use Rattle.std.specs.List.{AllZip, cons_option}
 use Rattle.std.proofs.lemmas.Bool.{cases_Bool}
 use Rattle.adm_types.specs.declared.rows.School.{School}
 use Rattle.adm_types.specs.declared.rows.Child.{Child}
-use Rattle.adm_types.specs.declared.rows.Criterion.{Criterion}
-use Rattle.adm_types.specs.declared.rows.Criterion.TheVariants.{Sibling, Within, Flag, Feeder}
-use Rattle.adm_types.specs.declared.draws.Lot.{Lot}
-use Rattle.adm_rank.specs.Class.{meets, class_of}
+use Rattle.adm_rank.specs.Class.{class_of}
 use Rattle.adm_rank.specs.Distance.{distance_of}
 use Rattle.adm_rank.specs.Ranking.{key_of}
 use Rattle.adm_match.specs.declared.problem.Wish.{Wish}
 use Rattle.adm_match.specs.declared.problem.Seats.{Seats}
 use Rattle.adm_match.specs.Market.{Code, Candidate, quota_of}
 use Rattle.adm_match.specs.Generous.{IsCutFrom, IsAsGenerous, IsNoWorse, NoLoss, KindsOfGenerosity}
-use Rattle.adm_round.specs.declared.applicants.Applicant.{Applicant}
 use Rattle.adm_round.specs.declared.applicants.Site.{Site}
 use Rattle.adm_round.specs.Round.{code_of_site, number_of, listed}
-use Rattle.adm_round.specs.Ranks.{site_of, lot_at, wish_at, wishes_for, candidate_of, seats_of, market_of_round}
+use Rattle.adm_round.specs.Ranks.{site_of, lot_at, wish_at, wishes_for, seats_of, market_of_round}
 use Rattle.adm_round.specs.Outcomes.{PosedWithoutFault}
 use Rattle.adm_round.specs.Raised.{with_pan, IsRaised, NoLossByQuotas}
 
--- which criteria a child meets does not hang on the admission number
-meets_one : (s : School) (pan : ℕ) (child : Child) (c : Criterion) → meets (with_pan s pan) child c ≡ meets s child c
-meets_one s pan child Sibling = refl
-meets_one s pan child (Within metres) = refl
-meets_one s pan child (Flag flag) = refl
-meets_one s pan child (Feeder feeder) = refl
-
+-- the class of a child does not depend on the admission number
 class_same : (s : School) (pan : ℕ) (child : Child) → class_of (with_pan s pan) child ≡ class_of s child
 unfolding class_of
-class_same s pan child = λ i. if child.looked_after then 0 else (1 + position_or_len (λ c. meets_one s pan child c i) s.criteria)
+class_same s pan child = refl
 
 key_same : (s : School) (pan : ℕ) (child : Child) (lot : ℕ) → key_of (with_pan s pan) child lot ≡ key_of s child lot
 key_same s pan child lot = λ i. record { class = class_same s pan child i; distance = distance_of s.at child.home; lot = lot }
@@ -45,7 +35,8 @@ wish_same lot child was now h =
     let raised : wish now.school ≡ wish (with_pan was.school now.school.pan) = ap wish h.school in
     raised ∙ (λ i. record { school = was.school.code; key = key_same was.school now.school.pan child (lot was.school.code child.no) i })
 
-site_same : (lot : Code → ℕ → ℕ) (child : Child) (code : Code) (sites raised : List Site) → AllZip IsRaised sites raised → option_map (wish_at lot child) (site_of raised code) ≡ option_map (wish_at lot child) (site_of sites code)
+site_same : (lot : Code → ℕ → ℕ) (child : Child) (code : Code) (sites raised : List Site) → AllZip IsRaised sites raised
+    → option_map (wish_at lot child) (site_of raised code) ≡ option_map (wish_at lot child) (site_of sites code)
 site_same lot child code [] [] h = refl
 site_same lot child code [] (y ∷ ys) h = absurd h
 site_same lot child code (x ∷ xs) [] h = absurd h
@@ -60,7 +51,8 @@ site_same lot child code (x ∷ xs) (y ∷ ys) h = elim (cases_Bool (bytes_eq (c
       ∙ sym (ap (λ b. option_map (wish_at lot child) (cond b (Some x) (site_of xs code))) miss))
 ]
 
-wishes_same : (lot : Code → ℕ → ℕ) (child : Child) (codes : List Code) (sites raised : List Site) → AllZip IsRaised sites raised → wishes_for (site_of raised) lot child codes ≡ wishes_for (site_of sites) lot child codes
+wishes_same : (lot : Code → ℕ → ℕ) (child : Child) (codes : List Code) (sites raised : List Site) → AllZip IsRaised sites raised
+    → wishes_for (site_of raised) lot child codes ≡ wishes_for (site_of sites) lot child codes
 wishes_same lot child [] sites raised h = refl
 wishes_same lot child (code ∷ codes) sites raised h =
     λ i. cons_option (site_same lot child code sites raised h i) (wishes_same lot child codes sites raised h i)

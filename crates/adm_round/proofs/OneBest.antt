@@ -22,7 +22,8 @@ same_rank : (ws : List Wish) (s t : Code) → preference_rank ws s < length ws �
 same_rank [] s t one other same = absurd (omega (arith, one))
 same_rank (w ∷ ws) s t one other same = by (same_rank ws s t) (bytes_eq w.school s) (bytes_eq w.school t) refl refl
   where
-    by : (preference_rank ws s < length ws → preference_rank ws t < length ws → preference_rank ws s ≡ preference_rank ws t → s ≡ t) → (b c : Bool) → bytes_eq w.school s ≡ b → bytes_eq w.school t ≡ c → s ≡ t
+    by : (preference_rank ws s < length ws → preference_rank ws t < length ws → preference_rank ws s ≡ preference_rank ws t → s ≡ t) → (b c : Bool)
+        → bytes_eq w.school s ≡ b → bytes_eq w.school t ≡ c → s ≡ t
     by later true true is too = sym ((bytes_eq-Decides w.school s).0 is) ∙ (bytes_eq-Decides w.school t).0 too
     by later true false is too = absurd (omega (arith, same, rank-first w ws s is, rank-later w ws t too))
     by later false true is too = absurd (omega (arith, same, rank-later w ws s is, rank-first w ws t too))
@@ -32,7 +33,8 @@ same_rank (w ∷ ws) s t one other same = by (same_rank ws s t) (bytes_eq w.scho
         later (omega (arith, one, first)) (omega (arith, other, second)) (omega (arith, same, first, second))
 
 -- so what two acceptable assignments of one rank give is the same
-same_assigned : (ws : List Wish) (x y : Option Code) → IfSome x (λ s. preference_rank ws s < length ws) → IfSome y (λ s. preference_rank ws s < length ws) → assigned_rank ws x ≡ assigned_rank ws y → x ≡ y
+same_assigned : (ws : List Wish) (x y : Option Code) → IfSome x (λ s. preference_rank ws s < length ws) → IfSome y (λ s. preference_rank ws s < length ws)
+    → assigned_rank ws x ≡ assigned_rank ws y → x ≡ y
 same_assigned ws None None one other same = refl
 same_assigned ws None (Some t) one other same = absurd (omega (arith, other, same))
 same_assigned ws (Some s) None one other same = absurd (omega (arith, one, same))
@@ -57,6 +59,8 @@ one_allotment_law sites applicants lots one other first second =
         let ws = (entrant x).list in
         let one_fits = All_in (λ (e : Candidate). IfSome (a e.child) (λ s. preference_rank e.list s < length e.list)) (map entrant applicants) (entrant x) first.best.stable.acceptable there in
         let other_fits = All_in (λ (e : Candidate). IfSome (b e.child) (λ s. preference_rank e.list s < length e.list)) (map entrant applicants) (entrant x) second.best.stable.acceptable there in
-        let not_later = All_in (λ (e : Candidate). assigned_rank e.list (a e.child) ≤ assigned_rank e.list (b e.child)) (map entrant applicants) (entrant x) (first.best.none_better b second.best.stable) there in
-        let not_before = All_in (λ (e : Candidate). assigned_rank e.list (b e.child) ≤ assigned_rank e.list (a e.child)) (map entrant applicants) (entrant x) (second.best.none_better a first.best.stable) there in
+        let not_later = All_in (λ (e : Candidate). assigned_rank e.list (a e.child) ≤ assigned_rank e.list (b e.child)) (map entrant applicants) (entrant x)
+        (first.best.none_better b second.best.stable) there in
+        let not_before = All_in (λ (e : Candidate). assigned_rank e.list (b e.child) ≤ assigned_rank e.list (a e.child)) (map entrant applicants) (entrant x)
+        (second.best.none_better a first.best.stable) there in
         same_assigned ws (a (number_of x)) (b (number_of x)) one_fits other_fits (omega (arith, not_later, not_before))

@@ -24,7 +24,8 @@ pair_not t (z ∷ zs) x y swap h i j apart =
     ]
 
 module _ {X K Y : Type 0} (key : X → K) (c : K → K → Ordering) (g : X → Y) (test : Y → Y → Bool) where
-  none_behind : (x : X) (xs : List X) → ((y : X) → In y xs → c (key x) (key y) ≡ Less → test (g x) (g y) ≡ false) → AllByRecursion (λ k. c (key x) k ≡ Less) (map key xs) → list_any (test (g x)) (map g xs) ≡ false
+  none_behind : (x : X) (xs : List X) → ((y : X) → In y xs → c (key x) (key y) ≡ Less → test (g x) (g y) ≡ false) → AllByRecursion (λ k. c (key x) k ≡ Less) (map key xs)
+      → list_any (test (g x)) (map g xs) ≡ false
   none_behind x [] h less = refl
   none_behind x (y ∷ ys) h less =
       λ i. h y (inl refl) less.0 i || none_behind x ys (λ z l. h z (inr l)) less.1 i

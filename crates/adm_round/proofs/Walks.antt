@@ -25,7 +25,9 @@ use Rattle.adm_types.specs.Limits.{code_cmp}
 use Rattle.adm_round.specs.Lookups.{pair_cmp, first_value, HasFirst, IsRoundIndex}
 
 -- one more row, from the last one on
-pub first_more : {K V : Type 0} (cmp : K → K → Ordering) (rows : List (K × V)) (back : ℕ) (row : K × V) (old new : BTreeMap K V) → back < length rows → row ≡ get_or rows (length rows - 1 - back) row → HasFirst cmp (drop (length rows - back) rows) old → Updates cmp old new row.0 (Some row.1) → HasFirst cmp (drop (length rows - (back + 1)) rows) new
+pub first_more : {K V : Type 0} (cmp : K → K → Ordering) (rows : List (K × V)) (back : ℕ) (row : K × V) (old new : BTreeMap K V) → back < length rows
+    → row ≡ get_or rows (length rows - 1 - back) row → HasFirst cmp (drop (length rows - back) rows) old → Updates cmp old new row.0 (Some row.1)
+    → HasFirst cmp (drop (length rows - (back + 1)) rows) new
 first_more cmp rows back row old new less at was up key =
     let here : ℕ = length rows - (back + 1) in
     let same : length rows - 1 - back ≡ here = omega arith in
@@ -45,14 +47,16 @@ both_equal s t a b =
     sym (tied_then (slice_cmp nat_cmp s t) (nat_cmp a b)) ∙ (λ i. is_eq-slice_cmp s t i && eq_number a b i)
 
 -- the lot of a pair is that of the first row with it
-lots_found : (lots : List Lot) (school : Code) (child : ℕ) → first_value pair_cmp (map (λ lot. (pair_of lot, lot.lot)) lots) (record { school = school; child = child }) ≡ option_map (λ lot. lot.lot) (find (λ lot. bytes_eq lot.school school && lot.child == child) lots)
+lots_found : (lots : List Lot) (school : Code) (child : ℕ) → first_value pair_cmp (map (λ lot. (pair_of lot, lot.lot)) lots)
+    (record { school = school; child = child }) ≡ option_map (λ lot. lot.lot) (find (λ lot. bytes_eq lot.school school && lot.child == child) lots)
 lots_found [] school child = refl
 lots_found (lot ∷ lots) school child =
     let rest : Option (Pair × ℕ) = find (λ row. is_eq (pair_cmp row.0 (record { school = school; child = child }))) (map (λ lot. (pair_of lot, lot.lot)) lots) in
     ap (λ b. option_map (λ (row : Pair × ℕ). row.1) (cond b (Some (pair_of lot, lot.lot)) rest)) (both_equal lot.school school lot.child child)
     ∙ pick (bytes_eq lot.school school && lot.child == child) lot rest _ (lots_found lots school child)
   where
-    pick : (b : Bool) (lot : Lot) (o : Option (Pair × ℕ)) (p : Option Lot) → option_map (λ row. row.1) o ≡ option_map (λ l. l.lot) p → option_map (λ (row : Pair × ℕ). row.1) (cond b (Some (pair_of lot, lot.lot)) o) ≡ option_map (λ (l : Lot). l.lot) (cond b (Some lot) p)
+    pick : (b : Bool) (lot : Lot) (o : Option (Pair × ℕ)) (p : Option Lot) → option_map (λ row. row.1) o ≡ option_map (λ l. l.lot) p
+        → option_map (λ (row : Pair × ℕ). row.1) (cond b (Some (pair_of lot, lot.lot)) o) ≡ option_map (λ (l : Lot). l.lot) (cond b (Some lot) p)
     pick true lot o p h = refl
     pick false lot o p h = h
 
@@ -60,7 +64,8 @@ abbrev pub row_of_place : ℕ × Site → Code × ℕ
 row_of_place place = (code_of_site place.1, place.0)
 
 -- the site of a school is at the index of the first row with its code, where the sites from n on are these
-sites_found : (all : List Site) (n : ℕ) (sites : List Site) (code : Code) → ((k : ℕ) → slice_get all (n + k) ≡ slice_get sites k) → option_and_then (slice_get all) (first_value code_cmp (map row_of_place (enumerate_from n sites)) code) ≡ site_of sites code
+sites_found : (all : List Site) (n : ℕ) (sites : List Site) (code : Code) → ((k : ℕ) → slice_get all (n + k) ≡ slice_get sites k)
+    → option_and_then (slice_get all) (first_value code_cmp (map row_of_place (enumerate_from n sites)) code) ≡ site_of sites code
 sites_found all n [] code h = refl
 sites_found all n (site ∷ sites) code h =
     let rest : Option (Code × ℕ) = find (λ row. is_eq (code_cmp row.0 code)) (map row_of_place (enumerate_from (n + 1) sites)) in
@@ -69,24 +74,30 @@ sites_found all n (site ∷ sites) code h =
     (ap (slice_get all) (omega arith) ∙ h 0)
     (sites_found all (n + 1) sites code (λ k. let next : (n + 1) + k ≡ n + suc k = omega arith in ap (slice_get all) next ∙ h (suc k)))
   where
-    pick : (b : Bool) (all : List Site) (n : ℕ) (site : Site) (o : Option (Code × ℕ)) (p : Option Site) → slice_get all n ≡ Some site → option_and_then (slice_get all) (option_map (λ row. row.1) o) ≡ p → option_and_then (slice_get all) (option_map (λ (row : Code × ℕ). row.1) (cond b (Some (code_of_site site, n)) o)) ≡ cond b (Some site) p
+    pick : (b : Bool) (all : List Site) (n : ℕ) (site : Site) (o : Option (Code × ℕ)) (p : Option Site) → slice_get all n ≡ Some site
+        → option_and_then (slice_get all) (option_map (λ row. row.1) o) ≡ p
+        → option_and_then (slice_get all) (option_map (λ (row : Code × ℕ). row.1) (cond b (Some (code_of_site site, n)) o)) ≡ cond b (Some site) p
     pick true all n site o p at h = at
     pick false all n site o p at h = h
 
-rows_push : (n : ℕ) (sites : List Site) (site : Site) → map row_of_place (enumerate_from n (sites ++ site ∷ [])) ≡ map row_of_place (enumerate_from n sites) ++ (code_of_site site, n + length sites) ∷ []
+rows_push : (n : ℕ) (sites : List Site) (site : Site) → map row_of_place (enumerate_from n (sites ++ site ∷ [])) ≡ map row_of_place (enumerate_from n sites)
+    ++ (code_of_site site, n + length sites) ∷ []
 rows_push n [] site = let same : n ≡ n + 0 = omega arith in λ i. (code_of_site site, same i) ∷ []
 rows_push n (first ∷ sites) site =
     let same : (n + 1) + length sites ≡ n + suc (length sites) = omega arith in
     ap (λ (rows : List (Code × ℕ)). (code_of_site first, n) ∷ rows)
     (rows_push (n + 1) sites site ∙ ap (λ k. map row_of_place (enumerate_from (n + 1) sites) ++ (code_of_site site, k) ∷ []) same)
 
-pub rows_more : (sites : List Site) (i : ℕ) (site : Site) (old new : List (Code × ℕ)) → i < length sites → site ≡ get_or sites i site → old ≡ map row_of_place (enumerate_from 0 (take i sites)) → new ≡ old ++ (code_of_site site, i) ∷ [] → new ≡ map row_of_place (enumerate_from 0 (take (i + 1) sites))
+pub rows_more : (sites : List Site) (i : ℕ) (site : Site) (old new : List (Code × ℕ)) → i < length sites → site ≡ get_or sites i site
+    → old ≡ map row_of_place (enumerate_from 0 (take i sites)) → new ≡ old ++ (code_of_site site, i) ∷ [] → new ≡ map row_of_place (enumerate_from 0 (take (i + 1) sites))
 rows_more sites i site old new l at was now =
     let count : 0 + length (take i sites) ≡ i = omega (arith, length-take-le i sites (omega arith)) in
     now ∙ ((λ j. was j ++ (code_of_site site, sym count j) ∷ [])
     ∙ (sym (rows_push 0 (take i sites) site) ∙ ap (λ (xs : List Site). map row_of_place (enumerate_from 0 xs)) (sym (next_of sites i site l at))))
 
-pub is_round_index : (sites : List Site) (lots : List Lot) (round_index : RoundIndex) (index_rows : List (Code × ℕ)) (lot_rows : List (Pair × ℕ)) → index_rows ≡ map (λ place. (code_of_site place.1, place.0)) (enumerate_from 0 sites) → lot_rows ≡ map (λ lot. (pair_of lot, lot.lot)) lots → HasFirst code_cmp index_rows round_index.indices → HasFirst pair_cmp lot_rows round_index.lots → IsRoundIndex sites lots round_index
+pub is_round_index : (sites : List Site) (lots : List Lot) (round_index : RoundIndex) (index_rows : List (Code × ℕ)) (lot_rows : List (Pair × ℕ))
+    → index_rows ≡ map (λ place. (code_of_site place.1, place.0)) (enumerate_from 0 sites) → lot_rows ≡ map (λ lot. (pair_of lot, lot.lot)) lots
+    → HasFirst code_cmp index_rows round_index.indices → HasFirst pair_cmp lot_rows round_index.lots → IsRoundIndex sites lots round_index
 is_round_index sites lots round_index index_rows lot_rows i l indices found = record {
   sites_found = λ code.
       ap (λ o. option_and_then (slice_get sites) o) (indices code ∙ ap (λ rs. first_value code_cmp rs code) i)
@@ -101,11 +112,15 @@ fits_in P sites None site h e = absurd (none-some site e)
 fits_in P sites (Some k) site h e =
     subst P (get_or_from_slice_get sites k site site e) (h k site (slice_get_within sites k site e))
 
-pub wishes_append : (site : Code → Option Site) (lot : Code → ℕ → ℕ) (child : Child) (xs ys : List Code) → wishes_for site lot child (xs ++ ys) ≡ wishes_for site lot child xs ++ wishes_for site lot child ys
+pub wishes_append : (site : Code → Option Site) (lot : Code → ℕ → ℕ) (child : Child) (xs ys : List Code)
+    → wishes_for site lot child (xs ++ ys) ≡ wishes_for site lot child xs ++ wishes_for site lot child ys
 wishes_append site lot child xs ys = filter_map-append (λ code. option_map (wish_at lot child) (site code)) xs ys
 
-pub wishes_more : (site : Code → Option Site) (lot : Code → ℕ → ℕ) (child : Child) (schools : List Code) (i : ℕ) (school : Code) (first old new : List Wish) → i < length schools → school ≡ get_or schools i school → old ≡ first ++ wishes_for site lot child (take i schools) → new ≡ old ++ wishes_for site lot child (school ∷ []) → new ≡ first ++ wishes_for site lot child (take (i + 1) schools)
+pub wishes_more : (site : Code → Option Site) (lot : Code → ℕ → ℕ) (child : Child) (schools : List Code) (i : ℕ) (school : Code) (first old new : List Wish)
+    → i < length schools → school ≡ get_or schools i school → old ≡ first ++ wishes_for site lot child (take i schools)
+    → new ≡ old ++ wishes_for site lot child (school ∷ []) → new ≡ first ++ wishes_for site lot child (take (i + 1) schools)
 wishes_more site lot child schools i school first old new l at was now =
     let one : List Wish = wishes_for site lot child (school ∷ []) in
     now ∙ (ap (λ (x : List Wish). x ++ one) was ∙ (append_assoc first (wishes_for site lot child (take i schools)) one
-    ∙ sym (ap (λ (x : List Code). first ++ wishes_for site lot child x) (next_of schools i school l at) ∙ ap (λ (x : List Wish). first ++ x) (wishes_append site lot child (take i schools) (school ∷ [])))))
+    ∙ sym (ap (λ (x : List Code). first ++ wishes_for site lot child x) (next_of schools i school l at)
+    ∙ ap (λ (x : List Wish). first ++ x) (wishes_append site lot child (take i schools) (school ∷ [])))))

@@ -27,7 +27,9 @@ taken_out None empty h = h
 taken_out (Some v) empty h = refl
 
 -- one child more wants the school
-pub child_added : (old mid new : BTreeMap Code (Vec ℕ Global)) (school : Code) (child : ℕ) (children : Vec ℕ Global) → UpdatesBy code_cmp (code_cmp school) old mid None → UpdatesBy code_cmp (code_cmp school) mid new (Some children) → children.items ≡ children_for old school ++ child ∷ [] → (code : Code) → children_for new code ≡ children_for old code ++ cond (bytes_eq school code) (child ∷ []) []
+pub child_added : (old mid new : BTreeMap Code (Vec ℕ Global)) (school : Code) (child : ℕ) (children : Vec ℕ Global) → UpdatesBy code_cmp (code_cmp school) old mid None
+    → UpdatesBy code_cmp (code_cmp school) mid new (Some children) → children.items ≡ children_for old school ++ child ∷ [] → (code : Code)
+    → children_for new code ≡ children_for old code ++ cond (bytes_eq school code) (child ∷ []) []
 child_added old mid new school child children out into is code = elim (cases_Bool (bytes_eq school code)) [
   | inl hit ↦
       let same : school ≡ code = (bytes_eq-Decides school code).0 hit in
@@ -45,12 +47,17 @@ one_more true false xs x h = append-nil (xs ++ x ∷ [])
 one_more false true xs x h = ap (λ ys. ys ++ x ∷ []) (append-nil xs)
 one_more false false xs x h = append-nil (xs ++ [])
 
-listed_more : (schools : List Code) (i : ℕ) (school code : Code) → i < length schools → school ≡ get_or schools i school → is_listed (take (i + 1) schools) code ≡ (is_listed (take i schools) code || (bytes_eq school code || false))
+listed_more : (schools : List Code) (i : ℕ) (school code : Code) → i < length schools → school ≡ get_or schools i school
+    → is_listed (take (i + 1) schools) code ≡ (is_listed (take i schools) code || (bytes_eq school code || false))
 listed_more schools i school code l at =
     ap (λ (cs : List Code). is_listed cs code) (next_of schools i school l at) ∙ list_any-append (λ other. bytes_eq other code) (take i schools) (school ∷ [])
 
 -- a school of the list that did not come before
-pub wanting_more : (first old new : BTreeMap Code (Vec ℕ Global)) (schools : List Code) (i : ℕ) (school : Code) (child : ℕ) → i < length schools → school ≡ get_or schools i school → is_listed (take i schools) school ≡ false → ((code : Code) → children_for old code ≡ children_for first code ++ cond (is_listed (take i schools) code) (child ∷ []) []) → ((code : Code) → children_for new code ≡ children_for old code ++ cond (bytes_eq school code) (child ∷ []) []) → (code : Code) → children_for new code ≡ children_for first code ++ cond (is_listed (take (i + 1) schools) code) (child ∷ []) []
+pub wanting_more : (first old new : BTreeMap Code (Vec ℕ Global)) (schools : List Code) (i : ℕ) (school : Code) (child : ℕ) → i < length schools
+    → school ≡ get_or schools i school → is_listed (take i schools) school ≡ false
+    → ((code : Code) → children_for old code ≡ children_for first code ++ cond (is_listed (take i schools) code) (child ∷ []) [])
+    → ((code : Code) → children_for new code ≡ children_for old code ++ cond (bytes_eq school code) (child ∷ []) []) → (code : Code)
+    → children_for new code ≡ children_for first code ++ cond (is_listed (take (i + 1) schools) code) (child ∷ []) []
 wanting_more first old new schools i school child l at fresh was now code =
     now code ∙ (ap (λ xs. xs ++ cond (bytes_eq school code) (child ∷ []) []) (was code)
     ∙ (one_more (is_listed (take i schools) code) (bytes_eq school code) (children_for first code) child
@@ -58,7 +65,10 @@ wanting_more first old new schools i school child l at fresh was now code =
     ∙ ap (λ b. children_for first code ++ cond b (child ∷ []) []) (sym (listed_more schools i school code l at))))
 
 -- a school of the list that came before
-pub wanting_same : (first old : BTreeMap Code (Vec ℕ Global)) (schools : List Code) (i : ℕ) (school : Code) (child : ℕ) → i < length schools → school ≡ get_or schools i school → is_listed (take i schools) school ≡ true → ((code : Code) → children_for old code ≡ children_for first code ++ cond (is_listed (take i schools) code) (child ∷ []) []) → (code : Code) → children_for old code ≡ children_for first code ++ cond (is_listed (take (i + 1) schools) code) (child ∷ []) []
+pub wanting_same : (first old : BTreeMap Code (Vec ℕ Global)) (schools : List Code) (i : ℕ) (school : Code) (child : ℕ) → i < length schools
+    → school ≡ get_or schools i school → is_listed (take i schools) school ≡ true
+    → ((code : Code) → children_for old code ≡ children_for first code ++ cond (is_listed (take i schools) code) (child ∷ []) []) → (code : Code)
+    → children_for old code ≡ children_for first code ++ cond (is_listed (take (i + 1) schools) code) (child ∷ []) []
 wanting_same first old schools i school child l at there was code =
     was code ∙ ap (λ b. children_for first code ++ cond b (child ∷ []) [])
     (kept (is_listed (take i schools) code) (bytes_eq school code) (λ e. ap (is_listed (take i schools)) (sym ((bytes_eq-Decides school code).0 e)) ∙ there)
@@ -70,14 +80,17 @@ wanting_same first old schools i school child l at there was code =
     kept false false h = refl
 
 -- the pairs of the children that want a school are those of the applicants
-pub pairs_same : (school : Code) (applicants : List Applicant) → map (λ child. record { school = school; child = child }) (map number_of (filter (wants school) applicants)) ≡ map (pair_at school) (filter (wants school) applicants)
+pub pairs_same : (school : Code) (applicants : List Applicant)
+    → map (λ child. record { school = school; child = child }) (map number_of (filter (wants school) applicants)) ≡ map (pair_at school) (filter (wants school) applicants)
 pairs_same school applicants = twice school (filter (wants school) applicants)
   where
     twice : (school : Code) (xs : List Applicant) → map (λ child. record { school = school; child = child }) (map number_of xs) ≡ map (pair_at school) xs
     twice school [] = refl
     twice school (x ∷ xs) = λ i. pair_at school x ∷ twice school xs i
 
-pub pairs_more : (sites : List Site) (applicants : List Applicant) (i : ℕ) (site : Site) (school : Code) (children : List ℕ) (old new : List Pair) → i < length sites → site ≡ get_or sites i site → school ≡ code_of_site site → children ≡ map number_of (filter (wants school) applicants) → old ≡ pairs (take i sites) applicants → new ≡ old ++ map (λ child. record { school = school; child = child }) children → new ≡ pairs (take (i + 1) sites) applicants
+pub pairs_more : (sites : List Site) (applicants : List Applicant) (i : ℕ) (site : Site) (school : Code) (children : List ℕ) (old new : List Pair) → i < length sites
+    → site ≡ get_or sites i site → school ≡ code_of_site site → children ≡ map number_of (filter (wants school) applicants) → old ≡ pairs (take i sites) applicants
+    → new ≡ old ++ map (λ child. record { school = school; child = child }) children → new ≡ pairs (take (i + 1) sites) applicants
 pairs_more sites applicants i site school children old new l at here are was now =
     let more : map (λ child. record { school = school; child = child }) children ≡ pairs_at applicants site =
     ap (map (λ child. record { school = school; child = child })) are

@@ -37,7 +37,8 @@ disk_cause old new e live other fails = go fails.0 fails.1 fails.2
     go stored.Unstorable is h = absurd h
 
 -- a query that fails for another cause than memory and its text
-pub disk_or_unanswered : (sql : List ℕ) (old new : State) (e : Error) → IsTrue old.is_open → (e ≡ SqliteFailure OutOfMemory → ⊥) → ((why : CompileError) → e ≡ SqlInputError why → ⊥) → FailsToQuery sql [] old new e ⊎ IsTooLate sql [] old new e
+pub disk_or_unanswered : (sql : List ℕ) (old new : State) (e : Error) → IsTrue old.is_open → (e ≡ SqliteFailure OutOfMemory → ⊥)
+    → ((why : CompileError) → e ≡ SqlInputError why → ⊥) → FailsToQuery sql [] old new e ⊎ IsTooLate sql [] old new e
     → MoreFaults old.faults new.faults ⊎ IsUnanswered sql old
 unfolding FailsToQuery IsNotRun
 disk_or_unanswered sql old new e live memory text (inl (inl (inl h))) = inr (e, text, inl h.0)
@@ -51,7 +52,8 @@ disk_or_unanswered sql old new e live memory text (inl (inr h)) = inr (e, text, 
 disk_or_unanswered sql old new e live memory text (inr h) = inr (e, text, inr (h.0, h.1.is, inl h.2))
 
 -- under a register's tables, and under others
-pub cause_of_season : (old new : State) (version : Option Version) → IfSome version (λ v. old.now.schema ≡ schema_of v) → (version ≡ None → (v : Version) → old.now.schema ≡ schema_of v → ⊥) → DiskFailed old new → DiskFailedOr select_meta old new → HasDiskCause old new
+pub cause_of_season : (old new : State) (version : Option Version) → IfSome version (λ v. old.now.schema ≡ schema_of v)
+    → (version ≡ None → (v : Version) → old.now.schema ≡ schema_of v → ⊥) → DiskFailed old new → DiskFailedOr select_meta old new → HasDiskCause old new
 cause_of_season old new (Some v) has none here there clean live unlimited = inl (here v clean live unlimited has)
 cause_of_season old new None has none here there clean live unlimited = elim (there clean live) [
   | inl more ↦ inl more

@@ -48,7 +48,8 @@ pub flags_fit : (flags : ℕ) → nat_lt flags 65536 ≡ true → flags < 65536
 flags_fit flags h = grind (arith, nat_tests)
 
 -- what each field of a child keeps, and then what others keep
-pub home_fit : {Others : Type 0} (child : Child) → IsChild child → Others → (is_child_number child.no ≡ true) × ((is_utf8 child.name ≡ true) × ((child.home.east < 2 ^ 32) × ((child.home.north < 2 ^ 32)
+pub home_fit : {Others : Type 0} (child : Child) → IsChild child → Others
+    → (is_child_number child.no ≡ true) × ((is_utf8 child.name ≡ true) × ((child.home.east < 2 ^ 32) × ((child.home.north < 2 ^ 32)
     × (Unit {0} × ((child.flags < 65536) × ((list_all is_code child.siblings ≡ true) × Others))))))
 home_fit child fits others =
     let home = home_fits child fits in
@@ -149,7 +150,10 @@ state_back Plan = refl
 
 -- a place from its row
 abbrev pub place_from : Row → PlaceRow
-place_from cells = record { child = number_in (column cells 0); place = record { school = text_in (column cells 1); state = state_from (number_in (column cells 2)) (column cells 3) (column cells 4) } }
+place_from cells = record {
+  child = number_in (column cells 0);
+  place = record { school = text_in (column cells 1); state = state_from (number_in (column cells 2)) (column cells 3) (column cells 4) };
+}
 
 pub place_back : (p : PlaceRow) → place_from (place_row p) ≡ p
 place_back p = λ k. record { child = p.child; place = record { school = p.place.school; state = state_back p.place.state k } }
@@ -171,7 +175,8 @@ pub has_place_columns : (row : Row) (x : PlaceRow) → IsPlaceRow x → row ≡ 
     × (state_columns x.place.state ≡ Int (pos kind) ∷ day_value day ∷ day_value reminded ∷ [])
 has_place_columns row x fits is = go x.place.state fits.days is
   where
-    go : (state : PlaceState) → has_days_in_range state ≡ true → row ≡ Int (pos x.child) ∷ Text x.place.school ∷ state_columns state → (kind : ℕ) × (day reminded : Option ℕ) × HasPlaceColumns row x.child x.place.school kind day reminded
+    go : (state : PlaceState) → has_days_in_range state ≡ true → row ≡ Int (pos x.child) ∷ Text x.place.school ∷ state_columns state
+        → (kind : ℕ) × (day reminded : Option ℕ) × HasPlaceColumns row x.child x.place.school kind day reminded
         × (state_columns state ≡ Int (pos kind) ∷ day_value day ∷ day_value reminded ∷ [])
     go (Offered day reminded) days is =
         let parts = and_parts (is_day day) (is_day_or_none reminded) days in
@@ -180,7 +185,8 @@ has_place_columns row x fits is = go x.place.state fits.days is
     go Plan days is = (3, None, None, record { row_is = is; number_form = fits.number_form; code_form = fits.code_form; kind_fits = omega arith; day_fits = refl; reminded_fits = refl }, refl)
 
 -- the kind, the day and the day of the reminder
-pub last_columns : (row : Row) (x : PlaceRow) (child kind : ℕ) (school : List ℕ) (day reminded : Option ℕ) → row ≡ Int (pos child) ∷ Text school ∷ Int (pos kind) ∷ day_value day ∷ day_value reminded ∷ [] → row ≡ place_row x
+pub last_columns : (row : Row) (x : PlaceRow) (child kind : ℕ) (school : List ℕ) (day reminded : Option ℕ)
+    → row ≡ Int (pos child) ∷ Text school ∷ Int (pos kind) ∷ day_value day ∷ day_value reminded ∷ [] → row ≡ place_row x
     → state_columns x.place.state ≡ Int (pos kind) ∷ day_value day ∷ day_value reminded ∷ []
 last_columns row x child kind school day reminded read is = ap (drop 2) (sym is ∙ read)
 

@@ -31,10 +31,12 @@ record IsInTurn (season : SeasonFacts) (d : Draw) : Type 0 where
   pub round : d.round ≤ most_draws
   pub day : nat_le d.day (lists_end season) ≡ true
 
-round_low : (before : DrawsSoFar) (d : Draw) → before.rounds ≤ before.draws → nat_lt before.draws most_draws ≡ true → is_numbered before d ≡ true → (d.round ≤ most_draws) × ((count_draw before d).rounds ≤ (count_draw before d).draws)
+round_low : (before : DrawsSoFar) (d : Draw) → before.rounds ≤ before.draws → nat_lt before.draws most_draws ≡ true → is_numbered before d ≡ true
+    → (d.round ≤ most_draws) × ((count_draw before d).rounds ≤ (count_draw before d).draws)
 round_low before d few low is = go (is_round d) refl (and_parts (nat_eq d.number (before.draws + 1)) _ is).1
   where
-    go : (b : Bool) → is_round d ≡ b → (if b then nat_eq d.round (before.rounds + 1) else nat_lt 0 before.rounds) ≡ true → (d.round ≤ most_draws) × ((if b then before.rounds + 1 else before.rounds) ≤ before.draws + 1)
+    go : (b : Bool) → is_round d ≡ b → (if b then nat_eq d.round (before.rounds + 1) else nat_lt 0 before.rounds) ≡ true
+        → (d.round ≤ most_draws) × ((if b then before.rounds + 1 else before.rounds) ≤ before.draws + 1)
     go true round numbered = (grind (arith, nat_tests), omega (arith, few))
     go false round numbered = (grind (arith, nat_tests), omega (arith, few))
 
@@ -72,8 +74,15 @@ module _ (r : Register) (formed : WellFormed r) where
   drawn_fit n form (l ∷ ls) known =
       let parts = and_parts (is_known_lot r.schools r.children l) _ known in
       let low = and_parts (contains_key r.schools l.school && contains_key r.children l.child) _ parts.0 in
-      let own = and_parts (contains_key r.schools l.school) _ low.0 in
-      (record { draw_form = form; school_form = code_there r.schools formed.base.schools_fit l.school own.0; child_form = number_there r formed l.child own.1; lot_form = low.1 }, drawn_fit n form ls parts.1)
+      let own = and_parts (contains_key r.schools l.school) _ low.0 in (
+        record {
+          draw_form = form;
+          school_form = code_there r.schools formed.base.schools_fit l.school own.0;
+          child_form = number_there r formed l.child own.1;
+          lot_form = low.1;
+        },
+        drawn_fit n form ls parts.1,
+      )
 
   -- what a draw keeps by itself, and in its turn
   abbrev FitsInTurn : Draw → Type 0

@@ -11,7 +11,7 @@ use Rattle.adm_types.specs.declared.draws.LotRow.{LotRow}
 use Rattle.adm_rows.specs.Forms.{truth_code, school_value}
 use Rattle.adm_rows.specs.DrawForms.{draw_row, offer_row, lot_row}
 use Rattle.adm_types.specs.Limits.{is_code_or_none}
-use Rattle.adm_rows.proofs.CodeLemmas.{code_utf8}
+use Rattle.adm_types.proofs.ReadBack.{code_utf8}
 use Rattle.adm_rows.proofs.RowLemmas.{number_in, text_in}
 
 -- ---- a school that may be none

@@ -14,7 +14,8 @@ use Rattle.adm_schema.specs.Schema.{schema_of}
 use Rattle.adm_rows.specs.Represents.{RepresentsIn, Represents, HoldsRegister}
 
 -- what a connection at rest sees of a file that represents a register, in the version of its tables
-pub represents_now : (s : State) (db : Trees) (r : Register) → Represents db r → db ≡ s.committed.trees → s.now ≡ s.committed → IsDatabase s.now → (v : Version) × (s.now.schema ≡ schema_of v) × HoldsRegister v s.now.trees r
+pub represents_now : (s : State) (db : Trees) (r : Register) → Represents db r → db ≡ s.committed.trees → s.now ≡ s.committed → IsDatabase s.now
+    → (v : Version) × (s.now.schema ≡ schema_of v) × HoldsRegister v s.now.trees r
 represents_now s db r file is settled live =
     let v = file.version in
     let trees : s.now.trees ≡ db = ap (λ (d : Database). d.trees) settled ∙ sym is in
@@ -22,7 +23,8 @@ represents_now s db r file is settled live =
     (v, lists_once (s.now.trees catalog_tree) s.now.schema (schema_of v) live.lists listed, subst (λ (t : Trees). HoldsRegister v t r) (sym trees) file.stands.holds)
 
 -- and the other way round
-pub stands_here : (v : Version) (s : State) (db : Trees) (r : Register) → HoldsRegister v s.now.trees r → s.now.schema ≡ schema_of v → db ≡ s.committed.trees → s.now ≡ s.committed → IsDatabase s.now → RepresentsIn v db r
+pub stands_here : (v : Version) (s : State) (db : Trees) (r : Register) → HoldsRegister v s.now.trees r → s.now.schema ≡ schema_of v → db ≡ s.committed.trees
+    → s.now ≡ s.committed → IsDatabase s.now → RepresentsIn v db r
 stands_here v s db r holds has is settled live =
     let trees : s.now.trees ≡ db = ap (λ (d : Database). d.trees) settled ∙ sym is in
     record {

@@ -85,7 +85,8 @@ first_permuted (x ∷ next ∷ xs) [] moved = absurd (omega (arith, length_permu
 first_permuted (x ∷ next ∷ xs) (y ∷ []) moved = absurd (omega (arith, length_permutation _ _ moved))
 first_permuted (x ∷ next ∷ xs) (y ∷ other ∷ ys) moved = refl
 
-pub first_by_rows : (db : Database) (rows : List Row) (fault : OpenFault) → IsAnswered db select_meta rows → ((v : Version) → db.schema ≡ schema_of v → IsPermutation (rows_of meta db.trees) rows) → fault ≡ first_open_fault rows → IsFirstFault db fault
+pub first_by_rows : (db : Database) (rows : List Row) (fault : OpenFault) → IsAnswered db select_meta rows
+    → ((v : Version) → db.schema ≡ schema_of v → IsPermutation (rows_of meta db.trees) rows) → fault ≡ first_open_fault rows → IsFirstFault db fault
 first_by_rows db rows fault asked own is = record {
   no_table = λ why refused. absurd (let wrong = sym asked.1 ∙ refused in cc);
   by_rows = λ c understood plain. let same : asked.0 ≡ c = ok_is asked.0 c _ asked.1 understood in

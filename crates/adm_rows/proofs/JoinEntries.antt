@@ -1,4 +1,4 @@
--- What an entry that is put into a map, or removed from it, does to the list of the entries.
+-- What an entry that is written into a map, or removed from it, does to the list of the entries.
 use Rattle.std.proofs.Common.{◌≡◌, ◌∙◌, inl, inr, ap, sym, subst, refl, cond, Bool, true, false, List, [], ◌∷◌, Some, None, IsPermutation}
 use Rattle.std.specs.declared.cmp.Ordering.{Ordering}
 use Rattle.std.specs.declared.cmp.Ordering.TheVariants.{Less, Equal, Greater}

@@ -22,7 +22,7 @@ use Rattle.adm_rows.proofs.JoinOnce.{key_total, key_exact, twice}
 abbrev pub Entry : Type 0
 Entry = (ℕ × Bool) × List ℕ
 
--- ---- a row is put
+-- ---- a row is written
 
 -- one row more is among those that remain
 pub put_row : (rows : List PresentRow) (i : ℕ) (row : PresentRow) (es : List Entry) → i < length rows → row ≡ get_or rows i row → IsPermutation (take i rows) (map present_left_at es)
@@ -32,11 +32,13 @@ put_row rows i row es within at so_far none =
     (IsPermutation-push_more (take i rows) (map present_left_at es) _ row so_far (IsPermutation-map present_left_at _ _ (new_entry key_cmp es (present_key row) row.school (sym none))))
 
 -- a row whose key has a school already is one with a key that occurs twice
-pub put_twice : (rows : List PresentRow) (i : ℕ) (row : PresentRow) (es : List Entry) (school : List ℕ) → i < length rows → row ≡ get_or rows i row → IsPermutation (take i rows) (map present_left_at es)
+pub put_twice : (rows : List PresentRow) (i : ℕ) (row : PresentRow) (es : List Entry) (school : List ℕ) → i < length rows → row ≡ get_or rows i row
+    → IsPermutation (take i rows) (map present_left_at es)
     → Some school ≡ lookup (is_at (key_cmp (present_key row))) es → IsOnceEachKey rows → ⊥
 put_twice rows i row es school within at so_far some once =
     let entry : Entry = (present_key row, school) in
-    let there : In (present_left_at entry) (take i rows) = in_moved _ _ _ (IsPermutation-sym _ _ so_far) (in_map present_left_at es entry (entry_found key_exact es (present_key row) school (sym some))) in
+    let there : In (present_left_at entry) (take i rows) = in_moved _ _ _ (IsPermutation-sym _ _ so_far)
+    (in_map present_left_at es entry (entry_found key_exact es (present_key row) school (sym some))) in
     let split : take i rows ++ row ∷ drop (i + 1) rows ≡ rows =
     sym (append_assoc (take i rows) (row ∷ []) (drop (i + 1) rows)) ∙ ap (λ xs. xs ++ drop (i + 1) rows) (sym (next_of rows i row within at)) ∙ take-append-drop (i + 1) rows in
     twice key_total (map present_key (take i rows)) (map present_key (drop (i + 1) rows)) (present_key row) (in_map present_key (take i rows) (present_left_at entry) there)
@@ -86,7 +88,8 @@ module _ {X : Type 0} (imported : Bool) (no : X → ℕ) (present : X → Option
       let next : IsGiven before (take i xs ++ y ∷ []) (map present_left_at after) = record {
         moved = subst (λ rows. IsPermutation before (rows ++ map present_left_at after)) (sym front) all;
         taken = each_push (λ x. IsWithout (map present_left_at after) imported (no x)) (take i xs) y
-            (each_weaker (λ x. IsWithout (map present_left_at es) imported (no x)) (λ x. IsWithout (map present_left_at after) imported (no x)) (λ x. fewer (map present_left_at es) (row_given y) (map present_left_at after) imported (no x) out) (take i xs) so_far.taken)
+            (each_weaker (λ x. IsWithout (map present_left_at es) imported (no x)) (λ x. IsWithout (map present_left_at after) imported (no x))
+            (λ x. fewer (map present_left_at es) (row_given y) (map present_left_at after) imported (no x) out) (take i xs) so_far.taken)
             (none_left after (no y) imported gone);
       } in
       subst (λ ys. IsGiven before ys (map present_left_at after)) (sym (take_more_set xs i y within)) next

@@ -113,7 +113,10 @@ module _ {X : Type 0} (imported : Bool) (no : X → ℕ) (present : X → Option
 
       by : (o : Option (List ℕ)) → IsOnceEachKey (given xs) → IsOnceEachKey (present_row (no x) imported o ++ given xs)
       by None rest = rest
-      by (Some school) rest = IsDistinct-cons (eq_by_cmp key_cmp) (no x, imported) (map present_key (given xs)) (in_all (λ k. eq_by_cmp key_cmp (no x, imported) k ≡ false) (map present_key (given xs)) first) rest
+      by (Some school) rest = IsDistinct-cons (eq_by_cmp key_cmp) (
+        no x,
+        imported,
+      ) (map present_key (given xs)) (in_all (λ k. eq_by_cmp key_cmp (no x, imported) k ≡ false) (map present_key (given xs)) first) rest
 
 -- the rows of children and of imported rows have no key twice, where no number occurs twice in either
 once_presents : (children : List Child) (imported : List ImportRow) → IsOnceEach (map (λ c. c.no) children) → IsOnceEach (map import_no imported) → IsOnceEachKey (presents_of children imported)
@@ -132,7 +135,8 @@ once_presents children imported once once_imported =
     subst (λ k. eq_by_cmp key_cmp k y ≡ false) first (subst (λ k. eq_by_cmp key_cmp (child.0.no, false) k ≡ false) second (other_kind child.0.no (import_no import.0)))))
 
 -- rows that can be joined have no key twice
-pub once_joined : (children : List Child) (imported : List ImportRow) (rows : List PresentRow) (joined : List Child) (joined_imports : List ImportRow) → IsJoin children imported rows joined joined_imports → IsOnceEachKey rows
+pub once_joined : (children : List Child) (imported : List ImportRow) (rows : List PresentRow) (joined : List Child) (joined_imports : List ImportRow)
+    → IsJoin children imported rows joined joined_imports → IsOnceEachKey rows
 once_joined children imported rows joined joined_imports it =
     IsDistinct-IsPermutation (eq_by_cmp key_cmp) (eq_by_cmp_equiv key_total).symm _ _ (IsPermutation-map present_key _ _ it.presents) (once_presents joined joined_imports it.once it.once_imported)
 

@@ -36,7 +36,8 @@ not_among rows imported n row none key at =
     none row.school (contains rows _ (subst (λ r. In r rows) is at))
 
 -- what is in a list is, but for its present school, in each that is the same but for those
-same_bare : {X Y : Type 0} (bare : X → Y) (joined before after : List X) (x : X) → IsPermutation (map bare joined) (map bare before) → map bare after ≡ map bare before → In x joined → (y : X) × In y after × (bare y ≡ bare x)
+same_bare : {X Y : Type 0} (bare : X → Y) (joined before after : List X) (x : X) → IsPermutation (map bare joined) (map bare before) → map bare after ≡ map bare before
+    → In x joined → (y : X) × In y after × (bare y ≡ bare x)
 same_bare bare joined before after x moved same at = from_map bare after (bare x) (subst (In (bare x)) (sym same) (in_moved _ _ _ moved (in_map bare joined x at)))
 
 module _ (rows left left_then : List PresentRow) (children given : List Child) (imported given_imports : List ImportRow)

@@ -30,7 +30,8 @@ nil_push [] x = refl
 nil_push (y ∷ ys) x = refl
 
 -- the turn of a loop that writes such a text
-pub appended : {X : Type 0} (write : X → List ℕ) (xs : List X) (i : ℕ) (x : X) (is_first : Bool) (was now piece : List ℕ) → i < length xs → x ≡ get_or xs i x → was ≡ joined (map write (take i xs)) → is_first ≡ is_nil (map write (take i xs))
+pub appended : {X : Type 0} (write : X → List ℕ) (xs : List X) (i : ℕ) (x : X) (is_first : Bool) (was now piece : List ℕ) → i < length xs → x ≡ get_or xs i x
+    → was ≡ joined (map write (take i xs)) → is_first ≡ is_nil (map write (take i xs))
     → piece ≡ write x → now ≡ (if is_first then piece else was ++ 59 ∷ piece) → now ≡ joined (map write (take (i + 1) xs))
 appended write xs i x is_first was now piece low item so_far first text done =
     let ys = map write (take i xs) in
@@ -62,7 +63,8 @@ kept_more f g p xs i x was now w low is kept so_far next row =
     ap (map f) next ∙ map-append f was (w ∷ []) ∙ (λ k. so_far k ++ row k ∷ []) ∙ sym (map-append g (filter p (take i xs)) (x ∷ []))
     ∙ ap (map g) (sym (filter_more p xs i x low is ∙ ap (λ b. filter p (take i xs) ++ (if b then x ∷ [] else [])) kept))
 
-pub left_more : {X R : Type 0} (g : X → R) (p : X → Bool) (xs : List X) (i : ℕ) (x : X) (so : List R) → i < length xs → x ≡ get_or xs i x → p x ≡ false → so ≡ map g (filter p (take i xs)) → so ≡ map g (filter p (take (i + 1) xs))
+pub left_more : {X R : Type 0} (g : X → R) (p : X → Bool) (xs : List X) (i : ℕ) (x : X) (so : List R) → i < length xs → x ≡ get_or xs i x → p x ≡ false
+    → so ≡ map g (filter p (take i xs)) → so ≡ map g (filter p (take (i + 1) xs))
 left_more g p xs i x so low is no_ so_far =
     so_far ∙ ap (map g) (sym (filter_more p xs i x low is ∙ ap (λ b. filter p (take i xs) ++ (if b then x ∷ [] else [])) no_ ∙ append-nil (filter p (take i xs))))
 

@@ -24,11 +24,13 @@ use Rattle.adm_types.specs.Lots.{repeats_lot}
 use Rattle.adm_types.specs.declared.draws.Draw.{Draw}
 use Rattle.std.specs.List.{list_all}
 use Rattle.std.proofs.lemmas.Bool.{and_parts}
-use Rattle.adm_rows.proofs.RegisterRows.{rows_held, read_back, season_back, left_total, left_same}
+use Rattle.adm_rows.proofs.RegisterRows.{rows_held, read_back, season_back}
+use Rattle.adm_rows.proofs.RowsFit.{left_total, left_same}
 
 -- maps whose rows are at their own keys, and which have the same rows, are the same
 module _ {K V : Type 0} {R : K → K → Ordering} (total : IsTotalOrder R) (exact : IsAntisymmetric R) (key : V → K) where
-  had_too : (m n : FinMap R V) → ((k : K) (v : V) → get m k ≡ Some v → key v ≡ k) → ((k : K) (v : V) → get n k ≡ Some v → key v ≡ k) → IsPermutation (values m) (values n) → (k : K) (v : V) → get m k ≡ Some v → get n k ≡ Some v
+  had_too : (m n : FinMap R V) → ((k : K) (v : V) → get m k ≡ Some v → key v ≡ k) → ((k : K) (v : V) → get n k ≡ Some v → key v ≡ k) → IsPermutation (values m) (values n)
+      → (k : K) (v : V) → get m k ≡ Some v → get n k ≡ Some v
   had_too m n own other same k v there =
       let here = has_contained (values n) v (Contains-permutation (values m) (values n) v same (contains_had (values m) v (has_value total exact m k v there))) in
       ap (get n) (sym (own k v there)) ∙ value_at total exact key n other v here
@@ -57,13 +59,19 @@ one_in v w db r s held other same = in_one v db r s held (subst (λ u. HoldsRegi
         let b = two.formed in
         let season = season_back v v db r s.season _ (two.rows.each meta (meta_in v)) b.base.season_is one in
         let rows = rows_held v db s (rows_in_order r) two one.rows (read_back r a) season in
-        let schools = same_by_rows nat_list_cmp_total (slice_cmp-IsAntisymmetric nat_cmp-IsAntisymmetric) (λ x. x.code) r.schools s.schools (λ k x there. (a.base.schools_fit k x there).own_code) (λ k x there. (b.base.schools_fit k x there).own_code) rows.schools in
-        let children = same_by_rows nat_cmp_total nat_cmp-IsAntisymmetric (λ x. x.no) r.children s.children (λ k x there. (a.base.children_fit k x there).own_number) (λ k x there. (b.base.children_fit k x there).own_number) rows.children in
-        let applications = same_by_rows nat_cmp_total nat_cmp-IsAntisymmetric (λ x. x.child) r.applications s.applications (λ k x there. (a.base.applications_fit k x there).own_number) (λ k x there. (b.base.applications_fit k x there).own_number) rows.applications in
-        let places = same_by_rows nat_cmp_total nat_cmp-IsAntisymmetric (λ x. x.child) r.places s.places (λ k x there. (a.places.each k x there).own_number) (λ k x there. (b.places.each k x there).own_number) rows.places in
+        let schools = same_by_rows nat_list_cmp_total (slice_cmp-IsAntisymmetric nat_cmp-IsAntisymmetric) (λ x. x.code) r.schools s.schools
+        (λ k x there. (a.base.schools_fit k x there).own_code) (λ k x there. (b.base.schools_fit k x there).own_code) rows.schools in
+        let children = same_by_rows nat_cmp_total nat_cmp-IsAntisymmetric (λ x. x.no) r.children s.children (λ k x there. (a.base.children_fit k x there).own_number)
+        (λ k x there. (b.base.children_fit k x there).own_number) rows.children in
+        let applications = same_by_rows nat_cmp_total nat_cmp-IsAntisymmetric (λ x. x.child) r.applications s.applications
+        (λ k x there. (a.base.applications_fit k x there).own_number) (λ k x there. (b.base.applications_fit k x there).own_number) rows.applications in
+        let places = same_by_rows nat_cmp_total nat_cmp-IsAntisymmetric (λ x. x.child) r.places s.places (λ k x there. (a.places.each k x there).own_number)
+        (λ k x there. (b.places.each k x there).own_number) rows.places in
         let left = same_by_rows left_total left_same (λ x. x) r.left s.left (λ k x there. (a.left k x there).own_key) (λ k x there. (b.left k x there).own_key) rows.left in
-        let draws = same_draws r.draws s.draws (λ k d there. (a.draws.each k d there).own_number) (λ k d there. (b.draws.each k d there).own_number) (λ k d there. draw_ordered d (a.draws.each k d there).form) (λ k d there. draw_ordered d (b.draws.each k d there).form) rows.draws in
-        let imported = same_by_rows nat_cmp_total nat_cmp-IsAntisymmetric (λ x. x.child.no) r.imported s.imported (λ k x there. (a.imported k x there).child.own_number) (λ k x there. (b.imported k x there).child.own_number) rows.imported in
+        let draws = same_draws r.draws s.draws (λ k d there. (a.draws.each k d there).own_number) (λ k d there. (b.draws.each k d there).own_number)
+        (λ k d there. draw_ordered d (a.draws.each k d there).form) (λ k d there. draw_ordered d (b.draws.each k d there).form) rows.draws in
+        let imported = same_by_rows nat_cmp_total nat_cmp-IsAntisymmetric (λ x. x.child.no) r.imported s.imported (λ k x there. (a.imported k x there).child.own_number)
+        (λ k x there. (b.imported k x there).child.own_number) rows.imported in
         λ i. record { season = season i; schools = schools i; children = children i; applications = applications i; places = places i; left = left i; draws = draws i; imported = imported i }
 
 pub one_register_lem : OneRegister

@@ -138,7 +138,8 @@ module _ {K V : Type 0} {R : K → K → Ordering} (total : IsTotalOrder R) (sam
         let over = λ (k : K) (v : V). unwrap_or (get old k) v in
         let at = λ (e : K × V). given f (get old e.0) in
         let es = where_key R p (entries new) in
-        ap (λ l. flat_map f (map (λ (e : K × V). e.1) l)) (sym entries_then) ∙ ap (flat_map f) (map-map (λ (e : K × V). e.1) (λ (e : K × V). (e.0, over e.0 e.1)) es) ∙ flat_map-map f (λ (e : K × V). over e.0 e.1) es
+        ap (λ l. flat_map f (map (λ (e : K × V). e.1) l)) (sym entries_then) ∙ ap (flat_map f) (map-map (λ (e : K × V). e.1) (λ (e : K × V). (e.0, over e.0 e.1)) es)
+        ∙ flat_map-map f (λ (e : K × V). over e.0 e.1) es
         ∙ flat_map_at (λ (e : K × V). f (over e.0 e.1)) at es (λ e h. was e.0 e.1 (get old e.0) (has_filtered (λ (x : K × V). p x.0) (entries new) e h).1)
         ∙ flat_map-filter at (λ (e : K × V). p e.0) (λ e out. none (get old e.0) out) (entries new)
         ∙ flat_map_at at (λ (e : K × V). given f (get old (key e.1))) (entries new) (λ e h. ap (λ k. given f (get old k)) (sym (own_entry total same key new own e h)))

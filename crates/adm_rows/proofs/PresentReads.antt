@@ -107,7 +107,8 @@ module _ {V : Type 0} (number : V → ℕ) where
           let back = IsPermutation-sym vs it.0 it.1 in
           let same = same_under bare it.0 (values m) (sym it.2) (λ v w h k is.
           whole v w is
-          (same_school it.0 (values m) rise up (λ n s at. one n s (at_moved it.0 vs back n s at)) (λ n s at. at_moved vs it.0 it.1 n s (other n s at)) v w h k (sym (keeps v) ∙ ap number is ∙ keeps w))) in
+          (same_school it.0 (values m) rise up (λ n s at. one n s (at_moved it.0 vs back n s at)) (λ n s at. at_moved vs it.0 it.1 n s (other n s at)) v w h k
+          (sym (keeps v) ∙ ap number is ∙ keeps w))) in
           subst (IsPermutation vs) same it.1
 
 -- ---- the rows of the table
@@ -121,7 +122,11 @@ rows_back : (rows : List PresentRow) → map row_back (map present_columns rows)
 rows_back [] = refl
 rows_back (row ∷ rows) = λ i. one row.child row.is_imported row.school i ∷ rows_back rows i
   where
-    one : (child : ℕ) (b : Bool) (school : List ℕ) → row_back (present_columns (record { child = child; is_imported = b; school = school })) ≡ record { child = child; is_imported = b; school = school }
+    one : (child : ℕ) (b : Bool) (school : List ℕ) → row_back (present_columns (record { child = child; is_imported = b; school = school })) ≡ record {
+      child = child;
+      is_imported = b;
+      school = school;
+    }
     one child true school = refl
     one child false school = refl
 
@@ -137,7 +142,8 @@ row_says n b (Some s) row (inr h) = absurd h
 
 -- and it is there
 says_row : (n : ℕ) (b : Bool) (o : Option (List ℕ)) (m : ℕ) (school : List ℕ) → n ≡ m → o ≡ Some school → Has (present_row n b o) (record { child = m; is_imported = b; school = school })
-says_row n b o m school is at = subst (λ p. Has (present_row n b p) (record { child = m; is_imported = b; school = school })) (sym at) (inl (λ i. record { child = sym is i; is_imported = b; school = school }))
+says_row n b o m school is at = subst (λ p. Has (present_row n b p) (record { child = m; is_imported = b; school = school })) (sym at)
+    (inl (λ i. record { child = sym is i; is_imported = b; school = school }))
 
 -- the number and the present school of a child, and of the child of an imported row
 abbrev number_of : Child → ℕ
@@ -153,11 +159,13 @@ abbrev import_school : ImportRow → Option (List ℕ)
 import_school r = r.child.present
 
 -- a child at a school is a row
-child_row : (xs : List Child) (rows : List ImportRow) (n : ℕ) (school : List ℕ) → AtSchool number_of school_of xs n school → Has (presents_of xs rows) (record { child = n; is_imported = false; school = school })
+child_row : (xs : List Child) (rows : List ImportRow) (n : ℕ) (school : List ℕ) → AtSchool number_of school_of xs n school
+    → Has (presents_of xs rows) (record { child = n; is_imported = false; school = school })
 child_row xs rows n school (c, h, is, at) = has_left _ _ _ (is_given present_of_child xs c _ h (says_row c.no false c.present n school is at))
 
 -- and a row that is not of an imported row is a child at a school
-row_child : (xs : List Child) (rows : List ImportRow) (n : ℕ) (school : List ℕ) → Has (presents_of xs rows) (record { child = n; is_imported = false; school = school }) → AtSchool number_of school_of xs n school
+row_child : (xs : List Child) (rows : List ImportRow) (n : ℕ) (school : List ℕ) → Has (presents_of xs rows) (record { child = n; is_imported = false; school = school })
+    → AtSchool number_of school_of xs n school
 row_child xs rows n school h = elim (has_either (flat_map present_of_child xs) (flat_map present_of_import rows) _ h) [
   | inl here ↦
       let it = from_given present_of_child xs _ here in
@@ -169,11 +177,13 @@ row_child xs rows n school h = elim (has_either (flat_map present_of_child xs) (
 ]
 
 -- an imported row whose child is at a school is a row
-import_row : (xs : List Child) (rows : List ImportRow) (n : ℕ) (school : List ℕ) → AtSchool import_number import_school rows n school → Has (presents_of xs rows) (record { child = n; is_imported = true; school = school })
+import_row : (xs : List Child) (rows : List ImportRow) (n : ℕ) (school : List ℕ) → AtSchool import_number import_school rows n school
+    → Has (presents_of xs rows) (record { child = n; is_imported = true; school = school })
 import_row xs rows n school (r, h, is, at) = has_right (flat_map present_of_child xs) _ _ (is_given present_of_import rows r _ h (says_row r.child.no true r.child.present n school is at))
 
 -- and a row of an imported row is one whose child is at a school
-row_import : (xs : List Child) (rows : List ImportRow) (n : ℕ) (school : List ℕ) → Has (presents_of xs rows) (record { child = n; is_imported = true; school = school }) → AtSchool import_number import_school rows n school
+row_import : (xs : List Child) (rows : List ImportRow) (n : ℕ) (school : List ℕ) → Has (presents_of xs rows) (record { child = n; is_imported = true; school = school })
+    → AtSchool import_number import_school rows n school
 row_import xs rows n school h = elim (has_either (flat_map present_of_child xs) (flat_map present_of_import rows) _ h) [
   | inl here ↦
       let it = from_given present_of_child xs _ here in
@@ -205,10 +215,12 @@ presents_read xs m own rows im own_import children imported presents =
     let back = IsPermutation-sym _ _ there in (
       read_back number_of school_of bare_child (λ c. refl) whole_child xs m own children (λ n s at. row_child (values m) (values im) n s (has_moved _ _ _ there (child_row xs rows n s at)))
           (λ n s at. row_child xs rows n s (has_moved _ _ _ back (child_row (values m) (values im) n s at))),
-      read_back import_number import_school bare_import (λ r. refl) whole_import rows im own_import imported (λ n s at. row_import (values m) (values im) n s (has_moved _ _ _ there (import_row xs rows n s at)))
+      read_back import_number import_school bare_import (λ r. refl) whole_import rows im own_import imported
+          (λ n s at. row_import (values m) (values im) n s (has_moved _ _ _ there (import_row xs rows n s at)))
           (λ n s at. row_import xs rows n s (has_moved _ _ _ back (import_row (values m) (values im) n s at))),
     )
 
 -- children and imported rows in another order have the rows of their present schools in another order
 pub presents_moved : (xs ys : List Child) (rows others : List ImportRow) → IsPermutation xs ys → IsPermutation rows others → IsPermutation (presents_of xs rows) (presents_of ys others)
-presents_moved xs ys rows others children imported = IsPermutation-append _ _ _ _ (IsPermutation-flat_map present_of_child xs ys children) (IsPermutation-flat_map present_of_import rows others imported)
+presents_moved xs ys rows others children imported = IsPermutation-append _ _ _ _ (IsPermutation-flat_map present_of_child xs ys children)
+    (IsPermutation-flat_map present_of_import rows others imported)

@@ -20,7 +20,8 @@ pub few_trees : (tree : ℕ) → tree < 16 → nat_le (2 ^ 31) tree ≡ false
 few_trees tree low = grind (arith, nat_tests)
 
 -- the rows of a table, as its query shows them
-pub table_shown : (v : Version) (table : Table) (text : List ℕ) (query : AsksAll v table text) (db : Trees) (rows : List Row) → IsPermutation (map (λ row. eval_all query.project ([] ∷ row ∷ [])) (db table.tree)) rows → HasRows table rows db
+pub table_shown : (v : Version) (table : Table) (text : List ℕ) (query : AsksAll v table text) (db : Trees) (rows : List Row)
+    → IsPermutation (map (λ row. eval_all query.project ([] ∷ row ∷ [])) (db table.tree)) rows → HasRows table rows db
 table_shown v table text query db rows shown = IsPermutation-sym _ _ (subst (λ xs. IsPermutation xs rows) (λ k. map (λ row. query.columns row k) (db table.tree)) shown)
 
 module _ {X : Type 0} (table : Table) (row_of : X → Row) (db : Trees) (rows slice : List Row) (shown : HasRows table rows db) (value : slice ≡ rows) where

@@ -1,37 +1,26 @@
 -- The rows of a register are such as are read.
-use Rattle.std.proofs.Common.{refl, ◌≡◌, ◌<◌, ◌^◌, ℕ, arith, Bool, true, false, Option, Some, None, List, [], ◌∷◌, length, map, sym, ap, subst, subst₂, ◌∙◌}
+use Rattle.std.proofs.Common.{refl, ◌≡◌, ℕ, Bool, true, false, Option, Some, None, List, [], ◌∷◌, length, map, sym, ap, subst, subst₂, ◌∙◌}
 use Rattle.std.specs.Prelude.{flat_map}
-use Rattle.std.specs.List.{list_all}
+use Rattle.std.specs.List.{list_all, AllByRecursion}
 use Rattle.std.proofs.lemmas.Bool.{and_parts}
-use Rattle.std.proofs.lemmas.List.{nil_from_length}
+use Rattle.std.proofs.lemmas.List.{nil_from_length, length-map}
 use Rattle.std.proofs.lemmas.Simd.{map-map}
 use Rattle.sqlite_rules.proofs.ListLemmas.{test_from, test_has, has_contained, contains_had}
 use Rattle.adm_types.specs.Children.{bare_child, bare_import, present_row, present_of_child, present_of_import, presents_of}
 use Rattle.adm_types.specs.declared.rows.ImportRow.{ImportRow}
 use Rattle.adm_types.specs.declared.rows.PresentRow.{PresentRow}
-use Rattle.std.specs.List.{AllByRecursion}
 use Rattle.std.specs.List.Sorted.{IsPermutation}
-use Rattle.std.specs.Cmp.{IsTotalOrder, nat_cmp_total, on_total, then_total}
-use Rattle.std.specs.declared.cmp.Ordering.{Ordering}
-use Rattle.std.specs.declared.cmp.Ordering.TheVariants.{Less, Equal, Greater}
-use Rattle.std.specs.Ordering.{ordering_then}
-use Rattle.std.specs.Cmp.Lexicographic.{nat_list_cmp_total}
-use Rattle.std.specs.FinMap.{values, IsAntisymmetric, slice_cmp-IsAntisymmetric, nat_cmp-IsAntisymmetric}
+use Rattle.std.specs.FinMap.{values}
 use Rattle.adm_lists.proofs.Each.{each_append, each_weaker}
-use Rattle.adm_types.specs.Limits.{is_from, first_day, is_child_number, is_code_or_none}
+use Rattle.adm_types.specs.Limits.{is_child_number, is_code_or_none}
 use Rattle.adm_types.specs.Seasons.{SeasonFacts, IsSeason, lists_end}
 use Rattle.adm_types.specs.declared.rows.Child.{Child}
-use Rattle.adm_types.specs.declared.rows.Application.{Application}
 use Rattle.adm_types.specs.declared.rows.School.{School}
-use Rattle.adm_types.specs.declared.rows.LeftPair.{LeftPair}
-use Rattle.adm_types.specs.Limits.{code_cmp}
-use Rattle.adm_register.specs.State.{left_cmp, application_of}
 use Rattle.adm_register.specs.State.{State as Register}
-use Rattle.adm_register.specs.WellFormed.{WellFormed, ChildFits, ApplicationFits}
+use Rattle.adm_register.specs.WellFormed.{WellFormed}
 use Rattle.adm_schema.specs.declared.version.Version.{Version}
 use Rattle.adm_schema.specs.declared.version.Version.TheVariants.{First, Second}
-use Rattle.adm_schema.specs.Schema.{meta, school, child, application, place, left_list, draw, offer, lot, present, later_tables, schema_of}
-use Rattle.adm_schema.specs.Schema.{imported as imported_table}
+use Rattle.adm_schema.specs.Schema.{meta, school, child, application, place, left_list, draw, offer, lot, present, later_tables, schema_of, imported as imported_table}
 use Rattle.adm_schema.proofs.Listed.{meta_in, school_in, child_in, application_in, place_in, left_list_in, draw_in, offer_in, lot_in, imported_in, has_present}
 use Rattle.sqlite.specs.Table.{Table}
 use Rattle.sqlite_rules.specs.Lists.{Has}
@@ -39,17 +28,12 @@ use Rattle.sqlite.specs.Order.{Row}
 use Rattle.sqlite.specs.Tree.{Trees}
 use Rattle.sqlite.proofs.Callers.{one_permutation}
 use Rattle.std.proofs.lemmas.List.Sorted.{Contains-permutation, IsPermutation-refl, IsPermutation-sym, IsPermutation-map, IsPermutation-trans, length_permutation}
-use Rattle.std.proofs.lemmas.List.{length-map}
 use Rattle.adm_draws.specs.Draws.{row_of}
-use Rattle.adm_types.specs.declared.draws.DrawRow.{DrawRow}
-use Rattle.adm_register.specs.Draws.{no_draws}
 use Rattle.adm_rows.specs.Forms.{season_row, school_row, child_row, application_row, place_row, left_row, imported_row}
 use Rattle.adm_rows.specs.DrawForms.{draw_row, offer_row, lot_row, IsDrawRow, IsOfferRow, IsLotRow}
 use Rattle.adm_rows.proofs.DrawRows.{draw_from, draw_back, offer_from, offer_back, lot_from, lot_back}
-use Rattle.adm_rows.proofs.KnownRows.{code_there, codes_there, number_there}
 use Rattle.adm_rows.proofs.DrawFits.{draws_fit, offers_fit, lots_fit}
-use Rattle.adm_rows.proofs.DrawNumbers.{few_draws}
-use Rattle.adm_rows.specs.Represents.{HasRows, HoldsRows, HoldsRegister, IsSaidIn, names_no_feeder, written_in, written_tables}
+use Rattle.adm_rows.specs.Represents.{HasRows, HoldsRows, HoldsRegister, IsSaidIn, fits_first_version, written_in, written_tables}
 use Rattle.adm_rows.specs.Present.{present_columns}
 use Rattle.adm_rows.specs.Reads.{HoldsFirst, HoldsPresent, HoldsSeason, AreReadBack}
 use Rattle.adm_register.specs.declared.register_rows.Rows.{Rows}
@@ -59,77 +43,9 @@ use Rattle.adm_rows.proofs.SeasonRows.{same_season, same_version, same_count}
 use Rattle.adm_rows.proofs.RowLemmas.{values_back, values_shown, recursion_had}
 use Rattle.adm_rows.proofs.PresentReads.{columns_moved, presents_moved, presents_read}
 use Rattle.adm_rows.proofs.SchoolRows.{school_from, from_row, reads_again}
-use Rattle.adm_rows.proofs.ChildRows.{child_from, child_back, application_from, application_back, imported_from, imported_back, import_again, place_from, place_back, state_days, left_from, left_back}
+use Rattle.adm_rows.proofs.ChildRows.{child_from, child_back, application_from, application_back, imported_from, imported_back, import_again, place_from, place_back, left_from, left_back}
 use Rattle.adm_rows.proofs.CodeLemmas.{codes_again}
-use Rattle.adm_rows.proofs.MapRows.{each_value}
-
-pub same_code : IsAntisymmetric code_cmp
-same_code = slice_cmp-IsAntisymmetric nat_cmp-IsAntisymmetric
-
--- two pairs tie where they tie by the child, and by the code
-both_tie : (r s : Ordering) → ordering_then r s ≡ Equal → (r ≡ Equal) × (s ≡ Equal)
-both_tie Less s e = cc
-both_tie Equal s e = (refl, e)
-both_tie Greater s e = cc
-
-pub left_total : IsTotalOrder left_cmp
-left_total = then_total (on_total (λ (p : LeftPair). p.child) nat_cmp_total) (on_total (λ (p : LeftPair). p.school) nat_list_cmp_total)
-
-pub left_same : IsAntisymmetric left_cmp
-left_same x y e = λ i. record { child = nat_cmp-IsAntisymmetric x.child y.child (both_tie _ _ e).0 i; school = same_code x.school y.school (both_tie _ _ e).1 i }
-
--- the schools of a register are in their limits
-pub schools_fit : (r : Register) → WellFormed r → AllByRecursion IsSchool (values r.schools)
-schools_fit r formed = each_value nat_list_cmp_total same_code IsSchool r.schools (λ code s is. let fits = formed.base.schools_fit code s is in record { code_form = fits.code_form; text = fits.text; in_range = fits.in_range })
-
-child_fits : (r : Register) → WellFormed r → (number : ℕ) (child : Child) → ChildFits r.schools number child → IsChild child
-child_fits r formed number child fits = record {
-  number_form = fits.number_form;
-  text = fits.text;
-  in_range = fits.in_range;
-  flags = fits.flags;
-  codes = codes_there r.schools formed.base.schools_fit child.siblings fits.siblings;
-}
-
-pub children_fit : (r : Register) → WellFormed r → AllByRecursion IsChild (values r.children)
-children_fit r formed = each_value nat_cmp_total nat_cmp-IsAntisymmetric IsChild r.children (λ number child is. child_fits r formed number child (formed.base.children_fit number child is))
-
-application_fits : (r : Register) (last : ℕ) → WellFormed r → last ≡ lists_end r.season → (number : ℕ) (application : Application) → ApplicationFits (lists_end r.season) r.schools r.children number application → IsApplication last application
-application_fits r last formed same number application fits = record {
-  number_form = number_there r formed application.child fits.child;
-  day = subst (λ d. is_from first_day d application.day ≡ true) (sym same) fits.day;
-  codes = codes_there r.schools formed.base.schools_fit application.list fits.known;
-}
-
-pub applications_fit : (r : Register) (last : ℕ) → WellFormed r → last ≡ lists_end r.season → AllByRecursion (IsApplication last) (values r.applications)
-applications_fit r last formed same =
-    each_value nat_cmp_total nat_cmp-IsAntisymmetric (IsApplication last) r.applications (λ number application is. application_fits r last formed same number application (formed.base.applications_fit number application is))
-
-pub imported_fit : (r : Register) (last : ℕ) → WellFormed r → last ≡ lists_end r.season → AllByRecursion (IsImportRow last) (values r.imported)
-imported_fit r last formed same = each_value nat_cmp_total nat_cmp-IsAntisymmetric (IsImportRow last) r.imported (λ number row is. let fits = formed.imported number row is in record {
-  child = child_fits r formed number row.child fits.child;
-  application = application_fits r last formed same number (application_of row) fits.application;
-})
-
-pub places_fit : (r : Register) → WellFormed r → AllByRecursion IsPlaceRow (values r.places)
-places_fit r formed = each_value nat_cmp_total nat_cmp-IsAntisymmetric IsPlaceRow r.places (λ number row is. let fits = formed.places.each number row is in record {
-  number_form = number_there r formed row.child fits.child;
-  code_form = code_there r.schools formed.base.schools_fit row.place.school fits.school;
-  days = state_days row.place.state fits.state;
-})
-
-pub left_fit : (r : Register) → WellFormed r → AllByRecursion IsLeftRow (values r.left)
-left_fit r formed = each_value left_total left_same IsLeftRow r.left (λ key pair is. let fits = formed.left key pair is in record { number_form = number_there r formed pair.child fits.child; code_form = code_there r.schools formed.base.schools_fit pair.school fits.school })
-
--- rows of draws that are those of the register are as many
-pub as_many : (v : Version) (db : Trees) (r : Register) (draws : List DrawRow) → HasRows draw (map draw_row draws) db → HoldsRegister v db r → length draws ≡ length (values r.draws)
-as_many v db r draws read held =
-    let all = length_permutation _ _ (IsPermutation-trans _ _ _ (held.rows.each draw (draw_in v)) (IsPermutation-sym _ _ read)) in
-    omega (arith, all, length-map draws draw_row, length-map (map row_of (values r.draws)) draw_row, length-map (values r.draws) row_of)
-
--- a count of 32 bits
-pub few_enough : (r : Register) → WellFormed r → length (map row_of (values r.draws)) < 2 ^ 32
-few_enough r formed = let few = few_draws r.season no_draws (values r.draws) (omega arith) formed.draws.in_order in omega (arith, few, length-map (values r.draws) row_of)
+use Rattle.adm_rows.proofs.RowsFit.{schools_fit, children_fit, applications_fit, imported_fit, places_fit, left_fit}
 
 -- ---- the rows of a file, and the register that it holds
 
@@ -152,9 +68,10 @@ pub none_in : {X : Type 0} (xs ys : List X) → IsPermutation xs ys → xs ≡ [
 none_in xs ys same none = nil_from_length ys (length_permutation xs ys same ∙ ap length none)
 
 -- what a file of this version can say it can say in any order
-same_said : (v : Version) (rows other : Rows) → IsPermutation rows.schools other.schools → IsPermutation rows.children other.children → IsPermutation rows.imported other.imported → IsSaidIn v rows → IsSaidIn v other
+same_said : (v : Version) (rows other : Rows) → IsPermutation rows.schools other.schools → IsPermutation rows.children other.children
+    → IsPermutation rows.imported other.imported → IsSaidIn v rows → IsSaidIn v other
 same_said First rows other schools children imported said =
-    (all_moved names_no_feeder rows.schools other.schools schools said.0, none_in _ _ (presents_moved rows.children other.children rows.imported other.imported children imported) said.1)
+    (all_moved fits_first_version rows.schools other.schools schools said.0, none_in _ _ (presents_moved rows.children other.children rows.imported other.imported children imported) said.1)
 same_said Second rows other schools children imported said = tt
 
 moved : {X : Type 0} (row_of : X → Row) (read values : List X) (rows : List Row) → IsPermutation read values → IsPermutation (map row_of read) rows → IsPermutation (map row_of values) rows
@@ -178,18 +95,50 @@ imported_rows : (xs ys : List ImportRow) → map bare_import xs ≡ map bare_imp
 imported_rows xs ys same = sym (map-map imported_row bare_import xs) ∙ ap (map imported_row) same ∙ map-map imported_row bare_import ys
 
 -- the same tables, where children and imported rows have their present schools
-pub first_again : (v : Version) (db : Trees) (rows : Rows) (children : List Child) (imported : List ImportRow) → map bare_child children ≡ map bare_child rows.children → map bare_import imported ≡ map bare_import rows.imported
+pub first_again : (v : Version) (db : Trees) (rows : Rows) (children : List Child) (imported : List ImportRow) → map bare_child children ≡ map bare_child rows.children
+    → map bare_import imported ≡ map bare_import rows.imported
     → HoldsFirst v rows db
-    → HoldsFirst v (record { season = rows.season; schools = rows.schools; children = children; applications = rows.applications; places = rows.places; left = rows.left; draws = rows.draws; offers = rows.offers; lots = rows.lots; imported = imported }) db
-first_again v db rows children imported same others h =
-    (h.0, (h.1.0, (subst (λ xs. HasRows child xs db) (sym (child_rows children rows.children same)) h.1.1.0, (h.1.1.1.0, (h.1.1.1.1.0, (h.1.1.1.1.1.0, (h.1.1.1.1.1.1.0, (h.1.1.1.1.1.1.1.0, (h.1.1.1.1.1.1.1.1.0, (subst (λ xs. HasRows imported_table xs db) (sym (imported_rows imported rows.imported others)) h.1.1.1.1.1.1.1.1.1.0, tt))))))))))
+    → HoldsFirst v (record {
+      season = rows.season;
+      schools = rows.schools;
+      children = children;
+      applications = rows.applications;
+      places = rows.places;
+      left = rows.left;
+      draws = rows.draws;
+      offers = rows.offers;
+      lots = rows.lots;
+      imported = imported;
+    }) db
+first_again v db rows children imported same others h = (
+  h.0,
+  (
+    h.1.0,
+    (
+      subst (λ xs. HasRows child xs db) (sym (child_rows children rows.children same)) h.1.1.0,
+      (
+        h.1.1.1.0,
+        (
+          h.1.1.1.1.0,
+          (
+            h.1.1.1.1.1.0,
+            (
+              h.1.1.1.1.1.1.0,
+              (h.1.1.1.1.1.1.1.0, (h.1.1.1.1.1.1.1.1.0, (subst (λ xs. HasRows imported_table xs db) (sym (imported_rows imported rows.imported others)) h.1.1.1.1.1.1.1.1.1.0, tt))),
+            ),
+          ),
+        ),
+      ),
+    ),
+  ),
+)
 
 -- criteria that a file of the version cannot say are no register's
-pub not_said : (v : Version) (db : Trees) (r : Register) (schools : List School) (said : Bool) → (v ≡ First → said ≡ list_all names_no_feeder schools) → (v ≡ Second → said ≡ true) → said ≡ false
+pub not_said : (v : Version) (db : Trees) (r : Register) (schools : List School) (said : Bool) → (v ≡ First → said ≡ list_all fits_first_version schools) → (v ≡ Second → said ≡ true) → said ≡ false
     → AllByRecursion IsReadAgain schools → HasRows school (map school_row schools) db → HoldsRegister v db r → ⊥
 not_said First db r schools said first second false_ again read held =
     let same = values_back school_row school_from IsReadAgain IsSchool from_row reads_again _ _ _ again (schools_fit r held.formed) read (held.rows.each school (school_in First)) in
-    let wrong : false ≡ true = sym false_ ∙ first refl ∙ all_moved names_no_feeder _ _ (IsPermutation-sym _ _ same) held.rows.said.0 in
+    let wrong : false ≡ true = sym false_ ∙ first refl ∙ all_moved fits_first_version _ _ (IsPermutation-sym _ _ same) held.rows.said.0 in
     cc
 not_said Second db r schools said first second false_ again read held = let wrong : false ≡ true = sym false_ ∙ second refl in cc
 
@@ -198,11 +147,13 @@ pub presents_held : (v : Version) (db : Trees) (r : Register) → HoldsRegister 
 presents_held First db r held = held.rows.said.1
 presents_held Second db r held = held.rows.each present has_present
 
-pub presents_written : (v : Version) (db : Trees) (rows : Rows) (all : List PresentRow) → IsPermutation (presents_of rows.children rows.imported) all → HoldsPresent v all db → AllByRecursion (λ t. HasRows t (written_in (written_tables v rows) t) db) (later_tables v)
+pub presents_written : (v : Version) (db : Trees) (rows : Rows) (all : List PresentRow) → IsPermutation (presents_of rows.children rows.imported) all
+    → HoldsPresent v all db → AllByRecursion (λ t. HasRows t (written_in (written_tables v rows) t) db) (later_tables v)
 presents_written First db rows all same held = tt
 presents_written Second db rows all same held = (IsPermutation-trans _ _ _ (IsPermutation-map present_columns _ _ same) held, tt)
 
-pub presents_said : (v : Version) (db : Trees) (rows : Rows) (all : List PresentRow) → (v ≡ First → list_all names_no_feeder rows.schools ≡ true) → IsPermutation (presents_of rows.children rows.imported) all → HoldsPresent v all db → IsSaidIn v rows
+pub presents_said : (v : Version) (db : Trees) (rows : Rows) (all : List PresentRow) → (v ≡ First → list_all fits_first_version rows.schools ≡ true)
+    → IsPermutation (presents_of rows.children rows.imported) all → HoldsPresent v all db → IsSaidIn v rows
 presents_said First db rows all plain same held = (plain refl, none_in _ _ (IsPermutation-sym _ _ same) held)
 presents_said Second db rows all plain same held = tt
 
@@ -212,13 +163,17 @@ same_presents First db xs ys one two = subst₂ IsPermutation (sym one) (sym two
 same_presents Second db xs ys one two = columns_moved xs ys (IsPermutation-trans _ _ _ one (IsPermutation-sym _ _ two))
 
 -- the children that are read are those of the register, but for their present schools
-pub bare_children : (v : Version) (db : Trees) (r : Register) (read : List Child) → AllByRecursion (λ x. AreReadAgain x.siblings) read → HasRows child (map child_row read) db → HoldsRegister v db r → IsPermutation (map bare_child read) (map bare_child (values r.children))
+pub bare_children : (v : Version) (db : Trees) (r : Register) (read : List Child) → AllByRecursion (λ x. AreReadAgain x.siblings) read
+    → HasRows child (map child_row read) db → HoldsRegister v db r → IsPermutation (map bare_child read) (map bare_child (values r.children))
 bare_children v db r read again held file =
-    values_shown child_row child_from bare_child (λ x. AreReadAgain x.siblings) IsChild child_back (λ x fits. codes_again x.siblings fits.codes) read (values r.children) _ again (children_fit r file.formed) held (file.rows.each child (child_in v))
+    values_shown child_row child_from bare_child (λ x. AreReadAgain x.siblings) IsChild child_back (λ x fits. codes_again x.siblings fits.codes) read
+    (values r.children) _ again (children_fit r file.formed) held (file.rows.each child (child_in v))
 
-pub bare_imports : (v : Version) (db : Trees) (r : Register) (read : List ImportRow) → AllByRecursion IsImportReadAgain read → HasRows imported_table (map imported_row read) db → HoldsRegister v db r → IsPermutation (map bare_import read) (map bare_import (values r.imported))
+pub bare_imports : (v : Version) (db : Trees) (r : Register) (read : List ImportRow) → AllByRecursion IsImportReadAgain read
+    → HasRows imported_table (map imported_row read) db → HoldsRegister v db r → IsPermutation (map bare_import read) (map bare_import (values r.imported))
 bare_imports v db r read again held file =
-    values_shown imported_row imported_from bare_import IsImportReadAgain (IsImportRow (lists_end r.season)) imported_back (import_again (lists_end r.season)) read (values r.imported) _ again (imported_fit r (lists_end r.season) file.formed refl) held (file.rows.each imported_table (imported_in v))
+    values_shown imported_row imported_from bare_import IsImportReadAgain (IsImportRow (lists_end r.season)) imported_back (import_again (lists_end r.season)) read
+    (values r.imported) _ again (imported_fit r (lists_end r.season) file.formed refl) held (file.rows.each imported_table (imported_in v))
 
 -- what is read again depends on no present school
 module _ {X Y : Type 0} (bare : X → Y) (P : Y → Type 0) where
@@ -240,7 +195,8 @@ pub imports_again : (xs ys : List ImportRow) → map bare_import xs ≡ map bare
 imports_again = again_bare bare_import IsImportReadAgain
 
 -- what is so of each part is so of all of them
-each_flat : {X Y : Type 0} (P : X → Type 0) (Q : Y → Type 0) (parts : X → List Y) → ((x : X) → P x → AllByRecursion Q (parts x)) → (xs : List X) → AllByRecursion P xs → AllByRecursion Q (flat_map parts xs)
+each_flat : {X Y : Type 0} (P : X → Type 0) (Q : Y → Type 0) (parts : X → List Y) → ((x : X) → P x → AllByRecursion Q (parts x)) → (xs : List X) → AllByRecursion P xs
+    → AllByRecursion Q (flat_map parts xs)
 each_flat P Q parts part [] all = tt
 each_flat P Q parts part (x ∷ xs) all = each_append Q (parts x) (flat_map parts xs) (part x all.0) (each_flat P Q parts part xs all.1)
 
@@ -249,7 +205,8 @@ pub presents_fit : (r : Register) → WellFormed r → AllByRecursion IsPresentR
 presents_fit r formed =
     each_append IsPresentRow (flat_map present_of_child (values r.children)) (flat_map present_of_import (values r.imported))
     (each_flat IsChild IsPresentRow present_of_child (λ c fits. one_fits c.no false c fits refl c.present refl) (values r.children) (children_fit r formed))
-    (each_flat (IsImportRow (lists_end r.season)) IsPresentRow present_of_import (λ i fits. one_fits i.child.no true i.child fits.child refl i.child.present refl) (values r.imported) (imported_fit r (lists_end r.season) formed refl))
+    (each_flat (IsImportRow (lists_end r.season)) IsPresentRow present_of_import (λ i fits. one_fits i.child.no true i.child fits.child refl i.child.present refl)
+    (values r.imported) (imported_fit r (lists_end r.season) formed refl))
   where
     one_fits : (n : ℕ) (b : Bool) (c : Child) → IsChild c → n ≡ c.no → (o : Option (List ℕ)) → c.present ≡ o → AllByRecursion IsPresentRow (present_row n b o)
     one_fits n b c fits own None is = tt
@@ -266,7 +223,22 @@ holds_register v db r rows held are formed = record {
         λ h. moved school_row _ _ _ are.schools h,
         (
           λ h. moved child_row _ _ _ are.children h,
-          (λ h. moved application_row _ _ _ are.applications h, (λ h. moved place_row _ _ _ are.places h, (λ h. moved left_row _ _ _ are.left h, (λ h. moved draw_row _ _ _ are.draws.heads h, (λ h. moved offer_row _ _ _ are.draws.offers h, (λ h. moved lot_row _ _ _ are.draws.lots h, (λ h. moved imported_row _ _ _ are.imported h, same_later v db rows (rows_in_order r) are.children are.imported))))))),
+          (
+            λ h. moved application_row _ _ _ are.applications h,
+            (
+              λ h. moved place_row _ _ _ are.places h,
+              (
+                λ h. moved left_row _ _ _ are.left h,
+                (
+                  λ h. moved draw_row _ _ _ are.draws.heads h,
+                  (
+                    λ h. moved offer_row _ _ _ are.draws.offers h,
+                    (λ h. moved lot_row _ _ _ are.draws.lots h, (λ h. moved imported_row _ _ _ are.imported h, same_later v db rows (rows_in_order r) are.children are.imported)),
+                  ),
+                ),
+              ),
+            ),
+          ),
         ),
       ),
     ) t listed (held.each t listed);
@@ -281,7 +253,8 @@ rows_present First db rows held = held.said.1
 rows_present Second db rows held = held.each present has_present
 
 -- the children and the imported rows that are read, with their present schools, are those of the register
-same_people : (v : Version) (db : Trees) (r : Register) (rows : Rows) → HoldsRegister v db r → HoldsRows v db rows → AreReadBack rows → IsPermutation rows.children (values r.children) × IsPermutation rows.imported (values r.imported)
+same_people : (v : Version) (db : Trees) (r : Register) (rows : Rows) → HoldsRegister v db r → HoldsRows v db rows → AreReadBack rows
+    → IsPermutation rows.children (values r.children) × IsPermutation rows.imported (values r.imported)
 same_people v db r rows file held again =
     presents_read rows.children r.children (λ k c is. (file.formed.base.children_fit k c is).own_number) rows.imported r.imported (λ k i is. (file.formed.imported k i is).child.own_number)
     (bare_children v db r rows.children again.children (held.each child (child_in v)) file)
@@ -291,15 +264,23 @@ same_people v db r rows file held again =
 pub rows_held : (v : Version) (db : Trees) (r : Register) (rows : Rows) → HoldsRegister v db r → HoldsRows v db rows → AreReadBack rows → rows.season ≡ r.season → AreRowsOf rows r
 rows_held v db r rows file held again season = let people = same_people v db r rows file held again in record {
   season = season;
-  schools = values_back school_row school_from IsReadAgain IsSchool from_row reads_again _ _ _ again.schools (schools_fit r file.formed) (held.each school (school_in v)) (file.rows.each school (school_in v));
+  schools = values_back school_row school_from IsReadAgain IsSchool from_row reads_again _ _ _ again.schools (schools_fit r file.formed) (held.each school (school_in v))
+      (file.rows.each school (school_in v));
   children = people.0;
-  applications = values_back application_row application_from (λ x. AreReadAgain x.list) (IsApplication (lists_end r.season)) application_back (λ x fits. codes_again x.list fits.codes) _ _ _ again.applications (applications_fit r (lists_end r.season) file.formed refl) (held.each application (application_in v)) (file.rows.each application (application_in v));
-  places = values_back place_row place_from (λ _. Unit {0}) IsPlaceRow (λ x _. place_back x) (λ _ _. tt) _ _ _ (no_condition rows.places) (places_fit r file.formed) (held.each place (place_in v)) (file.rows.each place (place_in v));
-  left = values_back left_row left_from (λ _. Unit {0}) IsLeftRow (λ x _. left_back x) (λ _ _. tt) _ _ _ (no_condition rows.left) (left_fit r file.formed) (held.each left_list (left_list_in v)) (file.rows.each left_list (left_list_in v));
+  applications = values_back application_row application_from (λ x. AreReadAgain x.list) (IsApplication (lists_end r.season)) application_back
+      (λ x fits. codes_again x.list fits.codes) _ _ _ again.applications (applications_fit r (lists_end r.season) file.formed refl)
+      (held.each application (application_in v)) (file.rows.each application (application_in v));
+  places = values_back place_row place_from (λ _. Unit {0}) IsPlaceRow (λ x _. place_back x) (λ _ _. tt) _ _ _ (no_condition rows.places) (places_fit r file.formed)
+      (held.each place (place_in v)) (file.rows.each place (place_in v));
+  left = values_back left_row left_from (λ _. Unit {0}) IsLeftRow (λ x _. left_back x) (λ _ _. tt) _ _ _ (no_condition rows.left) (left_fit r file.formed)
+      (held.each left_list (left_list_in v)) (file.rows.each left_list (left_list_in v));
   draws = record {
-    heads = values_back draw_row draw_from (λ _. Unit {0}) (IsDrawRow (lists_end r.season)) (λ x _. draw_back x) (λ _ _. tt) _ _ _ (no_condition rows.draws) (draws_fit r (lists_end r.season) file.formed refl) (held.each draw (draw_in v)) (file.rows.each draw (draw_in v));
-    offers = values_back offer_row offer_from (λ _. Unit {0}) IsOfferRow (λ x _. offer_back x) (λ _ _. tt) _ _ _ (no_condition rows.offers) (offers_fit r file.formed) (held.each offer (offer_in v)) (file.rows.each offer (offer_in v));
-    lots = values_back lot_row lot_from (λ _. Unit {0}) IsLotRow (λ x _. lot_back x) (λ _ _. tt) _ _ _ (no_condition rows.lots) (lots_fit r file.formed) (held.each lot (lot_in v)) (file.rows.each lot (lot_in v));
+    heads = values_back draw_row draw_from (λ _. Unit {0}) (IsDrawRow (lists_end r.season)) (λ x _. draw_back x) (λ _ _. tt) _ _ _ (no_condition rows.draws)
+        (draws_fit r (lists_end r.season) file.formed refl) (held.each draw (draw_in v)) (file.rows.each draw (draw_in v));
+    offers = values_back offer_row offer_from (λ _. Unit {0}) IsOfferRow (λ x _. offer_back x) (λ _ _. tt) _ _ _ (no_condition rows.offers) (offers_fit r file.formed)
+        (held.each offer (offer_in v)) (file.rows.each offer (offer_in v));
+    lots = values_back lot_row lot_from (λ _. Unit {0}) IsLotRow (λ x _. lot_back x) (λ _ _. tt) _ _ _ (no_condition rows.lots) (lots_fit r file.formed)
+        (held.each lot (lot_in v)) (file.rows.each lot (lot_in v));
   };
   imported = people.1;
 }

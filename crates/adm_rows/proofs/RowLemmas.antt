@@ -78,7 +78,8 @@ module _ {X : Type 0} (row_of : X → Row) where
       ap (map row_of) next ∙ map-append row_of was (x ∷ []) ∙ (λ k. so_far k ++ (sym is ∙ item) k ∷ []) ∙ sym (take_more rows i row low)
 
   -- each row is that of a value, where the rows are those of values
-  pub has_value : (P : X → Type 0) (rows : List Row) (i : ℕ) (row : Row) → i < length rows → row ≡ get_or rows i row → (xs : List X) → AllByRecursion P xs → IsPermutation (map row_of xs) rows → (x : X) × P x × (row ≡ row_of x)
+  pub has_value : (P : X → Type 0) (rows : List Row) (i : ℕ) (row : Row) → i < length rows → row ≡ get_or rows i row → (xs : List X) → AllByRecursion P xs
+      → IsPermutation (map row_of xs) rows → (x : X) × P x × (row ≡ row_of x)
   has_value P rows i row low is xs formed moved =
       let here = has_at rows i row low is in
       let it = has_source row_of xs row (has_contained _ _ (Contains-permutation _ _ _ (IsPermutation-sym _ _ moved) (contains_had _ _ here))) in
@@ -89,7 +90,8 @@ module _ {X : Type 0} (row_of : X → Row) where
   each_shown back clean [] all = refl
   each_shown back clean (x ∷ xs) all = λ k. all.0 k ∷ each_shown back clean xs all.1 k
 
-  pub values_shown : {Y : Type 0} (back : Row → Y) (clean : X → Y) (IsRead Fits : X → Type 0) → ((x : X) → IsRead x → back (row_of x) ≡ clean x) → ((x : X) → Fits x → IsRead x) → (read values : List X) (rows : List Row)
+  pub values_shown : {Y : Type 0} (back : Row → Y) (clean : X → Y) (IsRead Fits : X → Type 0) → ((x : X) → IsRead x → back (row_of x) ≡ clean x)
+      → ((x : X) → Fits x → IsRead x) → (read values : List X) (rows : List Row)
       → AllByRecursion IsRead read → AllByRecursion Fits values → IsPermutation (map row_of read) rows → IsPermutation (map row_of values) rows → IsPermutation (map clean read) (map clean values)
   values_shown back clean IsRead Fits returns fits read values rows again formed one two =
       let shown = each_shown back clean read (each_weaker IsRead (λ x. back (row_of x) ≡ clean x) returns read again) in
@@ -101,7 +103,8 @@ module _ {X : Type 0} (row_of : X → Row) where
   each_back back (x ∷ xs) all = λ k. all.0 k ∷ each_back back xs all.1 k
 
   -- values that their rows determine, and whose rows are those of others in another order, are those others
-  same_values : (back : Row → X) (xs ys : List X) → AllByRecursion (λ x. back (row_of x) ≡ x) xs → AllByRecursion (λ x. back (row_of x) ≡ x) ys → IsPermutation (map row_of ys) (map row_of xs) → IsPermutation xs ys
+  same_values : (back : Row → X) (xs ys : List X) → AllByRecursion (λ x. back (row_of x) ≡ x) xs → AllByRecursion (λ x. back (row_of x) ≡ x) ys
+      → IsPermutation (map row_of ys) (map row_of xs) → IsPermutation xs ys
   same_values back xs ys one two moved =
       IsPermutation-sym _ _ (subst₂ IsPermutation (each_back back ys two) (each_back back xs one) (IsPermutation-map back _ _ moved))
 
@@ -109,4 +112,5 @@ module _ {X : Type 0} (row_of : X → Row) where
   pub values_back : (back : Row → X) (IsRead Fits : X → Type 0) → ((x : X) → IsRead x → back (row_of x) ≡ x) → ((x : X) → Fits x → IsRead x) → (read values : List X) (rows : List Row)
       → AllByRecursion IsRead read → AllByRecursion Fits values → IsPermutation (map row_of read) rows → IsPermutation (map row_of values) rows → IsPermutation read values
   values_back back IsRead Fits returns fits read values rows again formed one two =
-      same_values back read values (each_weaker IsRead (λ x. back (row_of x) ≡ x) returns read again) (each_weaker Fits (λ x. back (row_of x) ≡ x) (λ x f. returns x (fits x f)) values formed) (IsPermutation-trans _ _ _ two (IsPermutation-sym _ _ one))
+      same_values back read values (each_weaker IsRead (λ x. back (row_of x) ≡ x) returns read again)
+      (each_weaker Fits (λ x. back (row_of x) ≡ x) (λ x f. returns x (fits x f)) values formed) (IsPermutation-trans _ _ _ two (IsPermutation-sym _ _ one))

@@ -55,7 +55,8 @@ module _ {X : Type 0} {R : X → X → Ordering} (total : IsTotalOrder R) where
       let q2 = subst (λ z. rises R (z ∷ ys) ≡ true) (sym heads) q in
       let to2 = subst (λ w. (z : X) → Has (x ∷ xs) z → Has (w ∷ ys) z) (sym heads) to in
       let from2 = subst (λ w. (z : X) → Has (w ∷ ys) z → Has (x ∷ xs) z) (sym heads) from in
-      λ k. heads k ∷ rises_once xs ys (and_parts (list_all (λ z. is_lt (R x z)) xs) (rises R xs) p).1 (and_parts (list_all (λ z. is_lt (R y z)) ys) (rises R ys) q).1 (tails_too x xs ys p to2) (tails_too x ys xs q2 from2) k
+      λ k. heads k ∷ rises_once xs ys (and_parts (list_all (λ z. is_lt (R x z)) xs) (rises R xs) p).1 (and_parts (list_all (λ z. is_lt (R y z)) ys) (rises R ys) q).1
+      (tails_too x xs ys p to2) (tails_too x ys xs q2 from2) k
 
 outcome_total : IsTotalOrder outcome_cmp
 outcome_total = on_total (λ (o : Outcome). o.child) nat_cmp_total
@@ -93,8 +94,10 @@ abbrev OwnNumbers : FinMap nat_cmp Draw → Type 0
 OwnNumbers draws = (k : ℕ) (d : Draw) → get draws k ≡ Some d → d.number ≡ k
 
 -- what one draw has of a list, the draw of its number in the other register has too
-module _ {I Y : Type 0} (items : Draw → List I) (row : ℕ → I → Y) (number_of : Y → ℕ) (item_of : Y → I) (number_back : (n : ℕ) (i : I) → number_of (row n i) ≡ n) (item_back : (n : ℕ) (i : I) → item_of (row n i) ≡ i) where
-  items_moved : (a b : FinMap nat_cmp Draw) → OwnNumbers a → OwnNumbers b → IsPermutation (flat_map (λ d. map (row d.number) (items d)) (values a)) (flat_map (λ d. map (row d.number) (items d)) (values b))
+module _ {I Y : Type 0} (items : Draw → List I) (row : ℕ → I → Y) (number_of : Y → ℕ) (item_of : Y → I) (number_back : (n : ℕ) (i : I)
+    → number_of (row n i) ≡ n) (item_back : (n : ℕ) (i : I) → item_of (row n i) ≡ i) where
+  items_moved : (a b : FinMap nat_cmp Draw) → OwnNumbers a → OwnNumbers b
+      → IsPermutation (flat_map (λ d. map (row d.number) (items d)) (values a)) (flat_map (λ d. map (row d.number) (items d)) (values b))
       → (k : ℕ) (d e : Draw) → get a k ≡ Some d → get b k ≡ Some e → (i : I) → Has (items d) i → Has (items e) i
   items_moved a b own other same k d e one two i h =
       let rows = λ (x : Draw). map (row x.number) (items x) in
@@ -112,7 +115,8 @@ module _ {I Y : Type 0} (items : Draw → List I) (row : ℕ → I → Y) (numbe
 abbrev AreOrdered : FinMap nat_cmp Draw → Type 0
 AreOrdered draws = (k : ℕ) (d : Draw) → get draws k ≡ Some d → are_ordered d ≡ true
 
-module _ (a b : FinMap nat_cmp Draw) (own : OwnNumbers a) (other : OwnNumbers b) (ordered : AreOrdered a) (ordered_too : AreOrdered b) (rows : AreDrawRowsOf (map row_of (values a)) (flat_map offer_rows_of (values a)) (flat_map lot_rows_of (values a)) (values b)) where
+module _ (a b : FinMap nat_cmp Draw) (own : OwnNumbers a) (other : OwnNumbers b) (ordered : AreOrdered a) (ordered_too : AreOrdered b)
+    (rows : AreDrawRowsOf (map row_of (values a)) (flat_map offer_rows_of (values a)) (flat_map lot_rows_of (values a)) (values b)) where
   same_head : (k : ℕ) (d : Draw) → get a k ≡ Some d → (e : Draw) × (get b k ≡ Some e) × (row_of d ≡ row_of e)
   same_head k d one =
       let here = has_mapped row_of (values a) d (has_value nat_cmp_total nat_cmp-IsAntisymmetric a k d one) in
@@ -126,7 +130,8 @@ module _ (a b : FinMap nat_cmp Draw) (own : OwnNumbers a) (other : OwnNumbers b)
       let theirs = and_parts (rises outcome_cmp e.outcomes) (rises lot_cmp e.lots) (ordered_too k e two) in
       let offer_moved = items_moved (λ (x : Draw). x.outcomes) offer_row_of (λ (r : OfferRow). r.draw) (λ (r : OfferRow). r.outcome) (λ _ _. refl) (λ _ _. refl) in
       let lot_moved = items_moved (λ (x : Draw). x.lots) lot_row_of (λ (r : LotRow). r.draw) (λ (r : LotRow). r.lot) (λ _ _. refl) (λ _ _. refl) in
-      let outcomes = rises_once outcome_total d.outcomes e.outcomes mine.0 theirs.0 (offer_moved a b own other rows.offers k d e one two) (offer_moved b a other own (IsPermutation-sym _ _ rows.offers) k e d two one) in
+      let outcomes = rises_once outcome_total d.outcomes e.outcomes mine.0 theirs.0 (offer_moved a b own other rows.offers k d e one two)
+      (offer_moved b a other own (IsPermutation-sym _ _ rows.offers) k e d two one) in
       let lots = rises_once lot_total d.lots e.lots mine.1 theirs.1 (lot_moved a b own other rows.lots k d e one two) (lot_moved b a other own (IsPermutation-sym _ _ rows.lots) k e d two one) in
       λ i. record { number = (head i).draw; round = (head i).round; school = (head i).school; day = (head i).day; outcomes = outcomes i; lots = lots i }
 

@@ -8,14 +8,15 @@ use Rattle.std.proofs.lemmas.Bool.Decides.{nat_tests}
 use Rattle.std.proofs.lemmas.Str.{IsUtf8-from_is_utf8}
 use Rattle.sqlite.specs.declared.types.Value.TheVariants.{Int, Text}
 use Rattle.sqlite.specs.Order.{Row, column}
-use Rattle.adm_types.specs.Limits.{is_from, is_on_map, is_criterion, is_school_in_range}
-use Rattle.adm_types.specs.declared.rows.Criterion.{Criterion}
+use Rattle.adm_types.specs.Limits.{is_from, is_on_map, is_school_in_range}
+use Rattle.adm_types.specs.Criteria.{is_criterion}
+use Rattle.adm_types.specs.declared.criteria.Criterion.{Criterion}
 use Rattle.adm_types.specs.declared.rows.School.{School}
 use Rattle.adm_rows.specs.Forms.{criteria_text, criteria_of, school_row}
 use Rattle.adm_rows.specs.Faults.{IsSchool, IsReadAgain, HasSchoolColumns}
 use Rattle.adm_rows.proofs.RowLemmas.{number_in, text_in}
 use Rattle.adm_rows.proofs.CriteriaLemmas.{criteria_again, criteria_utf8}
-use Rattle.adm_rows.proofs.CodeLemmas.{code_utf8}
+use Rattle.adm_types.proofs.ReadBack.{code_utf8}
 
 -- the four tests of a school's numbers
 range_parts : (s : School) → is_school_in_range s ≡ true → (is_from 1 500 s.pan ≡ true) × (is_on_map s.at ≡ true) × (list_all is_criterion s.criteria ≡ true)
@@ -59,7 +60,8 @@ no_criteria_read text criteria fit is read =
     cc
 
 -- the criteria that are read have the text from which they were read
-pub criteria_text_again : (text : List ℕ) (read shown criteria : List Criterion) → list_all is_criterion criteria ≡ true → text ≡ criteria_text criteria → criteria_of text ≡ Some read → shown ≡ read → text ≡ criteria_text shown
+pub criteria_text_again : (text : List ℕ) (read shown criteria : List Criterion) → list_all is_criterion criteria ≡ true → text ≡ criteria_text criteria
+    → criteria_of text ≡ Some read → shown ≡ read → text ≡ criteria_text shown
 criteria_text_again text read shown criteria fit is there same =
     let once : Some read ≡ Some criteria = sym there ∙ ap criteria_of is ∙ criteria_again criteria fit in
     let equal : shown ≡ criteria = cc in

@@ -50,10 +50,12 @@ no_code (suc (suc (suc n))) none = refl
 
 -- a season of which the row is read
 pub columns_agree : (v w : Version) (row : Row) (phase : Phase) (year draws count : ℕ) (holidays : List ℕ) (season : SeasonFacts)
-    → row ≡ Int (pos 1) ∷ Int (pos (version_code v)) ∷ Int (pos (phase_code phase)) ∷ Int (pos year) ∷ Text holidays ∷ Int (pos draws) ∷ [] → row ≡ season_row w season count → (year ≡ season.year) × (holidays ≡ days_text season.holidays)
+    → row ≡ Int (pos 1) ∷ Int (pos (version_code v)) ∷ Int (pos (phase_code phase)) ∷ Int (pos year) ∷ Text holidays ∷ Int (pos draws) ∷ []
+    → row ≡ season_row w season count → (year ≡ season.year) × (holidays ≡ days_text season.holidays)
 columns_agree v w row phase year draws count holidays season read is = let e = sym read ∙ is in (ap (λ r. number_in (column r 3)) e, ap (λ r. text_in (column r 4)) e)
 
-pub has_season_columns : (v : Version) (row : Row) (season : SeasonFacts) (draws : ℕ) → IsSeason season → draws < 2 ^ 32 → row ≡ season_row v season draws → HasSeasonColumns row v season.phase season.year draws (days_text season.holidays)
+pub has_season_columns : (v : Version) (row : Row) (season : SeasonFacts) (draws : ℕ) → IsSeason season → draws < 2 ^ 32 → row ≡ season_row v season draws
+    → HasSeasonColumns row v season.phase season.year draws (days_text season.holidays)
 has_season_columns v row season draws formed few is = record { row_is = is; holidays_text = days_utf8 season.holidays formed.days; year_fits = omega (arith, formed.year.1); draws_fit = few }
 
 -- two seasons that are written alike are the same
@@ -80,7 +82,8 @@ no_days_read text season formed is read =
     cc
 
 -- and a season with those holidays, in rising order, has the text
-pub text_again : (text days holidays : List ℕ) (read season : SeasonFacts) → IsSeason season → IsSeason read → text ≡ days_text season.holidays → days_of text ≡ Some days → IsRising days read.holidays → holidays ≡ read.holidays → text ≡ days_text holidays
+pub text_again : (text days holidays : List ℕ) (read season : SeasonFacts) → IsSeason season → IsSeason read → text ≡ days_text season.holidays → days_of text ≡ Some days
+    → IsRising days read.holidays → holidays ≡ read.holidays → text ≡ days_text holidays
 text_again text days holidays read season formed here is there rising shown =
     let same = days_read text days season formed is there in
     let once : read.holidays ≡ season.holidays = rising_once read.holidays season.holidays here.rising formed.rising (λ n. rising.same n ∙ ap (λ list. list_any (λ other. other == n) list) same) in

@@ -20,19 +20,30 @@ IsUnanswered sql s =
     × (IsNoStatement s sql [] e ⊎ ((c : Compiled) × (understood s.now.schema sql ≡ Ok c) × (IsSome c.returning
     ⊎ ((db : Database) × (now : ℕ) × IsSourceOf (reads_listing s.now.schema sql) s.now db × RefusesToRead s.step_limit c.command db (timed [] c.formats now) e))))
 
--- on a clean disk, where the connection was open on the tables of this version, and no limit was set on the steps of a query, the disk failed or refused since
+-- on a clean disk, over a connection that was open, this holds
+abbrev pub OnCleanDisk : State → State → Type 0 → Type 0
+OnCleanDisk old new P = HasCleanDisk new → IsTrue old.is_open → P
+
+-- the disk failed or refused since
+abbrev pub FailedSince : State → State → Type 0
+FailedSince old new = MoreFaults old.faults new.faults
+
+-- the tables are those of no version
+abbrev pub HasOtherTables : State → Type 0
+HasOtherTables s = (v : Version) → s.now.schema ≢ schema_of v
+
+-- where no limit was set on the steps of a query and the tables are those of this version, the disk failed or refused since
 abbrev pub DiskFailedIn : Version → State → State → Type 0
-DiskFailedIn v old new = HasCleanDisk new → IsTrue old.is_open → old.step_limit ≡ None → old.now.schema ≡ schema_of v → MoreFaults old.faults new.faults
+DiskFailedIn v old new = OnCleanDisk old new (old.step_limit ≡ None → old.now.schema ≡ schema_of v → FailedSince old new)
 
 -- the same of each version
 abbrev pub DiskFailed : State → State → Type 0
 DiskFailed old new = (v : Version) → DiskFailedIn v old new
 
--- on a clean disk, where the connection was open, the disk failed or refused since, or the text is not answered
+-- the disk failed or refused since, or the text is not answered
 abbrev pub DiskFailedOr : List ℕ → State → State → Type 0
-DiskFailedOr sql old new = HasCleanDisk new → IsTrue old.is_open → MoreFaults old.faults new.faults ⊎ IsUnanswered sql old
+DiskFailedOr sql old new = OnCleanDisk old new (FailedSince old new ⊎ IsUnanswered sql old)
 
--- On a clean disk, where the connection was open without a limit on the steps of a query, the disk failed or refused since. Under other tables than a register's it may be that the row of its table `meta` is not answered.
+-- Where no limit was set on the steps of a query, the disk failed or refused since. Under other tables than a register's it may be that the row of its table `meta` is not answered.
 abbrev pub HasDiskCause : State → State → Type 0
-HasDiskCause old new =
-    HasCleanDisk new → IsTrue old.is_open → old.step_limit ≡ None → MoreFaults old.faults new.faults ⊎ (((v : Version) → old.now.schema ≢ schema_of v) × IsUnanswered select_meta old)
+HasDiskCause old new = OnCleanDisk old new (old.step_limit ≡ None → FailedSince old new ⊎ (HasOtherTables old × IsUnanswered select_meta old))

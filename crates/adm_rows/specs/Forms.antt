@@ -2,12 +2,13 @@
 use Rattle.std.specs.Prelude.{ℕ, pos, Bool, true, false, List, [], ◌∷◌, map, Option, Some, None, option_and_then, if◌then◌else◌}
 use Rattle.std.specs.Fmt.{decimal}
 use Rattle.adm_types.specs.Seasons.{SeasonFacts}
-use Rattle.adm_types.specs.Fields.{plain_of, criterion_of, criterion_text}
+use Rattle.adm_types.specs.Fields.{plain_of}
+use Rattle.adm_types.specs.Criteria.{criterion_of, criterion_text}
 use Rattle.adm_types.specs.Numbers.{is_from, first_day, last_day}
 use Rattle.adm_types.specs.Joined.{joined, items_of}
 use Rattle.adm_types.specs.declared.seasons.Phase.{Phase}
 use Rattle.adm_types.specs.declared.seasons.Phase.TheVariants.{Primary, Secondary}
-use Rattle.adm_types.specs.declared.rows.Criterion.{Criterion}
+use Rattle.adm_types.specs.declared.criteria.Criterion.{Criterion}
 use Rattle.adm_types.specs.declared.rows.School.{School}
 use Rattle.adm_types.specs.declared.rows.Child.{Child}
 use Rattle.adm_types.specs.declared.rows.Application.{Application}

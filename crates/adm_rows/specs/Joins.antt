@@ -34,7 +34,7 @@ present_left_at entry = record { child = entry.0.0; is_imported = entry.0.1; sch
 abbrev pub left_rows : BTreeMap (ℕ × Bool) (List ℕ) → List PresentRow
 left_rows left = map present_left_at left.entries
 
--- where the school of a row is put
+-- where the school of a row is written
 abbrev pub present_key : PresentRow → ℕ × Bool
 present_key row = (row.child, row.is_imported)
 

@@ -1,13 +1,11 @@
 -- When the trees of a file represent a register, and what a crash may leave.
-use Rattle.std.specs.Prelude.{◌≡◌, ◌==◌, ◌⊎◌, List, [], ◌∷◌, length, map, not, Bool, true, false, if◌then◌else◌, IsPermutation, IsTrue}
+use Rattle.std.specs.Prelude.{◌≡◌, ◌==◌, ◌⊎◌, List, [], ◌∷◌, length, map, not, Bool, true, if◌then◌else◌, IsPermutation, IsTrue}
 use Rattle.std.specs.List.{list_all}
 use Rattle.adm_types.specs.Children.{presents_of}
-use Rattle.adm_types.specs.declared.rows.Criterion.{Criterion}
-use Rattle.adm_types.specs.declared.rows.Criterion.TheVariants.{Sibling, Within, Flag, Feeder}
+use Rattle.adm_types.specs.Criteria.{came_later}
 use Rattle.adm_types.specs.declared.rows.School.{School}
 use Rattle.adm_types.specs.Seasons.{SeasonFacts}
-use Rattle.adm_register.specs.State.{only_season}
-use Rattle.adm_register.specs.State.{State as Register}
+use Rattle.adm_register.specs.State.{only_season, State as Register}
 use Rattle.adm_register.specs.Rows.{rows_in_order}
 use Rattle.adm_register.specs.WellFormed.{WellFormed}
 use Rattle.adm_register.specs.declared.register_rows.Rows.{Rows}
@@ -54,20 +52,13 @@ abbrev pub written_in : List (Table × List Row) → Table → List Row
 written_in [] t = []
 written_in (it ∷ more) t = if t.tree == it.0.tree then it.1 else written_in more t
 
--- a criterion that came with the second version
-abbrev pub is_feeder : Criterion → Bool
-is_feeder Sibling = false
-is_feeder (Within metres) = false
-is_feeder (Flag flag) = false
-is_feeder (Feeder code) = true
+-- whether no criterion of the school came with the second version
+abbrev pub fits_first_version : School → Bool
+fits_first_version school = list_all (λ criterion. not (came_later criterion)) school.criteria
 
--- whether no criterion of the school is that of a feeder school
-abbrev pub names_no_feeder : School → Bool
-names_no_feeder school = list_all (λ criterion. not (is_feeder criterion)) school.criteria
-
--- what a file of this version can say: one of the first has neither feeder schools nor present schools
+-- what a file of this version can hold: one of the first has neither the criteria of the second nor present schools
 abbrev pub IsSaidIn : Version → Rows → Type 0
-IsSaidIn First rows = (list_all names_no_feeder rows.schools ≡ true) × (presents_of rows.children rows.imported ≡ [])
+IsSaidIn First rows = (list_all fits_first_version rows.schools ≡ true) × (presents_of rows.children rows.imported ≡ [])
 IsSaidIn Second rows = Unit {0}
 
 -- each table of this version has the rows that are written in it, and no other row

@@ -7,7 +7,7 @@ ghost use Rattle.adm_schema.specs.declared.version.Version.{Version as FileVersi
 ghost use Rattle.adm_schema.specs.declared.version.Version.TheVariants.{First, Second};
 ghost use Rattle.adm_schema.specs.Schema.{schema_of};
 ghost use Rattle.std.specs.List.{list_all};
-ghost use Rattle.adm_rows.specs.Represents.{HoldsRows, HoldsRegister, is_feeder, names_no_feeder};
+ghost use Rattle.adm_rows.specs.Represents.{HoldsRows, HoldsRegister, fits_first_version};
 ghost use Rattle.adm_rows.specs.Reads.{ReadsIn, SeesTheSame, HoldsFirst, HoldsSeason, AreReadBack, FindsNone, FindsNoneNamed, FindsNoneWith};
 ghost use Rattle.adm_rows.specs.FirstFault.{IsFirstFault};
 ghost use Rattle.adm_rows.specs.Faults.{IsNoRegister};
@@ -47,7 +47,7 @@ use crate::reading::schools::SchoolReader;
 use crate::reading::season::{MetaRow, read_season};
 use adm_register::{Register, Rows, RowsFault};
 use adm_schema::Version;
-use adm_types::{Criterion, DrawRow, School, Seq};
+use adm_types::{DrawRow, School, Seq, came_later};
 use sqlite::{Alter, Transaction};
 use std::alloc::Global;
 
@@ -102,41 +102,29 @@ fn first_tables<S: Alter>(
     }
 }
 
-/// Whether a criterion came with the second version.
-fn is_feeder(criterion: &Criterion) -> bool
-    ensures { result ≡ is_feeder criterion.now }
-{
-    match criterion {
-        Criterion::Sibling => false,
-        Criterion::Within(_) => false,
-        Criterion::Flag(_) => false,
-        Criterion::Feeder(_) => true,
-    }
-}
-
-fn names_no_feeder(school: &School) -> bool
-    ensures { result ≡ names_no_feeder school.now }
+fn fits_first_version(school: &School) -> bool
+    ensures { result ≡ fits_first_version school.now }
 {
     school
         .criteria
         .as_slice()
         .iter()
-        .all(|criterion| !is_feeder(criterion))
+        .all(|criterion| !came_later(criterion))
 }
 
-fn name_no_feeder(schools: &[School]) -> bool
-    ensures { result ≡ list_all names_no_feeder schools.now }
+fn fit_first_version(schools: &[School]) -> bool
+    ensures { result ≡ list_all fits_first_version schools.now }
 {
-    schools.iter().all(|school| names_no_feeder(school))
+    schools.iter().all(|school| fits_first_version(school))
 }
 
 /// Whether a file of this version can say the criteria of these schools.
 fn are_said(version: Version, schools: &[School]) -> bool
-    ensures first { version ≡ First → result ≡ list_all names_no_feeder schools.now }
+    ensures first { version ≡ First → result ≡ list_all fits_first_version schools.now }
     ensures second { version ≡ Second → result ≡ true }
 {
     match version {
-        Version::First => name_no_feeder(schools),
+        Version::First => fit_first_version(schools),
         Version::Second => true,
     }
 }

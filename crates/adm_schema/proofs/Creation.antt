@@ -18,7 +18,8 @@ use Rattle.adm_schema.specs.Schema.{new_meta, new_school, new_child, new_applica
 use Rattle.adm_schema.proofs.Statements.{went, same_value, unless}
 use Rattle.adm_schema.proofs.Creates.{creates_meta, creates_school, creates_child, creates_application, creates_place, creates_left_list, creates_draw, creates_offer, creates_lot, creates_imported, creates_present}
 
-pub creates : {before after : Schema} {table : Table} {sql : List ℕ} → IsCreation before sql table after → (old new : State) (count : ℕ) → old.now.schema ≡ before → ExecutesInside 0 sql [] old new (Ok count)
+pub creates : {before after : Schema} {table : Table} {sql : List ℕ} → IsCreation before sql table after → (old new : State) (count : ℕ) → old.now.schema ≡ before
+    → ExecutesInside 0 sql [] old new (Ok count)
     → (new.now.schema ≡ after) × (new.now.trees (next_tree before) ≡ []) × KeepsRows before.tables old.now.trees new.now.trees × IsDatabase new.now
 creates {before} {after} {table} {sql} made old new count has h =
     let w = subst (λ t. Writes old new None CreateTable t [] count) made.text (runs_as sql [] old new before has CreateTable made.command made.plain count h.0) in
@@ -42,7 +43,8 @@ all_kept [] old new kept all = tt
 all_kept (t ∷ tables) old new kept all = (kept.0 ∙ all.0, all_kept tables old new kept.1 all.1)
 
 -- a new table has no row, and the others have none still
-pub makes_next : (before after : Schema) (table : Table) (sql : List ℕ) → IsCreation before sql table after → (old new : State) (count : ℕ) → SeesNoRows before old → ExecutesInside 0 sql [] old new (Ok count) → SeesNoRows after new
+pub makes_next : (before after : Schema) (table : Table) (sql : List ℕ) → IsCreation before sql table after → (old new : State) (count : ℕ) → SeesNoRows before old
+    → ExecutesInside 0 sql [] old new (Ok count) → SeesNoRows after new
 makes_next before after table sql made old new count sees h =
     let it = creates made old new count sees.schema_is h in
     let next : Table = record table { tree = next_tree before } in
@@ -64,6 +66,12 @@ creation_at (suc (suc (suc (suc (suc zero))))) sql is = (new_left_list, subst (�
 creation_at (suc (suc (suc (suc (suc (suc zero)))))) sql is = (new_draw, subst (λ t. IsCreation (schema_after 6) t new_draw (schema_after 7)) (same_Some _ _ is) creates_draw)
 creation_at (suc (suc (suc (suc (suc (suc (suc zero))))))) sql is = (new_offer, subst (λ t. IsCreation (schema_after 7) t new_offer (schema_after 8)) (same_Some _ _ is) creates_offer)
 creation_at (suc (suc (suc (suc (suc (suc (suc (suc zero)))))))) sql is = (new_lot, subst (λ t. IsCreation (schema_after 8) t new_lot (schema_after 9)) (same_Some _ _ is) creates_lot)
-creation_at (suc (suc (suc (suc (suc (suc (suc (suc (suc zero))))))))) sql is = (new_imported, subst (λ t. IsCreation (schema_after 9) t new_imported (schema_after 10)) (same_Some _ _ is) creates_imported)
-creation_at (suc (suc (suc (suc (suc (suc (suc (suc (suc (suc zero)))))))))) sql is = (new_present, subst (λ t. IsCreation (schema_after 10) t new_present (schema_after 11)) (same_Some _ _ is) creates_present)
+creation_at (suc (suc (suc (suc (suc (suc (suc (suc (suc zero))))))))) sql is = (
+  new_imported,
+  subst (λ t. IsCreation (schema_after 9) t new_imported (schema_after 10)) (same_Some _ _ is) creates_imported,
+)
+creation_at (suc (suc (suc (suc (suc (suc (suc (suc (suc (suc zero)))))))))) sql is = (
+  new_present,
+  subst (λ t. IsCreation (schema_after 10) t new_present (schema_after 11)) (same_Some _ _ is) creates_present,
+)
 creation_at (suc (suc (suc (suc (suc (suc (suc (suc (suc (suc (suc more))))))))))) sql is = absurd (cc)

@@ -62,7 +62,8 @@ null_fits k (Text t) null = absurd (cc)
 null_fits k (Blob b) null = absurd (cc)
 
 -- the value in each column of a row that was written is of its type
-pub typed_at : (key : Option ℕ) (at : ℕ) (columns : List Column) (values : Row) (j : ℕ) (c : Column) → slice_get columns j ≡ Some c → c.is_strict ≡ true → are_typed key at columns values ≡ true → is_of c.kind (column values j) ≡ true
+pub typed_at : (key : Option ℕ) (at : ℕ) (columns : List Column) (values : Row) (j : ℕ) (c : Column) → slice_get columns j ≡ Some c → c.is_strict ≡ true
+    → are_typed key at columns values ≡ true → is_of c.kind (column values j) ≡ true
 typed_at key at [] values j c is strict typed = absurd (cc)
 typed_at key at (b ∷ columns) [] zero c is strict typed = refl
 typed_at key at (b ∷ columns) [] (suc j) c is strict typed = typed_at key (at + 1) columns [] j c is strict (and_parts (is_null b.default) (are_typed key (at + 1) columns []) typed).1
@@ -86,9 +87,11 @@ later (v ∷ row) j = refl
 abbrev turned : Row → Row → Row
 turned count row = cast_row meta (drop 1 (eval_all meta_turned (count ∷ row ∷ [])))
 
-row_turned : (count : ℕ) (row : Row) → is_int (rowid row) ≡ true → are_typed meta.key 0 meta.columns (drop 1 row) ≡ true → columns_of meta (turned (Int (pos count) ∷ []) row) ≡ with_draws (Int (pos count) ∷ []) (columns_of meta row)
+row_turned : (count : ℕ) (row : Row) → is_int (rowid row) ≡ true → are_typed meta.key 0 meta.columns (drop 1 row) ≡ true
+    → columns_of meta (turned (Int (pos count) ∷ []) row) ≡ with_draws (Int (pos count) ∷ []) (columns_of meta row)
 row_turned count row int typed =
-    let number = λ (j : ℕ) (c : Column) (is : slice_get meta.columns j ≡ Some c) (strict : c.is_strict ≡ true). subst (λ v. is_of c.kind v ≡ true) (later row j) (typed_at meta.key 0 meta.columns (drop 1 row) j c is strict typed) in
+    let number = λ (j : ℕ) (c : Column) (is : slice_get meta.columns j ≡ Some c) (strict : c.is_strict ≡ true). subst (λ v. is_of c.kind v ≡ true) (later row j)
+    (typed_at meta.key 0 meta.columns (drop 1 row) j c is strict typed) in
     let key : cast Integer (rowid row) ≡ rowid row = subst (λ v. cast Integer v ≡ v) (sym (int_is (rowid row) int)) (cast_int (id_in (rowid row))) in
     λ i.
     key i ∷ own_integer (column row 2) (number 1 _ refl refl) i ∷ own_integer (column row 3) (number 2 _ refl refl) i ∷ own_integer (column row 4) (number 3 _ refl refl) i
@@ -107,7 +110,8 @@ all_typed db sound row there =
     let rows = all_has (λ (t : Table). AllByRecursion (λ row. passes Datatype register_schema db t row ≡ true) (db t.tree)) register_schema.tables meta (sound.obeys.rules Datatype) has_meta in
     (and_parts (are_typed meta.key 0 meta.columns (drop 1 row)) (has_computed meta row) (all_has (λ row. passes Datatype register_schema db meta row ≡ true) (db meta.tree) row rows there)).0
 
-pub sets_draws : (old new : State) (count rows : ℕ) → old.now.schema ≡ register_schema → IsDatabase old.now → ExecutesInside 0 update_meta (Int (pos count) ∷ []) old new (Ok rows) → SetsDraws (Int (pos count) ∷ []) old new
+pub sets_draws : (old new : State) (count rows : ℕ) → old.now.schema ≡ register_schema → IsDatabase old.now
+    → ExecutesInside 0 update_meta (Int (pos count) ∷ []) old new (Ok rows) → SetsDraws (Int (pos count) ∷ []) old new
 sets_draws old new count rows has sound h =
     let it = updated_all register_schema meta 0 refl refl refl (λ _ _. refl) meta_turned update_meta (Int (pos count) ∷ []) old new rows updates_meta.0 updates_meta.1 refl (λ r. refl) has h in
     let own : IsDatabase (record { schema = register_schema; trees = old.now.trees }) = subst (λ (s : Schema). IsDatabase (record { schema = s; trees = old.now.trees })) has sound in

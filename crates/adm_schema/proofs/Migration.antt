@@ -43,7 +43,8 @@ marked row = cast_row meta (drop 1 (eval_all meta_marked ([] ∷ row ∷ [])))
 
 row_marked : (row : Row) → is_int (rowid row) ≡ true → are_typed meta.key 0 meta.columns (drop 1 row) ≡ true → columns_of meta (marked row) ≡ with_second (columns_of meta row)
 row_marked row int typed =
-    let number = λ (j : ℕ) (c : Column) (is : slice_get meta.columns j ≡ Some c) (strict : c.is_strict ≡ true). subst (λ v. is_of c.kind v ≡ true) (later row j) (typed_at meta.key 0 meta.columns (drop 1 row) j c is strict typed) in
+    let number = λ (j : ℕ) (c : Column) (is : slice_get meta.columns j ≡ Some c) (strict : c.is_strict ≡ true). subst (λ v. is_of c.kind v ≡ true) (later row j)
+    (typed_at meta.key 0 meta.columns (drop 1 row) j c is strict typed) in
     let key : cast Integer (rowid row) ≡ rowid row = subst (λ v. cast Integer v ≡ v) (sym (int_is (rowid row) int)) (cast_int (id_in (rowid row))) in
     λ i.
     key i ∷ cast_int (pos 2) i ∷ own_integer (column row 3) (number 2 _ refl refl) i ∷ own_integer (column row 4) (number 3 _ refl refl) i

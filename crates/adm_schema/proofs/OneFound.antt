@@ -53,7 +53,8 @@ only_one : (x r : Row) → Has (x ∷ []) r → r ≡ x
 only_one x r (inl is) = is
 only_one x r (inr h) = absurd h
 
-same_tests : (p q : Row → Bool) (rows : List Row) (x : Row) → filter p rows ≡ x ∷ [] → q x ≡ true → ((r : Row) → Has rows r → q r ≡ true → r ≡ x) → filter (λ r. not (q r)) rows ≡ filter (λ r. not (p r)) rows
+same_tests : (p q : Row → Bool) (rows : List Row) (x : Row) → filter p rows ≡ x ∷ [] → q x ≡ true → ((r : Row) → Has rows r → q r ≡ true → r ≡ x)
+    → filter (λ r. not (q r)) rows ≡ filter (λ r. not (p r)) rows
 same_tests p q rows x one holds_of alone = filter_on (λ r. not (q r)) (λ r. not (p r)) rows (λ r h. ap not (go r h (q r) refl (p r) refl))
   where
     there : p x ≡ true
@@ -123,24 +124,30 @@ passing tests params r = list_all (holds (params ∷ r ∷ [])) tests
 module _ (schema : Schema) (table : Table) (at : ℕ) (found : slice_get schema.tables at ≡ Some table) (uncounted : table.is_counted ≡ false) (unstamped : table.stamps.terms ≡ [])
     (alone : (olds news : List Row) → works schema Enforced 0 table.tree olds news ≡ []) (low : nat_le (2 ^ 31) table.tree ≡ false) where
   -- a SELECT of the rowid shows one integer: one row passes the tests, and has that rowid
-  pub finds_one : (tests : List Term) (sql : List ℕ) (names : List (List ℕ)) (params shown : Row) (k : ℤ) (old new : State) → command_of (understood schema sql) ≡ Select (program_of (query_of table.tree tests (col 1 0 ∷ []) [])) names
+  pub finds_one : (tests : List Term) (sql : List ℕ) (names : List (List ℕ)) (params shown : Row) (k : ℤ) (old new : State)
+      → command_of (understood schema sql) ≡ Select (program_of (query_of table.tree tests (col 1 0 ∷ []) [])) names
       → IsPlain (understood schema sql) → reads_listing schema sql ≡ false → old.now.schema ≡ schema → column shown 0 ≡ Int k → Shown sql params old new (shown ∷ [])
       → (x : Row) × (filter (passing tests params) (old.now.trees table.tree) ≡ x ∷ []) × (rowid x ≡ Int k)
   finds_one tests sql names params shown k old new is plain unlisted has number h =
-      let asked = answers_some table.tree tests (col 1 0 ∷ []) old.now params (shown ∷ []) low (reads_as sql params old new schema has (Select (program_of (query_of table.tree tests (col 1 0 ∷ []) [])) names) is plain unlisted (shown ∷ []) h) in
-      let one = one_source (λ (r : Row). eval_all (col 1 0 ∷ []) (params ∷ r ∷ [])) (filter (passing tests params) (old.now.trees table.tree)) shown (one_permutation shown _ (IsPermutation-sym _ _ asked)) in
+      let asked = answers_some table.tree tests (col 1 0 ∷ []) old.now params (shown ∷ []) low
+      (reads_as sql params old new schema has (Select (program_of (query_of table.tree tests (col 1 0 ∷ []) [])) names) is plain unlisted (shown ∷ []) h) in
+      let one = one_source (λ (r : Row). eval_all (col 1 0 ∷ []) (params ∷ r ∷ [])) (filter (passing tests params) (old.now.trees table.tree)) shown
+      (one_permutation shown _ (IsPermutation-sym _ _ asked)) in
       (one.0, one.1, ap (λ (r : Row). column r 0) one.2 ∙ number)
 
   -- a SELECT that shows no row: no row passes the tests
-  pub finds_none : (tests : List Term) (sql : List ℕ) (names : List (List ℕ)) (params : Row) (old new : State) → command_of (understood schema sql) ≡ Select (program_of (query_of table.tree tests (col 1 0 ∷ []) [])) names
+  pub finds_none : (tests : List Term) (sql : List ℕ) (names : List (List ℕ)) (params : Row) (old new : State)
+      → command_of (understood schema sql) ≡ Select (program_of (query_of table.tree tests (col 1 0 ∷ []) [])) names
       → IsPlain (understood schema sql) → reads_listing schema sql ≡ false → old.now.schema ≡ schema → Shown sql params old new [] → filter (passing tests params) (old.now.trees table.tree) ≡ []
   finds_none tests sql names params old new is plain unlisted has h =
-      let asked = answers_some table.tree tests (col 1 0 ∷ []) old.now params [] low (reads_as sql params old new schema has (Select (program_of (query_of table.tree tests (col 1 0 ∷ []) [])) names) is plain unlisted [] h) in
+      let asked = answers_some table.tree tests (col 1 0 ∷ []) old.now params [] low
+      (reads_as sql params old new schema has (Select (program_of (query_of table.tree tests (col 1 0 ∷ []) [])) names) is plain unlisted [] h) in
       no_source (λ (r : Row). eval_all (col 1 0 ∷ []) (params ∷ r ∷ [])) (filter (passing tests params) (old.now.trees table.tree)) asked
 
   -- a DELETE by that rowid deletes one row: no other row had it, and the rows that do not pass the tests remain
   pub cuts_found : (tests : List Term) (params : Row) (sql : List ℕ) (k : ℤ) (x : Row) (old new : State) → filter (passing tests params) (old.now.trees table.tree) ≡ x ∷ [] → rowid x ≡ Int k
-      → command_of (understood schema sql) ≡ Delete at (program_of (query_of table.tree has_key (col 1 0 ∷ []) [])) → IsPlain (understood schema sql) → old.now.schema ≡ schema → ExecutesInside 0 sql (Int k ∷ []) old new (Ok 1)
+      → command_of (understood schema sql) ≡ Delete at (program_of (query_of table.tree has_key (col 1 0 ∷ []) [])) → IsPlain (understood schema sql)
+      → old.now.schema ≡ schema → ExecutesInside 0 sql (Int k ∷ []) old new (Ok 1)
       → WritesOnly table old new × (new.now.trees table.tree ≡ filter (λ r. not (passing tests params r)) (old.now.trees table.tree))
   cuts_found tests params sql k x old new one key is plain has h =
       let rows = old.now.trees table.tree in
@@ -148,7 +155,8 @@ module _ (schema : Schema) (table : Table) (at : ℕ) (found : slice_get schema.
       let it = deleted schema table at found uncounted unstamped alone (program_of (query_of table.tree has_key (col 1 0 ∷ []) [])) sql (Int k ∷ []) old new 1 is plain has h in
       let asked = answers_some table.tree has_key (col 1 0 ∷ []) (record { schema = schema; trees = old.now.trees }) (Int k ∷ []) it.0 low it.2 in
       let shown = one_long it.0 it.4 in
-      let gone = one_source (λ (r : Row). eval_all (col 1 0 ∷ []) ((Int k ∷ []) ∷ r ∷ [])) (filter by_key rows) shown.0 (one_permutation shown.0 _ (IsPermutation-sym _ _ (subst (IsPermutation _) shown.1 asked))) in
+      let gone = one_source (λ (r : Row). eval_all (col 1 0 ∷ []) ((Int k ∷ []) ∷ r ∷ [])) (filter by_key rows) shown.0
+      (one_permutation shown.0 _ (IsPermutation-sym _ _ (subst (IsPermutation _) shown.1 asked))) in
       let there : Has rows x = (has_filtered (passing tests params) rows x (subst (λ xs. Has xs x) (sym one) (inl refl))).0 in
       let tied : by_key x ≡ true = one_test (equal Binary (rowid x) (Int k)) ∙ ap (λ v. equal Binary v (Int k)) key ∙ equal_int (Int k) k ∙ own_is_tied k in
       let same : x ≡ gone.0 = only_one gone.0 x (subst (λ xs. Has xs x) gone.1 (has_kept by_key rows x there tied)) in
@@ -160,22 +168,26 @@ module _ (schema : Schema) (table : Table) (at : ℕ) (found : slice_get schema.
 
   -- by the columns of its rows
   pub drops_found : (tests : List Term) (params key : Row) (sql : List ℕ) (k : ℤ) (x : Row) (old new : State) → ((r : Row) → passing tests params r ≡ begins_with key (columns_of table r))
-      → filter (passing tests params) (old.now.trees table.tree) ≡ x ∷ [] → rowid x ≡ Int k → command_of (understood schema sql) ≡ Delete at (program_of (query_of table.tree has_key (col 1 0 ∷ []) [])) → IsPlain (understood schema sql)
+      → filter (passing tests params) (old.now.trees table.tree) ≡ x ∷ [] → rowid x ≡ Int k
+      → command_of (understood schema sql) ≡ Delete at (program_of (query_of table.tree has_key (col 1 0 ∷ []) [])) → IsPlain (understood schema sql)
       → old.now.schema ≡ schema → ExecutesInside 0 sql (Int k ∷ []) old new (Ok 1) → DropsRow table key old new
   drops_found tests params key sql k x old new test one number is plain has h =
       let it = cuts_found tests params sql k x old new one number is plain has h in
       let rows = old.now.trees table.tree in
       record {
         only = it.0;
-        rows = IsPermutation-same _ _ (filter-map (λ r. not (begins_with key r)) (columns_of table) rows ∙ ap (map (columns_of table)) (filter_same _ _ (λ r. ap not (sym (test r))) rows) ∙ sym (ap (map (columns_of table)) it.1));
+        rows = IsPermutation-same _ _ (filter-map (λ r. not (begins_with key r)) (columns_of table) rows
+            ∙ ap (map (columns_of table)) (filter_same _ _ (λ r. ap not (sym (test r))) rows) ∙ sym (ap (map (columns_of table)) it.1));
       }
 
 -- ---- the two tables from which a row is dropped
 
 -- where no row passes the tests, there is none to be dropped
-drops_none : (table : Table) (tests : List Term) (params key : Row) (rows : List Row) → ((r : Row) → passing tests params r ≡ begins_with key (columns_of table r)) → filter (passing tests params) rows ≡ [] → drop_of key (map (columns_of table) rows) ≡ map (columns_of table) rows
+drops_none : (table : Table) (tests : List Term) (params key : Row) (rows : List Row) → ((r : Row) → passing tests params r ≡ begins_with key (columns_of table r))
+    → filter (passing tests params) rows ≡ [] → drop_of key (map (columns_of table) rows) ≡ map (columns_of table) rows
 drops_none table tests params key rows test none =
-    filter-map (λ r. not (begins_with key r)) (columns_of table) rows ∙ ap (map (columns_of table)) (filter_same _ _ (λ r. ap not (sym (test r))) rows) ∙ ap (map (columns_of table)) (not_passing (passing tests params) rows none)
+    filter-map (λ r. not (begins_with key r)) (columns_of table) rows ∙ ap (map (columns_of table)) (filter_same _ _ (λ r. ap not (sym (test r))) rows)
+    ∙ ap (map (columns_of table)) (not_passing (passing tests params) rows none)
 
 pub present_test : (child imported : ℤ) (r : Row) → passing is_present (Int child ∷ Int imported ∷ []) r ≡ begins_with (Int child ∷ Int imported ∷ []) (columns_of present r)
 present_test child imported r = λ i. equal_int (column r 1) child i && (equal_int (column r 2) imported i && true)
@@ -184,33 +196,43 @@ pub school_test : (code : List ℕ) (r : Row) → passing has_code (Text code �
 school_test code r = λ i. equal_text (column r 1) code i && true
 
 -- the row of a child, or of an imported row, is found and deleted
-pub drops_present : (child imported k : ℤ) (shown : Row) (old mid new : State) → old.now.schema ≡ register_schema → mid.now ≡ old.now → column shown 0 ≡ Int k → Shown find_present (Int child ∷ Int imported ∷ []) old mid (shown ∷ [])
+pub drops_present : (child imported k : ℤ) (shown : Row) (old mid new : State) → old.now.schema ≡ register_schema → mid.now ≡ old.now → column shown 0 ≡ Int k
+    → Shown find_present (Int child ∷ Int imported ∷ []) old mid (shown ∷ [])
     → ExecutesInside 0 delete_present (Int k ∷ []) mid new (Ok 1) → DropsRow present (Int child ∷ Int imported ∷ []) mid new
 drops_present child imported k shown old mid new has same number found h =
-    let it = finds_one register_schema present 10 refl refl refl (λ _ _. refl) refl is_present find_present finds_present.0 (Int child ∷ Int imported ∷ []) shown k old mid finds_present.1 finds_present.2 finds_present.3 has number found in
-    drops_found register_schema present 10 refl refl refl (λ _ _. refl) refl is_present (Int child ∷ Int imported ∷ []) (Int child ∷ Int imported ∷ []) delete_present k it.0 mid new (present_test child imported)
-    (ap (λ (d : Database). filter (passing is_present (Int child ∷ Int imported ∷ [])) (d.trees present.tree)) same ∙ it.1) it.2 cuts_present.0 cuts_present.1 (ap (λ (d : Database). d.schema) same ∙ has) h
+    let it = finds_one register_schema present 10 refl refl refl (λ _ _. refl) refl is_present find_present finds_present.0
+    (Int child ∷ Int imported ∷ []) shown k old mid finds_present.1 finds_present.2 finds_present.3 has number found in
+    drops_found register_schema present 10 refl refl refl (λ _ _. refl) refl is_present (Int child ∷ Int imported ∷ [])
+    (Int child ∷ Int imported ∷ []) delete_present k it.0 mid new (present_test child imported)
+    (ap (λ (d : Database). filter (passing is_present (Int child ∷ Int imported ∷ [])) (d.trees present.tree)) same
+    ∙ it.1) it.2 cuts_present.0 cuts_present.1 (ap (λ (d : Database). d.schema) same ∙ has) h
 
 -- it is not found, and there is none
-pub no_present : (child imported : ℤ) (old new : State) → old.now.schema ≡ register_schema → Shown find_present (Int child ∷ Int imported ∷ []) old new [] → drop_of (Int child ∷ Int imported ∷ []) (rows_of present old.now.trees) ≡ rows_of present old.now.trees
+pub no_present : (child imported : ℤ) (old new : State) → old.now.schema ≡ register_schema → Shown find_present (Int child ∷ Int imported ∷ []) old new []
+    → drop_of (Int child ∷ Int imported ∷ []) (rows_of present old.now.trees) ≡ rows_of present old.now.trees
 no_present child imported old new has found =
     drops_none present is_present (Int child ∷ Int imported ∷ []) (Int child ∷ Int imported ∷ []) (old.now.trees present.tree) (present_test child imported)
-    (finds_none register_schema present 10 refl refl refl (λ _ _. refl) refl is_present find_present finds_present.0 (Int child ∷ Int imported ∷ []) old new finds_present.1 finds_present.2 finds_present.3 has found)
+    (finds_none register_schema present 10 refl refl refl (λ _ _. refl) refl is_present find_present finds_present.0
+    (Int child ∷ Int imported ∷ []) old new finds_present.1 finds_present.2 finds_present.3 has found)
 
 -- the row of a school is found and deleted
-pub drops_school : (code : List ℕ) (k : ℤ) (shown : Row) (old mid new : State) → old.now.schema ≡ register_schema → mid.now ≡ old.now → column shown 0 ≡ Int k → Shown find_school (Text code ∷ []) old mid (shown ∷ [])
+pub drops_school : (code : List ℕ) (k : ℤ) (shown : Row) (old mid new : State) → old.now.schema ≡ register_schema → mid.now ≡ old.now → column shown 0 ≡ Int k
+    → Shown find_school (Text code ∷ []) old mid (shown ∷ [])
     → ExecutesInside 0 delete_school (Int k ∷ []) mid new (Ok 1) → DropsRow school (Text code ∷ []) mid new
 drops_school code k shown old mid new has same number found h =
-    let it = finds_one register_schema school 1 refl refl refl (λ _ _. refl) refl has_code find_school finds_school.0 (Text code ∷ []) shown k old mid finds_school.1 finds_school.2 finds_school.3 has number found in
+    let it = finds_one register_schema school 1 refl refl refl (λ _ _. refl) refl has_code find_school finds_school.0
+    (Text code ∷ []) shown k old mid finds_school.1 finds_school.2 finds_school.3 has number found in
     drops_found register_schema school 1 refl refl refl (λ _ _. refl) refl has_code (Text code ∷ []) (Text code ∷ []) delete_school k it.0 mid new (school_test code)
     (ap (λ (d : Database). filter (passing has_code (Text code ∷ [])) (d.trees school.tree)) same ∙ it.1) it.2 cuts_school.0 cuts_school.1 (ap (λ (d : Database). d.schema) same ∙ has) h
 
 -- ---- a row that is added
 
-given_present : (child imported : ℤ) (school : List ℕ) (rows : List Row) → with_rowid Chosen rows (cast_row present (Null ∷ Int child ∷ Int imported ∷ Text school ∷ [])) ≡ Int (next_rowid rows) ∷ Int child ∷ Int imported ∷ Text school ∷ []
+given_present : (child imported : ℤ) (school : List ℕ) (rows : List Row)
+    → with_rowid Chosen rows (cast_row present (Null ∷ Int child ∷ Int imported ∷ Text school ∷ [])) ≡ Int (next_rowid rows) ∷ Int child ∷ Int imported ∷ Text school ∷ []
 given_present child imported school rows = rw (cast_null, cast_int child, cast_int imported)
 
-pub adds_present : (child imported : ℤ) (school : List ℕ) (old new : State) (count : ℕ) → old.now.schema ≡ register_schema → ExecutesInside 0 insert_present (Int child ∷ Int imported ∷ Text school ∷ []) old new (Ok count)
+pub adds_present : (child imported : ℤ) (school : List ℕ) (old new : State) (count : ℕ) → old.now.schema ≡ register_schema
+    → ExecutesInside 0 insert_present (Int child ∷ Int imported ∷ Text school ∷ []) old new (Ok count)
     → AddsRow present (Int child ∷ Int imported ∷ Text school ∷ []) old new
 adds_present child imported school old new count has h =
     let row : Row = Int child ∷ Int imported ∷ Text school ∷ [] in

@@ -1,4 +1,4 @@
--- One row that is put or deleted by its key, an integer in the first column.
+-- One row that is written or deleted by its key, an integer in the first column.
 use Rattle.std.proofs.Common.{◌≡◌, inl, inr, ℕ, ℤ, ◌/◌, ◌^◌, List, [], ◌∷◌, ◌++◌, length, map, drop, filter, flat_map, slice_get, Bool, true, false, not, cond, nat_le, Some, None, Ok, refl, sym, ap, subst, subst₂, ◌∙◌}
 use Rattle.std.specs.Prelude.{◌&&◌, ◌||◌}
 use Rattle.std.specs.List.{list_any, list_all}
@@ -145,7 +145,8 @@ tested p env show (x ∷ xs) = elim (p x) as (λ b. map show (cond b (env x ∷ 
 
 -- the columns of the rows that pass, in some order
 pub answers_some : (tree : ℕ) (tests : List Term) (project : List Term) (db : Database) (params : Row) (rows : List Row) → nat_le (2 ^ 31) tree ≡ false
-    → Answers db (program_of (query_of tree tests project [])) params rows → IsPermutation (map (λ r. eval_all project (params ∷ r ∷ [])) (filter (λ r. list_all (holds (params ∷ r ∷ [])) tests) (db.trees tree))) rows
+    → Answers db (program_of (query_of tree tests project [])) params rows
+    → IsPermutation (map (λ r. eval_all project (params ∷ r ∷ [])) (filter (λ r. list_all (holds (params ∷ r ∷ [])) tests) (db.trees tree))) rows
 answers_some tree tests project db params rows low h =
     let q = query_of tree tests project [] in
     let a : IsAnswer q (overlay db.trees []) params rows = h.answer Null in
@@ -153,15 +154,18 @@ answers_some tree tests project db params rows low h =
     let passes = λ (r : Row). list_all (holds (params ∷ r ∷ [])) tests in
     let staged : a.staged ≡ flat_map (λ r. cond (passes r) ((params ∷ r ∷ []) ∷ []) []) (db.trees tree) = a.grouped ∙ ap (flat_map (λ r. cond (passes r) ((params ∷ r ∷ []) ∷ []) [])) there in
     let kept : map (λ (o : Output). o.1) a.kept ≡ map (λ r. eval_all project (params ∷ r ∷ [])) (filter passes (db.trees tree)) =
-    ap (map (λ (o : Output). o.1)) (a.distinct ∙ ap (map (output q)) staged) ∙ map-map (λ (o : Output). o.1) (output q) _ ∙ tested passes (λ r. params ∷ r ∷ []) (λ env. eval_all project env) (db.trees tree) in
+    ap (map (λ (o : Output). o.1)) (a.distinct ∙ ap (map (output q)) staged) ∙ map-map (λ (o : Output). o.1) (output q) _
+    ∙ tested passes (λ r. params ∷ r ∷ []) (λ env. eval_all project env) (db.trees tree) in
     subst₂ IsPermutation kept (sym a.shown) (IsPermutation-map (λ (o : Output). o.1) a.kept a.ordered a.same)
 
 -- the rows that go are those of the key
 goes_by_key : (k : ℤ) (rows found : List Row) → have_rowids rows ≡ true
-    → IsPermutation (map (λ r. eval_all (col 1 0 ∷ []) ((Int k ∷ []) ∷ r ∷ [])) (filter (λ r. list_all (holds ((Int k ∷ []) ∷ r ∷ [])) has_key) rows)) found → without_all rows (ids_of found) ≡ without_rowid k rows
+    → IsPermutation (map (λ r. eval_all (col 1 0 ∷ []) ((Int k ∷ []) ∷ r ∷ [])) (filter (λ r. list_all (holds ((Int k ∷ []) ∷ r ∷ [])) has_key) rows)) found
+    → without_all rows (ids_of found) ≡ without_rowid k rows
 goes_by_key k rows found keyed answered =
     let passes = λ (r : Row). list_all (holds ((Int k ∷ []) ∷ r ∷ [])) has_key in
-    let ids = subst (λ xs. IsPermutation xs (ids_of found)) (map-map (λ (r : Row). id_in (rowid r)) (λ (r : Row). eval_all (col 1 0 ∷ []) ((Int k ∷ []) ∷ r ∷ [])) (filter passes rows)) (IsPermutation-map (λ (r : Row). id_in (rowid r)) _ found answered) in
+    let ids = subst (λ xs. IsPermutation xs (ids_of found)) (map-map (λ (r : Row). id_in (rowid r)) (λ (r : Row). eval_all (col 1 0 ∷ []) ((Int k ∷ []) ∷ r ∷ []))
+    (filter passes rows)) (IsPermutation-map (λ (r : Row). id_in (rowid r)) _ found answered) in
     all_of_key k (ids_of found) rows
     (λ i listed.
     let it = has_source (λ (r : Row). id_in (rowid r)) (filter passes rows) i (has_contained _ _ (Contains-permutation _ _ _ (IsPermutation-sym _ _ ids) (contains_had _ _ listed))) in
@@ -183,7 +187,8 @@ given_rowid rows source k is = ap (λ v. cond (is_null v) (Int (next_rowid rows)
 module _ (schema : Schema) (table : Table) (at : ℕ) (found : slice_get schema.tables at ≡ Some table) (uncounted : table.is_counted ≡ false) (unstamped : table.stamps.terms ≡ [])
     (alone : (olds news : List Row) → works schema Enforced 0 table.tree olds news ≡ []) (own : (r : Row) → rowid (columns_of table r) ≡ rowid r) where
   -- an INSERT OR REPLACE of one row, where no index guards the table
-  pub puts_row : (terms : List Term) (width : ℕ) (sql : List ℕ) (params source row : Row) (k : ℤ) (old new : State) (count : ℕ) → ((new r : Row) → list_any (shares None table new r) schema.indexes ≡ false)
+  pub puts_row : (terms : List Term) (width : ℕ) (sql : List ℕ) (params source row : Row) (k : ℤ) (old new : State) (count : ℕ)
+      → ((new r : Row) → list_any (shares None table new r) schema.indexes ≡ false)
       → command_of (understood schema sql) ≡ InsertOr at Replace (Values terms width) [] → IsPlain (understood schema sql) → value_rows params width (length terms / width) terms ≡ source ∷ []
       → cast_row table (mended Replace table source) ≡ source → cast_row table source ≡ source → rowid source ≡ Int k → columns_of table source ≡ row
       → old.now.schema ≡ schema → ExecutesInside 0 sql params old new (Ok count) → PutsRow table row old new
@@ -210,7 +215,8 @@ module _ (schema : Schema) (table : Table) (at : ℕ) (found : slice_get schema.
       }
 
   -- a DELETE of the row of one key
-  pub cuts_row : (sql : List ℕ) (k : ℤ) (old new : State) (count : ℕ) → command_of (understood schema sql) ≡ Delete at (program_of (query_of table.tree has_key (col 1 0 ∷ []) [])) → IsPlain (understood schema sql)
+  pub cuts_row : (sql : List ℕ) (k : ℤ) (old new : State) (count : ℕ)
+      → command_of (understood schema sql) ≡ Delete at (program_of (query_of table.tree has_key (col 1 0 ∷ []) [])) → IsPlain (understood schema sql)
       → nat_le (2 ^ 31) table.tree ≡ false → old.now.schema ≡ schema → ExecutesInside 0 sql (Int k ∷ []) old new (Ok count) → DeletesRow table k old new
   cuts_row sql k old new count is plain low has h =
       let some = deleted schema table at found uncounted unstamped alone (program_of (query_of table.tree has_key (col 1 0 ∷ []) [])) sql (Int k ∷ []) old new count is plain has h in

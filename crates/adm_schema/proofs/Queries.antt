@@ -35,7 +35,8 @@ answers_all tree project order db params rows low h =
     let there : overlay db.trees [] tree ≡ db.trees tree = rw low in
     let staged : a.staged ≡ flat_map (λ r. (params ∷ r ∷ []) ∷ []) (db.trees tree) = a.grouped ∙ ap (flat_map (λ r. (params ∷ r ∷ []) ∷ [])) there in
     let kept : map (λ (o : Output). o.1) a.kept ≡ map (λ r. eval_all project (params ∷ r ∷ [])) (db.trees tree) =
-    ap (map (λ (o : Output). o.1)) (a.distinct ∙ ap (map (output q)) staged) ∙ map-map (λ (o : Output). o.1) (output q) _ ∙ map-flat (λ env. eval_all project env) (λ r. params ∷ r ∷ []) (db.trees tree) in
+    ap (map (λ (o : Output). o.1)) (a.distinct ∙ ap (map (output q)) staged) ∙ map-map (λ (o : Output). o.1) (output q) _
+    ∙ map-flat (λ env. eval_all project env) (λ r. params ∷ r ∷ []) (db.trees tree) in
     subst₂ IsPermutation kept (sym a.shown) (IsPermutation-map (λ (o : Output). o.1) a.kept a.ordered a.same)
 
 no_store_error : (cause : StoreError) (why : CompileError) → store_error cause ≡ SqlInputError why → ⊥
@@ -51,7 +52,8 @@ module _ {schema : Schema} {sql : List ℕ} {tree : ℕ} {project : List Term} {
   pub shows_all : (old new : State) (rows : List Row) → nat_le (2 ^ 31) tree ≡ false → old.now.schema ≡ schema → Shown sql [] old new rows
       → IsPermutation (map (λ r. eval_all project ([] ∷ r ∷ [])) (old.now.trees tree)) rows
   shows_all old new rows low has h =
-      answers_all tree project order old.now [] rows low (reads_as sql [] old new schema has (Select (program_of (query_of tree [] project order)) asks.names) asks.command asks.plain asks.unlisted rows h)
+      answers_all tree project order old.now [] rows low (reads_as sql [] old new schema has (Select
+      (program_of (query_of tree [] project order)) asks.names) asks.command asks.plain asks.unlisted rows h)
 
   pub shows_unchanged : (old new : State) (rows : List Row) → old.now.schema ≡ schema → Shown sql [] old new rows → IsUnchanged old new
   unfolding Shown
@@ -85,7 +87,8 @@ module _ {schema : Schema} {sql : List ℕ} {tree : ℕ} {project : List Term} {
   never_refused old new e why has text (inr h) = absurd (let wrong = sym h.4 ∙ text in cc)
 
   -- without a limit on its steps it fails only for memory, or where the store gives the reason
-  pub fails_alone : (old new : State) (e : Error) → old.now.schema ≡ schema → old.step_limit ≡ None → ((why : CompileError) → e ≡ SqlInputError why → ⊥) → FailsToQuery sql [] old new e ⊎ IsTooLate sql [] old new e → Fails old new ⊥ e
+  pub fails_alone : (old new : State) (e : Error) → old.now.schema ≡ schema → old.step_limit ≡ None → ((why : CompileError) → e ≡ SqlInputError why → ⊥)
+      → FailsToQuery sql [] old new e ⊎ IsTooLate sql [] old new e → Fails old new ⊥ e
   unfolding FailsToQuery IsNotRun
   fails_alone old new e has unlimited other (inl (inl (inl h))) = elim h.0 [
     | inl none ↦ absurd (other none.0 none.2)
@@ -107,7 +110,8 @@ module _ {schema : Schema} {sql : List ℕ} {tree : ℕ} {project : List Term} {
       let same : it.0 ≡ old.now = subst (λ b. IsSourceOf b old.now it.0) (ap (λ s. reads_listing s sql) has ∙ asks.unlisted) it.1 in
       let refused = subst (λ k. RefusesToRead old.step_limit k it.0 [] e) (ap command_of known ∙ asks.command) it.2 in
       let at : RefusesQuery None (record { schema = schema; trees = it.0.trees }) (program_of (query_of tree [] project order)) [] e =
-      subst₂ (λ limit s. RefusesQuery limit (record { schema = s; trees = it.0.trees }) (program_of (query_of tree [] project order)) [] e) unlimited (ap (λ (d : Database). d.schema) same ∙ has) refused in
+      subst₂ (λ limit s. RefusesQuery limit (record { schema = s; trees = it.0.trees }) (program_of (query_of tree [] project order)) [] e) unlimited
+      (ap (λ (d : Database). d.schema) same ∙ has) refused in
       absurd (asks.answered it.0.trees e at)
   fails_alone old new e has unlimited other (inr h) =
       let known = sym h.1.is ∙ ap (λ s. understood s sql) has in

@@ -13,11 +13,13 @@ use Rattle.adm_schema.specs.Queries.{query_of, program_of}
 use Rattle.adm_schema.specs.Schema.{register_schema}
 use Rattle.adm_schema.specs.RowTexts as text
 
-pub puts_child : (command_of (understood register_schema text.put_child) ≡ InsertOr 2 Replace (Values (given_terms child_columns) (suc (length child_columns))) []) × IsPlain (understood register_schema text.put_child)
+pub puts_child : (command_of (understood register_schema text.put_child) ≡ InsertOr 2 Replace (Values (given_terms child_columns) (suc (length child_columns))) [])
+    × IsPlain (understood register_schema text.put_child)
 unfolding understood everything
 puts_child = (refl, (refl, refl))
 
-pub puts_application : (command_of (understood register_schema text.put_application) ≡ InsertOr 3 Replace (Values (given_terms application_columns) (suc (length application_columns))) []) × IsPlain (understood register_schema text.put_application)
+pub puts_application : (command_of (understood register_schema text.put_application) ≡ InsertOr 3 Replace
+    (Values (given_terms application_columns) (suc (length application_columns))) []) × IsPlain (understood register_schema text.put_application)
 unfolding understood everything
 puts_application = (refl, (refl, refl))
 
@@ -25,11 +27,13 @@ pub puts_place : (command_of (understood register_schema text.put_place) ≡ Ins
 unfolding understood everything
 puts_place = (refl, (refl, refl))
 
-pub cuts_application : (command_of (understood register_schema text.delete_application) ≡ Delete 3 (program_of (query_of 4 text.has_key (col 1 0 ∷ []) []))) × IsPlain (understood register_schema text.delete_application)
+pub cuts_application : (command_of (understood register_schema text.delete_application) ≡ Delete 3 (program_of (query_of 4 text.has_key (col 1 0 ∷ []) [])))
+    × IsPlain (understood register_schema text.delete_application)
 unfolding understood everything
 cuts_application = (refl, (refl, refl))
 
-pub cuts_place : (command_of (understood register_schema text.delete_place) ≡ Delete 4 (program_of (query_of 5 text.has_key (col 1 0 ∷ []) []))) × IsPlain (understood register_schema text.delete_place)
+pub cuts_place : (command_of (understood register_schema text.delete_place) ≡ Delete 4 (program_of (query_of 5 text.has_key (col 1 0 ∷ []) [])))
+    × IsPlain (understood register_schema text.delete_place)
 unfolding understood everything
 cuts_place = (refl, (refl, refl))
 
@@ -45,18 +49,22 @@ pub inserts_present : (command_of (understood register_schema text.insert_presen
 unfolding understood everything
 inserts_present = (refl, (refl, refl))
 
-pub finds_present : (names : List (List ℕ)) × (command_of (understood register_schema text.find_present) ≡ Select (program_of (query_of 15 text.is_present (col 1 0 ∷ []) [])) names) × IsPlain (understood register_schema text.find_present) × (reads_listing register_schema text.find_present ≡ false)
+pub finds_present : (names : List (List ℕ)) × (command_of (understood register_schema text.find_present) ≡ Select
+    (program_of (query_of 15 text.is_present (col 1 0 ∷ []) [])) names) × IsPlain (understood register_schema text.find_present) × (reads_listing register_schema text.find_present ≡ false)
 unfolding understood everything
 finds_present = (_, refl, (refl, refl), refl)
 
-pub cuts_present : (command_of (understood register_schema text.delete_present) ≡ Delete 10 (program_of (query_of 15 text.has_key (col 1 0 ∷ []) []))) × IsPlain (understood register_schema text.delete_present)
+pub cuts_present : (command_of (understood register_schema text.delete_present) ≡ Delete 10 (program_of (query_of 15 text.has_key (col 1 0 ∷ []) [])))
+    × IsPlain (understood register_schema text.delete_present)
 unfolding understood everything
 cuts_present = (refl, (refl, refl))
 
-pub finds_school : (names : List (List ℕ)) × (command_of (understood register_schema text.find_school) ≡ Select (program_of (query_of 1 text.has_code (col 1 0 ∷ []) [])) names) × IsPlain (understood register_schema text.find_school) × (reads_listing register_schema text.find_school ≡ false)
+pub finds_school : (names : List (List ℕ)) × (command_of (understood register_schema text.find_school) ≡ Select
+    (program_of (query_of 1 text.has_code (col 1 0 ∷ []) [])) names) × IsPlain (understood register_schema text.find_school) × (reads_listing register_schema text.find_school ≡ false)
 unfolding understood everything
 finds_school = (_, refl, (refl, refl), refl)
 
-pub cuts_school : (command_of (understood register_schema text.delete_school) ≡ Delete 1 (program_of (query_of 1 text.has_key (col 1 0 ∷ []) []))) × IsPlain (understood register_schema text.delete_school)
+pub cuts_school : (command_of (understood register_schema text.delete_school) ≡ Delete 1 (program_of (query_of 1 text.has_key (col 1 0 ∷ []) [])))
+    × IsPlain (understood register_schema text.delete_school)
 unfolding understood everything
 cuts_school = (refl, (refl, refl))

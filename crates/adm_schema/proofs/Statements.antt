@@ -118,7 +118,8 @@ module _ (schema : Schema) (table : Table) (at : ℕ) (found : slice_get schema.
       (done.0, done.1, ends (task_in old params) (mode_of old) done.0 tally new.now done.2, counts (task_in old params) (mode_of old) done.0 tally new.now done.2)
 
   pub deletes_some : (old : State) (params : Row) (q : Program) (db : Trees) (w : Written) → Deletes (task_in old params) q db (Ok w)
-      → (rows : List Row) × Answers (record { schema = schema; trees = db }) q params rows × Applies schema Enforced db (edit_of db table (ids_of rows) Given 0 []) w.trees × (length w.rows ≡ length rows)
+      → (rows : List Row) × Answers (record { schema = schema; trees = db }) q params rows
+      × Applies schema Enforced db (edit_of db table (ids_of rows) Given 0 []) w.trees × (length w.rows ≡ length rows)
   deletes_some old params q db w h =
       let asked = went h in
       let edited = went asked.2 in
@@ -142,7 +143,8 @@ module _ (schema : Schema) (table : Table) (at : ℕ) (found : slice_get schema.
   }
 
   -- an INSERT of one row, inside a transaction
-  pub inserted : (terms : List Term) (width : ℕ) (sql : List ℕ) (params source : Row) (old new : State) (count : ℕ) → command_of (understood schema sql) ≡ Insert at (Values terms width) → IsPlain (understood schema sql)
+  pub inserted : (terms : List Term) (width : ℕ) (sql : List ℕ) (params source : Row) (old new : State) (count : ℕ)
+      → command_of (understood schema sql) ≡ Insert at (Values terms width) → IsPlain (understood schema sql)
       → value_rows params width (length terms / width) terms ≡ source ∷ [] → old.now.schema ≡ schema → ExecutesInside 0 sql params old new (Ok count)
       → WritesOnly table old new × Applies schema Enforced old.now.trees (edit_of old.now.trees table [] Chosen 0 (source ∷ [])) new.now.trees
   inserted terms width sql params source old new count is plain one has h =
@@ -162,24 +164,33 @@ module _ (schema : Schema) (table : Table) (at : ℕ) (found : slice_get schema.
       subst (IsPermutation (new ∷ rows)) (sym applied.rows) (put_free new rows free)
 
   -- a DELETE of the rows that a query names by their rowids
-  pub deleted : (q : Program) (sql : List ℕ) (params : Row) (old new : State) (count : ℕ) → command_of (understood schema sql) ≡ Delete at q → IsPlain (understood schema sql) → old.now.schema ≡ schema → ExecutesInside 0 sql params old new (Ok count)
-      → (rows : List Row) × WritesOnly table old new × Answers (record { schema = schema; trees = old.now.trees }) q params rows × Applies schema Enforced old.now.trees (edit_of old.now.trees table (ids_of rows) Given 0 []) new.now.trees × (count ≡ length rows)
+  pub deleted : (q : Program) (sql : List ℕ) (params : Row) (old new : State) (count : ℕ) → command_of (understood schema sql) ≡ Delete at q
+      → IsPlain (understood schema sql) → old.now.schema ≡ schema → ExecutesInside 0 sql params old new (Ok count)
+      → (rows : List Row) × WritesOnly table old new × Answers (record { schema = schema; trees = old.now.trees }) q params rows
+      × Applies schema Enforced old.now.trees (edit_of old.now.trees table (ids_of rows) Given 0 []) new.now.trees × (count ≡ length rows)
   deleted q sql params old new count is plain has h =
       let w = runs_as sql params old new schema has (Delete at q) is plain count h.0 in
       let on = deletes_on old new params w.tally q (statement_of sql (understood schema sql)) has w.changed in
       let some = deletes_some old params q old.now.trees on.0 on.1 in
-      let edit : Edit = edit_of old.now.trees table (ids_of some.0) Given 0 [] in
-      (some.0, leaves_others old new edit on.0.trees refl has on.2 some.2 h.1 w.sound, some.1, subst (Applies schema Enforced old.now.trees edit) (sym (ap (λ (d : Database). d.trees) on.2)) some.2, w.counted ∙ ap (λ o. unwrap_or o 0) on.3 ∙ some.3)
+      let edit : Edit = edit_of old.now.trees table (ids_of some.0) Given 0 [] in (
+        some.0,
+        leaves_others old new edit on.0.trees refl has on.2 some.2 h.1 w.sound,
+        some.1,
+        subst (Applies schema Enforced old.now.trees edit) (sym (ap (λ (d : Database). d.trees) on.2)) some.2,
+        w.counted ∙ ap (λ o. unwrap_or o 0) on.3 ∙ some.3,
+      )
 
   -- a DELETE with no WHERE
-  pub deleted_all : (sql : List ℕ) (params : Row) (old new : State) (count : ℕ) → command_of (understood schema sql) ≡ Delete at (program_of (query_of table.tree [] (col 1 0 ∷ []) [])) → IsPlain (understood schema sql)
+  pub deleted_all : (sql : List ℕ) (params : Row) (old new : State) (count : ℕ)
+      → command_of (understood schema sql) ≡ Delete at (program_of (query_of table.tree [] (col 1 0 ∷ []) [])) → IsPlain (understood schema sql)
       → nat_le (2 ^ 31) table.tree ≡ false → old.now.schema ≡ schema → have_rowids (old.now.trees table.tree) ≡ true → ExecutesInside 0 sql params old new (Ok count)
       → WritesOnly table old new × (new.now.trees table.tree ≡ [])
   deleted_all sql params old new count is plain low has keyed h =
       let some = deleted (program_of (query_of table.tree [] (col 1 0 ∷ []) [])) sql params old new count is plain has h in
       let rows = old.now.trees table.tree in
       let asked = answers_all table.tree (col 1 0 ∷ []) [] (record { schema = schema; trees = old.now.trees }) params some.0 low some.2 in
-      let ids = subst (λ xs. IsPermutation xs (ids_of some.0)) (map-map (λ (r : Row). id_in (rowid r)) (λ (r : Row). eval_all (col 1 0 ∷ []) (params ∷ r ∷ [])) rows) (IsPermutation-map (λ (r : Row). id_in (rowid r)) _ some.0 asked) in
+      let ids = subst (λ xs. IsPermutation xs (ids_of some.0)) (map-map (λ (r : Row). id_in (rowid r)) (λ (r : Row). eval_all (col 1 0 ∷ []) (params ∷ r ∷ [])) rows)
+      (IsPermutation-map (λ (r : Row). id_in (rowid r)) _ some.0 asked) in
       (some.1, some.3.rows ∙ all_go (ids_of some.0) rows keyed (ids_have rows (ids_of some.0) ids))
 
   -- its columns are one more row of the table, as SELECT * shows it
@@ -220,7 +231,8 @@ module _ (schema : Schema) (table : Table) (at : ℕ) (found : slice_get schema.
   tries task new db w (inl h) = absurd (let e = h.1 in cc)
   tries task new db w (inr h) = go h.0 h.2
     where
-      go : (verdict : Option Refusal) → Judged task Replace [] new db verdict (Ok w) → (there : List Row) × AreConflicts None task.schema.indexes task.table (db task.table.tree) new there × Clears task Replace new db there (Ok w)
+      go : (verdict : Option Refusal) → Judged task Replace [] new db verdict (Ok w)
+          → (there : List Row) × AreConflicts None task.schema.indexes task.table (db task.table.tree) new there × Clears task Replace new db there (Ok w)
       go None k = k
       go (Some why) k = absurd (let e = k in cc)
 
@@ -282,9 +294,11 @@ module _ (schema : Schema) (table : Table) (at : ℕ) (found : slice_get schema.
       )
 
   -- an INSERT OR REPLACE of one row, inside a transaction
-  pub replaced : (terms : List Term) (width : ℕ) (sql : List ℕ) (params source : Row) (old new : State) (count : ℕ) → command_of (understood schema sql) ≡ InsertOr at Replace (Values terms width) [] → IsPlain (understood schema sql)
+  pub replaced : (terms : List Term) (width : ℕ) (sql : List ℕ) (params source : Row) (old new : State) (count : ℕ)
+      → command_of (understood schema sql) ≡ InsertOr at Replace (Values terms width) [] → IsPlain (understood schema sql)
       → value_rows params width (length terms / width) terms ≡ source ∷ [] → old.now.schema ≡ schema → ExecutesInside 0 sql params old new (Ok count)
-      → (there : List Row) × WritesOnly table old new × AreConflicts None schema.indexes table (old.now.trees table.tree) (with_rowid Chosen (old.now.trees table.tree) (cast_row table (mended Replace table source))) there
+      → (there : List Row) × WritesOnly table old new × AreConflicts None schema.indexes table (old.now.trees table.tree)
+      (with_rowid Chosen (old.now.trees table.tree) (cast_row table (mended Replace table source))) there
       × Replaces old.now.trees (with_rowid Chosen (old.now.trees table.tree) (cast_row table (mended Replace table source))) there new.now.trees
   replaced terms width sql params source old new count is plain one has h =
       let w = runs_as sql params old new schema has (InsertOr at Replace (Values terms width) []) is plain count h.0 in

@@ -27,23 +27,58 @@ inserts_school = (refl, (refl, refl))
 
 pub asks_meta : (v : Version) → Asks (schema_of v) text.select_meta 0 text.meta_columns []
 unfolding understood everything
-asks_meta v = record { names = _; command = refl; unlisted = refl; plain = (refl, refl); whole = (omega arith, refl); answered = λ db e. answered _ db e 0 text.meta_columns [] (λ h. absurd (let wrong = h.1 in cc)) }
+asks_meta v = record {
+  names = _;
+  command = refl;
+  unlisted = refl;
+  plain = (refl, refl);
+  whole = (omega arith, refl);
+  answered = λ db e. answered _ db e 0 text.meta_columns [] (λ h. absurd (let wrong = h.1 in cc));
+}
 
 pub asks_schools : (v : Version) → Asks (schema_of v) text.select_schools 1 text.school_columns text.by_code
 unfolding understood everything
-asks_schools v = record { names = _; command = refl; unlisted = refl; plain = (refl, refl); whole = (omega arith, refl); answered = λ db e. answered _ db e 1 text.school_columns text.by_code (λ h. absurd (let wrong = h.1 in cc)) }
+asks_schools v = record {
+  names = _;
+  command = refl;
+  unlisted = refl;
+  plain = (refl, refl);
+  whole = (omega arith, refl);
+  answered = λ db e. answered _ db e 1 text.school_columns text.by_code (λ h. absurd (let wrong = h.1 in cc));
+}
 
 pub asks_children : (v : Version) → Asks (schema_of v) text.select_children 3 (shown_terms child_columns) text.by_child
 unfolding understood everything
-asks_children v = record { names = _; command = refl; unlisted = refl; plain = (refl, refl); whole = (omega arith, refl); answered = λ db e. answered _ db e 3 (shown_terms child_columns) text.by_child (λ h. absurd (let wrong = h.1 in cc)) }
+asks_children v = record {
+  names = _;
+  command = refl;
+  unlisted = refl;
+  plain = (refl, refl);
+  whole = (omega arith, refl);
+  answered = λ db e. answered _ db e 3 (shown_terms child_columns) text.by_child (λ h. absurd (let wrong = h.1 in cc));
+}
 
 pub asks_applications : (v : Version) → Asks (schema_of v) text.select_applications 4 (shown_terms application_columns) text.by_child
 unfolding understood everything
-asks_applications v = record { names = _; command = refl; unlisted = refl; plain = (refl, refl); whole = (omega arith, refl); answered = λ db e. answered _ db e 4 (shown_terms application_columns) text.by_child (λ h. absurd (let wrong = h.1 in cc)) }
+asks_applications v = record {
+  names = _;
+  command = refl;
+  unlisted = refl;
+  plain = (refl, refl);
+  whole = (omega arith, refl);
+  answered = λ db e. answered _ db e 4 (shown_terms application_columns) text.by_child (λ h. absurd (let wrong = h.1 in cc));
+}
 
 pub asks_places : (v : Version) → Asks (schema_of v) text.select_places 5 text.place_columns text.by_child
 unfolding understood everything
-asks_places v = record { names = _; command = refl; unlisted = refl; plain = (refl, refl); whole = (omega arith, refl); answered = λ db e. answered _ db e 5 text.place_columns text.by_child (λ h. absurd (let wrong = h.1 in cc)) }
+asks_places v = record {
+  names = _;
+  command = refl;
+  unlisted = refl;
+  plain = (refl, refl);
+  whole = (omega arith, refl);
+  answered = λ db e. answered _ db e 5 text.place_columns text.by_child (λ h. absurd (let wrong = h.1 in cc));
+}
 
 pub inserts_left_list : (command_of (understood register_schema text.insert_left_list) ≡ Insert 5 (Values text.left_list_terms 3)) × IsPlain (understood register_schema text.insert_left_list)
 unfolding understood everything
@@ -51,7 +86,14 @@ inserts_left_list = (refl, (refl, refl))
 
 pub asks_left_list : (v : Version) → Asks (schema_of v) text.select_left_list 6 text.left_list_columns []
 unfolding understood everything
-asks_left_list v = record { names = _; command = refl; unlisted = refl; plain = (refl, refl); whole = (omega arith, refl); answered = λ db e. answered _ db e 6 text.left_list_columns [] (λ h. absurd (let wrong = h.1 in cc)) }
+asks_left_list v = record {
+  names = _;
+  command = refl;
+  unlisted = refl;
+  plain = (refl, refl);
+  whole = (omega arith, refl);
+  answered = λ db e. answered _ db e 6 text.left_list_columns [] (λ h. absurd (let wrong = h.1 in cc));
+}
 
 pub inserts_draw : (command_of (understood register_schema text.insert_draw) ≡ Insert 6 (Values text.draw_terms 5)) × IsPlain (understood register_schema text.insert_draw)
 unfolding understood everything
@@ -59,27 +101,63 @@ inserts_draw = (refl, (refl, refl))
 
 pub asks_draws : (v : Version) → Asks (schema_of v) text.select_draws 8 text.draw_columns []
 unfolding understood everything
-asks_draws v = record { names = _; command = refl; unlisted = refl; plain = (refl, refl); whole = (omega arith, refl); answered = λ db e. answered _ db e 8 text.draw_columns [] (λ h. absurd (let wrong = h.1 in cc)) }
+asks_draws v = record {
+  names = _;
+  command = refl;
+  unlisted = refl;
+  plain = (refl, refl);
+  whole = (omega arith, refl);
+  answered = λ db e. answered _ db e 8 text.draw_columns [] (λ h. absurd (let wrong = h.1 in cc));
+}
 
 pub asks_offers : (v : Version) → Asks (schema_of v) text.select_offers 9 text.offer_columns []
 unfolding understood everything
-asks_offers v = record { names = _; command = refl; unlisted = refl; plain = (refl, refl); whole = (omega arith, refl); answered = λ db e. answered _ db e 9 text.offer_columns [] (λ h. absurd (let wrong = h.1 in cc)) }
+asks_offers v = record {
+  names = _;
+  command = refl;
+  unlisted = refl;
+  plain = (refl, refl);
+  whole = (omega arith, refl);
+  answered = λ db e. answered _ db e 9 text.offer_columns [] (λ h. absurd (let wrong = h.1 in cc));
+}
 
 pub asks_lots : (v : Version) → Asks (schema_of v) text.select_lots 11 text.lot_columns []
 unfolding understood everything
-asks_lots v = record { names = _; command = refl; unlisted = refl; plain = (refl, refl); whole = (omega arith, refl); answered = λ db e. answered _ db e 11 text.lot_columns [] (λ h. absurd (let wrong = h.1 in cc)) }
+asks_lots v = record {
+  names = _;
+  command = refl;
+  unlisted = refl;
+  plain = (refl, refl);
+  whole = (omega arith, refl);
+  answered = λ db e. answered _ db e 11 text.lot_columns [] (λ h. absurd (let wrong = h.1 in cc));
+}
 
-pub inserts_imported : (command_of (understood register_schema text.insert_imported) ≡ Insert 9 (Values (given_terms imported_columns) (suc (length imported_columns)))) × IsPlain (understood register_schema text.insert_imported)
+pub inserts_imported : (command_of (understood register_schema text.insert_imported) ≡ Insert 9 (Values (given_terms imported_columns) (suc (length imported_columns))))
+    × IsPlain (understood register_schema text.insert_imported)
 unfolding understood everything
 inserts_imported = (refl, (refl, refl))
 
 pub asks_imported : (v : Version) → Asks (schema_of v) text.select_imported 14 (shown_terms imported_columns) []
 unfolding understood everything
-asks_imported v = record { names = _; command = refl; unlisted = refl; plain = (refl, refl); whole = (omega arith, refl); answered = λ db e. answered _ db e 14 (shown_terms imported_columns) [] (λ h. absurd (let wrong = h.1 in cc)) }
+asks_imported v = record {
+  names = _;
+  command = refl;
+  unlisted = refl;
+  plain = (refl, refl);
+  whole = (omega arith, refl);
+  answered = λ db e. answered _ db e 14 (shown_terms imported_columns) [] (λ h. absurd (let wrong = h.1 in cc));
+}
 
 pub asks_present : Asks register_schema text.select_present 15 text.present_column_terms []
 unfolding understood everything
-asks_present = record { names = _; command = refl; unlisted = refl; plain = (refl, refl); whole = (omega arith, refl); answered = λ db e. answered _ db e 15 text.present_column_terms [] (λ h. absurd (let wrong = h.1 in cc)) }
+asks_present = record {
+  names = _;
+  command = refl;
+  unlisted = refl;
+  plain = (refl, refl);
+  whole = (omega arith, refl);
+  answered = λ db e. answered _ db e 15 text.present_column_terms [] (λ h. absurd (let wrong = h.1 in cc));
+}
 
 pub marks_version : (command_of (understood register_schema text.mark_version) ≡ Update 0 (program_of (query_of 0 [] text.meta_marked []))) × IsPlain (understood register_schema text.mark_version)
 unfolding understood everything

@@ -67,8 +67,10 @@ module _ (schema : Schema) (table : Table) (at : ℕ) (found : slice_get schema.
       (asked.0, asked.1, subst (Applies schema Enforced db edit) (sym trees) applied)
 
   -- an UPDATE of the rows that a query answers, each as its old rowid and the new row
-  pub updated : (q : Program) (sql : List ℕ) (params : Row) (old new : State) (count : ℕ) → command_of (understood schema sql) ≡ Update at q → IsPlain (understood schema sql) → old.now.schema ≡ schema → ExecutesInside 0 sql params old new (Ok count)
-      → (rows : List Row) × WritesOnly table old new × Answers (record { schema = schema; trees = old.now.trees }) q params rows × Applies schema Enforced old.now.trees (edit_of old.now.trees table (ids_of rows) Given 1 rows) new.now.trees
+  pub updated : (q : Program) (sql : List ℕ) (params : Row) (old new : State) (count : ℕ) → command_of (understood schema sql) ≡ Update at q
+      → IsPlain (understood schema sql) → old.now.schema ≡ schema → ExecutesInside 0 sql params old new (Ok count)
+      → (rows : List Row) × WritesOnly table old new × Answers (record { schema = schema; trees = old.now.trees }) q params rows
+      × Applies schema Enforced old.now.trees (edit_of old.now.trees table (ids_of rows) Given 1 rows) new.now.trees
   updated q sql params old new count is plain has h =
       let w = runs_as sql params old new schema has (Update at q) is plain count h.0 in
       let on = updates_on old new params w.tally q (statement_of sql (understood schema sql)) has w.changed in
@@ -78,7 +80,8 @@ module _ (schema : Schema) (table : Table) (at : ℕ) (found : slice_get schema.
       (some.0, only, some.1, subst (Applies schema Enforced old.now.trees edit) (sym (ap (λ (d : Database). d.trees) on.2)) some.2)
 
   -- each row comes in its new form, in place of the old one
-  pub updated_all : (project : List Term) (sql : List ℕ) (params : Row) (old new : State) (count : ℕ) → command_of (understood schema sql) ≡ Update at (program_of (query_of table.tree [] project [])) → IsPlain (understood schema sql)
+  pub updated_all : (project : List Term) (sql : List ℕ) (params : Row) (old new : State) (count : ℕ)
+      → command_of (understood schema sql) ≡ Update at (program_of (query_of table.tree [] project [])) → IsPlain (understood schema sql)
       → nat_le (2 ^ 31) table.tree ≡ false → ((r : Row) → rowid (eval_all project (params ∷ r ∷ [])) ≡ rowid r) → old.now.schema ≡ schema → ExecutesInside 0 sql params old new (Ok count)
       → WritesOnly table old new
       × (have_rowids (old.now.trees table.tree) ≡ true → IsPermutation (map (λ r. cast_row table (drop 1 (eval_all project (params ∷ r ∷ [])))) (old.now.trees table.tree)) (new.now.trees table.tree))
@@ -91,7 +94,8 @@ module _ (schema : Schema) (table : Table) (at : ℕ) (found : slice_get schema.
         some.1,
         λ keyed.
             let ids : IsPermutation (map (λ (r : Row). id_in (rowid r)) rows) (ids_of some.0) =
-            subst (λ xs. IsPermutation xs (ids_of some.0)) (map-map (λ (r : Row). id_in (rowid r)) turned rows ∙ (λ i. map (λ r. id_in (own r i)) rows)) (IsPermutation-map (λ (r : Row). id_in (rowid r)) _ some.0 asked) in
+            subst (λ xs. IsPermutation xs (ids_of some.0)) (map-map (λ (r : Row). id_in (rowid r)) turned rows
+            ∙ (λ i. map (λ r. id_in (own r i)) rows)) (IsPermutation-map (λ (r : Row). id_in (rowid r)) _ some.0 asked) in
             let left : without_all rows (ids_of some.0) ≡ [] = all_go (ids_of some.0) rows keyed (ids_have rows (ids_of some.0) ids) in
             let given : numbered Given (without_all rows (ids_of some.0)) news ≡ news = own_rowids (without_all rows (ids_of some.0)) news in
             let fresh : are_fresh [] news ≡ true = subst₂ (λ gone new. are_fresh gone new ≡ true) left given some.3.fresh in

@@ -1,5 +1,5 @@
 -- What CREATE TABLE makes of a schema, and the texts that make the register's.
-use Rattle.std.specs.Prelude.{◌≡◌, ℕ, zero, suc, false, List, [], ◌∷◌, codes, Ok}
+use Rattle.std.specs.Prelude.{◌≡◌, ℕ, get_or, false, List, [], ◌∷◌, codes, Ok}
 use Rattle.sqlite.specs.Compile.{table_defined_by}
 use Rattle.sqlite.specs.Change.{created}
 use Rattle.sqlite.specs.Command.TheVariants.{CreateTable}
@@ -58,17 +58,12 @@ create_present = codes "CREATE TABLE present (child INTEGER NOT NULL, imported I
 abbrev pub creations : List (List ℕ)
 creations = create_meta ∷ create_school ∷ create_child ∷ create_application ∷ create_place ∷ create_left_list ∷ create_draw ∷ create_offer ∷ create_lot ∷ create_imported ∷ create_present ∷ []
 
+-- the schemas that the texts make, one after another, from the empty one
+abbrev pub schemas : List Schema
+schemas =
+    no_schema ∷ with_meta ∷ with_school ∷ with_child ∷ with_application ∷ with_place ∷ with_left_list ∷ with_draw ∷ with_offer ∷ with_lot ∷ schema_of First
+    ∷ register_schema ∷ []
+
 -- the schema once so many of the tables are made
 abbrev pub schema_after : ℕ → Schema
-schema_after zero = no_schema
-schema_after (suc zero) = with_meta
-schema_after (suc (suc zero)) = with_school
-schema_after (suc (suc (suc zero))) = with_child
-schema_after (suc (suc (suc (suc zero)))) = with_application
-schema_after (suc (suc (suc (suc (suc zero))))) = with_place
-schema_after (suc (suc (suc (suc (suc (suc zero)))))) = with_left_list
-schema_after (suc (suc (suc (suc (suc (suc (suc zero))))))) = with_draw
-schema_after (suc (suc (suc (suc (suc (suc (suc (suc zero)))))))) = with_offer
-schema_after (suc (suc (suc (suc (suc (suc (suc (suc (suc zero))))))))) = with_lot
-schema_after (suc (suc (suc (suc (suc (suc (suc (suc (suc (suc zero)))))))))) = schema_of First
-schema_after _ = register_schema
+schema_after made = get_or schemas made register_schema

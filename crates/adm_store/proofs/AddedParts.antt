@@ -17,7 +17,8 @@ module _ {K V P : Type 0} {R : K → K → Ordering} (total : IsTotalOrder R) (s
     (own : (k : K) (v : V) → get new k ≡ Some v → key v ≡ k) (kept : (k : K) (v : V) → get old k ≡ Some v → get new k ≡ Some v)
     (news : List V) (differ : AreNew key old new news) (parts : V → List P) where
   -- a table that had the rows of the old map's values has those of the new one's, once these are added
-  pub added_parts : (row_of : P → Row) (written was now : List Row) → written ≡ map row_of (flat_map parts news) → IsPermutation (map row_of (flat_map parts (values old))) was → IsPermutation (was ++ written) now
+  pub added_parts : (row_of : P → Row) (written was now : List Row) → written ≡ map row_of (flat_map parts news)
+      → IsPermutation (map row_of (flat_map parts (values old))) was → IsPermutation (was ++ written) now
       → IsPermutation (map row_of (flat_map parts (values new))) now
   added_parts row_of written was now is held adds =
       let olds = flat_map parts (values old) in

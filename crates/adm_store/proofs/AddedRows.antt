@@ -21,12 +21,14 @@ same_where p q (x ∷ xs) same = λ i. cond (same x (inl refl) i) (x ∷ same_wh
 
 -- the values at the keys that pass a test, where each row is at its own key
 module _ {K V : Type 0} (R : K → K → Ordering) (key : V → K) where
-  pub filter_values : (p : K → Bool) (es : List (K × V)) → ((e : K × V) → Has es e → key e.1 ≡ e.0) → filter (λ v. p (key v)) (map (λ (e : K × V). e.1) es) ≡ map (λ (e : K × V). e.1) (where_key R p es)
+  pub filter_values : (p : K → Bool) (es : List (K × V)) → ((e : K × V) → Has es e → key e.1 ≡ e.0)
+      → filter (λ v. p (key v)) (map (λ (e : K × V). e.1) es) ≡ map (λ (e : K × V). e.1) (where_key R p es)
   filter_values p [] at = refl
   filter_values p (e ∷ es) at = go (p e.0) (p (key e.1)) (ap p (at e (inl refl))) (filter_values p es (λ x h. at x (inr h)))
     where
       go : (a b : Bool) → b ≡ a → filter (λ v. p (key v)) (map (λ (e : K × V). e.1) es) ≡ map (λ (e : K × V). e.1) (where_key R p es)
-          → cond b (e.1 ∷ filter (λ v. p (key v)) (map (λ (e : K × V). e.1) es)) (filter (λ v. p (key v)) (map (λ (e : K × V). e.1) es)) ≡ map (λ (e : K × V). e.1) (cond a (e ∷ where_key R p es) (where_key R p es))
+          → cond b (e.1 ∷ filter (λ v. p (key v)) (map (λ (e : K × V). e.1) es)) (filter (λ v. p (key v)) (map (λ (e : K × V). e.1) es)) ≡ map (λ (e : K × V). e.1)
+          (cond a (e ∷ where_key R p es) (where_key R p es))
       go true true is rest = ap (λ xs. e.1 ∷ xs) rest
       go true false is rest = absurd (cc)
       go false true is rest = absurd (cc)
@@ -54,7 +56,8 @@ module _ {K V : Type 0} {R : K → K → Ordering} (total : IsTotalOrder R) (sam
         let both = IsPermutation-sym _ _ (IsPermutation-filter_both p (λ v. not (p v)) (λ v. refl) (values new)) in
         let was = filter_values R key (contains_key old) (entries new) (own_entry total same key new own) ∙ ap (map (λ (e : K × V). e.1)) old_entries in
         let added : news ≡ filter (λ v. not (p v)) (values new) =
-        differ.rows_are ∙ same_where differ.is_new (λ v. not (p v)) (values new) (λ v h. let there = value_at total same key new own v h in new_where v there (differ.is_new v) refl (get old (key v)) refl) in
+        differ.rows_are ∙ same_where differ.is_new (λ v. not (p v)) (values new) (λ v h. let there = value_at total same key new own v h in
+        new_where v there (differ.is_new v) refl (get old (key v)) refl) in
         subst (λ xs. IsPermutation (values old ++ xs) (values new)) (sym added) (subst (λ xs. IsPermutation (xs ++ filter (λ v. not (p v)) (values new)) (values new)) was both)
       where
         new_where : (v : V) → get new (key v) ≡ Some v → (b : Bool) → differ.is_new v ≡ b → (o : Option V) → get old (key v) ≡ o → differ.is_new v ≡ not (is_some (get old (key v)))
@@ -63,7 +66,8 @@ module _ {K V : Type 0} {R : K → K → Ordering} (total : IsTotalOrder R) (sam
         new_where v there false is (Some w) was = is ∙ sym (ap (λ o. not (is_some o)) was)
 
     -- so a table that had the rows of the old map has those of the new one, once these are added
-    pub added_rows : (row_of : V → Row) (written was now : List Row) → written ≡ map row_of news → IsPermutation (map row_of (values old)) was → IsPermutation (was ++ written) now → IsPermutation (map row_of (values new)) now
+    pub added_rows : (row_of : V → Row) (written was now : List Row) → written ≡ map row_of news → IsPermutation (map row_of (values old)) was
+        → IsPermutation (was ++ written) now → IsPermutation (map row_of (values new)) now
     added_rows row_of written was now is held adds =
         let more = IsPermutation-map row_of _ _ (IsPermutation-sym _ _ old_and_new) in
         let parts = map-append row_of (values old) news ∙ ap (λ xs. map row_of (values old) ++ xs) (sym is) in

@@ -61,9 +61,21 @@ abbrev season_alone : SeasonFacts → Rows
 season_alone season = record { season = season; schools = []; children = []; applications = []; places = []; left = []; draws = []; offers = []; lots = []; imported = [] }
 
 only_rows : (season : SeasonFacts) → rows_in_order (only_season season) ≡ season_alone season
-only_rows season = λ k. record { season = season; schools = values-empty code_cmp _ k; children = values-empty nat_cmp _ k; applications = values-empty nat_cmp _ k; places = values-empty nat_cmp _ k; left = values-empty left_cmp _ k; draws = map row_of (values-empty nat_cmp _ k); offers = flat_map offer_rows_of (values-empty nat_cmp _ k); lots = flat_map lot_rows_of (values-empty nat_cmp _ k); imported = values-empty nat_cmp _ k }
+only_rows season = λ k. record {
+  season = season;
+  schools = values-empty code_cmp _ k;
+  children = values-empty nat_cmp _ k;
+  applications = values-empty nat_cmp _ k;
+  places = values-empty nat_cmp _ k;
+  left = values-empty left_cmp _ k;
+  draws = map row_of (values-empty nat_cmp _ k);
+  offers = flat_map offer_rows_of (values-empty nat_cmp _ k);
+  lots = flat_map lot_rows_of (values-empty nat_cmp _ k);
+  imported = values-empty nat_cmp _ k;
+}
 
-pub represents_new : (made last : State) (season : SeasonFacts) (row : SeasonRow) → IsRowOf season row → SeesNoRows register_schema made → Leaves (write_of Adds meta written_season (row ∷ []) ∷ []) made last → RepresentsIn Second last.now.trees (only_season season)
+pub represents_new : (made last : State) (season : SeasonFacts) (row : SeasonRow) → IsRowOf season row → SeesNoRows register_schema made
+    → Leaves (write_of Adds meta written_season (row ∷ []) ∷ []) made last → RepresentsIn Second last.now.trees (only_season season)
 represents_new made last season row it none wrote = record {
   sound = subst (λ s. IsSound s last.now.trees) (wrote.schema ∙ none.schema_is) wrote.sound;
   holds = record {
@@ -76,14 +88,17 @@ represents_new made last season row it none wrote = record {
     table : (t : Table) → Has register_schema.tables t → HasRows t (written_in (written_tables Second (season_alone season)) t) last.now.trees
     table t listed =
         let was : rows_of t made.now.trees ≡ [] = ap (map (columns_of t)) (recursion_had (λ (t : Table). made.now.trees t.tree ≡ []) register_schema.tables t none.empty listed) in
-        let moved = subst (λ rows. IsTrue (are_keyed t rows) → IsPermutation (after_writes t (write_of Adds meta written_season (row ∷ []) ∷ []) rows) (rows_of t last.now.trees)) was (wrote.rows t listed) (keyed_none t) in
+        let moved = subst (λ rows. IsTrue (are_keyed t rows)
+        → IsPermutation (after_writes t (write_of Adds meta written_season (row ∷ []) ∷ []) rows) (rows_of t last.now.trees)) was (wrote.rows t listed) (keyed_none t) in
         subst (λ rows. IsPermutation rows (rows_of t last.now.trees)) (written t listed) moved
       where
         written : (t : Table) → Has register_schema.tables t → after_writes t (write_of Adds meta written_season (row ∷ []) ∷ []) [] ≡ written_in (written_tables Second (season_alone season)) t
-        written = each_table Second (λ t. after_writes t (write_of Adds meta written_season (row ∷ []) ∷ []) [] ≡ written_in (written_tables Second (season_alone season)) t) (ap (λ cells. cells ∷ []) it.written, (refl, (refl, (refl, (refl, (refl, (refl, (refl, (refl, (refl, (refl, tt)))))))))))
+        written = each_table Second (λ t. after_writes t (write_of Adds meta written_season (row ∷ []) ∷ []) [] ≡ written_in
+            (written_tables Second (season_alone season)) t) (ap (λ cells. cells ∷ []) it.written, (refl, (refl, (refl, (refl, (refl, (refl, (refl, (refl, (refl, (refl, tt)))))))))))
 
 -- what the transaction of a creation leaves represents the new register
-pub created : {S : Type 0} (g : store.Ghosts S) (start begun : Held S) (made last : State) (season : SeasonFacts) (row : SeasonRow) → IsRowOf season row → begun ≡ record start { in_transaction = true } → start.schema ≡ no_schema → IsLive (state g start)
+pub created : {S : Type 0} (g : store.Ghosts S) (start begun : Held S) (made last : State) (season : SeasonFacts) (row : SeasonRow) → IsRowOf season row
+    → begun ≡ record start { in_transaction = true } → start.schema ≡ no_schema → IsLive (state g start)
     → doubt (state g begun).is_clean ≤ doubt made.is_clean → doubt made.is_clean ≤ doubt last.is_clean
     → (HasCleanDisk made → (IsTrue (state g begun).is_open → SeesNoRows no_schema (state g begun)) → IsTrue made.is_open → SeesNoRows register_schema made)
     → Writes (write_of Adds meta written_season (row ∷ []) ∷ []) made last → HasCleanDisk last → RepresentsIn Second last.now.trees (only_season season)

@@ -34,7 +34,8 @@ low_numbers season before draws in_order = go before draws (before.draws + lengt
         (omega (arith, own, low), go (count_draw before draw) draws most parts.1 (omega (arith, low)))
 
 -- the last has as its number how many there are
-last_number : (season : SeasonFacts) (before : DrawsSoFar) (draws : List Draw) (last : Draw) → are_in_order season before (draws ++ last ∷ []) ≡ true → last.number ≡ before.draws + length (draws ++ last ∷ [])
+last_number : (season : SeasonFacts) (before : DrawsSoFar) (draws : List Draw) (last : Draw) → are_in_order season before (draws ++ last ∷ []) ≡ true
+    → last.number ≡ before.draws + length (draws ++ last ∷ [])
 last_number season before [] last in_order = (next_numbered season before last (and_parts (is_next season before last) true in_order).0).number
 last_number season before (draw ∷ draws) last in_order =
     let parts = and_parts (is_next season before draw) (are_in_order season (count_draw before draw) (draws ++ last ∷ [])) in_order in
@@ -70,7 +71,8 @@ module _ (season : SeasonFacts) (old new : FinMap nat_cmp Draw) (own_old : (k : 
   Counted = ((news ≡ []) × (length (values old) ≡ length (values new))) ⊎ ((ys : List Draw) × (last : Draw) × (news ≡ ys ++ last ∷ []) × (last.number ≡ length (values new)))
 
   more : length (values old) + length news ≡ length (values new)
-  more = let all = length_permutation _ _ (old_and_new nat_cmp_total nat_cmp-IsAntisymmetric (λ (d : Draw). d.number) old new own kept news differ) in omega (arith, all, length-append (values old) news)
+  more = let all = length_permutation _ _ (old_and_new nat_cmp_total nat_cmp-IsAntisymmetric (λ (d : Draw). d.number) old new own kept news differ) in
+      omega (arith, all, length-append (values old) news)
 
   none_new : length (values new) ≤ length (values old) → Counted
   none_new low = inl (nil_from_length news (omega (arith, more, low)), omega (arith, more, low))
@@ -97,12 +99,19 @@ module _ (season : SeasonFacts) (old new : FinMap nat_cmp Draw) (own_old : (k : 
           stayed : differ.is_new last ≡ false → (o : Option Draw) → get old last.number ≡ o → Counted
           stayed not_new None none = absurd (let wrong : false ≡ true = sym not_new ∙ (differ.decides last there).1 (λ e. none-some last (sym none ∙ e)) in cc)
           stayed not_new (Some draw) had =
-              let low = recursion_had (λ (d : Draw). d.number ≤ no_draws.draws + length (values old)) (values old) draw (low_numbers season no_draws (values old) was) (has_value nat_cmp_total nat_cmp-IsAntisymmetric old last.number draw had) in
+              let low = recursion_had (λ (d : Draw). d.number ≤ no_draws.draws + length (values old)) (values old) draw (low_numbers season no_draws (values old) was)
+              (has_value nat_cmp_total nat_cmp-IsAntisymmetric old last.number draw had) in
               let same = own_old last.number draw had in
               none_new (omega (arith, low, same, number))
 
           go : (b : Bool) → differ.is_new last ≡ b → Counted
           go true new_one =
               let kept_last : filter differ.is_new (last ∷ []) ≡ last ∷ [] = ap (λ b. cond b (last ∷ []) []) new_one in
-              inr (filter differ.is_new front, last, differ.rows_are ∙ ap (filter differ.is_new) is ∙ filter-append differ.is_new front (last ∷ []) ∙ ap (λ xs. filter differ.is_new front ++ xs) kept_last, number)
+              inr (
+                filter differ.is_new front,
+                last,
+                differ.rows_are ∙ ap (filter differ.is_new) is ∙ filter-append differ.is_new front (last ∷ [])
+                    ∙ ap (λ xs. filter differ.is_new front ++ xs) kept_last,
+                number,
+              )
           go false not_new = stayed not_new (get old last.number) refl

@@ -49,12 +49,14 @@ shown_draw : (it : DrawRow) (school : Option (List ℕ)) (rows : List Row) → c
 shown_draw it None rows = rw (cast_null, cast_int (pos it.draw), cast_int (pos it.round), cast_int (pos it.day))
 shown_draw it (Some code) rows = rw (cast_null, cast_int (pos it.draw), cast_int (pos it.round), cast_int (pos it.day))
 
-pub adds_draw : (old new : State) (count : ℕ) (it : DrawRow) → doubt old.is_clean ≤ doubt new.is_clean → (HasCleanDisk new → ExecutesInside 0 insert_draw (draw_row it) old new (Ok count)) → Writes (write_of Adds draw draw_row (it ∷ []) ∷ []) old new
+pub adds_draw : (old new : State) (count : ℕ) (it : DrawRow) → doubt old.is_clean ≤ doubt new.is_clean
+    → (HasCleanDisk new → ExecutesInside 0 insert_draw (draw_row it) old new (Ok count)) → Writes (write_of Adds draw draw_row (it ∷ []) ∷ []) old new
 adds_draw old new count it later ran = add_keyed draw has_draw old new later refl (draw_row it) refl (λ clean sees.
     let early : HasCleanDisk old = omega (arith, later, clean) in
     let h = ran clean in
     adds register_schema draw 6 refl refl refl (λ _ _. refl) old new (draw_source it it.school) (draw_row it) (shown_draw it it.school)
-    (inserted register_schema draw 6 refl refl refl (λ _ _. refl) draw_terms 5 insert_draw (draw_row it) (draw_source it it.school) old new count inserts_draw.0 inserts_draw.1 (given_draw it it.school) (sees early h.1.was_open) h))
+    (inserted register_schema draw 6 refl refl refl (λ _ _. refl) draw_terms 5 insert_draw (draw_row it)
+    (draw_source it it.school) old new count inserts_draw.0 inserts_draw.1 (given_draw it it.school) (sees early h.1.was_open) h))
 
 -- ---- outcomes
 
@@ -69,21 +71,25 @@ shown_at : (it : OfferRow) (school : Option (List ℕ)) (rows : List Row) → co
 shown_at it None rows = rw (cast_null, cast_int (pos it.draw), cast_int (pos it.outcome.child), cast_int (pos (truth_code it.outcome.fresh)))
 shown_at it (Some code) rows = rw (cast_null, cast_int (pos it.draw), cast_int (pos it.outcome.child), cast_int (pos (truth_code it.outcome.fresh)))
 
-pub adds_offer : (old new : State) (count : ℕ) (it : OfferRow) → doubt old.is_clean ≤ doubt new.is_clean → (HasCleanDisk new → ExecutesInside 0 text.insert_offer (offer_row it) old new (Ok count)) → Writes (write_of Adds offer offer_row (it ∷ []) ∷ []) old new
+pub adds_offer : (old new : State) (count : ℕ) (it : OfferRow) → doubt old.is_clean ≤ doubt new.is_clean
+    → (HasCleanDisk new → ExecutesInside 0 text.insert_offer (offer_row it) old new (Ok count)) → Writes (write_of Adds offer offer_row (it ∷ []) ∷ []) old new
 adds_offer old new count it later ran = add_one offer has_offer old new later refl (offer_row it) (λ clean sees.
     let early : HasCleanDisk old = omega (arith, later, clean) in
     let h = ran clean in
     adds register_schema offer 7 refl refl refl (λ _ _. refl) old new (Null ∷ offer_row it) (offer_row it) (shown_at it it.outcome.school)
-    (inserted register_schema offer 7 refl refl refl (λ _ _. refl) text.offer_terms 5 text.insert_offer (offer_row it) (Null ∷ offer_row it) old new count inserts_offer.0 inserts_offer.1 (given_at it it.outcome.school) (sees early h.1.was_open) h))
+    (inserted register_schema offer 7 refl refl refl (λ _ _. refl) text.offer_terms 5 text.insert_offer (offer_row it)
+    (Null ∷ offer_row it) old new count inserts_offer.0 inserts_offer.1 (given_at it it.outcome.school) (sees early h.1.was_open) h))
 
 -- ---- lots
 
 shown_lot : (it : LotRow) (rows : List Row) → columns_of lot (with_rowid Chosen rows (cast_row lot (Null ∷ lot_row it))) ≡ lot_row it
 shown_lot it rows = rw (cast_null, cast_int (pos it.draw), cast_int (pos it.lot.child), cast_int (pos it.lot.lot))
 
-pub adds_lot : (old new : State) (count : ℕ) (it : LotRow) → doubt old.is_clean ≤ doubt new.is_clean → (HasCleanDisk new → ExecutesInside 0 text.insert_lot (lot_row it) old new (Ok count)) → Writes (write_of Adds lot lot_row (it ∷ []) ∷ []) old new
+pub adds_lot : (old new : State) (count : ℕ) (it : LotRow) → doubt old.is_clean ≤ doubt new.is_clean
+    → (HasCleanDisk new → ExecutesInside 0 text.insert_lot (lot_row it) old new (Ok count)) → Writes (write_of Adds lot lot_row (it ∷ []) ∷ []) old new
 adds_lot old new count it later ran = add_one lot has_lot old new later refl (lot_row it) (λ clean sees.
     let early : HasCleanDisk old = omega (arith, later, clean) in
     let h = ran clean in
     adds register_schema lot 8 refl refl refl (λ _ _. refl) old new (Null ∷ lot_row it) (lot_row it) (shown_lot it)
-    (inserted register_schema lot 8 refl refl refl (λ _ _. refl) text.lot_terms 5 text.insert_lot (lot_row it) (Null ∷ lot_row it) old new count inserts_lot.0 inserts_lot.1 refl (sees early h.1.was_open) h))
+    (inserted register_schema lot 8 refl refl refl (λ _ _. refl) text.lot_terms 5 text.insert_lot (lot_row it)
+    (Null ∷ lot_row it) old new count inserts_lot.0 inserts_lot.1 refl (sees early h.1.was_open) h))

@@ -54,7 +54,8 @@ module _ (table : Table) (listed : Has register_schema.tables table) (unkeyed : 
 
   -- the row is found, and deleted
   pub found_and_cut : (cut : List ℕ) (old mid new : State) (shown : Row) → doubt old.is_clean ≤ doubt mid.is_clean → doubt mid.is_clean ≤ doubt new.is_clean
-      → ((k : ℤ) → old.now.schema ≡ register_schema → mid.now ≡ old.now → column shown 0 ≡ Int k → Shown find key old mid (shown ∷ []) → ExecutesInside 0 cut (Int k ∷ []) mid new (Ok 1) → DropsRow table key mid new)
+      → ((k : ℤ) → old.now.schema ≡ register_schema → mid.now ≡ old.now → column shown 0 ≡ Int k → Shown find key old mid (shown ∷ [])
+      → ExecutesInside 0 cut (Int k ∷ []) mid new (Ok 1) → DropsRow table key mid new)
       → (HasCleanDisk mid → Shown find key old mid (shown ∷ [])) → (HasCleanDisk new → DeletesFound cut shown mid new) → Writes (record { kind = Drops; table = table; rows = key ∷ [] } ∷ []) old new
   found_and_cut cut old mid new shown first second drops search cuts = drop_one table listed old new (omega (arith, first, second)) unkeyed key (λ clean sees sound.
       let middle : HasCleanDisk mid = omega (arith, second, clean) in
@@ -67,7 +68,8 @@ module _ (table : Table) (listed : Has register_schema.tables table) (unkeyed : 
       drops_before table key old mid new live same (drops one.0 has same one.1 it one.2))
 
   -- it is not found, and nothing is deleted
-  pub found_none : (old new : State) → doubt old.is_clean ≤ doubt new.is_clean → (old.now.schema ≡ register_schema → Shown find key old new [] → drop_of key (rows_of table old.now.trees) ≡ rows_of table old.now.trees)
+  pub found_none : (old new : State) → doubt old.is_clean ≤ doubt new.is_clean
+      → (old.now.schema ≡ register_schema → Shown find key old new [] → drop_of key (rows_of table old.now.trees) ≡ rows_of table old.now.trees)
       → (HasCleanDisk new → Shown find key old new []) → Writes (record { kind = Drops; table = table; rows = key ∷ [] } ∷ []) old new
   found_none old new later none search = drop_one table listed old new later unkeyed key (λ clean sees sound.
       let early : HasCleanDisk old = omega (arith, later, clean) in

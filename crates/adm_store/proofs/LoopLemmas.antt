@@ -15,5 +15,6 @@ pub parts_more : {X Y : Type 0} (f : X → List Y) (before : List Y) (xs : List 
     → was ≡ before ++ flat_map f (take i xs) → now ≡ was ++ f x → now ≡ before ++ flat_map f (take (i + 1) xs)
 parts_more f before xs i x was now low is so_far next =
     let more : take (i + 1) xs ≡ take i xs ++ x ∷ [] = take_more xs i x low ∙ ap (λ y. take i xs ++ y ∷ []) (sym is) in
-    let parts : flat_map f (take (i + 1) xs) ≡ flat_map f (take i xs) ++ f x = ap (flat_map f) more ∙ flat_map-append f (take i xs) (x ∷ []) ∙ ap (λ ys. flat_map f (take i xs) ++ ys) (append-nil (f x)) in
+    let parts : flat_map f (take (i + 1) xs) ≡ flat_map f (take i xs) ++ f x = ap (flat_map f) more ∙ flat_map-append f (take i xs) (x ∷ [])
+    ∙ ap (λ ys. flat_map f (take i xs) ++ ys) (append-nil (f x)) in
     next ∙ ap (λ ys. ys ++ f x) so_far ∙ append_assoc before (flat_map f (take i xs)) (f x) ∙ ap (λ ys. before ++ ys) (sym parts)

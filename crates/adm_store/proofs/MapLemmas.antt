@@ -59,7 +59,7 @@ module _ {V : Type 0} where
   all_above k [] above = refl
   all_above k (e ∷ es) above = rw (not_tied k e.0 (above e (inl refl))) (ap (λ xs. e ∷ xs) (all_above k es (λ x h. above x (inr h))))
 
-  -- an entry that is put in its place is one more, beside those of another key
+  -- an entry that is written in its place is one more, beside those of another key
   put_values : (k : ℕ) (v : V) (es : List (ℕ × V)) → T (is_sorted nat_cmp es) → IsPermutation (map (λ e. e.1) (put nat_cmp k v es)) (v ∷ map (λ e. e.1) (where_key nat_cmp (apart k) es))
   put_values k v [] sorted = IsPermutation-refl _
   put_values k v (e ∷ es) sorted =
@@ -68,7 +68,8 @@ module _ {V : Type 0} where
     where
       go : (o : Ordering) → nat_cmp k e.0 ≡ o → ((x : ℕ × V) → Has es x → nat_cmp e.0 x.0 ≡ Less)
           → IsPermutation (map (λ x. x.1) (put nat_cmp k v es)) (v ∷ map (λ x. x.1) (where_key nat_cmp (apart k) es))
-          → IsPermutation (map (λ x. x.1) (by_order o ((k, v) ∷ e ∷ es) ((e.0, v) ∷ es) (e ∷ put nat_cmp k v es))) (v ∷ map (λ x. x.1) (cond (not (is_eq o)) (e ∷ where_key nat_cmp (apart k) es) (where_key nat_cmp (apart k) es)))
+          → IsPermutation (map (λ x. x.1) (by_order o ((k, v) ∷ e ∷ es) ((e.0, v) ∷ es) (e ∷ put nat_cmp k v es)))
+          (v ∷ map (λ x. x.1) (cond (not (is_eq o)) (e ∷ where_key nat_cmp (apart k) es) (where_key nat_cmp (apart k) es)))
       go Less is above later = rw (all_above k es (λ x h. less_both k e.0 x.0 is (above x h))) (IsPermutation-refl _)
       go Equal is above later = rw (all_above k es (λ x h. subst (λ n. nat_cmp n x.0 ≡ Less) (sym (nat_cmp-IsAntisymmetric k e.0 is)) (above x h))) (IsPermutation-refl _)
       go Greater is above later = IsPermutation-trans _ _ _ (IsPermutation-cons e.1 _ _ later) (swap_front e.1 v _)
@@ -76,12 +77,15 @@ module _ {V : Type 0} where
   entries-remove : (m : FinMap nat_cmp V) (k : ℕ) → entries (remove m k) ≡ where_key nat_cmp (apart k) (entries m)
   entries-remove m k =
       let test = λ (q : ℕ). get-remove number_total m k q ∙ ap (λ b. cond b None (get m q)) ((eq_by_cmp_equiv number_total).symm q k) ∙ turned (eq_by_cmp nat_cmp k q) None (get m q) in
-      same_entries nat_cmp number_total nat_cmp-IsAntisymmetric (entries (remove m k)) (where_key nat_cmp (apart k) (entries m)) (entries_sorted (remove m k)) (is_sorted-where_key nat_cmp (apart k) (entries m) (entries_sorted m))
-      (λ q. sym (get-entries (remove m k) q) ∙ test q ∙ ap (λ o. cond (apart k q) o None) (get-entries m q) ∙ sym (find-where_key nat_cmp (apart k) q (λ x tie. ap (apart k) (sym (nat_cmp-IsAntisymmetric q x tie))) (entries m)))
+      same_entries nat_cmp number_total nat_cmp-IsAntisymmetric (entries (remove m k)) (where_key nat_cmp (apart k) (entries m)) (entries_sorted (remove m k))
+      (is_sorted-where_key nat_cmp (apart k) (entries m) (entries_sorted m))
+      (λ q. sym (get-entries (remove m k) q) ∙ test q ∙ ap (λ o. cond (apart k q) o None) (get-entries m q)
+      ∙ sym (find-where_key nat_cmp (apart k) q (λ x tie. ap (apart k) (sym (nat_cmp-IsAntisymmetric q x tie))) (entries m)))
 
   put_perm : (m : FinMap nat_cmp V) (k : ℕ) (v : V) → IsPermutation (values (insert m k v)) (v ∷ values (remove m k))
   put_perm m k v =
-      let put_in_place = subst (λ es. IsPermutation (map (λ e. e.1) es) (v ∷ map (λ e. e.1) (where_key nat_cmp (apart k) (entries m)))) (sym (entries-insert number_total m k v)) (put_values k v (entries m) (entries_sorted m)) in
+      let put_in_place = subst (λ es. IsPermutation (map (λ e. e.1) es) (v ∷ map (λ e. e.1) (where_key nat_cmp (apart k) (entries m))))
+      (sym (entries-insert number_total m k v)) (put_values k v (entries m) (entries_sorted m)) in
       subst (λ es. IsPermutation (values (insert m k v)) (v ∷ map (λ e. e.1) es)) (sym (entries-remove m k)) put_in_place
 
 -- two values are the same where they cannot differ
@@ -125,14 +129,16 @@ coded_stable c x y h = go (same_code (c.code x) (c.code y)) refl
   where
     go : (b : Bool) → same_code (c.code x) (c.code y) ≡ b → x ≡ y
     go true is = c.inj x y (code_is _ _ is)
-    go false is = absurd (h (λ e. let own = code_itself (c.code x) in let other : same_code (c.code x) (c.code x) ≡ false = ap (λ z. same_code (c.code x) (c.code z)) e ∙ is in let wrong = sym own ∙ other in cc))
+    go false is = absurd (h (λ e. let own = code_itself (c.code x) in let other : same_code (c.code x) (c.code x) ≡ false = ap (λ z. same_code (c.code x) (c.code z)) e
+        ∙ is in let wrong = sym own ∙ other in cc))
 
 pub both_none : {X : Type 0} (b : Bool) → ◌≡◌ {A = Option X} (cond b None None) None
 both_none true = refl
 both_none false = refl
 
 pub keyed_moved : (xs ys : List Row) → IsPermutation xs ys → have_rowids xs ≡ true → have_rowids ys ≡ true
-keyed_moved xs ys same all = test_from (λ (r : Row). is_int (rowid r)) ys (λ r h. test_has (λ (r : Row). is_int (rowid r)) xs r all (has_contained xs r (Contains-permutation ys xs r (IsPermutation-sym xs ys same) (contains_had ys r h))))
+keyed_moved xs ys same all = test_from (λ (r : Row). is_int (rowid r)) ys
+    (λ r h. test_has (λ (r : Row). is_int (rowid r)) xs r all (has_contained xs r (Contains-permutation ys xs r (IsPermutation-sym xs ys same) (contains_had ys r h))))
 
 -- the rows of a table by the key of each value
 module _ {V : Type 0} (key : V → ℕ) (row_of : V → Row) (own_rowid : (v : V) → rowid (row_of v) ≡ Int (pos (key v))) where
@@ -142,18 +148,20 @@ module _ {V : Type 0} (key : V → ℕ) (row_of : V → Row) (own_rowid : (v : V
   row_test : (k : ℕ) (v : V) → has_rowid (pos k) (row_of v) ≡ eq_by_cmp nat_cmp k (key v)
   row_test k v = ap (λ r. is_eq (value_cmp r (Int (pos k)))) (own_rowid v) ∙ same_test (key v) k
 
-  rows_left : (k : ℕ) (es : List (ℕ × V)) → ((e : ℕ × V) → Has es e → key e.1 ≡ e.0) → map row_of (map (λ e. e.1) (where_key nat_cmp (apart k) es)) ≡ without_rowid (pos k) (map row_of (map (λ e. e.1) es))
+  rows_left : (k : ℕ) (es : List (ℕ × V)) → ((e : ℕ × V) → Has es e → key e.1 ≡ e.0)
+      → map row_of (map (λ e. e.1) (where_key nat_cmp (apart k) es)) ≡ without_rowid (pos k) (map row_of (map (λ e. e.1) es))
   rows_left k [] own = refl
   rows_left k (e ∷ es) own = go (apart k e.0) (not (has_rowid (pos k) (row_of e.1))) (ap not (row_test k e.1 ∙ ap (eq_by_cmp nat_cmp k) (own e (inl refl)))) (rows_left k es (λ x h. own x (inr h)))
     where
       go : (a b : Bool) → b ≡ a → map row_of (map (λ x. x.1) (where_key nat_cmp (apart k) es)) ≡ without_rowid (pos k) (map row_of (map (λ x. x.1) es))
-          → map row_of (map (λ x. x.1) (cond a (e ∷ where_key nat_cmp (apart k) es) (where_key nat_cmp (apart k) es))) ≡ cond b (row_of e.1 ∷ without_rowid (pos k) (map row_of (map (λ x. x.1) es))) (without_rowid (pos k) (map row_of (map (λ x. x.1) es)))
+          → map row_of (map (λ x. x.1) (cond a (e ∷ where_key nat_cmp (apart k) es) (where_key nat_cmp (apart k) es))) ≡ cond b
+          (row_of e.1 ∷ without_rowid (pos k) (map row_of (map (λ x. x.1) es))) (without_rowid (pos k) (map row_of (map (λ x. x.1) es)))
       go true true same rest = ap (λ xs. row_of e.1 ∷ xs) rest
       go true false same rest = absurd (cc)
       go false true same rest = absurd (cc)
       go false false same rest = rest
 
-  -- the rows of a map from which a key is removed, and of one into which a value is put
+  -- the rows of a map from which a key is removed, and of one into which a value is written
   cut_rows : (m : FinMap nat_cmp V) (k : ℕ) → Own m → map row_of (values (remove m k)) ≡ without_rowid (pos k) (map row_of (values m))
   cut_rows m k own = ap (λ es. map row_of (map (λ e. e.1) es)) (entries-remove m k) ∙ rows_left k (entries m) (own_entry number_total nat_cmp-IsAntisymmetric key m own)
 
@@ -186,15 +194,18 @@ module _ {V : Type 0} (key : V → ℕ) (row_of : V → Row) (own_rowid : (v : V
   less_each m [] = m
   less_each m (k ∷ ks) = less_each (remove m k) ks
 
-  pub each_put : (news : List V) (m : FinMap nat_cmp V) (rows : List Row) → Own m → IsPermutation (map row_of (values m)) rows → IsPermutation (map row_of (values (with_each m news))) (put_each rows (map row_of news))
+  pub each_put : (news : List V) (m : FinMap nat_cmp V) (rows : List Row) → Own m → IsPermutation (map row_of (values m)) rows
+      → IsPermutation (map row_of (values (with_each m news))) (put_each rows (map row_of news))
   each_put [] m rows own held = held
   each_put (v ∷ news) m rows own held =
       each_put news (insert m (key v) v) (put_in (row_of v) rows) (own_inserted m v own) (IsPermutation-trans _ _ _ (put_rows m v own) (put_moved (row_of v) _ _ held))
 
-  pub each_cut : (keys : List ℕ) (m : FinMap nat_cmp V) (rows : List Row) → Own m → IsPermutation (map row_of (values m)) rows → IsPermutation (map row_of (values (less_each m keys))) (without_all rows (map pos keys))
+  pub each_cut : (keys : List ℕ) (m : FinMap nat_cmp V) (rows : List Row) → Own m → IsPermutation (map row_of (values m)) rows
+      → IsPermutation (map row_of (values (less_each m keys))) (without_all rows (map pos keys))
   each_cut [] m rows own held = held
   each_cut (k ∷ keys) m rows own held =
-      each_cut keys (remove m k) (without_rowid (pos k) rows) (own_removed m k own) (subst (λ xs. IsPermutation xs (without_rowid (pos k) rows)) (sym (cut_rows m k own)) (without_moved (pos k) _ _ held))
+      each_cut keys (remove m k) (without_rowid (pos k) rows) (own_removed m k own)
+      (subst (λ xs. IsPermutation xs (without_rowid (pos k) rows)) (sym (cut_rows m k own)) (without_moved (pos k) _ _ held))
 
   pub own_less : (keys : List ℕ) (m : FinMap nat_cmp V) → Own m → Own (less_each m keys)
   own_less [] m own = own
@@ -207,8 +218,10 @@ module _ {V : Type 0} (key : V → ℕ) (row_of : V → Row) (own_rowid : (v : V
   with_each_gets new [] m there all q = elim (all q) [ inl same ↦ same | inr it ↦ absurd it.1 ]
   with_each_gets new (x ∷ news) m there all q = with_each_gets new news (insert m (key x) x) (λ v h. there v (inr h)) (λ k. next k (eq_by_cmp nat_cmp k (key x)) refl (all k)) q
     where
-      next : (k : ℕ) (b : Bool) → eq_by_cmp nat_cmp k (key x) ≡ b → (get m k ≡ get new k) ⊎ ((v : V) × Has (x ∷ news) v × (key v ≡ k)) → (get (insert m (key x) x) k ≡ get new k) ⊎ ((v : V) × Has news v × (key v ≡ k))
-      next k true tie before = inl (get-insert number_total m (key x) x k ∙ ap (λ b. cond b (Some x) (get m k)) tie ∙ sym (there x (inl refl)) ∙ ap (get new) (sym (same_key nat_cmp-IsAntisymmetric k (key x) tie)))
+      next : (k : ℕ) (b : Bool) → eq_by_cmp nat_cmp k (key x) ≡ b → (get m k ≡ get new k) ⊎ ((v : V) × Has (x ∷ news) v × (key v ≡ k))
+          → (get (insert m (key x) x) k ≡ get new k) ⊎ ((v : V) × Has news v × (key v ≡ k))
+      next k true tie before = inl (get-insert number_total m (key x) x k ∙ ap (λ b. cond b (Some x) (get m k)) tie ∙ sym (there x (inl refl))
+          ∙ ap (get new) (sym (same_key nat_cmp-IsAntisymmetric k (key x) tie)))
       next k false tie (inl same) = inl (get-insert number_total m (key x) x k ∙ ap (λ b. cond b (Some x) (get m k)) tie ∙ same)
       next k false tie (inr it) = elim it.1 [
         | inl is ↦ absurd (
@@ -225,7 +238,8 @@ module _ {V : Type 0} (key : V → ℕ) (row_of : V → Row) (own_rowid : (v : V
 
   pub gone_key : (keys : List ℕ) (m : FinMap nat_cmp V) (q : ℕ) → Has keys q → get (less_each m keys) q ≡ None
   gone_key [] m q h = absurd h
-  gone_key (k ∷ keys) m q (inl is) = still_none keys (remove m k) q (get-remove number_total m k q ∙ ap (λ b. cond b None (get m q)) (ap (λ n. eq_by_cmp nat_cmp n k) is ∙ ap is_eq (tied_itself number_total k)))
+  gone_key (k ∷ keys) m q (inl is) = still_none keys (remove m k) q (get-remove number_total m k q
+      ∙ ap (λ b. cond b None (get m q)) (ap (λ n. eq_by_cmp nat_cmp n k) is ∙ ap is_eq (tied_itself number_total k)))
   gone_key (k ∷ keys) m q (inr h) = gone_key keys (remove m k) q h
 
   pub other_key : (keys : List ℕ) (m : FinMap nat_cmp V) (q : ℕ) → (Has keys q → ⊥) → get (less_each m keys) q ≡ get m q
@@ -259,7 +273,7 @@ module _ {V : Type 0} (key : V → ℕ) (row_of : V → Row) (own_rowid : (v : V
       at q None none = inl (gone q none ∙ sym none)
       at q (Some v) there = known q v there (differ.is_new v) refl
 
-  -- so a table that held the old map, less some keys, holds the new one once the new values are put in
+  -- so a table that held the old map, less some keys, holds the new one once the new values are written
   pub holds_new : Stable V → (old new : FinMap nat_cmp V) (keys : List ℕ) (news : List V) (rows : List Row) → Own old → Own new → AreNew key old new news
       → ((q : ℕ) → get new q ≡ None → get (less_each old keys) q ≡ None) → ((q : ℕ) (v : V) → get new q ≡ Some v → get (less_each old keys) q ≡ get old q)
       → IsPermutation (map row_of (values old)) rows → IsPermutation (map row_of (values new)) (put_each (without_all rows (map pos keys)) (map row_of news))
@@ -277,7 +291,8 @@ module _ {V : Type 0} (key : V → ℕ) (row_of : V → Row) (own_rowid : (v : V
   -- a table that held the old map holds the new one, where what was written is the new values and the keys are those that are gone
   pub table_new : Stable V → (old new : FinMap nat_cmp V) (keys : List ℕ) (news : List V) (written was now : List Row) → Own old → Own new → AreNew key old new news
       → ((q : ℕ) → get new q ≡ None → get (less_each old keys) q ≡ None) → ((q : ℕ) (v : V) → get new q ≡ Some v → get (less_each old keys) q ≡ get old q)
-      → written ≡ map row_of news → IsPermutation (map row_of (values old)) was → (IsTrue (have_rowids was) → IsPermutation (put_each (without_all was (map pos keys)) written) now) → IsPermutation (map row_of (values new)) now
+      → written ≡ map row_of news → IsPermutation (map row_of (values old)) was
+      → (IsTrue (have_rowids was) → IsPermutation (put_each (without_all was (map pos keys)) written) now) → IsPermutation (map row_of (values new)) now
   table_new stable old new keys news written was now own_old own_new differ gone stays same held turns =
       let keyed = keyed_moved (map row_of (values old)) was held (rows_keyed (values old)) in
       let holds = holds_new stable old new keys news was own_old own_new differ gone stays held in

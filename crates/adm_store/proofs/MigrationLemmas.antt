@@ -35,7 +35,8 @@ use Rattle.adm_rows.proofs.RegisterRows.{each_table}
 use Rattle.adm_rows.proofs.RowLemmas.{recursion_had}
 
 -- outside a transaction, what a connection sees of a file that represents a register in this version
-pub holds_in : (v : Version) (s : State) (r : Register) → ((db : Trees) → s.may_leave db → RepresentsIn v db r) → (IsTrue s.is_open → s.may_leave s.committed.trees) → (IsTrue s.is_open → s.now ≡ s.committed) → IsLive s
+pub holds_in : (v : Version) (s : State) (r : Register) → ((db : Trees) → s.may_leave db → RepresentsIn v db r) → (IsTrue s.is_open → s.may_leave s.committed.trees)
+    → (IsTrue s.is_open → s.now ≡ s.committed) → IsLive s
     → IsTrue s.is_open → (s.now.schema ≡ schema_of v) × HoldsRegister v s.now.trees r
 holds_in v s r before stays settled live is_open =
     let file = before s.committed.trees (stays is_open) in
@@ -62,7 +63,8 @@ module _ (begun mid last : State) (adds : AddsTable (schema_of First) register_s
       subst (λ rows. IsPermutation rows (rows_of meta last.now.trees)) (ap (map with_second) one ∙ ap (λ (r : Row). r ∷ []) is) moved
 
   none_there : (rows : List Row) → rows ≡ [] → HasRows present rows last.now.trees
-  none_there rows none = subst (λ xs. IsPermutation xs (rows_of present last.now.trees)) (sym none) (subst (λ xs. IsPermutation [] (map (columns_of present) xs)) (sym (after_made present has_present (λ e. absurd (omega (arith, e))) ∙ adds.none)) (IsPermutation-refl []))
+  none_there rows none = subst (λ xs. IsPermutation xs (rows_of present last.now.trees)) (sym none)
+      (subst (λ xs. IsPermutation [] (map (columns_of present) xs)) (sym (after_made present has_present (λ e. absurd (omega (arith, e))) ∙ adds.none)) (IsPermutation-refl []))
 
   -- a file of the first version is one of the second then, and represents the same register
   pub second_file : (r : Register) → HoldsRegister First begun.now.trees r → RepresentsIn Second last.now.trees r
@@ -88,7 +90,10 @@ module _ (begun mid last : State) (adds : AddsTable (schema_of First) register_s
                         kept offer _ (offer_in First) (offer_in Second) (λ e. absurd (omega (arith, e))) (held.rows.each offer (offer_in First)),
                         (
                           kept lot _ (lot_in First) (lot_in Second) (λ e. absurd (omega (arith, e))) (held.rows.each lot (lot_in First)),
-                          (kept imported _ (imported_in First) (imported_in Second) (λ e. absurd (omega (arith, e))) (held.rows.each imported (imported_in First)), (none_there _ (ap (map present_columns) held.rows.said.1), tt)),
+                          (
+                            kept imported _ (imported_in First) (imported_in Second) (λ e. absurd (omega (arith, e))) (held.rows.each imported (imported_in First)),
+                            (none_there _ (ap (map present_columns) held.rows.said.1), tt),
+                          ),
                         ),
                       ),
                     ),
@@ -106,21 +111,24 @@ module _ (begun mid last : State) (adds : AddsTable (schema_of First) register_s
 
 -- what the transaction of a migration leaves represents the same register
 pub migrated : {S : Type 0} (g : store.Ghosts S) (start begun : Held S) (mid last : State) (r : Register) → begun ≡ record start { in_transaction = true }
-    → (IsTrue (state g start).is_open → (state g start).may_leave (state g start).committed.trees) → (IsTrue (state g start).is_open → (state g start).now ≡ (state g start).committed) → IsLive (state g start)
+    → (IsTrue (state g start).is_open → (state g start).may_leave (state g start).committed.trees)
+    → (IsTrue (state g start).is_open → (state g start).now ≡ (state g start).committed) → IsLive (state g start)
     → LeavesAll First r (state g start) → doubt (state g begun).is_clean ≤ doubt mid.is_clean → doubt mid.is_clean ≤ doubt last.is_clean
     → (HasCleanDisk mid → MakesPresent (state g begun) mid) → (HasCleanDisk last → MakesSecond mid last) → HasCleanDisk last → RepresentsIn Second last.now.trees r
 migrated g start begun mid last r is stays settled live before clean1 clean2 makes marks late =
     let middle : HasCleanDisk mid = omega (arith, clean2, late) in
     let early : HasCleanDisk (state g begun) = omega (arith, clean1, middle) in
     let holds : HasCleanDisk (state g begun) → IsTrue (state g begun).is_open → ((state g begun).now.schema ≡ schema_of First) × HoldsRegister First (state g begun).now.trees r =
-    subst (λ h. HasCleanDisk (state g h) → IsTrue (state g h).is_open → ((state g h).now.schema ≡ schema_of First) × HoldsRegister First (state g h).now.trees r) (sym is) (λ c o. holds_in First (state g start) r (before c) stays settled live o) in
+    subst (λ h. HasCleanDisk (state g h) → IsTrue (state g h).is_open
+    → ((state g h).now.schema ≡ schema_of First) × HoldsRegister First (state g h).now.trees r) (sym is) (λ c o. holds_in First (state g start) r (before c) stays settled live o) in
     let adds = makes middle (λ o. (holds early o).0) in
     let second = marks late (λ o. (adds.schema, adds.sound)) in
     second_file (state g begun) mid last adds second r ((holds early adds.was_open).1)
 
 -- ---- a file that was read, and then brought to the second version
 
-module _ (v : Version) (r : Register) (start mid : State) (started : IsStarted start) (kept : Survives start mid (λ _. ⊥)) (stands : HasCleanDisk mid → IsTrue start.is_open → (db : Trees) → start.may_leave db → RepresentsIn v db r) where
+module _ (v : Version) (r : Register) (start mid : State) (started : IsStarted start) (kept : Survives start mid (λ _. ⊥)) (stands : HasCleanDisk mid
+    → IsTrue start.is_open → (db : Trees) → start.may_leave db → RepresentsIn v db r) where
   pub leaves_read : LeavesAll v r mid
   leaves_read clean db may =
       let early : HasCleanDisk start = omega (arith, kept.clean, clean) in
@@ -135,7 +143,14 @@ module _ (v : Version) (r : Register) (start mid : State) (started : IsStarted s
 
 -- what may be committed may be said more weakly
 pub weaker : (start end : State) (P Q : Trees → Type 0) → ((db : Trees) → P db → Q db) → Survives start end P → Survives start end Q
-weaker start end P Q f kept = record { clean = kept.clean; shield = kept.shield; counts = kept.counts; limit = kept.limit; closes = kept.closes; crash = λ clean db may. elim (kept.crash clean db may) [ inl was ↦ inl was | inr now ↦ inr (f db now) ] }
+weaker start end P Q f kept = record {
+  clean = kept.clean;
+  shield = kept.shield;
+  counts = kept.counts;
+  limit = kept.limit;
+  closes = kept.closes;
+  crash = λ clean db may. elim (kept.crash clean db may) [ inl was ↦ inl was | inr now ↦ inr (f db now) ];
+}
 
 -- where nothing was written, nothing was migrated
 pub as_it_was : (start end : State) → Survives start end (λ _. ⊥) → Survives start end (IsMigrated start)

@@ -181,11 +181,13 @@ module _ (old new : FinMap nat_cmp Child) (own_old : (k : ℕ) (c : Child) → g
         go true same = same
         go false other =
             let here = value_at nat_cmp_total nat_cmp-IsAntisymmetric (λ (w : Child). w.no) new own_new c there in
-            absurd (false≢true (sym is ∙ (differ.decides c here).1 (λ was. false≢true (sym other ∙ ap (λ o. is_same_present (option_and_then (λ (w : Child). w.present) o) c.present) was ∙ present_itself c.present))))
+            absurd (false≢true (sym is ∙ (differ.decides c here).1
+            (λ was. false≢true (sym other ∙ ap (λ o. is_same_present (option_and_then (λ (w : Child). w.present) o) c.present) was ∙ present_itself c.present))))
 
     -- so the numbers that move are those of the changed children
     moved_are : present_removed_of old news ≡ moved
-    moved_are = ap (flat_map (present_removed_by old)) differ.rows_are ∙ flat_map_where (present_removed_by old) differ.is_new (values new) (λ c there is. none_moved (was_present old c.no) c (as_it_was c there is))
+    moved_are = ap (flat_map (present_removed_by old)) differ.rows_are
+        ∙ flat_map_where (present_removed_by old) differ.is_new (values new) (λ c there is. none_moved (was_present old c.no) c (as_it_was c there is))
 
     -- and so are the rows that come
     arrived_are : flat_map (present_added_by old) news ≡ flat_map (present_added_by old) (values new)
@@ -195,8 +197,10 @@ module _ (old new : FinMap nat_cmp Child) (own_old : (k : ℕ) (c : Child) → g
   left_rows : (imported : List ImportRow) → filter (is_left moved) (presents_of (values old) imported) ≡ flat_map (kept_by old) (values new) ++ flat_map present_of_import imported
   left_rows imported =
       filter-append (is_left moved) (flat_map present_of_child (values old)) (flat_map present_of_import imported)
-      ∙ ap₂ ◌++◌ (ap (filter (is_left moved)) old_rows ∙ filter-flat_map (is_left moved) old_row (values new) ∙ flat_map_at (λ c. filter (is_left moved) (old_row c)) (kept_by old) (values new) left_row)
-      (filter-flat_map (is_left moved) present_of_import imported ∙ flat_map_same_on (λ r. filter (is_left moved) (present_of_import r)) present_of_import (λ r. at r.child.no r.child.present) imported)
+      ∙ ap₂ ◌++◌ (ap (filter (is_left moved)) old_rows ∙ filter-flat_map (is_left moved) old_row (values new)
+      ∙ flat_map_at (λ c. filter (is_left moved) (old_row c)) (kept_by old) (values new) left_row)
+      (filter-flat_map (is_left moved) present_of_import imported
+      ∙ flat_map_same_on (λ r. filter (is_left moved) (present_of_import r)) present_of_import (λ r. at r.child.no r.child.present) imported)
     where
       at : (k : ℕ) (o : Option (List ℕ)) → filter (is_left moved) (present_row k true o) ≡ present_row k true o
       at k None = refl
@@ -205,7 +209,8 @@ module _ (old new : FinMap nat_cmp Child) (own_old : (k : ℕ) (c : Child) → g
   -- what children keep and what comes are their rows
   rows_now : IsPermutation (flat_map present_of_child (values new)) (flat_map (kept_by old) (values new) ++ flat_map (present_added_by old) (values new))
   rows_now =
-      subst (λ l. IsPermutation l (flat_map (kept_by old) (values new) ++ flat_map (present_added_by old) (values new))) (flat_map_same_on (λ c. kept_by old c ++ present_added_by old c) present_of_child (kept_and_arrived old) (values new))
+      subst (λ l. IsPermutation l (flat_map (kept_by old) (values new) ++ flat_map (present_added_by old) (values new)))
+      (flat_map_same_on (λ c. kept_by old c ++ present_added_by old c) present_of_child (kept_and_arrived old) (values new))
       (flat_map_both (kept_by old) (present_added_by old) (values new))
 
   -- a table that had the rows of the old present schools has those of the new ones, once those that moved are dropped and those that come are added
@@ -222,11 +227,13 @@ module _ (old new : FinMap nat_cmp Child) (own_old : (k : ℕ) (c : Child) → g
       let more = flat_map present_of_import inews in
       let imports : IsPermutation (flat_map present_of_import (values inew)) (before ++ more) =
       subst (IsPermutation _) (flat_map-append present_of_import (values iold) inews)
-      (IsPermutation-flat_map present_of_import _ _ (IsPermutation-sym _ _ (old_and_new nat_cmp_total nat_cmp-IsAntisymmetric (λ (r : ImportRow). r.child.no) iold inew own_inew kept inews idiffer))) in
+      (IsPermutation-flat_map present_of_import _ _ (IsPermutation-sym _ _
+      (old_and_new nat_cmp_total nat_cmp-IsAntisymmetric (λ (r : ImportRow). r.child.no) iold inew own_inew kept inews idiffer))) in
       let rows = IsPermutation-trans _ _ _ (IsPermutation-append _ _ _ _ rows_now imports) (middle_turned stays comes before more) in
       let put = subst (IsPermutation _) (map-append present_columns (stays ++ before) (comes ++ more)) (IsPermutation-map present_columns _ _ rows) in
       let left : drop_each (map present_columns (presents_of (values old) (values iold))) (map moved_key (present_removed_of old news)) ≡ map present_columns (stays ++ before) =
-      ap (λ ks. drop_each (map present_columns (presents_of (values old) (values iold))) (map moved_key ks)) (moved_are news differ) ∙ drops present_columns moved_key moved (presents_of (values old) (values iold)) ∙ ap (map present_columns) (left_rows (values iold)) in
+      ap (λ ks. drop_each (map present_columns (presents_of (values old) (values iold))) (map moved_key ks)) (moved_are news differ)
+      ∙ drops present_columns moved_key moved (presents_of (values old) (values iold)) ∙ ap (map present_columns) (left_rows (values iold)) in
       let dropped = subst (λ l. IsPermutation l (drop_each was (map moved_key (present_removed_of old news)))) left (drops_moved (map moved_key (present_removed_of old news)) _ _ held) in
       let added = ap (λ l. map present_columns (l ++ more)) (arrived_are news differ) in
       let write = subst (λ l. IsPermutation (drop_each was (map moved_key (present_removed_of old news)) ++ l) now) added writes in

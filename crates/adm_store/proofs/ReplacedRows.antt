@@ -98,7 +98,8 @@ module _ {K V : Type 0} {R : K → K → Ordering} (total : IsTotalOrder R) (sam
       by (Some w) was = let it = row_there new k (stay k (ap is_some was)) in some_kept w it.0 was it.1 (differ.is_new it.0) refl
 
   kept_entries : where_key R stays_at (entries old) ≡ where_key R is_kept (entries new)
-  kept_entries = same_entries R total same (where_key R stays_at (entries old)) (where_key R is_kept (entries new)) (is_sorted-where_key R stays_at (entries old) (entries_sorted old)) (is_sorted-where_key R is_kept (entries new) (entries_sorted new))
+  kept_entries = same_entries R total same (where_key R stays_at (entries old)) (where_key R is_kept (entries new))
+      (is_sorted-where_key R stays_at (entries old) (entries_sorted old)) (is_sorted-where_key R is_kept (entries new) (entries_sorted new))
       (λ q. find-where_key R stays_at q (λ x tie. ap stays_at (sym (same q x tie))) (entries old) ∙ ap (λ o. cond (stays_at q) o None) (sym (get-entries old q)) ∙ at q
       ∙ ap (λ o. cond (is_kept q) o None) (get-entries new q) ∙ sym (find-where_key R is_kept q (λ x tie. ap is_kept (sym (same q x tie))) (entries new)))
 
@@ -112,7 +113,8 @@ module _ {K V : Type 0} {R : K → K → Ordering} (total : IsTotalOrder R) (sam
   kept_and_new : IsPermutation (values new) (filter (λ v. stays_at (key v)) (values old) ++ news)
   kept_and_new =
       let both = IsPermutation-filter_both (λ v. not (differ.is_new v)) differ.is_new (λ v. not_not (differ.is_new v)) (values new) in
-      subst (λ xs. IsPermutation (values new) (xs ++ news)) (sym kept_values) (subst (λ xs. IsPermutation (values new) (filter (λ v. not (differ.is_new v)) (values new) ++ xs)) (sym differ.rows_are) both)
+      subst (λ xs. IsPermutation (values new) (xs ++ news)) (sym kept_values)
+      (subst (λ xs. IsPermutation (values new) (filter (λ v. not (differ.is_new v)) (values new) ++ xs)) (sym differ.rows_are) both)
 
   -- a table that had the rows of the old map has those of the new one, once these keys dropped rows and the new ones are added
   pub replaced_rows : (row_of : V → Row) (key_of : K → Row) → ((k : K) (v : V) → begins_with (key_of k) (row_of v) ≡ eq_by_cmp R (key v) k) → (written was now : List Row) → written ≡ map row_of news

@@ -28,15 +28,18 @@ use Rattle.adm_store.proofs.LogLemmas.{add_one}
 stored_school : (it : SchoolRow) (rows : List Row) → with_rowid Chosen rows (cast_row school (Null ∷ written_school it)) ≡ Int (next_rowid rows) ∷ written_school it
 stored_school it rows = rw (cast_null, cast_int (pos it.pan), cast_int (pos it.east), cast_int (pos it.north))
 
-pub adds_school : (old new : State) (count : ℕ) (it : SchoolRow) → doubt old.is_clean ≤ doubt new.is_clean → (HasCleanDisk new → ExecutesInside 0 insert_school (written_school it) old new (Ok count)) → Writes (write_of Adds school written_school (it ∷ []) ∷ []) old new
+pub adds_school : (old new : State) (count : ℕ) (it : SchoolRow) → doubt old.is_clean ≤ doubt new.is_clean
+    → (HasCleanDisk new → ExecutesInside 0 insert_school (written_school it) old new (Ok count)) → Writes (write_of Adds school written_school (it ∷ []) ∷ []) old new
 adds_school old new count it later ran = add_one school has_school old new later refl (written_school it) (λ clean sees.
     let early : HasCleanDisk old = omega (arith, later, clean) in
     let h = ran clean in
     adds register_schema school 1 refl refl refl (λ _ _. refl) old new (Null ∷ written_school it) (written_school it) (λ rows. ap (columns_of school) (stored_school it rows))
-    (inserted register_schema school 1 refl refl refl (λ _ _. refl) school_terms 7 insert_school (written_school it) (Null ∷ written_school it) old new count inserts_school.0 inserts_school.1 refl (sees early h.1.was_open) h))
+    (inserted register_schema school 1 refl refl refl (λ _ _. refl) school_terms 7 insert_school (written_school it)
+    (Null ∷ written_school it) old new count inserts_school.0 inserts_school.1 refl (sees early h.1.was_open) h))
 
 -- the row of a school is found, and deleted
-pub drops_school_row : (old mid new : State) (code : List ℕ) (shown : Row) → doubt old.is_clean ≤ doubt mid.is_clean → doubt mid.is_clean ≤ doubt new.is_clean → (HasCleanDisk mid → Shown find_school (code_row code) old mid (shown ∷ []))
+pub drops_school_row : (old mid new : State) (code : List ℕ) (shown : Row) → doubt old.is_clean ≤ doubt mid.is_clean → doubt mid.is_clean ≤ doubt new.is_clean
+    → (HasCleanDisk mid → Shown find_school (code_row code) old mid (shown ∷ []))
     → (HasCleanDisk new → DeletesFound delete_school shown mid new) → Writes (write_of Drops school code_row (code ∷ []) ∷ []) old new
 drops_school_row old mid new code shown first second search cuts = found_and_cut school has_school refl find_school finds_school.2 (code_row code) delete_school old mid new shown first second
     (λ k has same number found h. drops_school code k shown old mid new has same number found h) search cuts

@@ -17,7 +17,7 @@ use Rattle.adm_rows.specs.Forms.{school_row}
 use Rattle.adm_store.specs.Schools.{code_row, replaced_by, replaced_of}
 use Rattle.adm_store.proofs.MapLemmas.{coded_stable}
 use Rattle.adm_rows.proofs.PresentLists.{from_given, is_given}
-use Rattle.adm_rows.proofs.RegisterRows.{same_code}
+use Rattle.adm_rows.proofs.RowsFit.{same_code}
 use Rattle.adm_store.proofs.ReplacedRows.{replaced_rows}
 
 -- the test by which a code drops the row of a school
@@ -47,4 +47,5 @@ module _ (old new : FinMap code_cmp School) (own_old : (k : List ℕ) (s : Schoo
   pub schools_written : (written was now : List Row) → written ≡ map school_row news → IsPermutation (map school_row (values old)) was
       → IsPermutation (fold (λ rows key. drop_of key rows) was (map code_row (replaced_of old news)) ++ written) now → IsPermutation (map school_row (values new)) now
   schools_written written was now is held writes =
-      replaced_rows nat_list_cmp_total same_code (λ (s : School). s.code) (coded_stable school_code.coded) old new own_old own_new stay news differ (replaced_of old news) covers only school_row code_row begins_code written was now is held writes
+      replaced_rows nat_list_cmp_total same_code (λ (s : School). s.code) (coded_stable school_code.coded) old new own_old own_new stay news differ
+      (replaced_of old news) covers only school_row code_row begins_code written was now is held writes

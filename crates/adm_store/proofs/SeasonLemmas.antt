@@ -32,14 +32,16 @@ source it = Int (pos 1) ∷ Null ∷ Int (pos 2) ∷ Int (pos (phase_code it.pha
 stored_season : (it : SeasonRow) (rows : List Row) → with_rowid Chosen rows (cast_row meta (source it)) ≡ source it
 stored_season it rows = rw (cast_null, cast_int (pos 1), cast_int (pos 2), cast_int (pos (phase_code it.phase)), cast_int (pos it.year), cast_int (pos 0))
 
-pub adds_season : (old new : State) (count : ℕ) (it : SeasonRow) → doubt old.is_clean ≤ doubt new.is_clean → (HasCleanDisk new → ExecutesInside 0 insert_meta (season_values it) old new (Ok count)) → Writes (write_of Adds meta written_season (it ∷ []) ∷ []) old new
+pub adds_season : (old new : State) (count : ℕ) (it : SeasonRow) → doubt old.is_clean ≤ doubt new.is_clean
+    → (HasCleanDisk new → ExecutesInside 0 insert_meta (season_values it) old new (Ok count)) → Writes (write_of Adds meta written_season (it ∷ []) ∷ []) old new
 adds_season old new count it later ran = add_keyed meta has_meta old new later refl (written_season it) refl (λ clean sees.
     let early : HasCleanDisk old = omega (arith, later, clean) in
     let h = ran clean in
     adds register_schema meta 0 refl refl refl (λ _ _. refl) old new (source it) (written_season it) (λ rows. ap (columns_of meta) (stored_season it rows))
     (inserted register_schema meta 0 refl refl refl (λ _ _. refl) meta_terms 7 insert_meta (season_values it) (source it) old new count inserts_meta.0 inserts_meta.1 refl (sees early h.1.was_open) h))
 
-pub sets_count : (old new : State) (count : ℕ) (it : DrawRow) → doubt old.is_clean ≤ doubt new.is_clean → (HasCleanDisk new → ExecutesInside 0 update_meta (written_count it) old new (Ok count)) → Writes (write_of Sets meta written_count (it ∷ []) ∷ []) old new
+pub sets_count : (old new : State) (count : ℕ) (it : DrawRow) → doubt old.is_clean ≤ doubt new.is_clean
+    → (HasCleanDisk new → ExecutesInside 0 update_meta (written_count it) old new (Ok count)) → Writes (write_of Sets meta written_count (it ∷ []) ∷ []) old new
 sets_count old new count it later ran = set_one old new later (pos it.draw) (λ clean sees sound.
     let early : HasCleanDisk old = omega (arith, later, clean) in
     let h = ran clean in

@@ -28,7 +28,8 @@ module _ {V : Type 0} (key : V → ℕ) (row_of : V → Row) (own_rowid : (v : V
     (old new : FinMap nat_cmp V) (own_old : (k : ℕ) (v : V) → get old k ≡ Some v → key v ≡ k) (own_new : (k : ℕ) (v : V) → get new k ≡ Some v → key v ≡ k)
     (news : List V) (differ : AreNew key old new news) (written was now : List Row) (same : written ≡ map row_of news) (held : IsPermutation (map row_of (values old)) was) where
   -- where each key stays
-  pub put_over : ((q : ℕ) → IsTrue (contains_key old q) → IsTrue (contains_key new q)) → (IsTrue (have_rowids was) → IsPermutation (put_each was written) now) → IsPermutation (map row_of (values new)) now
+  pub put_over : ((q : ℕ) → IsTrue (contains_key old q) → IsTrue (contains_key new q)) → (IsTrue (have_rowids was) → IsPermutation (put_each was written) now)
+      → IsPermutation (map row_of (values new)) now
   put_over stay turns = table_new key row_of own_rowid stable old new [] news written was now own_old own_new differ (λ q none. still q none (get old q) refl) (λ q v there. refl) same held turns
     where
       still : (q : ℕ) → get new q ≡ None → (o : Option V) → get old q ≡ o → get old q ≡ None
@@ -40,7 +41,8 @@ module _ {V : Type 0} (key : V → ℕ) (row_of : V → Row) (own_rowid : (v : V
       → (IsTrue (have_rowids was) → IsPermutation (put_each (without_all was (map integer_key (map key_row keys))) written) now) → IsPermutation (map row_of (values new)) now
   cut_and_put keys are turns =
       table_new key row_of own_rowid stable old new keys news written was now own_old own_new differ (λ q none. gone q none (get old q) refl)
-      (λ q v there. other_key key row_of own_rowid keys old q (λ h. stays q v there h)) same held (λ keyed. subst (λ ks. IsPermutation (put_each (without_all was ks) written) now) (keys_are keys) (turns keyed))
+      (λ q v there. other_key key row_of own_rowid keys old q (λ h. stays q v there h)) same held
+      (λ keyed. subst (λ ks. IsPermutation (put_each (without_all was ks) written) now) (keys_are keys) (turns keyed))
     where
       gone : (q : ℕ) → get new q ≡ None → (o : Option V) → get old q ≡ o → get (less_each key row_of own_rowid old keys) q ≡ None
       gone q none None is = still_none key row_of own_rowid keys old q is
@@ -48,7 +50,8 @@ module _ {V : Type 0} (key : V → ℕ) (row_of : V → Row) (own_rowid : (v : V
           let at : key v ≡ q = own_old q v is in
           let without : not (contains_key new (key v)) ≡ true = ap (λ k. not (contains_key new k)) at ∙ ap (λ o. not (is_some o)) none in
           let ended = has_kept (λ v. not (contains_key new (key v))) (values old) v (has_value nat_cmp_total nat_cmp-IsAntisymmetric old q v is) without in
-          gone_key key row_of own_rowid keys old q (subst (λ ks. Has ks q) (sym are) (subst (Has (map key (filter (λ v. not (contains_key new (key v))) (values old)))) at (has_mapped key (filter (λ v. not (contains_key new (key v))) (values old)) v ended)))
+          gone_key key row_of own_rowid keys old q (subst (λ ks. Has ks q) (sym are)
+          (subst (Has (map key (filter (λ v. not (contains_key new (key v))) (values old)))) at (has_mapped key (filter (λ v. not (contains_key new (key v))) (values old)) v ended)))
 
       stays : (q : ℕ) (v : V) → get new q ≡ Some v → Has keys q → ⊥
       stays q v there h =

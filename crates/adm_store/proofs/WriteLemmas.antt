@@ -53,28 +53,34 @@ stored (key ∷ row) = key ∷ Null ∷ row
 stored_child : (it : ChildRow) → cast_row child (stored (written_child it)) ≡ stored (written_child it)
 stored_child it = simp (cast_null, cast_int) refl
 
-pub writes_child : (old new : State) (it : ChildRow) → doubt old.is_clean ≤ doubt new.is_clean → RunsText text.put_child (written_child it) old new → Writes (write_of Puts child written_child (it ∷ []) ∷ []) old new
+pub writes_child : (old new : State) (it : ChildRow) → doubt old.is_clean ≤ doubt new.is_clean → RunsText text.put_child (written_child it) old new
+    → Writes (write_of Puts child written_child (it ∷ []) ∷ []) old new
 writes_child old new it later ran = put_one child has_child old new later refl (written_child it) (λ clean sees.
     let early : HasCleanDisk old = omega (arith, later, clean) in
     let h = (ran clean).1 in
-    puts_row register_schema child 2 refl refl refl (λ _ _. refl) (λ _. refl) (given_terms child_columns) (suc (length child_columns)) text.put_child (written_child it) (stored (written_child it)) (written_child it) (pos it.columns.0) old new (ran clean).0 (λ _ _. refl)
+    puts_row register_schema child 2 refl refl refl (λ _ _. refl) (λ _. refl) (given_terms child_columns) (suc (length child_columns)) text.put_child (written_child it)
+    (stored (written_child it)) (written_child it) (pos it.columns.0) old new (ran clean).0 (λ _ _. refl)
     puts_child.0 puts_child.1 refl (stored_child it) (stored_child it) refl refl (sees early h.1.was_open) h)
 
 stored_application : (it : ApplicationRow) → cast_row application (stored (written_application it)) ≡ stored (written_application it)
 stored_application it = simp (cast_null, cast_int) refl
 
-pub writes_application : (old new : State) (it : ApplicationRow) → doubt old.is_clean ≤ doubt new.is_clean → RunsText text.put_application (written_application it) old new → Writes (write_of Puts application written_application (it ∷ []) ∷ []) old new
+pub writes_application : (old new : State) (it : ApplicationRow) → doubt old.is_clean ≤ doubt new.is_clean
+    → RunsText text.put_application (written_application it) old new → Writes (write_of Puts application written_application (it ∷ []) ∷ []) old new
 writes_application old new it later ran = put_one application has_application old new later refl (written_application it) (λ clean sees.
     let early : HasCleanDisk old = omega (arith, later, clean) in
     let h = (ran clean).1 in
-    puts_row register_schema application 3 refl refl refl (λ _ _. refl) (λ _. refl) (given_terms application_columns) (suc (length application_columns)) text.put_application (written_application it) (stored (written_application it)) (written_application it) (pos it.columns.0) old new (ran clean).0 (λ _ _. refl)
+    puts_row register_schema application 3 refl refl refl (λ _ _. refl) (λ _. refl) (given_terms application_columns)
+    (suc (length application_columns)) text.put_application (written_application it) (stored (written_application it)) (written_application it) (pos it.columns.0) old new (ran clean).0 (λ _ _. refl)
     puts_application.0 puts_application.1 refl (stored_application it) (stored_application it) refl refl (sees early h.1.was_open) h)
 
-pub cuts_application_out : (old new : State) (count : ℕ) (number : ℕ) → doubt old.is_clean ≤ doubt new.is_clean → (HasCleanDisk new → ExecutesInside 0 text.delete_application (key_row number) old new (Ok count)) → Writes (write_of Cuts application key_row (number ∷ []) ∷ []) old new
+pub cuts_application_out : (old new : State) (count : ℕ) (number : ℕ) → doubt old.is_clean ≤ doubt new.is_clean
+    → (HasCleanDisk new → ExecutesInside 0 text.delete_application (key_row number) old new (Ok count)) → Writes (write_of Cuts application key_row (number ∷ []) ∷ []) old new
 cuts_application_out old new count number later ran = cut_one application has_application old new later refl number (λ clean sees.
     let early : HasCleanDisk old = omega (arith, later, clean) in
     let h = ran clean in
-    cuts_row register_schema application 3 refl refl refl (λ _ _. refl) (λ _. refl) text.delete_application (pos number) old new count cuts_application.0 cuts_application.1 refl (sees early h.1.was_open) h)
+    cuts_row register_schema application 3 refl refl refl (λ _ _. refl) (λ _. refl) text.delete_application
+    (pos number) old new count cuts_application.0 cuts_application.1 refl (sees early h.1.was_open) h)
 
 mended_place : (it : PlaceRow) → mended Replace place (stored (place_row it)) ≡ stored (place_row it)
 mended_place it = go it.place.state
@@ -97,7 +103,8 @@ stored_place it = go it.place.state
 given_place : (it : PlaceRow) → value_rows (place_row it) 6 1 text.place_terms ≡ stored (place_row it) ∷ []
 given_place it = go it.place.state
   where
-    go : (state : PlaceState) → value_rows (Int (pos it.child) ∷ Text it.place.school ∷ state_columns state) 6 1 text.place_terms ≡ (Int (pos it.child) ∷ Null ∷ Text it.place.school ∷ state_columns state) ∷ []
+    go : (state : PlaceState) → value_rows (Int (pos it.child) ∷ Text it.place.school ∷ state_columns state) 6 1 text.place_terms ≡ (Int
+        (pos it.child) ∷ Null ∷ Text it.place.school ∷ state_columns state) ∷ []
     go (Offered day None) = refl
     go (Offered day (Some reminded)) = refl
     go Accepted = refl
@@ -112,14 +119,17 @@ shown_place it = go it.place.state
     go Accepted = refl
     go Plan = refl
 
-pub writes_place : (old new : State) (count : ℕ) (it : PlaceRow) → doubt old.is_clean ≤ doubt new.is_clean → (HasCleanDisk new → ExecutesInside 0 text.put_place (place_row it) old new (Ok count)) → Writes (write_of Puts place place_row (it ∷ []) ∷ []) old new
+pub writes_place : (old new : State) (count : ℕ) (it : PlaceRow) → doubt old.is_clean ≤ doubt new.is_clean
+    → (HasCleanDisk new → ExecutesInside 0 text.put_place (place_row it) old new (Ok count)) → Writes (write_of Puts place place_row (it ∷ []) ∷ []) old new
 writes_place old new count it later ran = put_one place has_place old new later refl (place_row it) (λ clean sees.
     let early : HasCleanDisk old = omega (arith, later, clean) in
     let h = ran clean in
-    puts_row register_schema place 4 refl refl refl (λ _ _. refl) (λ _. refl) text.place_terms 6 text.put_place (place_row it) (stored (place_row it)) (place_row it) (pos it.child) old new count (λ _ _. refl)
+    puts_row register_schema place 4 refl refl refl (λ _ _. refl) (λ _. refl) text.place_terms 6 text.put_place (place_row it) (stored (place_row it)) (place_row it)
+    (pos it.child) old new count (λ _ _. refl)
     puts_place.0 puts_place.1 (given_place it) (ap (cast_row place) (mended_place it) ∙ stored_place it) (stored_place it) refl (shown_place it) (sees early h.1.was_open) h)
 
-pub cuts_place_out : (old new : State) (count : ℕ) (number : ℕ) → doubt old.is_clean ≤ doubt new.is_clean → (HasCleanDisk new → ExecutesInside 0 text.delete_place (key_row number) old new (Ok count)) → Writes (write_of Cuts place key_row (number ∷ []) ∷ []) old new
+pub cuts_place_out : (old new : State) (count : ℕ) (number : ℕ) → doubt old.is_clean ≤ doubt new.is_clean
+    → (HasCleanDisk new → ExecutesInside 0 text.delete_place (key_row number) old new (Ok count)) → Writes (write_of Cuts place key_row (number ∷ []) ∷ []) old new
 cuts_place_out old new count number later ran = cut_one place has_place old new later refl number (λ clean sees.
     let early : HasCleanDisk old = omega (arith, later, clean) in
     let h = ran clean in
@@ -128,12 +138,14 @@ cuts_place_out old new count number later ran = cut_one place has_place old new 
 given_left : (it : LeftPair) (rows : List Row) → with_rowid Chosen rows (cast_row left_list (Null ∷ left_row it)) ≡ Int (next_rowid rows) ∷ left_row it
 given_left it rows = rw (cast_null, cast_int (pos it.child))
 
-pub adds_left : (old new : State) (count : ℕ) (it : LeftPair) → doubt old.is_clean ≤ doubt new.is_clean → (HasCleanDisk new → ExecutesInside 0 insert_left_list (left_row it) old new (Ok count)) → Writes (write_of Adds left_list left_row (it ∷ []) ∷ []) old new
+pub adds_left : (old new : State) (count : ℕ) (it : LeftPair) → doubt old.is_clean ≤ doubt new.is_clean
+    → (HasCleanDisk new → ExecutesInside 0 insert_left_list (left_row it) old new (Ok count)) → Writes (write_of Adds left_list left_row (it ∷ []) ∷ []) old new
 adds_left old new count it later ran = add_one left_list has_left_list old new later refl (left_row it) (λ clean sees.
     let early : HasCleanDisk old = omega (arith, later, clean) in
     let h = ran clean in
     adds register_schema left_list 5 refl refl refl (λ _ _. refl) old new (Null ∷ left_row it) (left_row it) (λ rows. ap (columns_of left_list) (given_left it rows))
-    (inserted register_schema left_list 5 refl refl refl (λ _ _. refl) left_list_terms 3 insert_left_list (left_row it) (Null ∷ left_row it) old new count inserts_left_list.0 inserts_left_list.1 refl (sees early h.1.was_open) h))
+    (inserted register_schema left_list 5 refl refl refl (λ _ _. refl) left_list_terms 3 insert_left_list (left_row it)
+    (Null ∷ left_row it) old new count inserts_left_list.0 inserts_left_list.1 refl (sees early h.1.was_open) h))
 
 given_imported : (it : ImportedRow) (rows : List Row) → with_rowid Chosen rows (cast_row imported (stored (written_imported it))) ≡ stored (written_imported it)
 given_imported it rows = simp (cast_null, cast_int) refl
@@ -144,4 +156,5 @@ adds_imported old new it later ran = add_keyed imported has_imported old new lat
     let early : HasCleanDisk old = omega (arith, later, clean) in
     let h = (ran clean).1 in
     adds register_schema imported 9 refl refl refl (λ _ _. refl) old new (stored (written_imported it)) (written_imported it) (λ rows. ap (columns_of imported) (given_imported it rows))
-    (inserted register_schema imported 9 refl refl refl (λ _ _. refl) (given_terms imported_columns) (suc (length imported_columns)) insert_imported (written_imported it) (stored (written_imported it)) old new (ran clean).0 inserts_imported.0 inserts_imported.1 refl (sees early h.1.was_open) h))
+    (inserted register_schema imported 9 refl refl refl (λ _ _. refl) (given_terms imported_columns) (suc (length imported_columns)) insert_imported (written_imported it)
+    (stored (written_imported it)) old new (ran clean).0 inserts_imported.0 inserts_imported.1 refl (sees early h.1.was_open) h))

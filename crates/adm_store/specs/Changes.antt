@@ -4,8 +4,7 @@ use Rattle.std.specs.List.{flat_map}
 use Rattle.adm_types.specs.Seasons.{SeasonFacts, IsSeason}
 use Rattle.adm_types.specs.declared.draws.DrawRow.{DrawRow}
 use Rattle.adm_draws.specs.Draws.{row_of, offer_rows_of, lot_rows_of}
-use Rattle.adm_register.specs.State.{only_season}
-use Rattle.adm_register.specs.State.{State as Register}
+use Rattle.adm_register.specs.State.{only_season, State as Register}
 use Rattle.adm_register.specs.WellFormed.{WellFormed}
 use Rattle.adm_register.specs.Extends.{Extends}
 use Rattle.adm_register.specs.Difference.{IsDifference}
@@ -109,14 +108,16 @@ pub record IsStep (old new : Register) (changes : Changes) : Type 0 where
   pub extends : Extends old new
   pub formed : WellFormed new
 
--- where all that a crash could leave represented a register, this is so of each one to which these changes are the step
-abbrev pub AtNext : Changes → State → (Register → Type 0) → Type 0
-AtNext changes before P = (old new : Register) → IsStep old new changes → LeavesOnly old before → P new
-
 -- where all that a crash could leave represented the old register, all that it may leave now represents the new one
 abbrev pub Commits : Changes → State → State → Type 0
-Commits changes before after = AtNext changes before (λ new. LeavesOnly new after)
+Commits changes before after = (old new : Register) → IsStep old new changes → LeavesOnly old before → LeavesOnly new after
 
--- then each thing that it may leave represents the old or the new one
+-- where all that a crash could leave represented the old register, each thing that it may leave now represents the old or the new one
 abbrev pub CommitsOrNot : Changes → State → State → Type 0
 CommitsOrNot changes before after = (old new : Register) → IsStep old new changes → LeavesOnly old before → LeavesEither old new after
+
+-- ---- for a private clause
+
+-- where all that a crash could leave represented a register, this holds of each one to which these changes are the step
+abbrev pub AtNext : Changes → State → (Register → Type 0) → Type 0
+AtNext changes before P = (old new : Register) → IsStep old new changes → LeavesOnly old before → P new

@@ -39,6 +39,7 @@ pub(crate) fn migrate<S: Alter>(conn: &mut Connection<S>) -> Result<(), Error>
     ensures committed { HasCleanDisk (state S.Store conn.new) → OnOk result (Migrates (state S.Store conn.old) (state S.Store conn.new)) }
     ensures survives { (r : RegisterFacts) → LeavesAll First r (state S.Store conn.old) → Survives (state S.Store conn.old) (state S.Store conn.new) (λ db. RepresentsIn Second db r) }
 {
+    // stated for the proof: no transaction is open
     let at_rest = conn.is_autocommit();
     prove!(at_rest);
     // that the connection sees a database, a call of it says

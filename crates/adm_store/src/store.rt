@@ -11,7 +11,7 @@ ghost use Rattle.adm_rows.specs.Represents.{IsStarted, RepresentsIn, RepresentsN
 ghost use Rattle.adm_store.specs.Migration.{IsMigrated};
 ghost use Rattle.adm_rows.specs.Faults.{IsNoRegister};
 ghost use Rattle.adm_rows.specs.FirstFault.{IsFirstFault};
-ghost use Rattle.adm_rows.specs.Causes.{HasDiskCause};
+ghost use Rattle.adm_rows.specs.Causes.{OnCleanDisk, HasDiskCause};
 ghost use Rattle.adm_store.specs.Writes.{count_of, base_writes, place_writes, draw_writes, import_writes, writes_of, Writes};
 
 use crate::applications::{DeleteApplication, PutApplication};
@@ -83,13 +83,14 @@ pub fn create<S: Alter>(
 fn read<S: Alter>(alloc: Global, conn: &mut Connection<S>) -> Result<(Version, Register), OpenFault>
     requires { conn.old.in_transaction ≡ false }
     ensures ended { conn.new.in_transaction ≡ false }
-    ensures ok { HasCleanDisk (state S.Store conn.new) → IsTrue (state S.Store conn.old).is_open → IfOk result (λ it. (db : Trees) → (state S.Store conn.old).may_leave db → RepresentsIn it.0 db it.1) }
+    ensures ok { OnCleanDisk (state S.Store conn.old) (state S.Store conn.new) (IfOk result (λ it. (db : Trees) → (state S.Store conn.old).may_leave db → RepresentsIn it.0 db it.1)) }
     ensures tables { IfOk result (λ it. conn.old.schema ≡ schema_of it.0) }
-    ensures bad { HasCleanDisk (state S.Store conn.new) → IsTrue (state S.Store conn.old).is_open → IfErr result (λ e. IsNoRegister e → (db : Trees) → (state S.Store conn.old).may_leave db → RepresentsNone db) }
+    ensures bad { OnCleanDisk (state S.Store conn.old) (state S.Store conn.new) (IfErr result (λ e. IsNoRegister e → (db : Trees) → (state S.Store conn.old).may_leave db → RepresentsNone db)) }
     ensures first { HasCleanDisk (state S.Store conn.new) → IfErr result (λ e. IsNoRegister e → IsFirstFault (state S.Store conn.old).now e) }
     ensures disk { IfErr result (λ e. e ≡ OpenFault.Disk → HasDiskCause (state S.Store conn.old) (state S.Store conn.new)) }
     ensures survives { Survives (state S.Store conn.old) (state S.Store conn.new) (λ _. ⊥) }
 {
+    // stated for the proof: no transaction is open
     let at_rest = conn.is_autocommit();
     prove!(at_rest);
     let version = version_of(conn.schema());
@@ -269,6 +270,7 @@ fn write<S: Alter>(conn: &mut Connection<S>, changes: &Changes) -> Result<(), Er
     ensures committed { HasCleanDisk (state S.Store conn.new) → OnOk result (IsTrue (state S.Store conn.new).is_open × AtNext changes.now (state S.Store conn.old) (RepresentsIn Second (state S.Store conn.new).committed.trees)) }
     ensures survives { AtNext changes.now (state S.Store conn.old) (λ new. Survives (state S.Store conn.old) (state S.Store conn.new) (λ db. RepresentsIn Second db new)) }
 {
+    // stated for the proof: no transaction is open
     let at_rest = conn.is_autocommit();
     prove!(at_rest);
     // that the connection sees a database, a call of it says

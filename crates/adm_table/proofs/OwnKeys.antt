@@ -41,7 +41,9 @@ module _ {K V : Type 0} (R : K → K → Ordering) where
   own_keys key (e ∷ es) v none keyed =
       let first : key e.1 ≡ e.0 = cc (keyed) in
       let others : map key (values_of es) ≡ keys_of es = cc (keyed) in
-      elim (R (key v) e.0) as (λ r. R (key v) e.0 ≡ r → map key (values_of (match_ordering r ((key v, v) ∷ e ∷ es) ((e.0, v) ∷ es) (e ∷ insert_entry R es (key v) v))) ≡ keys_of (match_ordering r ((key v, v) ∷ e ∷ es) ((e.0, v) ∷ es) (e ∷ insert_entry R es (key v) v))) [
+      elim (R (key v) e.0) as (λ r. R (key v) e.0 ≡ r → map key
+      (values_of (match_ordering r ((key v, v) ∷ e ∷ es) ((e.0, v) ∷ es) (e ∷ insert_entry R es (key v) v))) ≡ keys_of
+      (match_ordering r ((key v, v) ∷ e ∷ es) ((e.0, v) ∷ es) (e ∷ insert_entry R es (key v) v))) [
         | Less ↦ λ is i. key v ∷ keyed i
         | Equal ↦ λ is. absurd (not_none e.1 (sym (ap (λ r. cond (is_eq r) (Some e.1) (lookup (is_at (R (key v))) es)) is) ∙ none))
         | Greater ↦ λ is i. first i ∷ own_keys key es v (sym (ap (λ r. cond (is_eq r) (Some e.1) (lookup (is_at (R (key v))) es)) is) ∙ none) others i

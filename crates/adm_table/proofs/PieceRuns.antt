@@ -31,7 +31,8 @@ module _ {K V : Type 0} where
 
   rows-around : (place : ℕ) (pieces : List (Piece K V)) → rows_of_pieces pieces ≡ rows_of_pieces (take place pieces) ++ (first_rows (drop place pieces) ++ rows_of_pieces (drop (place + 1) pieces))
   rows-around place pieces =
-      sym (rows-at place pieces) ∙ ap (λ rows. rows_of_pieces (take place pieces) ++ rows) (rows-from place pieces ∙ ap (λ n. first_rows (drop place pieces) ++ rows_of_pieces (drop n pieces)) (sym (add-one place)))
+      sym (rows-at place pieces) ∙ ap (λ rows. rows_of_pieces (take place pieces) ++ rows) (rows-from place pieces
+      ∙ ap (λ n. first_rows (drop place pieces) ++ rows_of_pieces (drop n pieces)) (sym (add-one place)))
 
   starts-before : (place : ℕ) (pieces : List (Piece K V)) → AllByRecursion StartsRight pieces → AllByRecursion StartsRight (take place pieces)
   starts-before place pieces starts = all-first StartsRight (take place pieces) (drop place pieces) (subst (AllByRecursion StartsRight) (sym (take-append-drop place pieces)) starts)
@@ -64,7 +65,8 @@ module _ {K V : Type 0} where
   split-keys : (place : ℕ) (pieces : List (Piece K V)) → keys_of (rows_of_pieces pieces) ≡ keys_of (rows_of_pieces (take place pieces)) ++ keys_of (rows_of_pieces (drop place pieces))
   split-keys place pieces = ap keys_of (sym (rows-at place pieces)) ∙ keys-both (rows_of_pieces (take place pieces)) (rows_of_pieces (drop place pieces))
 
-module _ {K V : Type 0} {R : K → K → Ordering} (total : IsTotalOrder R) (place : ℕ) (pieces : List (Piece K V)) (piece : Piece K V) (key : K) (within : place < length pieces) (at : piece ≡ get_or pieces place piece) (are : ArePieces R pieces) where
+module _ {K V : Type 0} {R : K → K → Ordering} (total : IsTotalOrder R) (place : ℕ) (pieces : List (Piece K V)) (piece : Piece K V) (key : K)
+    (within : place < length pieces) (at : piece ≡ get_or pieces place piece) (are : ArePieces R pieces) where
   in_order : IsStrictlySortedBy R (keys_of (rows_of_pieces (take place pieces)) ++ piece.first ∷ (keys-at place pieces piece within at are.starts).0)
   in_order =
       subst (IsStrictlySortedBy R) (split-keys place pieces ∙ ap (λ ks. keys_of (rows_of_pieces (take place pieces)) ++ ks) (keys-at place pieces piece within at are.starts).1) are.sorted
@@ -121,11 +123,13 @@ module _ {K V : Type 0} where
       let entries = ap (λ m. m.entries) rows in (
         ap rows_of_pieces pushed ∙ rows-both copies (copy ∷ []) ∙ (λ i. so_far.0 i ++ (entries i ++ [])) ∙ ap (λ p. rows_of_pieces (take place pieces) ++ rows_of_pieces (p ∷ [])) at
             ∙ sym (rows-both (take place pieces) (get_or pieces place piece ∷ [])) ∙ ap rows_of_pieces (sym (take_more pieces place piece within)),
-        subst (AllByRecursion StartsRight) (sym pushed) (each_append StartsRight copies (copy ∷ []) so_far.1 (same-first piece.first copy.first piece.rows.value.entries copy.rows.value.entries first entries right, tt)),
+        subst (AllByRecursion StartsRight) (sym pushed) (each_append StartsRight copies (copy ∷ []) so_far.1
+            (same-first piece.first copy.first piece.rows.value.entries copy.rows.value.entries first entries right, tt)),
       )
 
 module _ {K V : Type 0} {R : K → K → Ordering} (total : IsTotalOrder R) (place : ℕ) (pieces : List (Piece K V)) (key : K)
-    (lower : AllByRecursion (λ other. R other key ≡ Less) (keys_of (rows_of_pieces (take place pieces)))) (higher : AllByRecursion (λ other. R key other ≡ Less) (keys_of (rows_of_pieces (drop (place + 1) pieces)))) where
+    (lower : AllByRecursion (λ other. R other key ≡ Less) (keys_of (rows_of_pieces (take place pieces))))
+    (higher : AllByRecursion (λ other. R key other ≡ Less) (keys_of (rows_of_pieces (drop (place + 1) pieces)))) where
   -- so what is looked up, put or cut at the key is so in the piece at its place
   pub lookup-at : lookup (is_at (R key)) (rows_of_pieces pieces) ≡ lookup (is_at (R key)) (first_rows (drop place pieces))
   lookup-at =
@@ -133,13 +137,15 @@ module _ {K V : Type 0} {R : K → K → Ordering} (total : IsTotalOrder R) (pla
       ∙ lookup-after total key (rows_of_pieces (take place pieces)) (first_rows (drop place pieces) ++ rows_of_pieces (drop (place + 1) pieces)) lower
       ∙ lookup-before total key (first_rows (drop place pieces)) (rows_of_pieces (drop (place + 1) pieces)) higher
 
-  pub insert-at : (row : V) → rows_of_pieces (take place pieces) ++ (insert_entry R (first_rows (drop place pieces)) key row ++ rows_of_pieces (drop (place + 1) pieces)) ≡ insert_entry R (rows_of_pieces pieces) key row
+  pub insert-at : (row : V) → rows_of_pieces (take place pieces)
+      ++ (insert_entry R (first_rows (drop place pieces)) key row ++ rows_of_pieces (drop (place + 1) pieces)) ≡ insert_entry R (rows_of_pieces pieces) key row
   insert-at row =
       ap (λ rows. rows_of_pieces (take place pieces) ++ rows) (sym (insert-before total key (first_rows (drop place pieces)) (rows_of_pieces (drop (place + 1) pieces)) row higher))
       ∙ sym (insert-after total key (rows_of_pieces (take place pieces)) (first_rows (drop place pieces) ++ rows_of_pieces (drop (place + 1) pieces)) row lower)
       ∙ ap (λ rows. insert_entry R rows key row) (sym (rows-around place pieces))
 
-  pub remove-at : rows_of_pieces (take place pieces) ++ (remove_entry (is_at (R key)) (first_rows (drop place pieces)) ++ rows_of_pieces (drop (place + 1) pieces)) ≡ remove_entry (is_at (R key)) (rows_of_pieces pieces)
+  pub remove-at : rows_of_pieces (take place pieces) ++ (remove_entry (is_at (R key)) (first_rows (drop place pieces))
+      ++ rows_of_pieces (drop (place + 1) pieces)) ≡ remove_entry (is_at (R key)) (rows_of_pieces pieces)
   remove-at =
       ap (λ rows. rows_of_pieces (take place pieces) ++ rows) (sym (remove-before total key (first_rows (drop place pieces)) (rows_of_pieces (drop (place + 1) pieces)) higher))
       ∙ sym (remove-after total key (rows_of_pieces (take place pieces)) (first_rows (drop place pieces) ++ rows_of_pieces (drop (place + 1) pieces)) lower)
@@ -175,7 +181,8 @@ module _ {K V : Type 0} (place : ℕ) (old others new : List (Piece K V)) (taken
       omega arith
 
   module _ {R : K → K → Ordering} (total : IsTotalOrder R) (are : ArePieces R old) (key : K)
-      (lower : AllByRecursion (λ other. R other key ≡ Less) (keys_of (rows_of_pieces (take place old)))) (higher : AllByRecursion (λ other. R key other ≡ Less) (keys_of (rows_of_pieces (drop (place + 1) old)))) where
+      (lower : AllByRecursion (λ other. R other key ≡ Less) (keys_of (rows_of_pieces (take place old))))
+      (higher : AllByRecursion (λ other. R key other ≡ Less) (keys_of (rows_of_pieces (drop (place + 1) old)))) where
     starts-changed : AllByRecursion StartsRight new
     starts-changed = change.starts (starts-without place old others change.without are.starts)
 
@@ -196,7 +203,8 @@ module _ {K V : Type 0} (place : ℕ) (old others new : List (Piece K V)) (taken
         (rows, record { sorted = subst (λ rows. IsStrictlySortedBy R (keys_of rows)) (sym rows) (sorted-removed total (is_at (R key)) (rows_of_pieces old) are.sorted); starts = starts-changed })
 
 -- a row of a piece is one of the rows
-pub some-row : {K V : Type 0} (place : ℕ) (pieces : List (Piece K V)) (taken : List (K × V)) (n : ℕ) → taken ≡ first_rows (drop place pieces) → n + 1 ≡ length taken → 1 ≤ length (rows_of_pieces pieces)
+pub some-row : {K V : Type 0} (place : ℕ) (pieces : List (Piece K V)) (taken : List (K × V)) (n : ℕ) → taken ≡ first_rows (drop place pieces) → n + 1 ≡ length taken
+    → 1 ≤ length (rows_of_pieces pieces)
 some-row place pieces taken n taken_is more =
     let was : length (rows_of_pieces pieces) ≡ length (rows_of_pieces (take place pieces)) + (length taken + length (rows_of_pieces (drop (place + 1) pieces))) =
     ap length (rows-around place pieces ∙ ap (λ rows. rows_of_pieces (take place pieces) ++ (rows ++ rows_of_pieces (drop (place + 1) pieces))) (sym taken_is))

@@ -111,7 +111,8 @@ module _ {K : Type 0} {R : K → K → Ordering} (total : IsTotalOrder R) where
     pub insert-before : (xs ys : List (K × V)) (v : V) → AllByRecursion (λ y. R k y ≡ Less) (keys_of ys) → insert_entry R (xs ++ ys) k v ≡ insert_entry R xs k v ++ ys
     insert-before [] ys v all = insert-above ys v all
     insert-before (x ∷ xs) ys v all =
-        elim (R k x.0) as (λ r. match_ordering r ((k, v) ∷ x ∷ (xs ++ ys)) ((x.0, v) ∷ (xs ++ ys)) (x ∷ insert_entry R (xs ++ ys) k v) ≡ match_ordering r ((k, v) ∷ x ∷ xs) ((x.0, v) ∷ xs) (x ∷ insert_entry R xs k v) ++ ys) [
+        elim (R k x.0) as (λ r. match_ordering r ((k, v) ∷ x ∷ (xs ++ ys)) ((x.0, v) ∷ (xs ++ ys)) (x ∷ insert_entry R (xs ++ ys) k v) ≡ match_ordering r
+        ((k, v) ∷ x ∷ xs) ((x.0, v) ∷ xs) (x ∷ insert_entry R xs k v) ++ ys) [
           | Less ↦ refl
           | Equal ↦ refl
           | Greater ↦ ap (λ rows. x ∷ rows) (insert-before xs ys v all)
@@ -184,7 +185,8 @@ module _ {K : Type 0} {R : K → K → Ordering} (total : IsTotalOrder R) where
     lookup-inserted [] k v q = ap (λ b. cond b (Some v) None) ((eq_by_cmp_equiv total).symm q k)
     lookup-inserted (e ∷ es) k v q =
         let laws = eq_by_cmp_equiv total in
-        elim (R k e.0) as (λ r. R k e.0 ≡ r → lookup (is_at (R q)) (match_ordering r ((k, v) ∷ e ∷ es) ((e.0, v) ∷ es) (e ∷ insert_entry R es k v)) ≡ cond (is_at (R k) q) (Some v) (lookup (is_at (R q)) (e ∷ es))) [
+        elim (R k e.0) as (λ r. R k e.0 ≡ r → lookup (is_at (R q)) (match_ordering r ((k, v) ∷ e ∷ es) ((e.0, v) ∷ es) (e ∷ insert_entry R es k v)) ≡ cond (is_at (R k) q)
+        (Some v) (lookup (is_at (R q)) (e ∷ es))) [
           | Less ↦ λ is. ap (λ b. cond b (Some v) (lookup (is_at (R q)) (e ∷ es))) (laws.symm q k)
           | Equal ↦ λ is.
               let same : eq_by_cmp R q e.0 ≡ eq_by_cmp R k q = laws.symm q e.0 ∙ sym (laws.congr k e.0 q (ap is_eq is)) in
@@ -196,5 +198,6 @@ module _ {K : Type 0} {R : K → K → Ordering} (total : IsTotalOrder R) where
         ] refl
 
     -- and after one was cut
-    pub lookup-removed : (es : List (K × V)) (k : K) (q : K) → IsStrictlySortedBy R (keys_of es) → lookup (is_at (R q)) (remove_entry (is_at (R k)) es) ≡ cond (is_at (R k) q) None (lookup (is_at (R q)) es)
+    pub lookup-removed : (es : List (K × V)) (k : K) (q : K) → IsStrictlySortedBy R (keys_of es)
+        → lookup (is_at (R q)) (remove_entry (is_at (R k)) es) ≡ cond (is_at (R k) q) None (lookup (is_at (R q)) es)
     lookup-removed es k q sorted = lookup-remove_entry (eq_by_cmp_equiv total) (is_at (R k)) (λ x y e. (eq_by_cmp_equiv total).congr k x y e) q es (IsDistinct-from_sorted R (keys_of es) sorted)

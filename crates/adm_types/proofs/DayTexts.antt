@@ -57,7 +57,8 @@ is_in_range : (n : ℤ) → (pos first_day ≤ℤ n) × (n ≤ℤ pos last_day) 
 is_in_range n h =
     rw (int_le-true (pos first_day) n h.0, int_le-true n (pos last_day) h.1) refl
 
-number_by : (n : ℤ) (b : Bool) (r : Option ℕ) → is_day_number n ≡ b → (IsSome r ↔ ((pos first_day ≤ℤ n) × (n ≤ℤ pos last_day))) → IfSome r (λ day. pos day ≡ n) → r ≡ (if b then Some (unsigned_abs n) else None)
+number_by : (n : ℤ) (b : Bool) (r : Option ℕ) → is_day_number n ≡ b → (IsSome r ↔ ((pos first_day ≤ℤ n) × (n ≤ℤ pos last_day))) → IfSome r (λ day. pos day ≡ n)
+    → r ≡ (if b then Some (unsigned_abs n) else None)
 number_by n true (Some day) e valid value = ap (λ k. Some (unsigned_abs k)) value
 number_by n false None e valid value = refl
 number_by n true None e valid value = absurd (true≢false (sym (valid.1 (in_range n e))))
@@ -73,7 +74,8 @@ form_of date (negsuc n) e range =
     let early : date.year <ℤ pos 1990 = rw e (omega (arith, ints)) in
     absurd (omega (arith, ints, (in_range (epoch_day date) range).0, epoch_day_lower date early))
 
-day_on_by : (text : List ℕ) (date : Date) (b : Bool) → is_day_number (epoch_day date) ≡ b → day_on text date.year date.month date.day ≡ (if b && bytes_eq (date_text date) text then Some (unsigned_abs (epoch_day date)) else None)
+day_on_by : (text : List ℕ) (date : Date) (b : Bool) → is_day_number (epoch_day date) ≡ b
+    → day_on text date.year date.month date.day ≡ (if b && bytes_eq (date_text date) text then Some (unsigned_abs (epoch_day date)) else None)
 day_on_by text date false e = rw e refl
 day_on_by text date true e = rw e (ap (λ t. if bytes_eq t text then Some (unsigned_abs (epoch_day date)) else None) (form_of date date.year refl e))
 
@@ -85,7 +87,8 @@ day_on_none text date other = sym (day_on_by text date (is_day_number (epoch_day
     last false false e = refl
     last a true e = absurd (true≢false e)
 
-pub day_on_some : (text : List ℕ) (date : Date) (n : ℤ) (r : Option ℕ) → bytes_eq (date_text date) text ≡ true → n ≡ epoch_day date → (IsSome r ↔ ((pos first_day ≤ℤ n) × (n ≤ℤ pos last_day))) → IfSome r (λ day. pos day ≡ n) → r ≡ day_on text date.year date.month date.day
+pub day_on_some : (text : List ℕ) (date : Date) (n : ℤ) (r : Option ℕ) → bytes_eq (date_text date) text ≡ true → n ≡ epoch_day date
+    → (IsSome r ↔ ((pos first_day ≤ℤ n) × (n ≤ℤ pos last_day))) → IfSome r (λ day. pos day ≡ n) → r ≡ day_on text date.year date.month date.day
 day_on_some text date n r same is valid value =
     number_by n (is_day_number n) r refl valid value
     ∙ (λ k. if is_day_number (is k) then Some (unsigned_abs (is k)) else None)

@@ -8,3 +8,5 @@ pub mod PlainNumbers
 pub mod Prefixes
 pub mod JoinedLemmas
 pub mod FlagBits
+pub mod ReadBack
+pub mod CriteriaLemmas

@@ -14,7 +14,8 @@ use Rattle.adm_types.specs.Fields.{has_plain_digits, plain_of}
 
 number_read : {E : Type 0} (v : ℕ) (some : Type 0) (r : Result ℕ E) → OkIff r (some × (v < 2 ^ 32)) v → some → result_ok r ≡ cond (nat_lt v (2 ^ 32)) (Some v) None
 number_read v some (Ok x) h one = rw h.1 (let small : nat_lt v (2 ^ 32) ≡ true = grind (arith, nat_tests, h.0.1) in rw small refl)
-number_read v some (Err e) h one = let large : nat_lt v (2 ^ 32) ≡ false = elim (nat_lt v (2 ^ 32)) as (λ b. nat_lt v (2 ^ 32) ≡ b → b ≡ false) [ true ↦ λ t. absurd (h (one, grind (arith, nat_tests, t))) | false ↦ λ _. refl ] refl in rw large refl
+number_read v some (Err e) h one = let large : nat_lt v (2 ^ 32) ≡ false = elim (nat_lt v (2 ^ 32)) as (λ b. nat_lt v (2 ^ 32) ≡ b
+    → b ≡ false) [ true ↦ λ t. absurd (h (one, grind (arith, nat_tests, t))) | false ↦ λ _. refl ] refl in rw large refl
 
 nonempty : (n : ℕ) → is_from 1 10 n ≡ true → 0 < n
 nonempty n e = grind (arith, nat_tests)

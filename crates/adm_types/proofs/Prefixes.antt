@@ -1,12 +1,11 @@
 -- What follows a prefix of a text, as a value.
 use Rattle.std.proofs.Common.{◌≡◌, ◌∙◌, ℕ, ap, sym, subst, refl, true, false, List, length, drop, Some, None}
-use Rattle.std.specs.Prelude.{nat_eq}
+use Rattle.std.specs.Prelude.{nat_eq, Option}
 use Rattle.std.specs.List.{starts_with}
 use Rattle.std.specs.Str.{IsCharBoundary}
 use Rattle.std.specs.Str.Pattern.{FindsTextPrefix}
 use Rattle.std.proofs.lemmas.Str.Pattern.{starts_text}
-use Rattle.std.specs.Prelude.{Option}
-use Rattle.adm_types.specs.Fields.{read_after}
+use Rattle.adm_types.specs.Criteria.{read_after}
 
 -- a text that begins with the prefix is read from its end on
 pub read_behind : {X : Type 0} (read : List ℕ → Option X) (prefix text rest : List ℕ) (n : ℕ) → FindsTextPrefix prefix text (Some n) → rest ≡ drop n text → read rest ≡ read_after read prefix text

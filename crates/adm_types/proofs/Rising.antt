@@ -16,5 +16,6 @@ member : (day : ℕ) (keys : List ℕ) → list_any (is_at (nat_cmp day)) keys �
 member day [] = refl
 member day (other ∷ keys) = λ i. at_equal day other i || member day keys i
 
-pub IsRising-keys : (days keys list : List ℕ) → IsStrictlySortedBy nat_cmp keys → ((day : ℕ) → list_any (is_at (nat_cmp day)) keys ≡ list_any (λ other. other == day) days) → list ≡ keys → IsRising days list
+pub IsRising-keys : (days keys list : List ℕ) → IsStrictlySortedBy nat_cmp keys
+    → ((day : ℕ) → list_any (is_at (nat_cmp day)) keys ≡ list_any (λ other. other == day) days) → list ≡ keys → IsRising days list
 IsRising-keys days keys list sorted same is = subst (IsRising days) (sym is) (record { rising = IsStrictlyIncreasing-from_sorted keys sorted; same = λ day. sym (member day keys) ∙ same day })

@@ -30,7 +30,8 @@ wait_left holidays day = 3 * holidays_from holidays day + cond (nat_lt (weekday_
 fewer : (day holiday a b : ℕ) → a ≤ b → cond (nat_le (day + 1) holiday) 1 0 + a ≤ cond (nat_le day holiday) 1 0 + b
 fewer day holiday a b h = grind (arith, nat_tests)
 
-one_fewer : (day holiday a b : ℕ) (listed : Bool) → a ≤ b → (listed ≡ true → a + 1 ≤ b) → ((holiday == day) || listed) ≡ true → (cond (nat_le (day + 1) holiday) 1 0 + a) + 1 ≤ cond (nat_le day holiday) 1 0 + b
+one_fewer : (day holiday a b : ℕ) (listed : Bool) → a ≤ b → (listed ≡ true → a + 1 ≤ b) → ((holiday == day) || listed) ≡ true
+    → (cond (nat_le (day + 1) holiday) 1 0 + a) + 1 ≤ cond (nat_le day holiday) 1 0 + b
 one_fewer day holiday a b listed h rest one = grind (arith, nat_tests)
 
 one_at_most : (day holiday a n : ℕ) → a ≤ n → cond (nat_le day holiday) 1 0 + a ≤ n + 1
@@ -71,7 +72,8 @@ wait_left-falls holidays day rests =
     (holidays_from-le day holidays) (holidays_from-lt day holidays) rests
 
 -- the days from the first on reach the first working day where they go past it
-pub has_working_day-reaches : (holidays : List ℕ) (first day : ℕ) → first ≤ day → is_working_day holidays day ≡ true → ((earlier : ℕ) → first ≤ earlier → earlier < day → is_working_day holidays earlier ≡ false)
+pub has_working_day-reaches : (holidays : List ℕ) (first day : ℕ) → first ≤ day → is_working_day holidays day ≡ true
+    → ((earlier : ℕ) → first ≤ earlier → earlier < day → is_working_day holidays earlier ≡ false)
     → (days : ℕ) → has_working_day holidays first days ≡ nat_lt day (first + days)
 has_working_day-reaches holidays first day since works none zero = sym (le-ltb day (first + 0) (omega (arith, since)))
 has_working_day-reaches holidays first day since works none (suc days) =
@@ -85,7 +87,8 @@ pub not_before : (a b first : ℕ) → first ≤ a → is_le (nat_cmp a b) ≡ n
 not_before a b first since =
     ⊎_elim (λ less. ap is_le (sym (nat_cmp_is a b Less less)) ∙ sym (lt-ltb a (first + (b + 1 - first)) (omega (arith, since, less))))
     (λ le. ⊎_elim (λ past. ap is_le (sym (nat_cmp_is a b Greater past)) ∙ sym (le-ltb a (first + (b + 1 - first)) (omega (arith, since, past))))
-    (λ most. let same : a ≡ b = omega (arith, le, most) in ap is_le (sym (nat_cmp_is a b Equal same)) ∙ sym (lt-ltb a (first + (b + 1 - first)) (omega (arith, since, same)))) (cases_lt b a)) (cases_lt a b)
+    (λ most. let same : a ≡ b = omega (arith, le, most) in ap is_le (sym (nat_cmp_is a b Equal same))
+    ∙ sym (lt-ltb a (first + (b + 1 - first)) (omega (arith, since, same)))) (cases_lt b a)) (cases_lt a b)
 
 past : (a b : ℕ) → nat_lt a (a + (b + 1 - a)) ≡ nat_le a b
 past a b = grind (arith, nat_tests)

@@ -1,6 +1,7 @@
 pub mod Numbers
 pub mod Code
 pub mod Limits
+pub mod Criteria
 pub mod Seasons
 pub mod DayText
 pub mod Fields
@@ -8,3 +9,4 @@ pub mod Joined
 pub mod Flags
 pub mod Children
 pub mod Lots
+pub mod Refusals

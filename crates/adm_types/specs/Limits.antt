@@ -4,13 +4,12 @@ use Rattle.std.specs.List.{list_any, list_all}
 use Rattle.std.specs.Str.{chars}
 use Rattle.std.specs.Char.{is_control}
 use Rattle.adm_types.specs.Code.{is_code}
+use Rattle.adm_types.specs.Criteria.{is_criterion}
 pub use Rattle.adm_types.specs.Numbers.{is_from, is_child_number, first_day, last_day}
 use Rattle.std.specs.Cmp.Lexicographic.{pointwise, slice_cmp}
 use Rattle.std.specs.Ordering.{nat_cmp}
 use Rattle.std.specs.declared.cmp.Ordering.{Ordering}
 use Rattle.adm_types.specs.declared.rows.Point.{Point}
-use Rattle.adm_types.specs.declared.rows.Criterion.{Criterion}
-use Rattle.adm_types.specs.declared.rows.Criterion.TheVariants.{Sibling, Within, Flag, Feeder}
 use Rattle.adm_types.specs.declared.rows.School.{School}
 use Rattle.adm_types.specs.declared.rows.Child.{Child}
 
@@ -41,13 +40,6 @@ is_name text = is_from 1 80 (length text) && not (list_any is_control (chars tex
 -- each coordinate at most 1,500,000 metres
 abbrev pub is_on_map : Point → Bool
 is_on_map p = nat_le p.east 1500000 && nat_le p.north 1500000
-
--- a distance from 1 to 2,200,000 metres, a flag from 0 to 15, the code of a school
-abbrev pub is_criterion : Criterion → Bool
-is_criterion Sibling = true
-is_criterion (Within metres) = is_from 1 2200000 metres
-is_criterion (Flag flag) = nat_le flag 15
-is_criterion (Feeder school) = is_code school
 
 -- an admission number from 1 to 500
 abbrev pub is_pan : ℕ → Bool

@@ -4,6 +4,7 @@
 mod child_no;
 mod code_lists;
 mod commands;
+mod criteria;
 mod days;
 mod draws;
 mod exact;
@@ -19,14 +20,14 @@ mod text;
 pub use child_no::ChildNo;
 pub use code_lists::codes;
 pub use commands::{Command, Refusal, Reply};
+pub use criteria::{Criterion, came_later};
 pub use days::Day;
 pub use draws::{Draw, DrawRow, Lot, LotRow, OfferRow, Outcome};
 pub use exact::Exact;
 pub use fields::plain;
 pub use flags::{Flag, flag_bits};
 pub use rows::{
-    Application, Child, Criterion, ImportRow, LeftPair, Place, PlaceRow, PlaceState, Point,
-    PresentRow, School,
+    Application, Child, ImportRow, LeftPair, Place, PlaceRow, PlaceState, Point, PresentRow, School,
 };
 pub use school_code::SchoolCode;
 pub use seasons::{Phase, Season, SeasonFault};

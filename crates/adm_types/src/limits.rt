@@ -4,8 +4,10 @@ ghost use Rattle.std.specs.List.{list_any, list_all};
 ghost use Rattle.std.specs.Str.{chars};
 ghost use Rattle.std.specs.Char.{is_control};
 ghost use Rattle.adm_types.specs.Code.{is_code};
-ghost use Rattle.adm_types.specs.Limits.{is_name, is_on_map, is_code_or_none, is_criterion, is_pan, is_school_in_range, is_listed, is_without_repeat, is_child_in_range};
+ghost use Rattle.adm_types.specs.Criteria.{is_criterion};
+ghost use Rattle.adm_types.specs.Limits.{is_name, is_on_map, is_code_or_none, is_pan, is_school_in_range, is_listed, is_without_repeat, is_child_in_range};
 
+use crate::criteria::is_criterion;
 use crate::{Child, Criterion, Point, School, SchoolCode, Text};
 
 /// How many schools a register has at the most.
@@ -47,7 +49,7 @@ pub fn is_on_map(point: &Point) -> bool
 }
 
 /// Whether the code of a school is one, which its type keeps.
-fn is_code(code: &SchoolCode) -> bool
+pub(crate) fn is_code(code: &SchoolCode) -> bool
     ensures { result ≡ is_code code.now }
 {
     !code.as_str().is_empty()
@@ -60,18 +62,6 @@ fn is_code_or_none(present: &Option<SchoolCode>) -> bool
     match present {
         Some(code) => is_code(code),
         None => true,
-    }
-}
-
-/// Whether a criterion's number is in its range.
-pub fn is_criterion(criterion: &Criterion) -> bool
-    ensures { result ≡ is_criterion criterion.now }
-{
-    match criterion {
-        Criterion::Sibling => true,
-        Criterion::Within(metres) => 1 <= *metres && *metres <= 2_200_000,
-        Criterion::Flag(flag) => *flag <= 15,
-        Criterion::Feeder(school) => is_code(school),
     }
 }
 

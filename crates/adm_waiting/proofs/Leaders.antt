@@ -101,7 +101,8 @@ pub record IsApart (all : List RankedChild) : Type 0 where
 abbrev pub child_of : RankedChild → ℕ
 child_of one = one.child
 
-before_best : (all : List RankedChild) (one best : RankedChild) → In one all → In best all → ((other : RankedChild) → In other all → precedes other.key best.key ≡ false) → is_before_others all one ≡ true → one.child ≡ best.child
+before_best : (all : List RankedChild) (one best : RankedChild) → In one all → In best all → ((other : RankedChild) → In other all → precedes other.key best.key ≡ false)
+    → is_before_others all one ≡ true → one.child ≡ best.child
 before_best all one best there here least first = elim (cases_Bool (nat_eq best.child one.child)) [
   | inl same ↦ sym (eqb-true best.child one.child same)
   | inr apart ↦

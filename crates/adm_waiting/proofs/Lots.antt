@@ -26,7 +26,8 @@ use Rattle.adm_waiting.proofs.Leaders.{IsBestOf, IsApart, best_is, some_from, fi
 abbrev pub drawn : School → List Child → List ℕ → List RankedChild
 drawn school children lots = map (ranked_child_of school) (zip children lots)
 
-ranked_child_at : (school : School) (children : List Child) (lots : List ℕ) (i : ℕ) (child : Child) (lot : ℕ) (d : RankedChild) → i < length children → i < length lots → child ≡ get_or children i child → lot ≡ get_or lots i 0 → get_or (drawn school children lots) i d ≡ ranked_child_of school (child, lot)
+ranked_child_at : (school : School) (children : List Child) (lots : List ℕ) (i : ℕ) (child : Child) (lot : ℕ) (d : RankedChild) → i < length children → i < length lots
+    → child ≡ get_or children i child → lot ≡ get_or lots i 0 → get_or (drawn school children lots) i d ≡ ranked_child_of school (child, lot)
 ranked_child_at school children lots i child lot d l m here there =
     get_or-map (ranked_child_of school) (zip children lots) i (child, 0) d (omega (arith, length-zip children lots))
     ∙ ap (ranked_child_of school) (get_or-zip children lots i (child, 0) l m) ∙ (λ k. ranked_child_of school (sym here k, sym there k))
@@ -34,20 +35,25 @@ ranked_child_at school children lots i child lot d l m here there =
 how_many : (school : School) (children : List Child) (lots : List ℕ) (i : ℕ) → i < length children → i < length lots → i < length (drawn school children lots)
 how_many school children lots i l m = omega (arith, length-zip children lots, length-map (zip children lots) (ranked_child_of school))
 
-pub best_more : (school : School) (children : List Child) (lots : List ℕ) (i : ℕ) (child : Child) (lot : ℕ) → i < length children → i < length lots → child ≡ get_or children i child → lot ≡ get_or lots i 0 → best_of (take (i + 1) (drawn school children lots)) ≡ Some (better (best_of (take i (drawn school children lots))) (ranked_child_of school (child, lot)))
+pub best_more : (school : School) (children : List Child) (lots : List ℕ) (i : ℕ) (child : Child) (lot : ℕ) → i < length children → i < length lots
+    → child ≡ get_or children i child → lot ≡ get_or lots i 0
+    → best_of (take (i + 1) (drawn school children lots)) ≡ Some (better (best_of (take i (drawn school children lots))) (ranked_child_of school (child, lot)))
 best_more school children lots i child lot l m here there =
     let d = ranked_child_of school (child, lot) in
     fold_more (λ best next. Some (better best next)) None (drawn school children lots) i d (how_many school children lots i l m)
     ∙ ap (λ next. Some (better (best_of (take i (drawn school children lots))) next)) (ranked_child_at school children lots i child lot d l m here there)
 
-pub before_more : (school : School) (children : List Child) (lots : List ℕ) (i : ℕ) (child : Child) (lot : ℕ) (one : RankedChild) → i < length children → i < length lots → child ≡ get_or children i child → lot ≡ get_or lots i 0 → is_before_others (take (i + 1) (drawn school children lots)) one ≡ (is_before_others (take i (drawn school children lots)) one && is_before one (ranked_child_of school (child, lot)))
+pub before_more : (school : School) (children : List Child) (lots : List ℕ) (i : ℕ) (child : Child) (lot : ℕ) (one : RankedChild) → i < length children → i < length lots
+    → child ≡ get_or children i child → lot ≡ get_or lots i 0
+    → is_before_others (take (i + 1) (drawn school children lots)) one ≡ (is_before_others (take i (drawn school children lots)) one && is_before one (ranked_child_of school (child, lot)))
 before_more school children lots i child lot one l m here there =
     let d = ranked_child_of school (child, lot) in
     list_all_more (is_before one) (drawn school children lots) i d (how_many school children lots i l m)
     ∙ ap (λ (other : RankedChild). is_before_others (take i (drawn school children lots)) one && is_before one other) (ranked_child_at school children lots i child lot d l m here there)
 
 -- one that fails before all others of the first ones fails
-pub before_not : (school : School) (children : List Child) (lots : List ℕ) (i : ℕ) (one : RankedChild) → is_before_others (take i (drawn school children lots)) one ≡ false → is_before_others (drawn school children lots) one ≡ false
+pub before_not : (school : School) (children : List Child) (lots : List ℕ) (i : ℕ) (one : RankedChild)
+    → is_before_others (take i (drawn school children lots)) one ≡ false → is_before_others (drawn school children lots) one ≡ false
 before_not school children lots i one h =
     ap (λ (all : List RankedChild). is_before_others all one) (sym (take-append-drop i (drawn school children lots)))
     ∙ list_all-append (is_before one) (take i (drawn school children lots)) (drop i (drawn school children lots))
@@ -77,7 +83,8 @@ first_here school children lots =
     ∙ (λ i. option_map (λ (one : Child × ℕ). one.0.no) (find (λ (one : Child × ℕ).
     list_all-map (λ other. nat_eq other.child one.0.no || precedes (ranked_child_of school one).key other.key) (ranked_child_of school) (zip children lots) i) (zip children lots)))
 
-below_all : (school : School) (number : ℕ) (children : List Child) (lots : List ℕ) → AllByRecursion (λ y. nat_cmp number y ≡ Less) (map number_of_child children) → (z : RankedChild) → In z (drawn school children lots) → number ≡ z.child → ⊥
+below_all : (school : School) (number : ℕ) (children : List Child) (lots : List ℕ) → AllByRecursion (λ y. nat_cmp number y ≡ Less) (map number_of_child children)
+    → (z : RankedChild) → In z (drawn school children lots) → number ≡ z.child → ⊥
 below_all school number [] lots all z there = absurd there
 below_all school number (child ∷ children) [] all z there = absurd there
 below_all school number (child ∷ children) (lot ∷ lots) all z there = elim there [
@@ -89,7 +96,8 @@ pub apart : (school : School) (children : List Child) (lots : List ℕ) → IsSt
 unfolding IsStrictlySortedBy
 apart school children lots sorted = record { once = go children lots sorted }
   where
-    go : (children : List Child) (lots : List ℕ) → IsStrictlySortedBy nat_cmp (map number_of_child children) → (one other : RankedChild) → In one (drawn school children lots) → In other (drawn school children lots) → one.child ≡ other.child → one ≡ other
+    go : (children : List Child) (lots : List ℕ) → IsStrictlySortedBy nat_cmp (map number_of_child children) → (one other : RankedChild)
+        → In one (drawn school children lots) → In other (drawn school children lots) → one.child ≡ other.child → one ≡ other
     go [] lots sorted one other i j e = absurd i
     go (child ∷ children) [] sorted one other i j e = absurd i
     go (child ∷ children) (lot ∷ lots) sorted one other i j e = elim i [
@@ -104,7 +112,8 @@ apart school children lots sorted = record { once = go children lots sorted }
     ]
 
 -- a lot that no other is equal to is that of one child alone
-other_lot : (school : School) (number : ℕ) (children : List Child) (lots : List ℕ) → list_any (nat_eq number) lots ≡ false → (z : RankedChild) → In z (drawn school children lots) → number ≡ z.key.lot → ⊥
+other_lot : (school : School) (number : ℕ) (children : List Child) (lots : List ℕ) → list_any (nat_eq number) lots ≡ false → (z : RankedChild)
+    → In z (drawn school children lots) → number ≡ z.key.lot → ⊥
 other_lot school number [] lots none z there = absurd there
 other_lot school number (child ∷ children) [] none z there = absurd there
 other_lot school number (child ∷ children) (lot ∷ lots) none z there =
@@ -114,7 +123,8 @@ other_lot school number (child ∷ children) (lot ∷ lots) none z there =
       | inr later ↦ other_lot school number children lots parts.1 z later
     ]
 
-one_lot : (school : School) (children : List Child) (lots : List ℕ) → repeats lots ≡ false → (one other : RankedChild) → In one (drawn school children lots) → In other (drawn school children lots) → one.key.lot ≡ other.key.lot → one ≡ other
+one_lot : (school : School) (children : List Child) (lots : List ℕ) → repeats lots ≡ false → (one other : RankedChild) → In one (drawn school children lots)
+    → In other (drawn school children lots) → one.key.lot ≡ other.key.lot → one ≡ other
 one_lot school [] lots none one other i j e = absurd i
 one_lot school (child ∷ children) [] none one other i j e = absurd i
 one_lot school (child ∷ children) (lot ∷ lots) none one other i j e =
@@ -131,7 +141,8 @@ one_lot school (child ∷ children) (lot ∷ lots) none one other i j e =
     ]
 
 -- where no two lots are equal, the best ranks before all others
-pub before_all : (school : School) (children : List Child) (lots : List ℕ) (best : RankedChild) → repeats lots ≡ false → best_of (drawn school children lots) ≡ Some best → is_before_others (drawn school children lots) best ≡ true
+pub before_all : (school : School) (children : List Child) (lots : List ℕ) (best : RankedChild) → repeats lots ≡ false → best_of (drawn school children lots) ≡ Some best
+    → is_before_others (drawn school children lots) best ≡ true
 before_all school children lots best none h =
     list_all_in (is_before best) (drawn school children lots) (λ other there.
     elim (cases_Bool (nat_eq other.child best.child)) [

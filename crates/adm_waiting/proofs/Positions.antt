@@ -55,7 +55,8 @@ far : (xs : List Rank) → IsSorted rank_cmp xs → (i j : ℕ) (d : Rank) → i
 far xs up i j d l m = sorted_far before (ranks_by rank_total (λ (r : Rank). r)) xs up i j d l m
 
 -- of ranks in order, those that are ahead of one are in front
-pub ahead_in_front : (xs : List Rank) (one : Rank) → IsSorted rank_cmp xs → (i j : ℕ) (d : Rank) → i ≤ j → j < length xs → is_rank_ahead (get_or xs j d) one ≡ true → is_rank_ahead (get_or xs i d) one ≡ true
+pub ahead_in_front : (xs : List Rank) (one : Rank) → IsSorted rank_cmp xs → (i j : ℕ) (d : Rank) → i ≤ j → j < length xs → is_rank_ahead (get_or xs j d) one ≡ true
+    → is_rank_ahead (get_or xs i d) one ≡ true
 ahead_in_front xs one up i j d l m h = ahead_too (get_or xs i d) (get_or xs j d) one (far xs up i j d l m) h
 
 far_rises : (xs : List Rank) → ((i j : ℕ) (d : Rank) → i ≤ j → j < length xs → before (get_or xs j d) (get_or xs i d) ≡ false) → IsDistinct same_child xs → rises before xs ≡ true
@@ -75,7 +76,8 @@ far_rises (x ∷ xs) up apart =
 less_other : (a b : ℕ) → nat_cmp a b ≡ Less → nat_eq a b ≡ false
 less_other a b h = grind (arith, nat_tests)
 
-all_other : (school : School) (number : ℕ) (children : List Child) → AllByRecursion (λ y. nat_cmp number y ≡ Less) (map number_of_child children) → AllByRecursion (λ y. nat_eq number y.child ≡ false) (map (rank_of school) children)
+all_other : (school : School) (number : ℕ) (children : List Child) → AllByRecursion (λ y. nat_cmp number y ≡ Less) (map number_of_child children)
+    → AllByRecursion (λ y. nat_eq number y.child ≡ false) (map (rank_of school) children)
 all_other school number [] all = tt
 all_other school number (child ∷ children) all = (less_other number child.no all.0, all_other school number children all.1)
 
@@ -97,7 +99,8 @@ no_one : (b : Bool) → b ≡ false → cond {A = ℕ} b 1 0 ≡ 0
 no_one b h = ap (λ c. cond {A = ℕ} c 1 0) h
 
 module _ {X : Type 0} (p : X → Bool) where
-  pub count_to : (xs : List X) (i : ℕ) → i ≤ length xs → ((k : ℕ) (d : X) → 0 ≤ k → k < i → p (get_or xs k d) ≡ true) → ((k : ℕ) (d : X) → i ≤ k → k < length xs → p (get_or xs k d) ≡ false) → count_by p xs ≡ i
+  pub count_to : (xs : List X) (i : ℕ) → i ≤ length xs → ((k : ℕ) (d : X) → 0 ≤ k → k < i → p (get_or xs k d) ≡ true)
+      → ((k : ℕ) (d : X) → i ≤ k → k < length xs → p (get_or xs k d) ≡ false) → count_by p xs ≡ i
   count_to [] i bound front back = omega arith
   count_to (x ∷ xs) zero bound front back =
       let e = sum_by-cons (λ (y : X). cond (p y) 1 0) x xs in
@@ -205,7 +208,8 @@ entries_rise all (x ∷ xs) among up =
     (entries_rise all xs (λ z there. among z (inr there)) parts.1)
 
 -- one more entry of a walk over the ranks
-pub entries_more : (ranks : List Rank) (i : ℕ) (rank : Rank) (ahead : ℕ) (list longer : List Waiting) → i < length ranks → rank ≡ get_or ranks i rank → ahead ≡ count_by (λ other. is_rank_ahead other rank) ranks
+pub entries_more : (ranks : List Rank) (i : ℕ) (rank : Rank) (ahead : ℕ) (list longer : List Waiting) → i < length ranks → rank ≡ get_or ranks i rank
+    → ahead ≡ count_by (λ other. is_rank_ahead other rank) ranks
     → list ≡ map (entry_among ranks) (take i ranks) → longer ≡ list ++ record { position = 1 + ahead; child = rank.child; class = rank.class; metres = rank.metres } ∷ []
     → longer ≡ map (entry_among ranks) (take (i + 1) ranks)
 entries_more ranks i rank ahead list longer within here counted made pushed =

@@ -58,9 +58,13 @@ pub record IsEntryFor (waiting : List Child) (entry : Waiting) : Type 0 where
   pub class_upto : entry.class ≤ 9
   pub metres_upto : entry.metres ≤ 2121320
 
--- whether the child with its lot ranks before all others: by class, distance and lot
+-- whether the first of two children, each with its lot, ranks before the second: by class, distance and lot
+abbrev pub ranks_before_other : School → Child × ℕ → Child × ℕ → Bool
+ranks_before_other school one other = precedes (key_of school one.0 one.1) (key_of school other.0 other.1)
+
+-- whether the child with its lot ranks before each other one
 abbrev pub is_first : School → List (Child × ℕ) → Child × ℕ → Bool
-is_first school all one = list_all (λ other. nat_eq other.0.no one.0.no || precedes (key_of school one.0 one.1) (key_of school other.0 other.1)) all
+is_first school all one = list_all (λ other. nat_eq other.0.no one.0.no || ranks_before_other school one other) all
 
 -- the number of the child that ranks before all others, where the first lot is the first child's, and so on; none where two rank
 -- first with equal lots

@@ -6,7 +6,7 @@ use Rattle.serde_json.specs.Find.{as_object}
 use Rattle.serde_json.specs.Read.{read}
 use Rattle.adm_types.specs.declared.commands.Command.{Command}
 use Rattle.adm_types.specs.declared.commands.Command.TheVariants as c
-use Rattle.adm_types.specs.declared.rows.Criterion.{Criterion}
+use Rattle.adm_types.specs.declared.criteria.Criterion.{Criterion}
 use Rattle.adm_types.specs.declared.rows.School.{School}
 use Rattle.adm_fields.specs.Lists.{child_and, name_and, point_and, day_and, child_fields, application_fields}
 use Rattle.adm_fields.specs.Records.{child_of, application_of}

@@ -1,7 +1,7 @@
 -- Records and commands as JSON objects: their fields in the order in which they are tested, and no further key.
 use Rattle.std.specs.Prelude.{ℕ, List, [], ◌∷◌, codes, Option, None, Result, Ok}
 use Rattle.serde_json.specs.Data.{Data}
-use Rattle.adm_types.specs.declared.rows.Criterion.{Criterion}
+use Rattle.adm_types.specs.declared.criteria.Criterion.{Criterion}
 use Rattle.adm_fields.specs.Lists.{Format, must}
 use Rattle.adm_wire.specs.declared.fault.WireFault.{WireFault}
 use Rattle.adm_wire.specs.Kinds.{a_text, a_number, a_truth, a_child, a_code, a_code_or_none, a_day, a_criterion, a_list, some_flags, only}

@@ -6,10 +6,10 @@ use Rattle.serde_json.specs.Data.{Data, Items, no_items, item, Members, no_membe
 use Rattle.serde_json.specs.Find.{as_number, as_u64, as_bool, as_str, as_array, as_object}
 use Rattle.adm_types.specs.Code.{code_of, code_or_none_of}
 use Rattle.adm_types.specs.DayText.{day_named}
-use Rattle.adm_types.specs.Fields.{criterion_of}
+use Rattle.adm_types.specs.Criteria.{criterion_of}
 use Rattle.adm_types.specs.Flags.{flag_of, bits_of}
 use Rattle.adm_types.specs.Numbers.{child_of}
-use Rattle.adm_types.specs.declared.rows.Criterion.{Criterion}
+use Rattle.adm_types.specs.declared.criteria.Criterion.{Criterion}
 use Rattle.adm_wire.specs.declared.fault.WireFault.{WireFault}
 use Rattle.adm_wire.specs.declared.fault.WireFault.TheVariants.{ExtraField}
 

@@ -18,7 +18,15 @@ use Rattle.adm_words.proofs.Faultless.{UsesWell}
 
 -- an argument of one value, by its long name, its place, and whether it is required
 abbrev single : Text → Option Text → Option ℕ → Bool → ValueParser → Rule
-single id long index required p = record (new_rule id) { long = long; index = index; action = Some Set; range = Some (record { start_inclusive = 1; end_inclusive = 1 }); value_names = 1; parser = Some p; required = required }
+single id long index required p = record (new_rule id) {
+  long = long;
+  index = index;
+  action = Some Set;
+  range = Some (record { start_inclusive = 1; end_inclusive = 1 });
+  value_names = 1;
+  parser = Some p;
+  required = required;
+}
 
 -- a required argument at this place
 abbrev pub taken : Text → ℕ → ValueParser → Rule

@@ -28,7 +28,8 @@ pub no_fault : (app : App) (phases : ValueParser) (arguments : List Text) → Is
     → (is_simple_and_free app ≡ true → fault_of app arguments ≡ []) → fault_of (program_app phases) arguments ≡ []
 no_fault app phases arguments h is f = ap (λ a. fault_of a arguments) (sym is) ∙ f (ap is_simple_and_free is ∙ is_free phases h)
 
-pub finds : (app : App) (phases : ValueParser) (arguments : List Text) (m : ArgMatches) → IsPhases phases → app ≡ program_app phases → HasMatchesOf app arguments m → subcommand_rows_of m ≡ subcommand_of (program_app phases) arguments
+pub finds : (app : App) (phases : ValueParser) (arguments : List Text) (m : ArgMatches) → IsPhases phases → app ≡ program_app phases → HasMatchesOf app arguments m
+    → subcommand_rows_of m ≡ subcommand_of (program_app phases) arguments
 finds app phases arguments m h is f = (f (ap is_simple is ∙ is_plain phases h)).1 ∙ ap (λ a. subcommand_of a arguments) is
 
 among : (k : ErrorKind) (kinds : Kinds) → (k ≡ kind.OutOfMemory → ⊥) → (k ≡ kind.OutOfMemory) ⊎ IsAmong k kinds → IsAmong k kinds
@@ -61,6 +62,7 @@ reads_from phases arguments (Err (Usage e)) name rows h none is reads = absurd (
 reads_from phases arguments (Err Memory) name rows h none is reads = tt
 
 -- a pair of which each half is known
-pub met : {X A B : Type 0} (a : X → A) (b : X → B) (o : Option X) (x : A) (y : B) → Some x ≡ option_map a o → Some y ≡ option_map (λ (p : A × B). p.1) (option_map {U = A × B} (λ (e : X). (a e, b e)) o) → option_map {U = A × B} (λ (e : X). (a e, b e)) o ≡ Some (x, y)
+pub met : {X A B : Type 0} (a : X → A) (b : X → B) (o : Option X) (x : A) (y : B) → Some x ≡ option_map a o
+    → Some y ≡ option_map (λ (p : A × B). p.1) (option_map {U = A × B} (λ (e : X). (a e, b e)) o) → option_map {U = A × B} (λ (e : X). (a e, b e)) o ≡ Some (x, y)
 met a b (Some e) x y first second = cc
 met a b None x y first second = cc

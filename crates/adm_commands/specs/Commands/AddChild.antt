@@ -21,6 +21,6 @@ tests old child =
     ∷ (nat_lt (len old.children) most_children, RegisterFull)
     ∷ []
 
--- the command: the child is put
+-- the command: the child is written
 abbrev pub rules : Child → Rules
 rules child = changes_just (KeptByChild child) (λ old. tests old child) (λ old. change_of_child child)

@@ -20,7 +20,7 @@ tests old school =
     ∷ (nat_lt (len old.schools) most_schools, RegisterFull)
     ∷ []
 
--- the school is put
+-- the school is written
 unfoldable pub change_of : School → Difference
 change_of school = record no_change { schools = school ∷ [] }
 

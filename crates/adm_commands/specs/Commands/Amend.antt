@@ -20,6 +20,6 @@ tests old child =
     ∷ (are_schools old.schools child.siblings, UnknownSchool)
     ∷ []
 
--- the command: the child is put in place of what was there
+-- the command: the child is written in place of what was there
 abbrev pub rules : Child → Rules
 rules child = changes_just (KeptByChild child) (λ old. tests old child) (λ old. change_of_child child)

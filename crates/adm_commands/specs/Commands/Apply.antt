@@ -27,7 +27,7 @@ further_tests old application =
 unfoldable pub tests : State → Application → List (Bool × Refusal)
 tests old application = (contains_key old.children application.child, UnknownChild) ∷ further_tests old application
 
--- the application is put
+-- the application is written
 unfoldable pub change_of : Application → Difference
 change_of application = record no_change { applications = application ∷ [] }
 

@@ -1,4 +1,4 @@
--- To import children with their applications (this profile): row by row, each beside those before it; all rows or none.
+-- To import children with their applications (this profile): row by row, each beside those before it, and atomically.
 use Rattle.std.specs.Prelude.{◌≡◌, ℕ, ◌+◌, ◌-◌, Bool, false, not, List, [], ◌∷◌, ◌++◌, length, map, Option, Some, None, if◌then◌else◌}
 use Rattle.std.specs.Ordering.{nat_cmp}
 use Rattle.std.specs.List.Sorted.{IsPermutation, IsStrictlySortedBy}

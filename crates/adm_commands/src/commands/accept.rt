@@ -24,7 +24,7 @@ fn refusal_of(old: &Tables, child: ChildNo, school: SchoolCode) -> Option<Refusa
     ])
 }
 
-/// The place is put again, as an accepted one.
+/// The place is written again, as an accepted one.
 #[tactic(auto, unfolding(crate::specs::Commands::Accept::change_of))]
 pub(crate) fn evaluate(
     old: &Tables,

@@ -29,7 +29,7 @@ pub(crate) fn refusal_of(old: &Tables, child: &Child) -> Option<Refusal>
     ])
 }
 
-/// The child is put.
+/// The child is written.
 pub(crate) fn evaluate(
     old: &Tables,
     alloc: Global,

@@ -26,7 +26,7 @@ fn refusal_of(old: &Tables, school: &School) -> Option<Refusal>
     ])
 }
 
-/// The school is put.
+/// The school is written.
 #[tactic(auto, unfolding(crate::specs::Commands::AddSchool::change_of))]
 pub(crate) fn evaluate(
     old: &Tables,

@@ -28,7 +28,7 @@ fn refusal_of(old: &Tables, child: &Child) -> Option<Refusal>
     ])
 }
 
-/// The child's data are put, in place of those that were there.
+/// The child's data are written, in place of those that were there.
 pub(crate) fn evaluate(
     old: &Tables,
     alloc: Global,

@@ -1,6 +1,5 @@
 // To apply: a child's list of schools, in its order of preference.
-ghost use Rattle.std.specs.Prelude.{◌≡◌, ◌&&◌, length, IfOk};
-ghost use Rattle.adm_types.specs.Limits.{is_from, is_without_repeat, most_preferences};
+ghost use Rattle.std.specs.Prelude.{◌≡◌, IfOk};
 ghost use Rattle.adm_commands.specs.Tests.{first_failing};
 ghost use Rattle.adm_commands.specs.Rules.{Follows};
 ghost use Rattle.adm_commands.specs.Commands.Apply.{rules, tests, further_tests};
@@ -8,9 +7,8 @@ ghost use Rattle.adm_commands.specs.Commands.Apply.{rules, tests, further_tests}
 use crate::command_result::{CommandResult, done, refused};
 use crate::failing::first_failing;
 use crate::one_row::one;
-use adm_register::{Difference, Tables};
+use adm_register::{Difference, Tables, is_preference_list};
 use adm_table::Shared;
-use adm_types::limits::{MOST_PREFERENCES, is_without_repeat};
 use adm_types::{Application, ChildNo, Day, Refusal, SchoolCode};
 use std::alloc::{AllocError, Global};
 
@@ -49,15 +47,7 @@ pub(crate) fn further_refusal_of(
     ])
 }
 
-/// Whether there are 1 to 10 schools without repeat.
-fn is_preference_list(list: &[SchoolCode]) -> bool
-    ensures { result ≡ (is_from 1 most_preferences (length list.now) && is_without_repeat list.now) }
-{
-    let count = 1 <= list.len() && list.len() <= MOST_PREFERENCES;
-    count && is_without_repeat(list)
-}
-
-/// The application is put.
+/// The application is written.
 #[tactic(auto, unfolding(crate::specs::Commands::Apply::change_of))]
 pub(crate) fn evaluate(
     old: &Tables,

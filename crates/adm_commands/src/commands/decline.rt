@@ -23,7 +23,7 @@ fn refusal_of(old: &Tables, child: ChildNo, school: SchoolCode) -> Option<Refusa
     ])
 }
 
-/// The place is cut, and the school is one that the child left.
+/// The place is deleted, and the school is one that the child left.
 #[tactic(auto, unfolding(crate::specs::Commands::Decline::change_of))]
 pub(crate) fn change_of(
     alloc: Global,

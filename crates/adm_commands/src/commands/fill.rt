@@ -137,7 +137,7 @@ fn lots_for(
     drawn_lots(alloc, pairs, numbers)
 }
 
-/// The draw by which the child was moved to the school, as the one row that is put.
+/// The draw by which the child was moved to the school, as the one row that is written.
 fn draw_of(
     alloc: Global,
     number: u32,

@@ -27,7 +27,7 @@ fn refusal_of(old: &Tables, child: ChildNo, school: SchoolCode, day: Day) -> Opt
     ])
 }
 
-/// The place is cut as by declining it.
+/// The place is deleted as by declining it.
 pub(crate) fn evaluate(
     old: &Tables,
     alloc: Global,

@@ -23,7 +23,7 @@ fn refusal_of(old: &Tables, child: ChildNo, school: SchoolCode) -> Option<Refusa
     ])
 }
 
-/// The place of the plan is put, and the child's application is cut.
+/// The place of the plan is written, and the child's application is deleted.
 #[tactic(auto, unfolding(crate::specs::Commands::NamePlan::change_of))]
 pub(crate) fn evaluate(
     old: &Tables,

@@ -27,7 +27,7 @@ fn refusal_of(old: &Tables, child: ChildNo, school: SchoolCode, day: Day) -> Opt
     ])
 }
 
-/// The offer is put again, with the day of its reminder.
+/// The offer is written again, with the day of its reminder.
 #[tactic(auto, unfolding(crate::specs::Commands::Remind::change_of))]
 pub(crate) fn evaluate(
     old: &Tables,

@@ -115,7 +115,7 @@ fn offers_on(alloc: Global, day: Day, outcomes: &[Outcome]) -> Result<Vec<PlaceR
         .collect(alloc)
 }
 
-/// The draw of a round, as the one row that is put.
+/// The draw of a round, as the one row that is written.
 fn draw_of(
     alloc: Global,
     number: u32,

@@ -1,17 +1,16 @@
 // Codes of schools in the columns of a row.
-ghost use Rattle.std.specs.Prelude.{◌≡◌, ◌<◌, ℕ, List, Option, true, length, IsTrue, ◌↔◌, None, IfOk, IfErr, Some};
+ghost use Rattle.std.specs.Prelude.{◌≡◌, ◌<◌, ℕ, List, Option, true, length, None, IfOk, IfErr, Some};
 ghost use Rattle.std.specs.List.{list_all};
 ghost use Rattle.sqlite.specs.declared.types.Value.TheVariants.{Text as TextValue};
 ghost use Rattle.sqlite.specs.Order.{column};
 ghost use Rattle.adm_types.specs.Code.{is_code};
 ghost use Rattle.adm_types.specs.Joined.{codes_of};
-ghost use Rattle.adm_rows.specs.Forms.{codes_text};
+ghost use Rattle.adm_rows.specs.Forms.{codes_text, school_value};
 ghost use Rattle.adm_types.specs.Limits.{is_code_or_none};
-ghost use Rattle.adm_rows.specs.Forms.{school_value};
 ghost use Rattle.adm_rows.specs.Faults.{IsNoRegister, AreReadAgain};
 
+use crate::OpenFault;
 use crate::reading::columns::value_at;
-use crate::{OpenFault, lists};
 use adm_types::{SchoolCode, Seq, codes};
 use sqlite::Row;
 use std::alloc::Global;
@@ -50,9 +49,10 @@ pub(super) fn code_or_null_at(row: &Row, at: usize) -> Result<Option<SchoolCode>
 }
 
 /// The codes that a text writes.
-fn read_codes(alloc: Global, text: &str) -> Result<Seq<SchoolCode>, OpenFault>
-    ensures ok { IfOk result (λ list. codes_of text.now ≡ Some list) }
-    ensures bad { IfErr result (λ e. IsNoRegister e → codes_of text.now ≡ None) }
+fn codes_in(alloc: Global, text: &str) -> Result<Seq<SchoolCode>, OpenFault>
+    ensures ok { IfOk result (λ list. text.now ≡ codes_text list) }
+    ensures again { IfOk result (λ list. codes_of text.now ≡ Some list) }
+    ensures bad { IfErr result (λ e. IsNoRegister e → (list : List (List ℕ)) → list_all is_code list ≡ true → text.now ≡ codes_text list → ⊥) }
     ensures first { IfErr result (λ e. IsNoRegister e → e ≡ OpenFault.BadRow) }
     ensures disk { IfErr result (λ e. e ≡ OpenFault.Disk → ⊥) }
 {
@@ -63,40 +63,6 @@ fn read_codes(alloc: Global, text: &str) -> Result<Seq<SchoolCode>, OpenFault>
         return Err(OpenFault::BadRow);
     };
     Ok(list)
-}
-
-/// Whether a text is that of these codes.
-fn is_text_of_codes(alloc: Global, text: &str, list: &[SchoolCode]) -> Result<bool, OpenFault>
-    ensures ok { IfOk result (λ same. IsTrue same ↔ (text.now ≡ codes_text list.now)) }
-    ensures bad { IfErr result (λ e. e ≡ OpenFault.Memory) }
-{
-    match lists::codes_text(alloc, list) {
-        Ok(again) => Ok(again.as_str() == text),
-        Err(_) => Err(OpenFault::Memory),
-    }
-}
-
-/// The codes that a text writes, where it is just the text of them.
-fn codes_in(alloc: Global, text: &str) -> Result<Seq<SchoolCode>, OpenFault>
-    ensures ok { IfOk result (λ list. text.now ≡ codes_text list) }
-    ensures again { IfOk result (λ list. codes_of text.now ≡ Some list) }
-    ensures bad { IfErr result (λ e. IsNoRegister e → (list : List (List ℕ)) → list_all is_code list ≡ true → text.now ≡ codes_text list → ⊥) }
-    ensures first { IfErr result (λ e. IsNoRegister e → e ≡ OpenFault.BadRow) }
-    ensures disk { IfErr result (λ e. e ≡ OpenFault.Disk → ⊥) }
-{
-    let list = match read_codes(alloc, text) {
-        Ok(list) => list,
-        Err(fault) => return Err(fault),
-    };
-    let same = match is_text_of_codes(alloc, text, list.as_slice()) {
-        Ok(same) => same,
-        Err(fault) => return Err(fault),
-    };
-    if same {
-        Ok(list)
-    } else {
-        Err(OpenFault::BadRow)
-    }
 }
 
 /// Codes of schools, joined by `;`.

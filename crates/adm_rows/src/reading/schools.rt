@@ -1,10 +1,9 @@
 // The rows of `school` as schools.
-ghost use Rattle.std.specs.Prelude.{◌≡◌, ◌↔◌, true, pos, None, [], ◌∷◌, IfOk, IfErr, IsTrue, Some, string_bytes};
+ghost use Rattle.std.specs.Prelude.{◌≡◌, ◌↔◌, true, pos, None, [], ◌∷◌, IfOk, IfErr, IsTrue, Some, string_bytes, ℕ, List};
 ghost use Rattle.sqlite.specs.declared.types.Value.TheVariants.{Int, Text as TextValue};
-ghost use Rattle.std.specs.Prelude.{ℕ, List};
 ghost use Rattle.std.specs.List.{list_all};
-ghost use Rattle.adm_types.specs.Limits.{is_criterion};
-ghost use Rattle.adm_types.specs.declared.rows.Criterion.{Criterion as Facts};
+ghost use Rattle.adm_types.specs.Criteria.{is_criterion};
+ghost use Rattle.adm_types.specs.declared.criteria.Criterion.{Criterion as Facts};
 ghost use Rattle.adm_schema.specs.Schema.{school};
 ghost use Rattle.adm_rows.specs.Forms.{criteria_text, criteria_of, school_row};
 ghost use Rattle.adm_rows.specs.Faults.{IsNoRegister, IsSchool, IsReadAgain, HasSchoolColumns};

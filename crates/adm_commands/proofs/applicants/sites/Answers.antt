@@ -15,7 +15,8 @@ returns c =
     let s = c.args.old.now in
     let schools = c.deref-2.ensures.value ∙ c.in_ok-schools.ensures in
     let places = c.deref.ensures.value ∙ c.in_ok-places.ensures in
-    let plans = c.deref-3.ensures.value ∙ c.in_ok-plans.ensures ∙ ap (λ (rows : List PlaceRow). map (λ (row : PlaceRow). row.place.school) (filter (λ (row : PlaceRow). is_plan row.place.state) rows)) places in
+    let plans = c.deref-3.ensures.value ∙ c.in_ok-plans.ensures
+    ∙ ap (λ (rows : List PlaceRow). map (λ (row : PlaceRow). row.place.school) (filter (λ (row : PlaceRow). is_plan row.place.state) rows)) places in
     MatchResult-weaker c.sites_of.result c.sites_of.ensures
     (λ found made.
     made ∙ (λ i. map {A = School} {B = Site} (λ school. record { school = school; quota = school.pan - count_by (λ code. pointwise nat_eq code school.code) (plans i) }) (schools i))

@@ -22,7 +22,8 @@ returns-clause-needed g c =
           rw w.reader-is (
             c.loop-turn.scan.text.items ++ piece,
             Consumes-trans _ _ _ c.loop-turn.scan.text.items piece c.loop-turn.invariant.0 w.in-Ok.ensures.bytes.0,
-            needed_more c.loop-turn.scan.text.items piece (subst (λ n. n < 2002) c.loop-turn.invariant.1.2 w.if-scan-ge-ENOUGH.false) (short w.in-Ok.count w.read_some.new.buffer w.in-Ok.ensures.bound room),
+            needed_more c.loop-turn.scan.text.items piece (subst (λ n. n < 2002) c.loop-turn.invariant.1.2 w.if-scan-ge-ENOUGH.false)
+                (short w.in-Ok.count w.read_some.new.buffer w.in-Ok.ensures.bound room),
           )
     ]
 
@@ -35,5 +36,6 @@ returns-clause-memory g c = λ m.
           let part = failed w.take_all.result _ _ is w.take_all.ensures in
           let room : length w.read_some.new.buffer ≡ 4096 = w.read_some.auto.buffer ∙ c.loop-turn.invariant.4 in
           rw (w.reader-is, w.scan-is)
-          (taken_within _ _ _ c.loop-turn.scan.text.items (take w.in-Ok.count w.read_some.new.buffer) part.0 _ c.loop-turn.invariant.0 w.in-Ok.ensures.bytes.0 (short w.in-Ok.count w.read_some.new.buffer w.in-Ok.ensures.bound room) part.1.2)
+          (taken_within _ _ _ c.loop-turn.scan.text.items (take w.in-Ok.count w.read_some.new.buffer) part.0 _ c.loop-turn.invariant.0 w.in-Ok.ensures.bytes.0
+          (short w.in-Ok.count w.read_some.new.buffer w.in-Ok.ensures.bound room) part.1.2)
     ]

@@ -25,7 +25,7 @@ returns-clause-made c =
     let lots = c.in-Some-in_order-2.lots.items in
     let same : draws_after [] heads offers lots ≡ draws_after [] c.deref.result.now c.deref-2.result.now c.deref-3.result.now =
     λ i. draws_after [] (sym c.deref.ensures.value i) (sym c.deref-2.ensures.value i) (sym c.deref-3.ensures.value i) in
-    IfOk-weaker c.gathered.result _ _ (λ made told. IfSome_then made told (λ draws is. (
+    IfOk-weaker c.gathered.result _ _ (λ made reported. IfSome_then made reported (λ draws is. (
       are_rows c.args.draw_rows.items heads c.args.offer_rows.items offers c.args.lot_rows.items lots draws.items (same ∙ is)
           c.in-Some.ensures.made.0 c.in-Some-in_order.ensures.made.0 c.in-Some-in_order-2.ensures.made.0,
       are_in_order c.args.draw_rows.items heads c.args.offer_rows.items offers c.args.lot_rows.items lots draws.items (same ∙ is)
@@ -40,7 +40,7 @@ returns-clause-only c =
     let lots = c.in-Some-in_order-2.lots.items in
     let same : draws_after [] heads offers lots ≡ draws_after [] c.deref.result.now c.deref-2.result.now c.deref-3.result.now =
     λ i. draws_after [] (sym c.deref.ensures.value i) (sym c.deref-2.ensures.value i) (sym c.deref-3.ensures.value i) in
-    IfOk-weaker c.gathered.result _ _ (λ made told. IfSome_then made told (λ draws is list rows order.
+    IfOk-weaker c.gathered.result _ _ (λ made reported. IfSome_then made reported (λ draws is list rows order.
     one_answer (draws_after [] heads offers lots) list draws.items
     (gathered_from c.args.draw_rows.items heads c.args.offer_rows.items offers c.args.lot_rows.items lots list rows order
     c.in-Some.ensures.only c.in-Some-in_order.ensures.only c.in-Some-in_order-2.ensures.only)
@@ -54,7 +54,7 @@ returns-clause-none c =
     let lots = c.in-Some-in_order-2.lots.items in
     let same : draws_after [] heads offers lots ≡ draws_after [] c.deref.result.now c.deref-2.result.now c.deref-3.result.now =
     λ i. draws_after [] (sym c.deref.ensures.value i) (sym c.deref-2.ensures.value i) (sym c.deref-3.ensures.value i) in
-    IfOk-weaker c.gathered.result _ _ (λ made told. if_none_weaker _ _ made told (λ is list rows order.
+    IfOk-weaker c.gathered.result _ _ (λ made reported. if_none_weaker _ _ made reported (λ is list rows order.
     no_answer (draws_after [] heads offers lots) list
     (gathered_from c.args.draw_rows.items heads c.args.offer_rows.items offers c.args.lot_rows.items lots list rows order
     c.in-Some.ensures.only c.in-Some-in_order.ensures.only c.in-Some-in_order-2.ensures.only)

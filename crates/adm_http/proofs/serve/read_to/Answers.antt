@@ -1,5 +1,5 @@
 use Rattle.std.proofs.Common.{length, sym, ap, subst, arith}
-use Rattle.adm_http.specs.Reading.{MayGoOn}
+use Rattle.adm_http.specs.Reading.{MayNeedMore}
 use Rattle.adm_http.proofs.StepLemmas.{read_step, failed_step, still}
 use Rattle.adm_http.proofs.serve.read_to.Goals as goal
 
@@ -7,8 +7,8 @@ pub returns-in-Ok-eq0-clause-bytes : goal.returns-in-Ok-eq0-clause-bytes
 returns-in-Ok-eq0-clause-bytes g c =
     let was = c.loop-reader.invariant.grown in
     let same = ap length was.2 in
-    let on : MayGoOn c.loop-reader.input.items =
-    subst MayGoOn (sym was.2) (c.requires.on.on was.0 (omega (arith, same, c.len.ensures, c.loop-reader-test.true))) in
+    let on : MayNeedMore c.loop-reader.input.items =
+    subst MayNeedMore (sym was.2) (c.requires.on.on was.0 (omega (arith, same, c.len.ensures, c.loop-reader-test.true))) in
     let more = rw c.in-Ok-eq0.field-0-is at c.in-Ok-eq0.ensures.ok in
     let step = read_step _ _ _ c.args.input.now.items was.0 c.loop-reader.input.items more.0 c.read_more.new.input.items was.1 was.2 on more.1 more.2
     (omega (arith, more.3, more.4)) in
@@ -18,8 +18,8 @@ pub loop-reader-preserved : goal.loop-reader-preserved
 loop-reader-preserved g c =
     let was = c.loop-reader.invariant.grown in
     let same = ap length was.2 in
-    let on : MayGoOn c.loop-reader.input.items =
-    subst MayGoOn (sym was.2) (c.requires.on.on was.0 (omega (arith, same, c.len.ensures, c.loop-reader-test.true))) in
+    let on : MayNeedMore c.loop-reader.input.items =
+    subst MayNeedMore (sym was.2) (c.requires.on.on was.0 (omega (arith, same, c.len.ensures, c.loop-reader-test.true))) in
     let more = c.in-Ok.ensures.ok in
     let step = read_step _ _ _ c.args.input.now.items was.0 c.loop-reader.input.items more.0 c.read_more.new.input.items was.1 was.2 on more.1 more.2
     (omega (arith, more.3, more.4)) in

@@ -14,7 +14,8 @@ index_beside-requires-clause-sorted c = rw c.deref.ensures.value c.requires.find
 pub index_beside-requires-clause-there : goal.index_beside-requires-clause-there
 index_beside-requires-clause-there c =
     let key = λ (it : Seats). it.code in
-    rw c.deref.ensures.value (is_there key c.args.seats.now (slice_cmp nat_cmp) (slice_cmp-IsAntisymmetric nat_cmp-IsAntisymmetric) c.args.directory.now.schools.items c.requires.finds c.args.school c.requires.there)
+    rw c.deref.ensures.value (is_there key c.args.seats.now (slice_cmp nat_cmp)
+    (slice_cmp-IsAntisymmetric nat_cmp-IsAntisymmetric) c.args.directory.now.schools.items c.requires.finds c.args.school c.requires.there)
 
 pub returns-clause-at : goal.returns-clause-at
 returns-clause-at c =

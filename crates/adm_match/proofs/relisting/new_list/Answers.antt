@@ -8,5 +8,6 @@ use Rattle.adm_match.proofs.relisting.new_list.Goals as goal
 pub returns : goal.returns
 returns c =
     c.in_ok-add_own.ensures
-    ∙ (ap (λ (x : List Wish). x ++ wishes_among c.args.list.now (option_to_list c.args.tenant)) (c.in_ok-add_wishes.ensures ∙ ap (λ (x : List Wish). x ++ wishes_among c.args.list.now c.args.schools.now) c.new-wishes.ensures.items)
+    ∙ (ap (λ (x : List Wish). x ++ wishes_among c.args.list.now (option_to_list c.args.tenant)) (c.in_ok-add_wishes.ensures
+    ∙ ap (λ (x : List Wish). x ++ wishes_among c.args.list.now c.args.schools.now) c.new-wishes.ensures.items)
     ∙ sym (wishes_append c.args.list.now c.args.schools.now (option_to_list c.args.tenant)))

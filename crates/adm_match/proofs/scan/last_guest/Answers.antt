@@ -24,14 +24,16 @@ loop-index-preserved c =
           let g = guest_at es rows s i e r e_at r_at (sym c.is_guest.ensures ∙ w.if-is_guest.true) in
           let k = w.in-Some.found in
           let was = MatchOption-at_some (NoGuestBelow es rows s i) (IsLastBelow es rows s i) k w.in-Some.is c.loop-index.invariant in
-          let d_at : slice_get es k ≡ Some w.index-entrants-found.result = slice_get_read es (length rows) k w.index-entrants-found.result c.requires.same (omega (arith, was.1)) w.index-entrants-found.is in
+          let d_at : slice_get es k ≡ Some w.index-entrants-found.result = slice_get_read es (length rows) k w.index-entrants-found.result c.requires.same
+          (omega (arith, was.1)) w.index-entrants-found.is in
           subst (λ o. MatchOption o (NoGuestBelow es rows s (i + 1)) (IsLastBelow es rows s (i + 1))) (sym w.last-is)
           (last_stays es rows s i k w.index-entrants-found.result e c.requires.ranked was g d_at (sym w.ranks_before.ensures ∙ w.if-not-ranks_before.true))
       | then-is_guest+in_default-2 w ↦
           let g = guest_at es rows s i e r e_at r_at (sym c.is_guest.ensures ∙ w.if-is_guest.true) in
           let k = w.in-Some.found in
           let was = MatchOption-at_some (NoGuestBelow es rows s i) (IsLastBelow es rows s i) k w.in-Some.is c.loop-index.invariant in
-          let d_at : slice_get es k ≡ Some w.index-entrants-found.result = slice_get_read es (length rows) k w.index-entrants-found.result c.requires.same (omega (arith, was.1)) w.index-entrants-found.is in
+          let d_at : slice_get es k ≡ Some w.index-entrants-found.result = slice_get_read es (length rows) k w.index-entrants-found.result c.requires.same
+          (omega (arith, was.1)) w.index-entrants-found.is in
           subst (λ o. MatchOption o (NoGuestBelow es rows s (i + 1)) (IsLastBelow es rows s (i + 1))) (sym w.last-is)
           (last_takes es rows s i k w.index-entrants-found.result e was g d_at (sym w.ranks_before.ensures ∙ w.if-not-ranks_before.false))
       | then-is_guest+in_default w ↦
@@ -45,7 +47,8 @@ loop-index-preserved c =
           (held_below es rows s i c.loop-index.last c.loop-index.invariant g)
     ]
   where
-    held_below : (es : List Candidate) (rows : List Progress) (s : Code) (i : ℕ) (o : Option ℕ) → MatchOption o (NoGuestBelow es rows s i) (IsLastBelow es rows s i) → ((e : Candidate) → IsGuestAt es rows s i e → ⊥) → MatchOption o (NoGuestBelow es rows s (i + 1)) (IsLastBelow es rows s (i + 1))
+    held_below : (es : List Candidate) (rows : List Progress) (s : Code) (i : ℕ) (o : Option ℕ) → MatchOption o (NoGuestBelow es rows s i) (IsLastBelow es rows s i)
+        → ((e : Candidate) → IsGuestAt es rows s i e → ⊥) → MatchOption o (NoGuestBelow es rows s (i + 1)) (IsLastBelow es rows s (i + 1))
     held_below es rows s i None h g = none_more es rows s i h g
     held_below es rows s i (Some k) h g = last_more es rows s i k h g
 

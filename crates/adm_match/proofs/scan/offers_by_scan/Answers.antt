@@ -5,20 +5,23 @@ use Rattle.adm_match.proofs.scan.offers_by_scan.Goals as goal
 pub returns-clause-best : goal.returns-clause-best
 returns-clause-best c =
     let in' = c.problem.inside in
-    let h = settled c.args.problem.now in'.entrants.items c.deref.result.now in'.seats.items c.deref-2.result.now c.in_ok-rows.rows.items c.problem.view_is c.problem.invariant c.deref.ensures.value c.deref-2.ensures.value c.in_ok-rows.ensures.sound c.in_ok-rows.ensures.done in
+    let h = settled c.args.problem.now in'.entrants.items c.deref.result.now in'.seats.items c.deref-2.result.now c.in_ok-rows.rows.items c.problem.view_is
+    c.problem.invariant c.deref.ensures.value c.deref-2.ensures.value c.in_ok-rows.ensures.sound c.in_ok-rows.ensures.done in
     let is = given_if c.in_ok-rows.rows.items c.deref-3.result.now c.offers_of.result c.deref-3.ensures.value c.offers_of.ensures.given in
     best_if c.args.problem.now c.in_ok-rows.rows.items c.offers_of.result h is
 
 pub returns-clause-others : goal.returns-clause-others
 returns-clause-others c =
     let in' = c.problem.inside in
-    let h = settled c.args.problem.now in'.entrants.items c.deref.result.now in'.seats.items c.deref-2.result.now c.in_ok-rows.rows.items c.problem.view_is c.problem.invariant c.deref.ensures.value c.deref-2.ensures.value c.in_ok-rows.ensures.sound c.in_ok-rows.ensures.done in
+    let h = settled c.args.problem.now in'.entrants.items c.deref.result.now in'.seats.items c.deref-2.result.now c.in_ok-rows.rows.items c.problem.view_is
+    c.problem.invariant c.deref.ensures.value c.deref-2.ensures.value c.in_ok-rows.ensures.sound c.in_ok-rows.ensures.done in
     let is = given_if c.in_ok-rows.rows.items c.deref-3.result.now c.offers_of.result c.deref-3.ensures.value c.offers_of.ensures.given in
     none_if c.args.problem.now c.in_ok-rows.rows.items c.offers_of.result h is
 
 pub returns-clause-proposals : goal.returns-clause-proposals
 returns-clause-proposals c =
     let in' = c.problem.inside in
-    let h = settled c.args.problem.now in'.entrants.items c.deref.result.now in'.seats.items c.deref-2.result.now c.in_ok-rows.rows.items c.problem.view_is c.problem.invariant c.deref.ensures.value c.deref-2.ensures.value c.in_ok-rows.ensures.sound c.in_ok-rows.ensures.done in
+    let h = settled c.args.problem.now in'.entrants.items c.deref.result.now in'.seats.items c.deref-2.result.now c.in_ok-rows.rows.items c.problem.view_is
+    c.problem.invariant c.deref.ensures.value c.deref-2.ensures.value c.in_ok-rows.ensures.sound c.in_ok-rows.ensures.done in
     let is = given_if c.in_ok-rows.rows.items c.deref-3.result.now c.offers_of.result c.deref-3.ensures.value c.offers_of.ensures.given in
     proposals_if c.args.problem.now c.in_ok-rows.rows.items c.deref-3.result.now c.offers_of.result h is c.deref-3.ensures.value c.offers_of.ensures.proposals

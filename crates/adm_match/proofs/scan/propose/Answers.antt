@@ -12,7 +12,8 @@ rejected_by-requires-clause-ranked c =
     let m = market_of c.args.entrants.now c.args.seats.now in
     let free = c.requires.free in
     let w = c.index.result.now in
-    let next = next_wish m.entrants c.args.rows.now c.args.index free c.index-entrants-index.result c.entrant.inside.list.items c.index-rows-index.result w c.index-entrants-index.is (ap (λ e. e.list) c.entrant.view_is) c.index.ensures in
+    let next = next_wish m.entrants c.args.rows.now c.args.index free c.index-entrants-index.result c.entrant.inside.list.items c.index-rows-index.result w
+    c.index-entrants-index.is (ap (λ e. e.list) c.entrant.view_is) c.index.ensures in
     let here = came m c.args.rows.now c.hold.new.rows c.args.index w free c.requires.sound next (c.hold.ensures free.1 free.3) in
     are_ranked m c.hold.new.rows w.school (posed m c.requires.posed) here.0.shaped
 
@@ -26,7 +27,8 @@ reject-requires-clause-listed c =
     let m = market_of c.args.entrants.now c.args.seats.now in
     let free = c.requires.free in
     let w = c.index.result.now in
-    let next = next_wish m.entrants c.args.rows.now c.args.index free c.index-entrants-index.result c.entrant.inside.list.items c.index-rows-index.result w c.index-entrants-index.is (ap (λ e. e.list) c.entrant.view_is) c.index.ensures in
+    let next = next_wish m.entrants c.args.rows.now c.args.index free c.index-entrants-index.result c.entrant.inside.list.items c.index-rows-index.result w
+    c.index-entrants-index.is (ap (λ e. e.list) c.entrant.view_is) c.index.ensures in
     let here = came m c.args.rows.now c.hold.new.rows c.args.index w free c.requires.sound next (c.hold.ensures free.1 free.3) in
     λ row rk. last_listed m c.hold.new.rows w.school c.in-Some.last c.in-Some.ensures.last here.0.shaped c.index-entrants-last.result row c.index-entrants-last.is rk
 
@@ -35,7 +37,8 @@ returns-in-Some-clause-sound c =
     let m = market_of c.args.entrants.now c.args.seats.now in
     let free = c.requires.free in
     let w = c.index.result.now in
-    let next = next_wish m.entrants c.args.rows.now c.args.index free c.index-entrants-index.result c.entrant.inside.list.items c.index-rows-index.result w c.index-entrants-index.is (ap (λ e. e.list) c.entrant.view_is) c.index.ensures in
+    let next = next_wish m.entrants c.args.rows.now c.args.index free c.index-entrants-index.result c.entrant.inside.list.items c.index-rows-index.result w
+    c.index-entrants-index.is (ap (λ e. e.list) c.entrant.view_is) c.index.ensures in
     let here = came m c.args.rows.now c.hold.new.rows c.args.index w free c.requires.sound next (c.hold.ensures free.1 free.3) in
     let last = c.in-Some.ensures.last in
     (left_school m c.hold.new.rows c.reject.new.rows c.args.index w.school c.in-Some.last last c.requires.posed here.0 c.in-Some.ensures.over (c.reject.ensures last.1.1.0 last.1.1.1)).0
@@ -45,7 +48,8 @@ returns-in-Some-clause-falls c =
     let m = market_of c.args.entrants.now c.args.seats.now in
     let free = c.requires.free in
     let w = c.index.result.now in
-    let next = next_wish m.entrants c.args.rows.now c.args.index free c.index-entrants-index.result c.entrant.inside.list.items c.index-rows-index.result w c.index-entrants-index.is (ap (λ e. e.list) c.entrant.view_is) c.index.ensures in
+    let next = next_wish m.entrants c.args.rows.now c.args.index free c.index-entrants-index.result c.entrant.inside.list.items c.index-rows-index.result w
+    c.index-entrants-index.is (ap (λ e. e.list) c.entrant.view_is) c.index.ensures in
     let here = came m c.args.rows.now c.hold.new.rows c.args.index w free c.requires.sound next (c.hold.ensures free.1 free.3) in
     let last = c.in-Some.ensures.last in
     let gone = (left_school m c.hold.new.rows c.reject.new.rows c.args.index w.school c.in-Some.last last c.requires.posed here.0 c.in-Some.ensures.over (c.reject.ensures last.1.1.0 last.1.1.1)).1 in
@@ -56,7 +60,8 @@ returns-in_default-clause-sound c =
     let m = market_of c.args.entrants.now c.args.seats.now in
     let free = c.requires.free in
     let w = c.index.result.now in
-    let next = next_wish m.entrants c.args.rows.now c.args.index free c.index-entrants-index.result c.entrant.inside.list.items c.index-rows-index.result w c.index-entrants-index.is (ap (λ e. e.list) c.entrant.view_is) c.index.ensures in
+    let next = next_wish m.entrants c.args.rows.now c.args.index free c.index-entrants-index.result c.entrant.inside.list.items c.index-rows-index.result w
+    c.index-entrants-index.is (ap (λ e. e.list) c.entrant.view_is) c.index.ensures in
     let here = came m c.args.rows.now c.hold.new.rows c.args.index w free c.requires.sound next (c.hold.ensures free.1 free.3) in
     stay m c.hold.new.rows c.args.index w.school here.0 c.in_default.ensures.none
 
@@ -65,6 +70,7 @@ returns-in_default-clause-falls c =
     let m = market_of c.args.entrants.now c.args.seats.now in
     let free = c.requires.free in
     let w = c.index.result.now in
-    let next = next_wish m.entrants c.args.rows.now c.args.index free c.index-entrants-index.result c.entrant.inside.list.items c.index-rows-index.result w c.index-entrants-index.is (ap (λ e. e.list) c.entrant.view_is) c.index.ensures in
+    let next = next_wish m.entrants c.args.rows.now c.args.index free c.index-entrants-index.result c.entrant.inside.list.items c.index-rows-index.result w
+    c.index-entrants-index.is (ap (λ e. e.list) c.entrant.view_is) c.index.ensures in
     let here = came m c.args.rows.now c.hold.new.rows c.args.index w free c.requires.sound next (c.hold.ensures free.1 free.3) in
     omega (arith, here.1)

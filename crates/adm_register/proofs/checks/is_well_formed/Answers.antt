@@ -6,7 +6,8 @@ use Rattle.std.specs.FinMap.{values, nat_cmp-IsAntisymmetric}
 use Rattle.std.specs.List.{list_all}
 use Rattle.std.proofs.lemmas.Bool.{and_parts}
 use Rattle.adm_types.specs.Seasons.{IsSeason, lists_end}
-use Rattle.adm_register.specs.WellFormed.{fits_school_with, places_outside_plans, has_first_round, SchoolFits, fits_child, ChildFits, fits_application, ApplicationFits, fits_place, PlaceFits, fits_left, LeftPairFits, fits_import, ImportFits}
+use Rattle.adm_register.specs.WellFormed.{places_outside_plans, has_first_round, SchoolFits, ChildFits, ApplicationFits, PlaceFits, LeftPairFits, ImportFits}
+use Rattle.adm_register.specs.RowTests.{fits_school_with, fits_child, fits_application, fits_place, fits_left, fits_import, fits_known_draw}
 use Rattle.adm_register.proofs.ApplicationChecks.{application_decided}
 use Rattle.adm_register.proofs.ChildChecks.{child_decided}
 use Rattle.adm_register.proofs.EachRow.{rows_decided}
@@ -17,7 +18,7 @@ use Rattle.adm_register.proofs.PlaceChecks.{place_decided}
 use Rattle.adm_register.proofs.SchoolChecks.{school_decided_with}
 use Rattle.adm_register.proofs.DrawChecks.{IsKnown, draw_known, draws_fit, draws_known, draws_formed}
 use Rattle.adm_register.proofs.TableMaps.{values_rows}
-use Rattle.adm_register.specs.Draws.{fits_known_draw, are_in_order, no_draws}
+use Rattle.adm_register.specs.Draws.{are_in_order, no_draws}
 use Rattle.adm_draws.specs.Draws.{is_draw}
 use Rattle.adm_register.proofs.checks.is_well_formed.Goals as goal
 
@@ -28,13 +29,24 @@ returns c =
     let rows = c.tables.inside in
     let view = c.tables.view_is in
     let last = lists_end s.season in
-    let schools = rows_decided (fits_school_with s.places) (λ code school. SchoolFits code school × (places_outside_plans s.places code ≤ school.pan)) nat_list_cmp_total code_cmp-IsAntisymmetric (school_decided_with s.places) rows.base.schools s.schools c.all_fit.result (ap (λ s. s.schools) view) c.all_fit.ensures.ordered c.all_fit.ensures.tested in
-    let children = rows_decided (fits_child s.schools) (ChildFits s.schools) nat_cmp_total nat_cmp-IsAntisymmetric (child_decided s.schools) rows.base.children s.children c.all_fit-2.result (ap (λ s. s.children) view) c.all_fit-2.ensures.ordered c.all_fit-2.ensures.tested in
-    let applications = rows_decided (fits_application last s.schools s.children) (ApplicationFits last s.schools s.children) nat_cmp_total nat_cmp-IsAntisymmetric (application_decided last s.schools s.children) rows.base.applications s.applications c.all_fit-3.result (ap (λ s. s.applications) view) c.all_fit-3.ensures.ordered c.all_fit-3.ensures.tested in
-    let places = rows_decided (fits_place s.schools s.children s.applications (has_first_round s.draws)) (PlaceFits s.schools s.children s.applications (has_first_round s.draws)) nat_cmp_total nat_cmp-IsAntisymmetric (place_decided s.schools s.children s.applications (has_first_round s.draws)) rows.course.places s.places c.all_fit-4.result (ap (λ s. s.places) view) c.all_fit-4.ensures.ordered c.all_fit-4.ensures.tested in
-    let left = rows_decided (fits_left s.schools s.children s.places) (LeftPairFits s.schools s.children s.places) left_cmp-total left_cmp-IsAntisymmetric (left_decided s.schools s.children s.places) rows.course.left s.left c.all_fit-5.result (ap (λ s. s.left) view) c.all_fit-5.ensures.ordered c.all_fit-5.ensures.tested in
-    let known = rows_decided (fits_known_draw s.schools s.children) (IsKnown s.schools s.children) nat_cmp_total nat_cmp-IsAntisymmetric (draw_known s.schools s.children) rows.course.draws s.draws c.all_fit-6.result (ap (λ s. s.draws) view) c.all_fit-6.ensures.ordered c.all_fit-6.ensures.tested in
-    let imported = rows_decided (fits_import last s.schools s.children) (ImportFits last s.schools s.children) nat_cmp_total nat_cmp-IsAntisymmetric (import_decided last s.schools s.children) rows.course.imported s.imported c.all_fit-7.result (ap (λ s. s.imported) view) c.all_fit-7.ensures.ordered c.all_fit-7.ensures.tested in
+    let schools = rows_decided (fits_school_with s.places) (λ code school. SchoolFits code school
+    × (places_outside_plans s.places code ≤ school.pan)) nat_list_cmp_total code_cmp-IsAntisymmetric
+    (school_decided_with s.places) rows.base.schools s.schools c.all_fit.result (ap (λ s. s.schools) view) c.all_fit.ensures.ordered c.all_fit.ensures.tested in
+    let children = rows_decided (fits_child s.schools) (ChildFits s.schools) nat_cmp_total nat_cmp-IsAntisymmetric
+    (child_decided s.schools) rows.base.children s.children c.all_fit-2.result (ap (λ s. s.children) view) c.all_fit-2.ensures.ordered c.all_fit-2.ensures.tested in
+    let applications = rows_decided (fits_application last s.schools s.children) (ApplicationFits last s.schools s.children) nat_cmp_total nat_cmp-IsAntisymmetric
+    (application_decided last s.schools s.children) rows.base.applications s.applications c.all_fit-3.result
+    (ap (λ s. s.applications) view) c.all_fit-3.ensures.ordered c.all_fit-3.ensures.tested in
+    let places = rows_decided (fits_place s.schools s.children s.applications (has_first_round s.draws))
+    (PlaceFits s.schools s.children s.applications (has_first_round s.draws)) nat_cmp_total nat_cmp-IsAntisymmetric
+    (place_decided s.schools s.children s.applications (has_first_round s.draws)) rows.course.places s.places c.all_fit-4.result
+    (ap (λ s. s.places) view) c.all_fit-4.ensures.ordered c.all_fit-4.ensures.tested in
+    let left = rows_decided (fits_left s.schools s.children s.places) (LeftPairFits s.schools s.children s.places) left_cmp-total left_cmp-IsAntisymmetric
+    (left_decided s.schools s.children s.places) rows.course.left s.left c.all_fit-5.result (ap (λ s. s.left) view) c.all_fit-5.ensures.ordered c.all_fit-5.ensures.tested in
+    let known = rows_decided (fits_known_draw s.schools s.children) (IsKnown s.schools s.children) nat_cmp_total nat_cmp-IsAntisymmetric
+    (draw_known s.schools s.children) rows.course.draws s.draws c.all_fit-6.result (ap (λ s. s.draws) view) c.all_fit-6.ensures.ordered c.all_fit-6.ensures.tested in
+    let imported = rows_decided (fits_import last s.schools s.children) (ImportFits last s.schools s.children) nat_cmp_total nat_cmp-IsAntisymmetric
+    (import_decided last s.schools s.children) rows.course.imported s.imported c.all_fit-7.result (ap (λ s. s.imported) view) c.all_fit-7.ensures.ordered c.all_fit-7.ensures.tested in
     let rows_listed = c.in_ok-draws.ensures.rows ∙ sym (values_rows nat_cmp_total rows.course.draws c.to_vec.ensures.ordered) ∙ ap (λ s. values s.draws) view in
     let formed = c.in_ok-all_formed.ensures ∙ ap (list_all is_draw) (c.deref.ensures.value ∙ rows_listed) in
     let in_order = c.are_in_order.ensures ∙ (λ i. are_in_order (c.season-2.ensures i) no_draws ((c.deref-2.ensures.value ∙ rows_listed) i)) in (
@@ -66,5 +78,10 @@ returns c =
           },
       λ well.
           c.all_hold.ensures
-          ∙ (λ i. c.are_few.ensures.1 (well.base.few_schools, well.base.few_children) i && (schools.1 (λ code school there. (well.base.schools_fit code school there, well.places.room code school there)) i && (children.1 well.base.children_fit i && (applications.1 well.base.applications_fit i && (places.1 well.places.each i && (left.1 well.left i && (known.1 (draws_known s.schools s.children s.draws well.draws.each) i && (imported.1 well.imported i && ((formed ∙ draws_formed s.schools s.children s.draws well.draws.each) i && ((in_order ∙ well.draws.in_order) i && true)))))))))),
+          ∙ (λ i. c.are_few.ensures.1 (well.base.few_schools, well.base.few_children) i
+          && (schools.1 (λ code school there. (well.base.schools_fit code school there, well.places.room code school there)) i
+          && (children.1 well.base.children_fit i && (applications.1 well.base.applications_fit i
+          && (places.1 well.places.each i && (left.1 well.left i
+          && (known.1 (draws_known s.schools s.children s.draws well.draws.each) i
+          && (imported.1 well.imported i && ((formed ∙ draws_formed s.schools s.children s.draws well.draws.each) i && ((in_order ∙ well.draws.in_order) i && true)))))))))),
     )

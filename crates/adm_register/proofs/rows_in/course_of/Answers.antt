@@ -59,7 +59,8 @@ returns-in_err-imported-clause-repeated c =
     let p = err_from_is_err_and c.from_residual-in_err-imported.result c.from_residual-in_err-imported.ensures.1 in
     rw (p.1, p.2) (λ bad s well same.
     c.in_err-imported.ensures.repeated (same_fault _ _ bad)
-    (distinct_keys nat_cmp_total nat_cmp-IsAntisymmetric (λ (r : ImportRow). r.child.no) s.imported c.args.rows.imported (λ key row there. (well.imported key row there).child.own_number) same.imported))
+    (distinct_keys nat_cmp_total nat_cmp-IsAntisymmetric (λ (r : ImportRow). r.child.no) s.imported c.args.rows.imported
+    (λ key row there. (well.imported key row there).child.own_number) same.imported))
 
 pub returns-clause-made : goal.returns-clause-made
 returns-clause-made c s of =
@@ -67,7 +68,8 @@ returns-clause-made c s of =
     let left = subst (λ rows. HasRowsByKey left_cmp (λ (p : LeftPair). p) rows c.in_ok-left.left) c.into_vec-2.ensures c.in_ok-left.ensures.made in
     let drawn = c.in_ok-draws.ensures.made in
     record {
-      places = subst (λ m. IsPermutation c.args.rows.places (values m)) of.places (rows_of_table nat_cmp_total nat_cmp-IsAntisymmetric (λ (p : PlaceRow). p.child) c.args.rows.places c.in_ok-places.places places);
+      places = subst (λ m. IsPermutation c.args.rows.places (values m)) of.places
+          (rows_of_table nat_cmp_total nat_cmp-IsAntisymmetric (λ (p : PlaceRow). p.child) c.args.rows.places c.in_ok-places.places places);
       left = subst (λ m. IsPermutation c.args.rows.left (values m)) of.left (rows_of_table left_cmp-total left_cmp-IsAntisymmetric (λ (p : LeftPair). p) c.args.rows.left c.in_ok-left.left left);
       draws = subst (λ m. AreDrawRowsOf c.args.rows.drawn.draws c.args.rows.drawn.offers c.args.rows.drawn.lots (values m)) of.draws
           (subst (AreDrawRowsOf c.args.rows.drawn.draws c.args.rows.drawn.offers c.args.rows.drawn.lots) (sym (values_rows nat_cmp_total c.in_ok-draws.draws drawn.2)) drawn.0);
@@ -81,9 +83,13 @@ returns-clause-only c s well same =
     let left = subst (λ rows. HasRowsByKey left_cmp (λ (p : LeftPair). p) rows c.in_ok-left.left) c.into_vec-2.ensures c.in_ok-left.ensures.made in
     let drawn = c.in_ok-draws.ensures.made in
     record {
-      places = sym (same_as_table nat_cmp_total nat_cmp-IsAntisymmetric (λ (p : PlaceRow). p.child) c.args.rows.places c.in_ok-places.places places s.places (λ key row there. (well.places.each key row there).own_number) same.places);
-      left = sym (same_as_table left_cmp-total left_cmp-IsAntisymmetric (λ (p : LeftPair). p) c.args.rows.left c.in_ok-left.left left s.left (λ key row there. (well.left key row there).own_key) same.left);
+      places = sym (same_as_table nat_cmp_total nat_cmp-IsAntisymmetric (λ (p : PlaceRow). p.child) c.args.rows.places c.in_ok-places.places places s.places
+          (λ key row there. (well.places.each key row there).own_number) same.places);
+      left = sym (same_as_table left_cmp-total left_cmp-IsAntisymmetric (λ (p : LeftPair). p) c.args.rows.left c.in_ok-left.left left s.left
+          (λ key row there. (well.left key row there).own_key) same.left);
       draws = sym (same_values nat_cmp_total nat_cmp-IsAntisymmetric (λ (d : Draw). d.number) s.draws c.in_ok-draws.draws (λ key row there. (well.draws.each key row there).own_number) drawn.1 drawn.2
           (c.in_ok-draws.ensures.only (values s.draws) (in_order s well) same.draws));
-      imported = sym (same_as_table nat_cmp_total nat_cmp-IsAntisymmetric (λ (r : ImportRow). r.child.no) c.args.rows.imported c.in_ok-imported.imported c.in_ok-imported.ensures.made s.imported (λ key row there. (well.imported key row there).child.own_number) same.imported);
+      imported = sym (same_as_table nat_cmp_total nat_cmp-IsAntisymmetric
+          (λ (r : ImportRow). r.child.no) c.args.rows.imported c.in_ok-imported.imported c.in_ok-imported.ensures.made s.imported
+          (λ key row there. (well.imported key row there).child.own_number) same.imported);
     }

@@ -11,6 +11,7 @@ items-preserved c =
     let was = map-id (take i codes) in
     let now = map-id (take (i + 1) codes) in
     record {
-      text = appended (λ x. x) codes i c.code-item.result _ _ _ _ c.items-test.true c.code-item.is (c.items.invariant.text ∙ ap joined (sym was)) (c.items.invariant.first ∙ ap is_nil (sym was)) (search rules) c.in_ok-append.ensures ∙ ap joined now;
+      text = appended (λ x. x) codes i c.code-item.result _ _ _ _ c.items-test.true c.code-item.is (c.items.invariant.text ∙ ap joined (sym was)) (c.items.invariant.first
+          ∙ ap is_nil (sym was)) (search rules) c.in_ok-append.ensures ∙ ap joined now;
       first = not_first (λ x. x) codes i c.code-item.result c.items-test.true c.code-item.is ∙ ap is_nil now;
     }

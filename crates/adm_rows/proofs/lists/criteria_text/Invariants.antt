@@ -1,5 +1,5 @@
 use Rattle.std.proofs.Common.{◌≡◌, map, take, string_bytes}
-use Rattle.adm_types.specs.Fields.{criterion_text}
+use Rattle.adm_types.specs.Criteria.{criterion_text}
 use Rattle.adm_rows.specs.Forms.{criteria_text}
 use Rattle.adm_rows.proofs.ListLemmas.{is_nil}
 use Rattle.adm_rows.proofs.lists.criteria_text.Given as goal

@@ -2,7 +2,7 @@ use Rattle.std.proofs.Common.{lit<, rules}
 use Rattle.std.proofs.lemmas.Iterator.{YieldsList-from_map, items_from_collect}
 use Rattle.std.proofs.lemmas.Iterator.Consumers.{YieldsList-at}
 use Rattle.std.proofs.lemmas.Iterator.Splits.{YieldsList-from_str_split}
-use Rattle.adm_types.specs.Fields.{criterion_of}
+use Rattle.adm_types.specs.Criteria.{criterion_of}
 use Rattle.adm_rows.proofs.lists.criterion_pieces.Goals as goal
 
 pub returns : goal.returns

@@ -10,7 +10,7 @@ use Rattle.adm_schema.proofs.Listed.{school_in, child_in, application_in, place_
 use Rattle.adm_rows.specs.Forms.{season_row}
 use Rattle.adm_rows.specs.Represents.{HasRows}
 use Rattle.adm_rows.proofs.DrawFits.{draws_fit, offers_fit, lots_fit}
-use Rattle.adm_rows.proofs.RegisterRows.{as_many, schools_fit, children_fit, applications_fit, places_fit, left_fit, imported_fit}
+use Rattle.adm_rows.proofs.RowsFit.{as_many, schools_fit, children_fit, applications_fit, places_fit, left_fit, imported_fit}
 use Rattle.adm_rows.proofs.reading.first_tables.Goals as goal
 
 -- the tables in the order of the schema, which is that of the readers
@@ -20,8 +20,10 @@ returns-then-is_count_of-clause-ok g c clean has first =
     let v = c.args.first.version in
     let it = c.in_ok-schools.ensures.ok v clean has in
     let drawn = it.1.1.1.1.1 in
-    let counted : length c.in_ok-schools.more.0 ≡ c.args.first.draws = search rules in
-    (subst (λ count. HasRows meta (season_row v c.args.first.season count ∷ []) db) (sym counted) first, (it.0, (it.1.0, (it.1.1.0, (it.1.1.1.0, (it.1.1.1.1.0, (drawn.0, (drawn.1.0, (drawn.1.1.0, (drawn.1.1.1.0, tt))))))))))
+    let counted : length c.in_ok-schools.more.0 ≡ c.args.first.draws = search rules in (
+      subst (λ count. HasRows meta (season_row v c.args.first.season count ∷ []) db) (sym counted) first,
+      (it.0, (it.1.0, (it.1.1.0, (it.1.1.1.0, (it.1.1.1.1.0, (drawn.0, (drawn.1.0, (drawn.1.1.0, (drawn.1.1.1.0, tt))))))))),
+    )
 
 pub returns-then-is_count_of-clause-again : goal.returns-then-is_count_of-clause-again
 returns-then-is_count_of-clause-again g c = let it = c.in_ok-schools.ensures.again in record { schools = it.0; children = it.1.0; applications = it.1.1.0; imported = it.1.1.1.1.1.1.1.1.0 }
@@ -32,11 +34,47 @@ returns-in_err-schools-clause-bad g c =
     rw (p.1, p.2) (λ structural r same clean has held.
     let each = held.rows.each in
     let last = c.lists_end-last.ensures ∙ sym (ap lists_end same.0) in
-    c.in_err-schools.ensures.bad structural
-    (values r.schools, (values r.children, (values r.applications, (values r.places, (values r.left, (map row_of (values r.draws), (flat_map offer_rows_of (values r.draws), (flat_map lot_rows_of (values r.draws), (values r.imported, tt)))))))))
-    (schools_fit r held.formed, (children_fit r held.formed, (applications_fit r _ held.formed last, (places_fit r held.formed, (left_fit r held.formed, (draws_fit r _ held.formed last, (offers_fit r held.formed, (lots_fit r held.formed, (imported_fit r _ held.formed last, tt)))))))))
-    c.args.first.version clean has
-    (each _ (school_in c.args.first.version), (each _ (child_in c.args.first.version), (each _ (application_in c.args.first.version), (each _ (place_in c.args.first.version), (each _ (left_list_in c.args.first.version), (each _ (draw_in c.args.first.version), (each _ (offer_in c.args.first.version), (each _ (lot_in c.args.first.version), (each _ (imported_in c.args.first.version), tt))))))))))
+    c.in_err-schools.ensures.bad structural (
+      values r.schools,
+      (
+        values r.children,
+        (
+          values r.applications,
+          (values r.places, (values r.left, (map row_of (values r.draws), (flat_map offer_rows_of (values r.draws), (flat_map lot_rows_of (values r.draws), (values r.imported, tt)))))),
+        ),
+      ),
+    ) (
+      schools_fit r held.formed,
+      (
+        children_fit r held.formed,
+        (
+          applications_fit r _ held.formed last,
+          (
+            places_fit r held.formed,
+            (left_fit r held.formed, (draws_fit r _ held.formed last, (offers_fit r held.formed, (lots_fit r held.formed, (imported_fit r _ held.formed last, tt))))),
+          ),
+        ),
+      ),
+    )
+    c.args.first.version clean has (
+      each _ (school_in c.args.first.version),
+      (
+        each _ (child_in c.args.first.version),
+        (
+          each _ (application_in c.args.first.version),
+          (
+            each _ (place_in c.args.first.version),
+            (
+              each _ (left_list_in c.args.first.version),
+              (
+                each _ (draw_in c.args.first.version),
+                (each _ (offer_in c.args.first.version), (each _ (lot_in c.args.first.version), (each _ (imported_in c.args.first.version), tt))),
+              ),
+            ),
+          ),
+        ),
+      ),
+    ))
 
 pub returns-in_err-schools-clause-disk : goal.returns-in_err-schools-clause-disk
 returns-in_err-schools-clause-disk g c =

@@ -10,7 +10,8 @@ use Rattle.adm_rows.specs.FirstFault.{IsFirstFault}
 use Rattle.adm_rows.proofs.FaultLemmas.{one_version}
 use Rattle.adm_rows.proofs.CauseLemmas.{bad_rows, rows_never_disk, failed_in, cause_here, cause_of_season}
 use Rattle.adm_rows.proofs.ReadingLemmas.{still, seen_before, seen_after}
-use Rattle.adm_rows.proofs.RegisterRows.{holds_register, rows_held, season_back, version_back, count_back, few_enough}
+use Rattle.adm_rows.proofs.RegisterRows.{holds_register, rows_held, season_back, version_back, count_back}
+use Rattle.adm_rows.proofs.RowsFit.{few_enough}
 use Rattle.adm_rows.proofs.reading.register_in.Goals as goal
 
 -- the version that the row names is that of the tables
@@ -25,13 +26,15 @@ returns-in-Ok-clause-ok g c clean has =
     let same = c.in_ok-first.ensures.same v in
     let rows = c.in_ok-rows.rows in
     let season = c.in_ok-first.first.season in
-    let there = seen_before v old mid same early here (λ db. HoldsSeason v season c.in_ok-first.first.draws db → HoldsRows v db rows) (c.in_ok-rows.ensures.ok clean (still v old mid same early here)) (c.in_ok-first.ensures.ok v early here) in
+    let there = seen_before v old mid same early here (λ db. HoldsSeason v season c.in_ok-first.first.draws db
+    → HoldsRows v db rows) (c.in_ok-rows.ensures.ok clean (still v old mid same early here)) (c.in_ok-first.ensures.ok v early here) in
     subst (λ u. HoldsRegister u old.now.trees c.in-Ok.register) named (holds_register v old.now.trees c.in-Ok.register rows there c.in-Ok.ensures.register.0 c.in-Ok.ensures.register.1)
 
 pub returns-in_err-first-clause-bad : goal.returns-in_err-first-clause-bad
 returns-in_err-first-clause-bad g c =
     let p = err_from_is_err_and c.from_residual.result c.from_residual.ensures.1 in
-    rw (p.1, p.2) (λ structural r w clean has held. c.in_err-first.ensures.bad structural w r.season _ held.formed.base.season_is (few_enough r held.formed) w clean has (held.rows.each meta (meta_in w)))
+    rw (p.1, p.2) (λ structural r w clean has held. c.in_err-first.ensures.bad structural w r.season _ held.formed.base.season_is
+    (few_enough r held.formed) w clean has (held.rows.each meta (meta_in w)))
 
 pub returns-in_err-rows-clause-bad : goal.returns-in_err-rows-clause-bad
 returns-in_err-rows-clause-bad g c =
@@ -47,7 +50,9 @@ returns-in_err-rows-clause-bad g c =
     let same = c.in_ok-first.ensures.same v in
     let season = season_back w v _ r c.in_ok-first.first.season _ one c.in_ok-first.ensures.season held in
     let count = count_back w v _ r c.in_ok-first.first.season _ one held in
-    c.in_err-rows.ensures.bad structural r (season, count) clean (still v old mid same early here) (seen_after v old mid same early here (λ db. HoldsSeason v c.in_ok-first.first.season c.in_ok-first.first.draws db) (c.in_ok-first.ensures.ok v early here)) (seen_after v old mid same early here (λ db. HoldsRegister v db r) (subst (λ u. HoldsRegister u old.now.trees r) own held)))
+    c.in_err-rows.ensures.bad structural r (season, count) clean (still v old mid same early here)
+    (seen_after v old mid same early here (λ db. HoldsSeason v c.in_ok-first.first.season c.in_ok-first.first.draws db) (c.in_ok-first.ensures.ok v early here))
+    (seen_after v old mid same early here (λ db. HoldsRegister v db r) (subst (λ u. HoldsRegister u old.now.trees r) own held)))
 
 -- no register has the row of one version and the tables of another
 pub returns-then-ne-clause-bad : goal.returns-then-ne-clause-bad
@@ -71,16 +76,18 @@ returns-in-Err-clause-bad g c structural r w clean has held =
     let own : w ≡ v = version_back w v _ r season _ one held in
     let here : old.now.schema ≡ schema_of v = has ∙ ap schema_of own in
     let same = c.in_ok-first.ensures.same v in
-    let there = seen_before v old mid same early here (λ db. HoldsSeason v season c.in_ok-first.first.draws db → HoldsRows v db rows) (c.in_ok-rows.ensures.ok clean (still v old mid same early here)) one in
+    let there = seen_before v old mid same early here (λ db. HoldsSeason v season c.in_ok-first.first.draws db
+    → HoldsRows v db rows) (c.in_ok-rows.ensures.ok clean (still v old mid same early here)) one in
     let back = season_back w v _ r season _ one c.in_ok-first.ensures.season held in
-    let told = bad_rows _ _ structural c.rows_fault.ensures in
-    c.from_rows.ensures.bad_row (c.in-Err.is ∙ ap Err told.0) r held.formed (rows_held v _ r rows (subst (λ u. HoldsRegister u old.now.trees r) own held) there c.in_ok-rows.ensures.again (c.in_ok-rows.ensures.season ∙ sym back))
+    let reported = bad_rows _ _ structural c.rows_fault.ensures in
+    c.from_rows.ensures.bad_row (c.in-Err.is ∙ ap Err reported.0) r held.formed
+    (rows_held v _ r rows (subst (λ u. HoldsRegister u old.now.trees r) own held) there c.in_ok-rows.ensures.again (c.in_ok-rows.ensures.season ∙ sym back))
 
 pub returns-in-Err-clause-first : goal.returns-in-Err-clause-first
 returns-in-Err-clause-first g c clean structural =
     let early : HasCleanDisk (state g.S.Store c.read_season.new.tx.conn.now) = omega (arith, c.rows_in.ensures.survives.clean, clean) in
-    let told = bad_rows _ _ structural c.rows_fault.ensures in
-    subst (λ e. IsFirstFault (state g.S.Store c.args.tx.now.conn.now).now e) (sym told.1) (c.in_ok-first.ensures.version early)
+    let reported = bad_rows _ _ structural c.rows_fault.ensures in
+    subst (λ e. IsFirstFault (state g.S.Store c.args.tx.now.conn.now).now e) (sym reported.1) (c.in_ok-first.ensures.version early)
 
 pub returns-in-Err-clause-disk : goal.returns-in-Err-clause-disk
 returns-in-Err-clause-disk g c is = absurd (rows_never_disk _ _ c.rows_fault.ensures is)
@@ -88,7 +95,8 @@ returns-in-Err-clause-disk g c is = absurd (rows_never_disk _ _ c.rows_fault.ens
 pub returns-in_err-first-clause-disk : goal.returns-in_err-first-clause-disk
 returns-in_err-first-clause-disk g c =
     let p = err_from_is_err_and c.from_residual.result c.from_residual.ensures.1 in
-    rw (p.1, p.2) (λ is. cause_of_season (state g.S.Store c.args.tx.now.conn.now) (state g.S.Store c.read_season.new.tx.conn.now) c.args.version c.requires.tables c.requires.none (c.in_err-first.ensures.disk is) (c.in_err-first.ensures.unanswered is))
+    rw (p.1, p.2) (λ is. cause_of_season (state g.S.Store c.args.tx.now.conn.now)
+    (state g.S.Store c.read_season.new.tx.conn.now) c.args.version c.requires.tables c.requires.none (c.in_err-first.ensures.disk is) (c.in_err-first.ensures.unanswered is))
 
 pub returns-in_err-rows-clause-disk : goal.returns-in_err-rows-clause-disk
 returns-in_err-rows-clause-disk g c =
@@ -97,4 +105,6 @@ returns-in_err-rows-clause-disk g c =
     let v = c.in_ok-first.first.version in
     let named : v ≡ c.in-Some.version = search rules in
     let tables : old.now.schema ≡ schema_of c.in-Some.version = search rules in
-    rw (p.1, p.2) (λ is. cause_here v old (state g.S.Store c.rows_in.new.tx.conn.now) (failed_in old (state g.S.Store c.read_season.new.tx.conn.now) (state g.S.Store c.rows_in.new.tx.conn.now) v c.read_season.ensures.survives c.rows_in.ensures.survives (c.in_ok-first.ensures.same v) (c.in_err-rows.ensures.disk is)) (tables ∙ ap schema_of (sym named)))
+    rw (p.1, p.2) (λ is. cause_here v old (state g.S.Store c.rows_in.new.tx.conn.now)
+    (failed_in old (state g.S.Store c.read_season.new.tx.conn.now) (state g.S.Store c.rows_in.new.tx.conn.now) v c.read_season.ensures.survives c.rows_in.ensures.survives
+    (c.in_ok-first.ensures.same v) (c.in_err-rows.ensures.disk is)) (tables ∙ ap schema_of (sym named)))

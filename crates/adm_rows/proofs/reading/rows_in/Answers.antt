@@ -16,7 +16,8 @@ returns-clause-ok g c clean has season =
     let early : HasCleanDisk mid = omega (arith, c.with_presents.ensures.survives.clean, clean) in
     let same = c.in_ok-rows.ensures.same v in
     let first = c.in_ok-rows.ensures.ok early has season in
-    seen_before v old mid same early has (λ db. HoldsRows v db c.in_ok-all.all) (c.in_ok-all.ensures.ok clean (still v old mid same early has) (seen_after v old mid same early has (λ db. HoldsFirst v c.in_ok-rows.rows db) first))
+    seen_before v old mid same early has (λ db. HoldsRows v db c.in_ok-all.all)
+    (c.in_ok-all.ensures.ok clean (still v old mid same early has) (seen_after v old mid same early has (λ db. HoldsFirst v c.in_ok-rows.rows db) first))
 
 pub returns-in_err-rows-clause-bad : goal.returns-in_err-rows-clause-bad
 returns-in_err-rows-clause-bad g c =
@@ -38,9 +39,12 @@ returns-in_err-all-clause-bad g c =
     let early : HasCleanDisk mid = omega (arith, c.with_presents.ensures.survives.clean, clean) in
     let same = c.in_ok-rows.ensures.same v in
     let first = c.in_ok-rows.ensures.ok early has season in
-    c.in_err-all.ensures.bad structural c.in_ok-rows.ensures.again r clean (still v old mid same early has) (seen_after v old mid same early has (λ db. HoldsFirst v c.in_ok-rows.rows db) first) (seen_after v old mid same early has (λ db. HoldsRegister v db r) held))
+    c.in_err-all.ensures.bad structural c.in_ok-rows.ensures.again r clean (still v old mid same early has)
+    (seen_after v old mid same early has (λ db. HoldsFirst v c.in_ok-rows.rows db) first) (seen_after v old mid same early has (λ db. HoldsRegister v db r) held))
 
 pub returns-in_err-all-clause-disk : goal.returns-in_err-all-clause-disk
 returns-in_err-all-clause-disk g c =
     let p = err_from_is_err_and c.from_residual-in_err-all.result c.from_residual-in_err-all.ensures.1 in
-    rw (p.1, p.2) (λ is. failed_in (state g.S.Store c.args.tx.now.conn.now) (state g.S.Store c.first_tables.new.tx.conn.now) (state g.S.Store c.with_presents.new.tx.conn.now) c.args.first.version c.first_tables.ensures.survives c.with_presents.ensures.survives (c.in_ok-rows.ensures.same c.args.first.version) (c.in_err-all.ensures.disk is))
+    rw (p.1, p.2) (λ is. failed_in (state g.S.Store c.args.tx.now.conn.now) (state g.S.Store c.first_tables.new.tx.conn.now)
+    (state g.S.Store c.with_presents.new.tx.conn.now) c.args.first.version c.first_tables.ensures.survives c.with_presents.ensures.survives
+    (c.in_ok-rows.ensures.same c.args.first.version) (c.in_err-all.ensures.disk is))

@@ -4,4 +4,5 @@ use Rattle.adm_store.proofs.difference.add_imported.Goals as goal
 
 pub imported-preserved : goal.imported-preserved
 imported-preserved c =
-    parts_more present_of_import _ c.args.imported.now c.imported.row-index c.row-item.result _ _ c.imported-test.true c.row-item.is c.imported.invariant (rw c.as_ref.ensures at c.in_ok-add_present.ensures)
+    parts_more present_of_import _ c.args.imported.now c.imported.row-index c.row-item.result _ _ c.imported-test.true c.row-item.is c.imported.invariant
+    (rw c.as_ref.ensures at c.in_ok-add_present.ensures)

@@ -5,4 +5,5 @@ use Rattle.adm_store.proofs.difference.arrived.Goals as goal
 
 pub children-preserved : goal.children-preserved
 children-preserved c =
-    parts_more (present_added_by c.args.old.now.children) [] c.args.children.now c.children.row-index c.row-item.result _ _ c.children-test.true c.row-item.is c.children.invariant (rw (c.present_in.ensures, c.as_ref-child.ensures) at c.in_ok-add_arrived.ensures)
+    parts_more (present_added_by c.args.old.now.children) [] c.args.children.now c.children.row-index c.row-item.result _ _ c.children-test.true c.row-item.is
+    c.children.invariant (rw (c.present_in.ensures, c.as_ref-child.ensures) at c.in_ok-add_arrived.ensures)

@@ -25,7 +25,9 @@ returns-clause-committed g c clean =
       done.1.is_open,
       λ r before.
           subst (λ (d : Database). RepresentsIn Second d.trees r) (sym done.1.committed_is)
-          (migrated g.S.Store c.args.conn.now c.transaction-tx.result.conn.now mid last r c.transaction-tx.ensures.begun (g.met.S.Store.stays c.args.conn.now.store) (c.if-prove.ensures.settled refl) c.schema-tables.ensures.live before c.add_present.ensures.survives.clean c.mark_second.ensures.survives.clean c.in_ok-add_present.ensures.made c.in_ok-mark_second.ensures.marked early),
+          (migrated g.S.Store c.args.conn.now c.transaction-tx.result.conn.now mid last r c.transaction-tx.ensures.begun (g.met.S.Store.stays c.args.conn.now.store)
+          (c.if-prove.ensures.settled refl) c.schema-tables.ensures.live before c.add_present.ensures.survives.clean c.mark_second.ensures.survives.clean
+          c.in_ok-add_present.ensures.made c.in_ok-mark_second.ensures.marked early),
     ))
     (c.commit.ensures.ok late))
 
@@ -36,7 +38,9 @@ returns-clause-survives g c r before =
     let mid = state g.S.Store c.add_present.new.tx.conn.now in
     let last = state g.S.Store c.mark_second.new.tx.conn.now in
     let file = λ (early : HasCleanDisk last).
-    migrated g.S.Store c.args.conn.now c.transaction-tx.result.conn.now mid last r c.transaction-tx.ensures.begun (g.met.S.Store.stays c.args.conn.now.store) (c.if-prove.ensures.settled refl) c.schema-tables.ensures.live before c.add_present.ensures.survives.clean c.mark_second.ensures.survives.clean c.in_ok-add_present.ensures.made c.in_ok-mark_second.ensures.marked early in
+    migrated g.S.Store c.args.conn.now c.transaction-tx.result.conn.now mid last r c.transaction-tx.ensures.begun (g.met.S.Store.stays c.args.conn.now.store)
+    (c.if-prove.ensures.settled refl) c.schema-tables.ensures.live before c.add_present.ensures.survives.clean c.mark_second.ensures.survives.clean
+    c.in_ok-add_present.ensures.made c.in_ok-mark_second.ensures.marked early in
     let inside = survives_on begun mid last c.add_present.ensures.survives c.mark_second.ensures.survives in
     let whole = survives_commit start last (state g.S.Store c.commit.new.self.0) (λ db. RepresentsIn Second db r)
     (survives_begin g.S.Store c.args.conn.now last _ (subst (λ h. Survives (state g.S.Store h) last (λ _. ⊥)) c.transaction-tx.ensures.begun inside)) file c.commit.ensures.survives in

@@ -19,11 +19,13 @@ items-preserved g c =
     let now = state g.S.Store c.run.new.tx.conn.now in
     record {
       same_reference = c.run.ensures.same_reference ∙ c.items.invariant.same_reference;
-      writes = writes_more g.W.Statement.kind g.W.Statement.table g.W.Statement.row_of c.args.items.now c.items.item-index c.item-item.result start mid now c.items-test.true c.item-item.is c.items.invariant.survives c.run.ensures.survives c.items.invariant.writes c.in_ok-run.ensures.writes;
+      writes = writes_more g.W.Statement.kind g.W.Statement.table g.W.Statement.row_of c.args.items.now c.items.item-index c.item-item.result start mid now
+          c.items-test.true c.item-item.is c.items.invariant.survives c.run.ensures.survives c.items.invariant.writes c.in_ok-run.ensures.writes;
       survives = survives_on start mid now c.items.invariant.survives c.run.ensures.survives;
     }
 
 pub returns-clause-writes : goal.returns-clause-writes
 returns-clause-writes g c =
     let whole : c.items.item-index ≡ length c.args.items.now = omega (arith, c.items.auto.item-index-end, c.items-test.false) in
-    subst (λ xs. Writes (write_of g.W.Statement.kind g.W.Statement.table g.W.Statement.row_of xs ∷ []) (state g.S.Store c.args.tx.now.conn.now) (state g.S.Store c.items.tx.conn.now)) (ap (λ i. take i c.args.items.now) whole ∙ take_all (length c.args.items.now) c.args.items.now (omega (arith))) c.items.invariant.writes
+    subst (λ xs. Writes (write_of g.W.Statement.kind g.W.Statement.table g.W.Statement.row_of xs ∷ []) (state g.S.Store c.args.tx.now.conn.now)
+    (state g.S.Store c.items.tx.conn.now)) (ap (λ i. take i c.args.items.now) whole ∙ take_all (length c.args.items.now) c.args.items.now (omega (arith))) c.items.invariant.writes

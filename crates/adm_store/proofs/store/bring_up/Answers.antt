@@ -9,7 +9,8 @@ pub returns-in-First-clause-ok : goal.returns-in-First-clause-ok
 returns-in-First-clause-ok g c =
     later_ok c.migrate.result _ _ _ c.migrate.ensures.committed (λ committed r before clean db may.
     let it = committed clean in
-    subst (λ t. RepresentsIn Second t r) (sym (g.met.S.Store.settled c.migrate.new.conn.store db it.0 may)) (it.1 r (subst (λ v. LeavesAll v r (state g.S.Store c.args.conn.now)) c.in-First.is before)))
+    subst (λ t. RepresentsIn Second t r) (sym (g.met.S.Store.settled c.migrate.new.conn.store db it.0 may))
+    (it.1 r (subst (λ v. LeavesAll v r (state g.S.Store c.args.conn.now)) c.in-First.is before)))
 
 pub returns-in-First-clause-survives : goal.returns-in-First-clause-survives
 returns-in-First-clause-survives g c r before =

@@ -8,7 +8,8 @@ use Rattle.adm_store.proofs.store.create.Goals as goal
 pub returns-in-Ok-build-clause-ok : goal.returns-in-Ok-build-clause-ok
 returns-in-Ok-build-clause-ok g c clean db may =
     let committed = c.in-Ok-build.ensures.committed clean in
-    subst (λ t. RepresentsIn Second t (only_season c.args.season.now)) (sym (g.met.S.Store.settled c.build.new.conn.store db committed.0 may)) (committed.1 _ record { season_is = c.holidays-days.ensures.season; written = c.in-Ok.ensures })
+    subst (λ t. RepresentsIn Second t (only_season c.args.season.now)) (sym (g.met.S.Store.settled c.build.new.conn.store db committed.0 may))
+    (committed.1 _ record { season_is = c.holidays-days.ensures.season; written = c.in-Ok.ensures })
 
 pub returns-clause-err : goal.returns-clause-err
 returns-clause-err g c clean db may =

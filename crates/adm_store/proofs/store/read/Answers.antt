@@ -30,7 +30,8 @@ returns-in-Err-clause-disk g c is =
     let mid = state g.S.Store c.register_in-found.new.tx.conn.now in
     let failed = subst (λ (h : Held _). HasDiskCause (state g.S.Store h) mid) c.transaction-tx.ensures.begun (c.in-Err.ensures.disk is) in
     let same : c.rollback.new.self.0 ≡ c.conn-1.given.0 = search rules in
-    subst (λ h. HasDiskCause (state g.S.Store c.args.conn.now) (state g.S.Store h)) same (cause_before (state g.S.Store c.args.conn.now) mid (state g.S.Store c.rollback.new.self.0) c.rollback.ensures.survives failed)
+    subst (λ h. HasDiskCause (state g.S.Store c.args.conn.now) (state g.S.Store h)) same
+    (cause_before (state g.S.Store c.args.conn.now) mid (state g.S.Store c.rollback.new.self.0) c.rollback.ensures.survives failed)
 
 pub returns-in-Ok-clause-ok : goal.returns-in-Ok-clause-ok
 returns-in-Ok-clause-ok g c clean live db may =
@@ -42,5 +43,6 @@ returns-in-Ok-clause-ok g c clean live db may =
     let v = c.in-Ok.found.0 in
     let r = c.in-Ok.found.1 in
     let has = c.in-Ok.ensures.tables in
-    stands_here v (state g.S.Store start) db r (subst (λ (h : Held _). HoldsRegister v (state g.S.Store h).now.trees r) begun (c.in-Ok.ensures.ok early has)) (sym (ap (λ (h : Held _). h.schema) begun) ∙ has)
+    stands_here v (state g.S.Store start) db r (subst (λ (h : Held _). HoldsRegister v (state g.S.Store h).now.trees r) begun (c.in-Ok.ensures.ok early has))
+    (sym (ap (λ (h : Held _). h.schema) begun) ∙ has)
     (g.met.S.Store.settled start.store db live may) (c.if-prove.ensures.settled refl live) (c.schema.ensures.live live).0

@@ -8,4 +8,5 @@ returns-clause-writes g c =
     let schools : Ran _ _ _ = record { survives = c.run_each-2.ensures.survives; leaves = rw c.as_slice-2.ensures at c.in_ok-run_each-2.ensures.writes } in
     let children : Ran _ _ _ = record { survives = c.run_each-3.ensures.survives; leaves = rw c.as_slice-3.ensures at c.in_ok-run_each-3.ensures.writes } in
     let ended : Ran _ _ _ = record { survives = c.run_each-4.ensures.survives; leaves = rw c.as_slice-4.ensures at c.in_ok-run_each-4.ensures.writes } in
-    on_ok c.run_each-5.result _ _ (λ applications. (ran_then (ran_then (ran_then (ran_then replaced schools) children) ended) (record { survives = c.run_each-5.ensures.survives; leaves = rw c.as_slice-5.ensures at applications })).leaves) c.run_each-5.ensures.writes
+    on_ok c.run_each-5.result _ _ (λ applications. (ran_then (ran_then (ran_then (ran_then replaced schools) children) ended)
+    (record { survives = c.run_each-5.ensures.survives; leaves = rw c.as_slice-5.ensures at applications })).leaves) c.run_each-5.ensures.writes

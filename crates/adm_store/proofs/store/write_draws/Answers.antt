@@ -7,4 +7,5 @@ returns-clause-writes g c =
     let draws : Ran _ _ _ = record { survives = c.run_each.ensures.survives; leaves = rw c.as_slice.ensures at c.in_ok-run_each.ensures.writes } in
     let offers : Ran _ _ _ = record { survives = c.run_each-2.ensures.survives; leaves = rw c.as_slice-2.ensures at c.in_ok-run_each-2.ensures.writes } in
     let lots : Ran _ _ _ = record { survives = c.run_each-3.ensures.survives; leaves = rw c.as_slice-3.ensures at c.in_ok-run_each-3.ensures.writes } in
-    on_ok c.run_each-4.result _ _ (λ count. (ran_then (ran_then (ran_then draws offers) lots) (record { survives = c.run_each-4.ensures.survives; leaves = rw (c.last_draw.ensures, c.as_slice-4.ensures) at count })).leaves) c.run_each-4.ensures.writes
+    on_ok c.run_each-4.result _ _ (λ count. (ran_then (ran_then (ran_then draws offers) lots)
+    (record { survives = c.run_each-4.ensures.survives; leaves = rw (c.last_draw.ensures, c.as_slice-4.ensures) at count })).leaves) c.run_each-4.ensures.writes

@@ -14,7 +14,8 @@ loop-end-preserved-in-Greater g c = record {
   within = omega arith;
   apart = omega arith;
   below = c.loop-end.invariant.below;
-  above = rows-above g.met.K.Ord.total _ c.args.pieces.now c.index-pieces-middle.result c.args.key.now (omega arith) c.index-pieces-middle.is c.requires (ap (λ p. g.K.Ord.cmp p.first c.args.key.now) c.index-pieces-middle.is ∙ sym c.in-Greater.ensures);
+  above = rows-above g.met.K.Ord.total _ c.args.pieces.now c.index-pieces-middle.result c.args.key.now (omega arith) c.index-pieces-middle.is c.requires
+      (ap (λ p. g.K.Ord.cmp p.first c.args.key.now) c.index-pieces-middle.is ∙ sym c.in-Greater.ensures);
 }
 
 pub loop-end-preserved : goal.loop-end-preserved
@@ -28,4 +29,5 @@ loop-end-preserved g c = record {
 }
 
 pub returns-clause-above : goal.returns-clause-above
-returns-clause-above g c = rows-past g.K.Ord.cmp c.loop-end.index c.loop-end.end c.args.pieces.now c.args.key.now c.loop-end.invariant.ordered c.loop-end.invariant.within c.loop-end.invariant.apart (omega arith) c.loop-end.invariant.above
+returns-clause-above g c = rows-past g.K.Ord.cmp c.loop-end.index c.loop-end.end c.args.pieces.now c.args.key.now c.loop-end.invariant.ordered c.loop-end.invariant.within
+    c.loop-end.invariant.apart (omega arith) c.loop-end.invariant.above

@@ -15,7 +15,8 @@ returns-clause-value c =
     let same = moved (map (rank_of c.args.school.now) c.args.children.now) c.in_ok-ranks.ranks.items c.sort_unstable.new.self.items c.deref.result.now
     c.in_ok-ranks.ensures.value c.sort_unstable.ensures.permutation c.deref.ensures.value in
     MatchResult-weaker c.entries_of.result c.entries_of.ensures
-    (λ list made. made ∙ same_entries c.args.school.now c.args.children.now c.deref.result.now same (subst (IsSorted rank_cmp) (sym c.deref.ensures.value) c.sort_unstable.ensures.sorted) c.requires.numbers)
+    (λ list made. made ∙ same_entries c.args.school.now c.args.children.now c.deref.result.now same
+    (subst (IsSorted rank_cmp) (sym c.deref.ensures.value) c.sort_unstable.ensures.sorted) c.requires.numbers)
     (λ e _. tt)
 
 pub returns-clause-entries : goal.returns-clause-entries

@@ -28,12 +28,14 @@ first_by_lot-requires-clause-children c = waiters_fit c.args.old.now c.requires.
 
 pub first_by_lot-requires-clause-numbers : goal.first_by_lot-requires-clause-numbers
 first_by_lot-requires-clause-numbers c =
-    subst (λ (children : List Child). IsStrictlySortedBy nat_cmp (map (λ (child : Child). child.no) children)) (sym (c.deref-3.ensures.value ∙ c.in_ok-waiting.ensures)) (waiters_rise c.args.old.now c.requires.well_formed c.args.school)
+    subst (λ (children : List Child). IsStrictlySortedBy nat_cmp (map (λ (child : Child). child.no) children)) (sym (c.deref-3.ensures.value ∙ c.in_ok-waiting.ensures))
+    (waiters_rise c.args.old.now c.requires.well_formed c.args.school)
 
 pub unreachable-requires-in_default-first_by_lot : goal.unreachable-requires-in_default-first_by_lot
 unreachable-requires-in_default-first_by_lot c =
     let children = c.deref-3.ensures.value ∙ c.in_ok-waiting.ensures in
-    let one = each_has_lot c.args.old.now c.args.draw c.args.school c.args.day c.args.lots.now (sym c.refusal_of-why.ensures ∙ c.in_default.is) c.deref-3.result.now c.as_slice-2.result.now children c.as_slice-2.ensures in
+    let one = each_has_lot c.args.old.now c.args.draw c.args.school c.args.day c.args.lots.now (sym c.refusal_of-why.ensures
+    ∙ c.in_default.is) c.deref-3.result.now c.as_slice-2.result.now children c.as_slice-2.ensures in
     false≢true (ap is_some (sym c.in_default-first_by_lot.is) ∙ c.first_by_lot.ensures.some one.0 one.1 one.2)
 
 pub returns : goal.returns

@@ -36,17 +36,20 @@ loop-row-preserved c =
         | else-not-is_known w ↦
             let known : is_known seen row ≡ true = same ∙ w.if-not-is_known.false in
             subst (λ s. Seen old rows s (c.loop-row.number + 1) others c.if-not-is_known.added.items) (sym w.seen-is)
-            (subst (λ (v : _). Seen old rows seen (c.loop-row.number + 1) others v.items) (sym w.added-is) (known_seen old rows seen c.loop-row.number row others c.loop-row.added.items so_far passes known))
+            (subst (λ (v : _). Seen old rows seen (c.loop-row.number + 1) others v.items) (sym w.added-is)
+            (known_seen old rows seen c.loop-row.number row others c.loop-row.added.items so_far passes known))
       ],
       omega (arith, count, number),
     )
 
 pub returns-clause-why : goal.returns-clause-why
 returns-clause-why c =
-    let so_far = subst (λ rest. Seen c.args.old.now c.args.rows.now c.loop-row.seen c.loop-row.number rest c.loop-row.added.items) (nil_from_length c.loop-row.rest.now c.in_default.ensures.cases) c.loop-row.invariant.0 in
+    let so_far = subst (λ rest. Seen c.args.old.now c.args.rows.now c.loop-row.seen c.loop-row.number rest c.loop-row.added.items)
+    (nil_from_length c.loop-row.rest.now c.in_default.ensures.cases) c.loop-row.invariant.0 in
     (seen_all c.args.old.now c.args.rows.now c.loop-row.seen c.loop-row.number c.loop-row.added.items so_far).0
 
 pub returns-clause-added : goal.returns-clause-added
 returns-clause-added c none =
-    let so_far = subst (λ rest. Seen c.args.old.now c.args.rows.now c.loop-row.seen c.loop-row.number rest c.loop-row.added.items) (nil_from_length c.loop-row.rest.now c.in_default.ensures.cases) c.loop-row.invariant.0 in
+    let so_far = subst (λ rest. Seen c.args.old.now c.args.rows.now c.loop-row.seen c.loop-row.number rest c.loop-row.added.items)
+    (nil_from_length c.loop-row.rest.now c.in_default.ensures.cases) c.loop-row.invariant.0 in
     (seen_all c.args.old.now c.args.rows.now c.loop-row.seen c.loop-row.number c.loop-row.added.items so_far).1

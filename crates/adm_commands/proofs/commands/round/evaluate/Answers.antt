@@ -54,5 +54,6 @@ returns c =
     let draws = c.in_ok-change.ensures ∙ (λ i. record { number = c.args.draw; round = rounds i; school = None; day = c.args.day; outcomes = outcomes; lots = at_lots i } ∷ []) in
     let none = c.none-change.ensures in
     let shown = c.deref-4.ensures.value in
-    let reply = c.reply_of-reply.ensures ∙ (λ i. RoundReply (rounds i) (count_by (λ (o : Outcome). o.fresh) (shown i)) (count_by is_kept (shown i)) (count_by (λ (o : Outcome). is_none o.school) (shown i))) in
+    let reply = c.reply_of-reply.ensures ∙ (λ i. RoundReply (rounds i) (count_by (λ (o : Outcome). o.fresh) (shown i)) (count_by is_kept (shown i))
+    (count_by (λ (o : Outcome). is_none o.school) (shown i))) in
     (ap without_row passes, (outcomes, best, λ i. record (none i) { places = places i; draws = draws i }, reply))

@@ -18,7 +18,8 @@ returns-then-eq c =
 pub returns-then-ends : goal.returns-then-ends
 returns-then-ends c =
     let items = c.in_ok-push.ensures.items in
-    let scan = scan_other c.args.self.now.text.items c.args.byte (reader_state c.args.self.now.at) (tested _ _ _ _ _ c.eq.ensures (c.as_slice.ensures.value ∙ items) c.as_slice-2.ensures c.if-eq.false) c.requires.1 in
+    let scan = scan_other c.args.self.now.text.items c.args.byte (reader_state c.args.self.now.at)
+    (tested _ _ _ _ _ c.eq.ensures (c.as_slice.ensures.value ∙ items) c.as_slice-2.ensures c.if-eq.false) c.requires.1 in
     let long = grown c.args.self.now.text.items c.args.byte in
     let one : ended_by (reader_state c.args.self.now.at) c.args.byte ≡ 1 = ap (λ t. cond t 1 0) (sym c.after-at.ensures.ends ∙ c.if-ends.true) in
     (items, c.after-at.ensures.at ∙ scan.0, omega (arith, one, scan.1, c.requires.2), omega (arith, long, c.requires.3))
@@ -26,7 +27,8 @@ returns-then-ends c =
 pub returns-else-ends : goal.returns-else-ends
 returns-else-ends c =
     let items = c.in_ok-push.ensures.items in
-    let scan = scan_other c.args.self.now.text.items c.args.byte (reader_state c.args.self.now.at) (tested _ _ _ _ _ c.eq.ensures (c.as_slice.ensures.value ∙ items) c.as_slice-2.ensures c.if-eq.false) c.requires.1 in
+    let scan = scan_other c.args.self.now.text.items c.args.byte (reader_state c.args.self.now.at)
+    (tested _ _ _ _ _ c.eq.ensures (c.as_slice.ensures.value ∙ items) c.as_slice-2.ensures c.if-eq.false) c.requires.1 in
     let long = grown c.args.self.now.text.items c.args.byte in
     let none : ended_by (reader_state c.args.self.now.at) c.args.byte ≡ 0 = ap (λ t. cond t 1 0) (sym c.after-at.ensures.ends ∙ c.if-ends.false) in
     (items, c.after-at.ensures.at ∙ scan.0, omega (arith, none, scan.1, c.requires.2), omega (arith, long, c.requires.3))

@@ -15,20 +15,23 @@ returns-clause-ok c =
     let old = holding_of in'.quota in'.tenants.items (heap_items in'.guests) in
     let over : mid.quota < length mid.tenants.items + length (heap_items mid.guests)
     = omega (arith, c.if-len-self.false, c.len.ensures, c.len-2.ensures, mid.tenants.ok.0, mid.guests.data.ok.0) in
-    subst (λ k. Considers k (holding_of mid.quota mid.tenants.items (heap_items c.pop_last.new.guests)) c.args.child c.args.key c.args.tenant c.pop_last.result) c.self.view_is
+    subst (λ k. Considers k (holding_of mid.quota mid.tenants.items (heap_items c.pop_last.new.guests))
+    (record { child = c.args.child; key = c.args.key; tenant = c.args.tenant }) c.pop_last.result) c.self.view_is
     (elim c.if-tenant.branch [
       | then-tenant+in_ok-push w ↦
           takes_over old mid.quota mid.tenants.items (heap_items mid.guests) (heap_items c.pop_last.new.guests) c.args.child c.args.key c.args.tenant c.pop_last.result
           (ap (λ s. s.quota) w.self-inside-is)
-          (ap (λ s. s.tenants.items) w.self-inside-is ∙ (w.in_ok-push.ensures.items ∙ ap (tenants_with old c.args.child) (sym w.if-tenant.true)))
-          (subst (λ b. IsPermutation (guests_with old c.args.child c.args.key b) (heap_items mid.guests)) (sym w.if-tenant.true)
+          (ap (λ s. s.tenants.items) w.self-inside-is ∙ (w.in_ok-push.ensures.items
+          ∙ ap (λ b. tenants_with old (record { child = c.args.child; key = c.args.key; tenant = b })) (sym w.if-tenant.true)))
+          (subst (λ b. IsPermutation (guests_with old (record { child = c.args.child; key = c.args.key; tenant = b })) (heap_items mid.guests)) (sym w.if-tenant.true)
           (subst (λ gs. IsPermutation (heap_items in'.guests) gs) (sym (ap (λ s. heap_items s.guests) w.self-inside-is)) (IsPermutation-refl (heap_items in'.guests))))
           over c.pop_last.ensures.last c.pop_last.ensures.none
       | else-tenant+in_ok-push-2 w ↦
           takes_over old mid.quota mid.tenants.items (heap_items mid.guests) (heap_items c.pop_last.new.guests) c.args.child c.args.key c.args.tenant c.pop_last.result
           (ap (λ s. s.quota) w.self-inside-is)
-          (ap (λ s. s.tenants.items) w.self-inside-is ∙ ap (tenants_with old c.args.child) (sym w.if-tenant.false))
-          (subst (λ b. IsPermutation (guests_with old c.args.child c.args.key b) (heap_items mid.guests)) (sym w.if-tenant.false)
-          (subst (λ gs. IsPermutation (guests_with old c.args.child c.args.key false) gs) (sym (ap (λ s. heap_items s.guests) w.self-inside-is)) w.in_ok-push-2.ensures.permutation))
+          (ap (λ s. s.tenants.items) w.self-inside-is ∙ ap (λ b. tenants_with old (record { child = c.args.child; key = c.args.key; tenant = b })) (sym w.if-tenant.false))
+          (subst (λ b. IsPermutation (guests_with old (record { child = c.args.child; key = c.args.key; tenant = b })) (heap_items mid.guests)) (sym w.if-tenant.false)
+          (subst (λ gs. IsPermutation (guests_with old (record { child = c.args.child; key = c.args.key; tenant = false })) gs)
+          (sym (ap (λ s. heap_items s.guests) w.self-inside-is)) w.in_ok-push-2.ensures.permutation))
           over c.pop_last.ensures.last c.pop_last.ensures.none
     ])

@@ -18,6 +18,7 @@ returns c =
     ∙ ap (put_all (λ (s : School). s.code) (from_entries inside.schools)) c.as_slice.ensures ∙ ap (λ s. s.schools) was in
     let children = changed_rows nat_cmp_total nat_cmp-IsAntisymmetric (λ (s : Child). s.no) inside.children c.in_ok-with_all-2.field-0 [] c.as_slice-2.result.now c.in_ok-with_all-2.ensures
     ∙ ap (put_all (λ (s : Child). s.no) (from_entries inside.children)) c.as_slice-2.ensures ∙ ap (λ s. s.children) was in
-    let applications = changed_rows nat_cmp_total nat_cmp-IsAntisymmetric (λ (s : Application). s.child) inside.applications c.in_ok-with_all-3.field-0 c.as_slice-3.result.now c.as_slice-4.result.now c.in_ok-with_all-3.ensures
+    let applications = changed_rows nat_cmp_total nat_cmp-IsAntisymmetric
+    (λ (s : Application). s.child) inside.applications c.in_ok-with_all-3.field-0 c.as_slice-3.result.now c.as_slice-4.result.now c.in_ok-with_all-3.ensures
     ∙ (λ i. put_all (λ (s : Application). s.child) (cut_all (from_entries inside.applications) (c.as_slice-3.ensures i)) (c.as_slice-4.ensures i)) ∙ ap (λ s. s.applications) was in
     record { season = c.in_ok-clone.ensures.cases ∙ ap (λ s. s.season) was; schools = schools; children = children; applications = applications }

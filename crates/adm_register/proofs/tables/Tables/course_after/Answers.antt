@@ -14,7 +14,8 @@ pub returns : goal.returns
 returns c =
     let inside = c.self.inside.course in
     let was = ap (λ s. after s c.args.change.now) c.self.view_is in
-    let places = changed_rows nat_cmp_total nat_cmp-IsAntisymmetric (λ (s : PlaceRow). s.child) inside.places c.in_ok-with_all.field-0 c.as_slice.result.now c.as_slice-2.result.now c.in_ok-with_all.ensures
+    let places = changed_rows nat_cmp_total nat_cmp-IsAntisymmetric
+    (λ (s : PlaceRow). s.child) inside.places c.in_ok-with_all.field-0 c.as_slice.result.now c.as_slice-2.result.now c.in_ok-with_all.ensures
     ∙ (λ i. put_all (λ (s : PlaceRow). s.child) (cut_all (from_entries inside.places) (c.as_slice.ensures i)) (c.as_slice-2.ensures i)) ∙ ap (λ s. s.places) was in
     let left = changed_rows left_cmp-total left_cmp-IsAntisymmetric (λ (s : LeftPair). s) inside.left c.in_ok-with_all-2.field-0 [] c.as_slice-3.result.now c.in_ok-with_all-2.ensures
     ∙ ap (put_all (λ (s : LeftPair). s) (from_entries inside.left)) c.as_slice-3.ensures ∙ ap (λ s. s.left) was in

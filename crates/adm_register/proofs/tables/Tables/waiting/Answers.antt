@@ -17,7 +17,8 @@ waiting_list-requires-clause-children c = waiters_fit c.args.self.now c.requires
 
 pub waiting_list-requires-clause-numbers : goal.waiting_list-requires-clause-numbers
 waiting_list-requires-clause-numbers c =
-    subst (λ (children : List Child). IsStrictlySortedBy nat_cmp (map (λ (child : Child). child.no) children)) (sym (c.deref.ensures.value ∙ c.in_ok-children.ensures)) (waiters_rise c.args.self.now c.requires c.args.school)
+    subst (λ (children : List Child). IsStrictlySortedBy nat_cmp (map (λ (child : Child). child.no) children)) (sym (c.deref.ensures.value ∙ c.in_ok-children.ensures))
+    (waiters_rise c.args.self.now c.requires c.args.school)
 
 pub returns-clause-list : goal.returns-clause-list
 returns-clause-list c =

@@ -11,8 +11,10 @@ loop-index-preserved c =
     elim c.match-branch-2.branch [
       | in-Some+in_ok-push w ↦
           ap (λ found. found.items) w.found-is ∙ w.in_ok-push.ensures.items ∙ ap (λ xs. xs ++ w.in-Some.child ∷ []) c.loop-index.invariant
-          ∙ sym (next_added (waiting_child c.args.self.now c.args.school) c.args.applications.now c.loop-index.index application w.in-Some.child c.index-applications-index.is c.loop-index-test.true (sym gives ∙ w.in-Some.is))
+          ∙ sym (next_added (waiting_child c.args.self.now c.args.school) c.args.applications.now c.loop-index.index application w.in-Some.child
+          c.index-applications-index.is c.loop-index-test.true (sym gives ∙ w.in-Some.is))
       | in_default w ↦
           ap (λ found. found.items) w.found-is ∙ c.loop-index.invariant
-          ∙ sym (next_left_out (waiting_child c.args.self.now c.args.school) c.args.applications.now c.loop-index.index application c.index-applications-index.is c.loop-index-test.true (sym gives ∙ w.in_default.is))
+          ∙ sym (next_left_out (waiting_child c.args.self.now c.args.school) c.args.applications.now c.loop-index.index application c.index-applications-index.is
+          c.loop-index-test.true (sym gives ∙ w.in_default.is))
     ]

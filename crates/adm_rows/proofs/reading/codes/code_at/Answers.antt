@@ -1,5 +1,5 @@
 use Rattle.std.proofs.lemmas.Result.{err_from_is_err_and}
-use Rattle.adm_rows.proofs.CodeLemmas.{code_utf8}
+use Rattle.adm_types.proofs.ReadBack.{code_utf8}
 use Rattle.adm_rows.proofs.RowLemmas.{unread}
 use Rattle.adm_rows.proofs.reading.codes.code_at.Goals as goal
 

@@ -1,13 +1,9 @@
-use Rattle.std.proofs.Common.{◌≡◌, true, false, sym, ◌∙◌}
-use Rattle.adm_rows.proofs.CodeLemmas.{no_codes_read, codes_text_again}
+use Rattle.std.proofs.Common.{◌∙◌, sym}
+use Rattle.adm_rows.proofs.CodeLemmas.{no_codes_read, text_of_codes}
 use Rattle.adm_rows.proofs.reading.codes.codes_in.Goals as goal
 
-pub returns-in-Err-clause-bad : goal.returns-in-Err-clause-bad
-returns-in-Err-clause-bad c structural list fit is = no_codes_read c.args.text.now list fit is (c.in-Err.ensures.bad structural)
+pub returns-clause-ok : goal.returns-clause-ok
+returns-clause-ok c = text_of_codes c.args.text.now c.in-Some.list (sym c.in-Ok.ensures ∙ c.in-Some.is)
 
-pub returns-else-same-clause-bad : goal.returns-else-same-clause-bad
-returns-else-same-clause-bad c structural list fit is =
-    let again = codes_text_again c.args.text.now c.in-Ok.list c.as_slice.result.now list fit is c.in-Ok.ensures.ok c.as_slice.ensures in
-    let same = c.in-Ok-is_text_of_codes.ensures.ok.1 again in
-    let wrong : true ≡ false = sym same ∙ c.if-same.false in
-    cc
+pub returns-in_default-read-clause-bad : goal.returns-in_default-read-clause-bad
+returns-in_default-read-clause-bad c structural list fit is = no_codes_read c.args.text.now list fit is (sym c.in-Ok.ensures ∙ c.in_default-read.is)

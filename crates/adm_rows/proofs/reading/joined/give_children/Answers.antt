@@ -11,6 +11,7 @@ loop-child-preserved c =
     let within : c.loop-child.child-index < length c.loop-child.children = omega arith in
     record {
       same = map-set_same bare_child c.loop-child.children c.loop-child.child-index _ c.child-item.result refl ∙ c.loop-child.invariant.same;
-      given = give_next false (λ child. child.no) (λ child. child.present) (left_rows c.args.left.now) c.loop-child.children c.loop-child.child-index _ c.loop-child.left.entries c.remove-child.new.self.entries within
+      given = give_next false (λ child. child.no) (λ child. child.present)
+          (left_rows c.args.left.now) c.loop-child.children c.loop-child.child-index _ c.loop-child.left.entries c.remove-child.new.self.entries within
           c.loop-child.invariant.given taken.value taken.entries taken.updates.1;
     }

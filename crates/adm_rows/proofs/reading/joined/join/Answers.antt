@@ -20,7 +20,8 @@ returns-then-is_empty-clause-ok c =
     let others : length c.args.imported.now.items ≡ c.args.imported.now.len = omega arith in
     let kept : length children ≡ length c.args.children.now.items = omega arith in
     let kept_others : length imported ≡ length c.args.imported.now.items = omega arith in
-    let all = all_given c.args.rows.now (left_rows c.in_ok-left.left) (left_rows c.give_children.new.left) children imported c.give_imported.new.left.entries (c.if-is_empty.ensures.0 refl) c.in_ok-left.ensures.ok
+    let all = all_given c.args.rows.now (left_rows c.in_ok-left.left) (left_rows c.give_children.new.left) children imported c.give_imported.new.left.entries
+    (c.if-is_empty.ensures.0 refl) c.in_ok-left.ensures.ok
     c.give_children.ensures.given c.give_imported.ensures.given in
     rw (written_over c.args.children.now.len children c.args.children.now.items own kept, written_over c.args.imported.now.len imported c.args.imported.now.items others kept_others) all
 
@@ -29,5 +30,7 @@ returns-clause-bad c is joined joined_imports it =
     let own = c.give_children.ensures in
     let others = c.give_imported.ensures in
     let row = one_left c.give_imported.new.left.entries (λ none. let wrong : true ≡ false = sym (c.is_empty.ensures.1 none) ∙ c.if-is_empty.false in cc) in
-    nobodys c.args.rows.now (left_rows c.give_children.new.left) (left_rows c.give_imported.new.left) c.args.children.now.items c.give_children.new.children c.args.imported.now.items c.give_imported.new.imported
-    (IsPermutation-trans _ _ _ c.in_ok-left.ensures.ok own.given) others.given (own.same ∙ ap (map bare_child) c.deref_mut.ensures.value) (others.same ∙ ap (map bare_import) c.deref_mut-2.ensures.value) own.taken others.taken row.0 row.1 joined joined_imports it
+    nobodys c.args.rows.now (left_rows c.give_children.new.left)
+    (left_rows c.give_imported.new.left) c.args.children.now.items c.give_children.new.children c.args.imported.now.items c.give_imported.new.imported
+    (IsPermutation-trans _ _ _ c.in_ok-left.ensures.ok own.given) others.given (own.same ∙ ap (map bare_child) c.deref_mut.ensures.value) (others.same
+    ∙ ap (map bare_import) c.deref_mut-2.ensures.value) own.taken others.taken row.0 row.1 joined joined_imports it

@@ -25,7 +25,8 @@ returns-in_err-rows-clause-disk g c =
 
 pub returns-clause-ok : goal.returns-clause-ok
 returns-clause-ok g c clean has =
-    held present present_columns (state g.S.Store c.args.tx.now.conn.now).now.trees c.in_ok-rows.rows.items c.as_slice.result.now (c.in_ok-rows.ensures.ok Second present (asks _ c.select_present.ensures) clean has) c.as_slice.ensures.value
+    held present present_columns (state g.S.Store c.args.tx.now.conn.now).now.trees c.in_ok-rows.rows.items c.as_slice.result.now
+    (c.in_ok-rows.ensures.ok Second present (asks _ c.select_present.ensures) clean has) c.as_slice.ensures.value
     c.in_ok-all.all.items c.in_ok-all.all.items refl c.in_ok-all.ensures.ok
 
 pub returns-in_err-all-clause-bad : goal.returns-in_err-all-clause-bad
@@ -33,4 +34,5 @@ returns-in_err-all-clause-bad g c =
     let p = err_from_is_err_and c.from_residual-in_err-all.result c.from_residual-in_err-all.ensures.1 in
     rw (p.1, p.2) (λ structural all formed clean has holds.
     c.in_err-all.ensures.bad structural all formed
-    (held_as present present_columns (state g.S.Store c.args.tx.now.conn.now).now.trees c.in_ok-rows.rows.items c.as_slice.result.now (c.in_ok-rows.ensures.ok Second present (asks _ c.select_present.ensures) clean has) c.as_slice.ensures.value all holds))
+    (held_as present present_columns (state g.S.Store c.args.tx.now.conn.now).now.trees c.in_ok-rows.rows.items c.as_slice.result.now
+    (c.in_ok-rows.ensures.ok Second present (asks _ c.select_present.ensures) clean has) c.as_slice.ensures.value all holds))

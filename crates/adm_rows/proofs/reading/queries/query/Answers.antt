@@ -8,10 +8,12 @@ use Rattle.adm_rows.proofs.reading.queries.query.Goals as goal
 pub returns-in-Ok-clause-ok : goal.returns-in-Ok-clause-ok
 returns-in-Ok-clause-ok g c v t asks clean has =
     let old = state g.S.Store c.args.tx.now.conn.now in
-    table_shown v t c.args.text.now asks old.now.trees c.in-Ok.rows.items (shows_all asks.asks old (state g.S.Store c.query_all.new.self.conn.now) c.in-Ok.rows.items (few_trees t.tree asks.few) has (c.in-Ok.ensures.ok clean))
+    table_shown v t c.args.text.now asks old.now.trees c.in-Ok.rows.items
+    (shows_all asks.asks old (state g.S.Store c.query_all.new.self.conn.now) c.in-Ok.rows.items (few_trees t.tree asks.few) has (c.in-Ok.ensures.ok clean))
 
 pub returns-in-Ok-clause-same : goal.returns-in-Ok-clause-same
-returns-in-Ok-clause-same g c v t asks clean has = (shows_unchanged asks.asks (state g.S.Store c.args.tx.now.conn.now) (state g.S.Store c.query_all.new.self.conn.now) c.in-Ok.rows.items has (c.in-Ok.ensures.ok clean)).0.now_is
+returns-in-Ok-clause-same g c v t asks clean has = (shows_unchanged asks.asks (state g.S.Store c.args.tx.now.conn.now)
+    (state g.S.Store c.query_all.new.self.conn.now) c.in-Ok.rows.items has (c.in-Ok.ensures.ok clean)).0.now_is
 
 pub returns-in-Err-clause-bad : goal.returns-in-Err-clause-bad
 returns-in-Err-clause-bad g c structural v t asks clean has =
@@ -19,7 +21,8 @@ returns-in-Err-clause-bad g c structural v t asks clean has =
     never_refused asks.asks (state g.S.Store c.args.tx.now.conn.now) (state g.S.Store c.query_all.new.self.conn.now) c.in-Err.error text.0 has text.1 (c.in-Err.ensures.err clean)
 
 pub returns-in-Ok-clause-answered : goal.returns-in-Ok-clause-answered
-returns-in-Ok-clause-answered g c clean = answered c.args.text.now (state g.S.Store c.args.tx.now.conn.now) (state g.S.Store c.query_all.new.self.conn.now) c.in-Ok.rows.items (c.in-Ok.ensures.ok clean)
+returns-in-Ok-clause-answered g c clean = answered c.args.text.now (state g.S.Store c.args.tx.now.conn.now)
+    (state g.S.Store c.query_all.new.self.conn.now) c.in-Ok.rows.items (c.in-Ok.ensures.ok clean)
 
 pub returns-in-Err-clause-refused : goal.returns-in-Err-clause-refused
 returns-in-Err-clause-refused g c clean structural =

@@ -9,7 +9,8 @@ pub rows-preserved : goal.rows-preserved
 rows-preserved g c =
     let items : c.push.new.self.items ≡ c.rows.all.items ++ c.in_ok-one.one ∷ [] = search rules in
     record {
-      read = read_more g.R.Reader.row_of c.args.rows.now c.rows.row-index c.row-item.result c.rows.all.items _ c.in_ok-one.one c.rows-test.true c.row-item.is c.rows.invariant.read c.in_ok-one.ensures.ok items;
+      read = read_more g.R.Reader.row_of c.args.rows.now c.rows.row-index c.row-item.result c.rows.all.items _ c.in_ok-one.one c.rows-test.true c.row-item.is
+          c.rows.invariant.read c.in_ok-one.ensures.ok items;
       again = subst (AllByRecursion g.R.Reader.IsRead) (sym items) (each_push g.R.Reader.IsRead c.rows.all.items c.in_ok-one.one c.rows.invariant.again c.in_ok-one.ensures.again);
     }
 

@@ -5,4 +5,5 @@ use Rattle.adm_store.proofs.children.PutChildStatement.run.Goals as goal
 
 pub returns-clause-writes : goal.returns-clause-writes
 returns-clause-writes g c =
-    on_ok_weaker c.run_row.result (writes_child (state g.S.Store c.args.tx.now.conn.now) (state g.S.Store c.run_row.new.tx.conn.now) c.args.row.now c.run_row.ensures.survives.clean) (rw (c.put_child.ensures) at c.run_row.ensures.runs)
+    on_ok_weaker c.run_row.result (writes_child (state g.S.Store c.args.tx.now.conn.now)
+    (state g.S.Store c.run_row.new.tx.conn.now) c.args.row.now c.run_row.ensures.survives.clean) (rw (c.put_child.ensures) at c.run_row.ensures.runs)

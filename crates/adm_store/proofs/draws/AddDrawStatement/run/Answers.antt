@@ -6,4 +6,13 @@ use Rattle.adm_store.proofs.draws.AddDrawStatement.run.Goals as goal
 pub returns-clause-writes : goal.returns-clause-writes
 returns-clause-writes g c =
     adds_draw (state g.S.Store c.args.tx.now.conn.now) (state g.S.Store c.execute.new.self.conn.now) c.in_ok-execute.field-0 c.args.row.now c.execute.ensures.survives.clean
-    (λ clean. rw (c.insert_draw.ensures, c.params-to_sql.ensures, c.params-to_sql-2.ensures, c.params-to_sql-3.ensures, c.params-to_sql-4.ensures, c.code_in-school.ensures, c.number_of-day.ensures, bound_school c.args.row.now.school) at c.in_ok-execute.ensures.runs clean (is_inside _ _ _ _ c.in_ok-execute.ensures.ended))
+    (λ clean. rw (
+      c.insert_draw.ensures,
+      c.params-to_sql.ensures,
+      c.params-to_sql-2.ensures,
+      c.params-to_sql-3.ensures,
+      c.params-to_sql-4.ensures,
+      c.code_in-school.ensures,
+      c.number_of-day.ensures,
+      bound_school c.args.row.now.school,
+    ) at c.in_ok-execute.ensures.runs clean (is_inside _ _ _ _ c.in_ok-execute.ensures.ended))

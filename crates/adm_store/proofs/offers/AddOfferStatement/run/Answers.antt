@@ -7,4 +7,14 @@ use Rattle.adm_store.proofs.offers.AddOfferStatement.run.Goals as goal
 pub returns-clause-writes : goal.returns-clause-writes
 returns-clause-writes g c =
     adds_offer (state g.S.Store c.args.tx.now.conn.now) (state g.S.Store c.execute.new.self.conn.now) c.in_ok-execute.field-0 c.args.row.now c.execute.ensures.survives.clean
-    (λ clean. rw (c.insert_offer.ensures, c.params-to_sql.ensures, c.params-to_sql-2.ensures, c.params-to_sql-3.ensures, c.params-to_sql-4.ensures, c.get-child.ensures.value, c.code_in-school.ensures, bound_school c.args.row.now.outcome.school, truth_is c.args.row.now.outcome.fresh) at c.in_ok-execute.ensures.runs clean (is_inside _ _ _ _ c.in_ok-execute.ensures.ended))
+    (λ clean. rw (
+      c.insert_offer.ensures,
+      c.params-to_sql.ensures,
+      c.params-to_sql-2.ensures,
+      c.params-to_sql-3.ensures,
+      c.params-to_sql-4.ensures,
+      c.get-child.ensures.value,
+      c.code_in-school.ensures,
+      bound_school c.args.row.now.outcome.school,
+      truth_is c.args.row.now.outcome.fresh,
+    ) at c.in_ok-execute.ensures.runs clean (is_inside _ _ _ _ c.in_ok-execute.ensures.ended))

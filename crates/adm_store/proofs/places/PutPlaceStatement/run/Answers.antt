@@ -13,4 +13,15 @@ returns-clause-writes g c =
     let new = state g.S.Store c.execute.new.self.conn.now in
     writes_place old new c.in_ok-execute.field-0 c.args.row.now c.execute.ensures.survives.clean (λ clean.
     subst (λ columns. ExecutesInside 0 put_place (Int (pos c.args.row.now.child) ∷ Text c.args.row.now.place.school ∷ columns) old new (Ok c.in_ok-execute.field-0)) (sym c.columns_of-kind.ensures)
-    (rw (c.put_place.ensures, c.params-to_sql.ensures, c.params-to_sql-2.ensures, c.params-to_sql-3.ensures, c.params-to_sql-4.ensures, c.params-to_sql-5.ensures, c.get-child.ensures.value, c.as_str-school.ensures.value, bound_number c.columns_of-kind.result.1, bound_number c.columns_of-kind.result.2) at c.in_ok-execute.ensures.runs clean (is_inside _ _ _ _ c.in_ok-execute.ensures.ended)))
+    (rw (
+      c.put_place.ensures,
+      c.params-to_sql.ensures,
+      c.params-to_sql-2.ensures,
+      c.params-to_sql-3.ensures,
+      c.params-to_sql-4.ensures,
+      c.params-to_sql-5.ensures,
+      c.get-child.ensures.value,
+      c.as_str-school.ensures.value,
+      bound_number c.columns_of-kind.result.1,
+      bound_number c.columns_of-kind.result.2,
+    ) at c.in_ok-execute.ensures.runs clean (is_inside _ _ _ _ c.in_ok-execute.ensures.ended)))

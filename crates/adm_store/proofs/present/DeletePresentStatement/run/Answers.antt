@@ -15,7 +15,8 @@ returns-in-None-clause-writes g c =
     let old = state g.S.Store c.args.tx.now.conn.now in
     let mid = state g.S.Store c.found.new.tx.conn.now in
     let none : c.in_ok-rows.rows.items ≡ [] = sym c.as_slice.ensures.value ∙ nil_from_length c.as_slice.result.now c.in-None.ensures.cases in
-    drops_nothing old mid c.args.child.now c.found.ensures.survives.clean (λ clean. subst (λ (rows : List Row). Shown find_present (moved_key c.args.child.now) old mid rows) none (c.in_ok-rows.ensures.shown clean))
+    drops_nothing old mid c.args.child.now c.found.ensures.survives.clean
+    (λ clean. subst (λ (rows : List Row). Shown find_present (moved_key c.args.child.now) old mid rows) none (c.in_ok-rows.ensures.shown clean))
 
 pub returns-in-Some-clause-writes : goal.returns-in-Some-clause-writes
 returns-in-Some-clause-writes g c =

@@ -18,4 +18,13 @@ returns-in_default-clause-err g c old new step before =
 
 pub returns-then-len-eq0-clause-ok : goal.returns-then-len-eq0-clause-ok
 returns-then-len-eq0-clause-ok g c old new step before clean db may =
-    no_change old new c.args.changes.now step (omega (arith, count_is c.args.changes.now, c.put.ensures, c.if-put-eq0.true, c.cut.ensures, c.if-cut-eq0.true, c.len.ensures, c.if-len-eq0.true)) db (before clean db may)
+    no_change old new c.args.changes.now step (omega (
+      arith,
+      count_is c.args.changes.now,
+      c.put.ensures,
+      c.if-put-eq0.true,
+      c.cut.ensures,
+      c.if-cut-eq0.true,
+      c.len.ensures,
+      c.if-len-eq0.true,
+    )) db (before clean db may)

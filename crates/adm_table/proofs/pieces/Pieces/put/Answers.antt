@@ -11,7 +11,8 @@ use Rattle.adm_table.proofs.pieces.Pieces.put.Goals as goal
 use Rattle.adm_table.proofs.pieces.Pieces.put.Given as given
 use Rattle.adm_table.proofs.pieces.Pieces.put.Goals.{in-Some, in-None+in_ok-len-in-None}
 
-change : (g : given.Over) (c : goal.In_ok-put_rows g) → IsChanged c.index_of-index.result c.self.inside.pieces.items c.take_rows.new.pieces.items c.put_rows.new.pieces.items c.in_ok-rows.rows.entries c.insert.new.self.entries
+change : (g : given.Over) (c : goal.In_ok-put_rows g) → IsChanged c.index_of-index.result c.self.inside.pieces.items c.take_rows.new.pieces.items
+    c.put_rows.new.pieces.items c.in_ok-rows.rows.entries c.insert.new.self.entries
 change g c = record {
   room = subst (λ ps. c.index_of-index.result ≤ length ps) c.deref.ensures.value c.index_of-index.ensures.room;
   without = c.in_ok-rows.ensures.pieces;

@@ -9,5 +9,6 @@ loop-piece-preserved g c =
     let seen = c.deref-piece-items.ensures.value in
     let whole = ap length seen in
     let within : index < length pieces = omega (arith, whole, c.loop-piece-test.true) in
-    copied-more index pieces c.loop-piece.pieces.items c.push.new.self.items c.piece-item.result c.in_ok-share.field-0 within (c.piece-item.is ∙ ap (λ ps. get_or ps index c.piece-item.result) seen) c.self.invariant.0.starts
+    copied-more index pieces c.loop-piece.pieces.items c.push.new.self.items c.piece-item.result c.in_ok-share.field-0 within (c.piece-item.is
+    ∙ ap (λ ps. get_or ps index c.piece-item.result) seen) c.self.invariant.0.starts
     c.in_ok-share.ensures.0 c.in_ok-share.ensures.1 c.in_ok-push.ensures.items c.loop-piece.invariant

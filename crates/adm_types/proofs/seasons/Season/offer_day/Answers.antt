@@ -26,6 +26,8 @@ loop-day-preserved c =
     let inside = c.loop-day.invariant in
     record {
       from = omega (arith, c.next-day.ensures, inside.from);
-      passed = λ earlier from before. ⊎_elim (λ less. inside.passed earlier from less) (λ most. let is : c.loop-day.day ≡ earlier = omega (arith, c.next-day.ensures, before, most) in subst (λ d. is_working_day c.args.self.now.holidays d ≡ false) is (sym c.loop-day-test.ensures)) (cases_lt earlier c.loop-day.day);
+      passed = λ earlier from before. ⊎_elim (λ less. inside.passed earlier from less)
+          (λ most. let is : c.loop-day.day ≡ earlier = omega (arith, c.next-day.ensures, before, most) in
+          subst (λ d. is_working_day c.args.self.now.holidays d ≡ false) is (sym c.loop-day-test.ensures)) (cases_lt earlier c.loop-day.day);
       near = omega (arith, falls, next, c.next-day.ensures, inside.near);
     }

@@ -1,7 +1,7 @@
 use Rattle.std.proofs.Common.{◌∙◌}
 use Rattle.adm_types.proofs.Prefixes.{read_behind, nothing_behind}
 use Rattle.adm_types.specs.Fields.{plain_of}
-use Rattle.adm_types.proofs.fields.number_after.Goals as goal
+use Rattle.adm_types.proofs.criteria.number_after.Goals as goal
 
 pub returns-in-Some : goal.returns-in-Some
 returns-in-Some c =

@@ -1,7 +1,7 @@
 use Rattle.std.proofs.Common.{◌∙◌}
 use Rattle.adm_types.proofs.Prefixes.{read_behind, nothing_behind}
 use Rattle.adm_types.specs.Code.{code_of}
-use Rattle.adm_types.proofs.fields.code_after.Goals as goal
+use Rattle.adm_types.proofs.criteria.code_after.Goals as goal
 
 pub returns-in-Some : goal.returns-in-Some
 returns-in-Some c =
