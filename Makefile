@@ -10,12 +10,13 @@
 #   make sweep    each request of the built program for memory refused, in turn: its answers and files are judged; some minutes
 #   make refusals  the same of a script over disks in memory, judged by rules that share no code with the program, and of the calls that need none
 #   make killed-opens  an open after a crash, and opens that are refused, killed at each of their calls to the system; a minute
-#   make audits   admissions-audit on the rounds of 200 random registers, on files changed by hand, and on all allocations of small ones
+#   make audits   admissions-audit on the rounds and fills of 200 random registers, on files changed by hand, and on all allocations of small ones
+#   make office   the tests of the office's commands (office/tests), with the built program; needs python3-pytest, poppler-utils, and what cases need
 #   make races    a restore beside which a program starts at 300 random moments; restore and backup with a program started before each operation, killed, failing; some minutes
 #   make costs    the CPU seconds of each crate's proof in the build here, beside a unit of this hour, and the longest chain of crates
 #   make bench    the aims for the costs, beside the measured costs, in one table; at most ten minutes once the program is built
 #   make bench-more  the costs of commands in more tables, beside a baseline in the same run
-#   make deploy-check  the deployment (site, desk in its own network, page), on this machine alone; needs nginx, openssl, curl, chromium and poppler-utils; not in test
+#   make deploy-check  the deployment (site, desk in its own network, page), on this machine alone; needs nginx, openssl, curl, chromium, sqlite3 and poppler-utils; not in test
 #   make install  the program, the office's scripts, the manual page and the office's pages (docs/DEPLOYMENT.md); PREFIX=/usr/local by default
 PREFIX ?= /usr/local
 PROGRAM ?= bin/admissions
@@ -23,7 +24,7 @@ EXAMPLES := first_path applications season
 
 LOOKED_AT := $(addprefix examples/applications/,schools.jsonl children.jsonl applications.jsonl)
 
-.PHONY: look build demo cases test reference mutants sweep refusals killed-opens audits races costs bench bench-more deploy-check install needs-demo needs-cases needs-sweep needs-refusals
+.PHONY: look build demo cases test reference mutants sweep refusals killed-opens audits races costs bench bench-more deploy-check install needs-demo needs-cases needs-sweep needs-refusals needs-office office
 
 look:
 	@tools/needs look
@@ -40,7 +41,7 @@ cases: needs-cases build
 	@tools/cases bin/admissions $(notdir $(wildcard cases/*))
 
 # Checked before a build that takes an hour: what the goal needs after it
-needs-demo needs-cases needs-sweep needs-refusals:
+needs-demo needs-cases needs-sweep needs-refusals needs-office:
 	@tools/needs $(@:needs-%=%)
 
 test:
@@ -62,8 +63,11 @@ refusals: needs-refusals
 killed-opens: build
 	tools/killed-opens bin/admissions
 
+office: needs-office build
+	ADMISSIONS=$(abspath $(PROGRAM)) /usr/bin/python3 -m pytest -q -p no:cacheprovider office/tests
+
 audits: build
-	bench/audit/run bin/admissions tools/audit
+	bench/audit/run bin/admissions office/command
 
 races: build
 	tools/races bin/admissions tools/restore 300
@@ -94,7 +98,11 @@ install: build
 	install -D -m 755 $(PROGRAM) $(DESTDIR)$(PREFIX)/bin/admissions
 	install -D -m 755 tools/backup $(DESTDIR)$(PREFIX)/bin/admissions-backup
 	install -D -m 755 tools/restore $(DESTDIR)$(PREFIX)/bin/admissions-restore
-	for tool in lots query letters audit; do install -D -m 755 tools/$$tool $(DESTDIR)$(PREFIX)/bin/admissions-$$tool || exit 1; done
+	for tool in audit check figures letters lots query send trial why; do install -D -m 755 office/command $(DESTDIR)$(PREFIX)/bin/admissions-$$tool || exit 1; done
+	install -d $(DESTDIR)$(PREFIX)/share/admissions/office
+	install -m 644 office/*.py $(DESTDIR)$(PREFIX)/share/admissions/office
+	install -d $(DESTDIR)$(PREFIX)/share/admissions/office/templates
+	install -m 644 office/templates/* $(DESTDIR)$(PREFIX)/share/admissions/office/templates
 	install -d $(DESTDIR)$(PREFIX)/share/admissions/queries
 	install -m 644 queries/*.sql $(DESTDIR)$(PREFIX)/share/admissions/queries
 	install -m 644 tools/register_files.py $(DESTDIR)$(PREFIX)/share/admissions/register_files.py

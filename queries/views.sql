@@ -1,5 +1,10 @@
 -- What the queries share: lists as rows, and how a child ranks at a school. Made anew for each query, and never part of a register's file
 
+-- the closing date of the applications, in days since 1970-01-01
+CREATE TEMP VIEW season AS
+SELECT CAST(julianday(CASE phase WHEN 2 THEN printf('%04d-10-31', year - 1) ELSE printf('%04d-01-15', year) END) - 2440587.5 AS INTEGER) AS closing
+FROM meta;
+
 -- the schools of each application, with their places on its list, from 1
 CREATE TEMP VIEW wish AS
 SELECT application.child, listed.key + 1 AS preference, listed.value AS school

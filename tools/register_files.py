@@ -1,6 +1,6 @@
 """What the tools that open a register's file share: its names, its lock, its log, the program, and files that only their owner can read.
 
-Imported by tools/backup, restore, query, letters and audit; installed as PREFIX/share/admissions/register_files.py.
+Imported by tools/backup, restore, letters and audit, and by the package office; installed as PREFIX/share/admissions/register_files.py.
 """
 import contextlib
 import ctypes

@@ -1,0 +1,119 @@
+"""Workbooks in a form for print: a sheet for each table, its heading repeated on each page, columns as wide as they need, and pages that are numbered."""
+import dataclasses
+import datetime
+import io
+import re
+import textwrap
+
+from .run import Refused
+
+# in the units of a spreadsheet, about a letter each: columns, pages, and the line above a page
+WIDEST, WIDEST_UPRIGHT, FILLED, LINE = 60, 125, 18, 130
+# what no workbook can hold: control characters, halves of pairs, and two that are no characters
+UNWRITABLE = re.compile("[\x00-\x08\x0b\x0c\x0e-\x1f\ud800-\udfff\ufffe\uffff]")
+DAY = re.compile(r"[0-9]{4}-[0-9]{2}-[0-9]{2}")
+HEAD_COLOUR, LINE_COLOUR = "FFDDDDDD", "FF999999"
+
+
+@dataclasses.dataclass
+class Page:
+    """A sheet: its name, what it has, and its header with its rows. In the columns of `blank` somebody writes whole numbers up to this one."""
+
+    name: str
+    purpose: str
+    rows: list
+    blank: dict = dataclasses.field(default_factory=dict)
+
+
+def library():
+    """The package that writes workbooks."""
+    try:
+        import openpyxl  # pylint: disable=import-outside-toplevel
+        import openpyxl.worksheet.datavalidation  # pylint: disable=import-outside-toplevel
+    except ImportError as error:
+        raise Refused("a workbook is written by python3-openpyxl, which is not here: apt-get install python3-openpyxl, or use CSV") from error
+    return openpyxl
+
+
+def value_of(value):
+    """A value as a cell has it: days of texts as days."""
+    if isinstance(value, str) and DAY.fullmatch(value):
+        return datetime.date.fromisoformat(value)
+    return UNWRITABLE.sub("\ufffd", value) if isinstance(value, str) else value
+
+
+def fill(page, rows):
+    """Writes the cells. A text is a text, whatever it begins with."""
+    for at, row in enumerate(rows, 1):
+        for column, given in enumerate(row, 1):
+            value = value_of(given)
+            if value is None or value == "":
+                continue
+            cell = page.cell(at, column)
+            cell.value = value
+            if isinstance(value, str):
+                cell.data_type = "s"
+                cell.quotePrefix = value[0] in "=+-@'"
+            elif isinstance(value, datetime.date):
+                cell.number_format = "yyyy-mm-dd"
+
+
+def widths(page):
+    """The width of each column, by its longest value: bold letters and the arrow of a filter need more, and a column to be filled has room for a hand."""
+    found = []
+    for at, (head, *values) in enumerate(zip(*page.rows), 1):
+        longest = max((len("" if it is None else str(it)) for it in values), default=0)
+        found.append(FILLED if at in page.blank else min(WIDEST, max(1.15 * longest, 1.3 * len(head) + 2) + 3))
+    return found
+
+
+def set_out(page, given, title, styles):
+    """The form for print."""
+    wide = widths(given)
+    for at, width in enumerate(wide, 1):
+        letter = page.cell(1, at).column_letter
+        page.column_dimensions[letter].width = width
+        if width == WIDEST:
+            for cell in page[letter]:
+                cell.alignment = styles.Alignment(wrap_text=True, vertical="top")
+    line = styles.Side(style="thin", color=LINE_COLOUR)
+    for row in page.iter_rows():
+        for cell in row:
+            cell.border = styles.Border(bottom=line, left=line, right=line)
+    for cell in page[1]:
+        cell.font = styles.Font(bold=True)
+        cell.fill = styles.PatternFill("solid", start_color=HEAD_COLOUR)
+    page.freeze_panes = "A2"
+    page.auto_filter.ref = page.dimensions
+    page.print_title_rows = "$1:$1"
+    page.page_margins.top = 1.0
+    page.page_setup.paperSize = page.PAPERSIZE_A4
+    page.page_setup.orientation = "landscape" if sum(wide) > WIDEST_UPRIGHT else "portrait"
+    page.page_setup.fitToWidth, page.page_setup.fitToHeight = 1, 0
+    page.sheet_properties.pageSetUpPr = type(page.sheet_properties.pageSetUpPr)(fitToPage=True)
+    page.oddHeader.left.text = textwrap.shorten(f"{title}: {given.purpose}", LINE, placeholder=" ..").replace("&", "&&")
+    page.oddFooter.center.text = "&A, page &P of &N"
+
+
+def data(pages, title):
+    """The bytes of a workbook of these pages. Where there are several, the first sheet lists them."""
+    library_ = library()
+    made = library_.Workbook()
+    made.remove(made.active)
+    made.properties.title, made.properties.creator = title, "admissions"
+    if len(pages) > 1:
+        contents = [["sheet", "rows", "what it has"], *([it.name, len(it.rows) - 1, it.purpose] for it in pages)]
+        pages = [Page("contents", "the sheets of this workbook", contents), *pages]
+    for it in pages:
+        page = made.create_sheet(it.name)
+        fill(page, it.rows)
+        set_out(page, it, title, library_.styles)
+        for column, most in it.blank.items():
+            letter, kind = page.cell(1, column).column_letter, library_.worksheet.datavalidation.DataValidation
+            rule = kind("whole", operator="between", formula1="0", formula2=str(most), allow_blank=True, showErrorMessage=True)
+            rule.error = f"a whole number from 0 to {most:,}"
+            page.add_data_validation(rule)
+            rule.add(f"{letter}2:{letter}{max(2, len(it.rows))}")
+    out = io.BytesIO()
+    made.save(out)
+    return out.getvalue()

@@ -1,0 +1,120 @@
+"""The figures of a round, counted from the register after it, and which of them are withheld."""
+import collections
+import dataclasses
+import datetime
+
+from register_files import Refused
+
+from . import days, ranking
+from .register import PLAN
+from .withheld import LEAST, withheld
+
+# preferences from this one on are counted together for each school
+LOWER = 4
+ENDED, NONE = "ended", "none"
+
+
+@dataclasses.dataclass
+class School:
+    """The figures of one school: applications by preference (1 to LOWER), and of the round its offers by class, and the class and metres of the last one."""
+
+    code: str
+    name: str
+    pan: int
+    criteria: tuple
+    east: int
+    north: int
+    applications: collections.Counter = dataclasses.field(default_factory=collections.Counter)
+    plans: int = 0
+    kept: int = 0
+    offers: collections.Counter = dataclasses.field(default_factory=collections.Counter)
+    turned_away: int = 0
+    last: tuple | None = None
+
+
+@dataclasses.dataclass
+class Figures:
+    """The figures of a round. `met` counts children by the preference that they have after it, or NONE, or ENDED if a plan ended their application since."""
+
+    year: int
+    phase: int
+    round: int
+    day: datetime.date
+    children: int
+    met: collections.Counter
+    kept: int
+    offers: int
+    schools: dict
+    homes: list
+    hidden: set = dataclasses.field(default_factory=set)
+
+    @property
+    def phase_name(self):
+        """As the page has it."""
+        return "primary" if self.phase == days.PRIMARY else "secondary"
+
+
+def count(register, number=None):
+    """The figures of a round of a register: of the last one where no number is given."""
+    rounds = [it for it in register.draws if it.round]
+    draw = next((it for it in reversed(rounds) if number in (None, it.round)), None)
+    if draw is None:
+        raise Refused(f"{register.name} has no round {number}" if number else f"{register.name} had no round yet")
+    outcomes, fresh, lots = register.outcomes.get(draw.number, {}), register.fresh.get(draw.number, {}), register.lots.get(draw.number, {})
+    schools = {code: School(code, it.name, it.pan, it.criteria, it.east, it.north) for code, it in register.schools.items()}
+    found = Figures(
+        register.year, register.phase, draw.round, draw.day, len(outcomes), collections.Counter(), sum(1 for it in outcomes if outcomes[it] and not fresh[it]),
+        sum(fresh.values()), schools, [(register.children[it].east, register.children[it].north) for it in outcomes],
+    )
+    for child, school in outcomes.items():
+        wishes = register.applications[child].preferences if child in register.applications else ()
+        found.met[NONE if school is None else 1 + wishes.index(school) if school in wishes else ENDED] += 1
+        for at, code in enumerate(wishes, 1):
+            schools[code].applications[min(at, LOWER)] += 1
+        if school and not fresh[child]:
+            schools[school].kept += 1
+    for place in register.places.values():
+        schools[place.school].plans += place.kind == PLAN
+    for code, child in lots:
+        count_wish(register, schools[code], child, outcomes.get(child), lots[code, child])
+    for it in schools.values():
+        it.last = it.last and it.last[:2]
+    found.hidden = withheld(*published(found))
+    return found
+
+
+def count_wish(register, school, child, got, lot):
+    """Counts one child that wanted a school in the round: it was offered the place, turned away, or has a school that it prefers."""
+    if got == school.code:
+        key = (ranking.class_of(school, register.children[child]), ranking.distance(school, register.children[child]), lot)
+        school.offers[key[0]] += 1
+        school.last = max(school.last or key, key)
+    elif child in register.applications:
+        wishes = register.applications[child].preferences
+        school.turned_away += got not in wishes or wishes.index(got) > wishes.index(school.code)
+
+
+def published(found):
+    """The counts that the page has by their keys, and the sums by which they hang together."""
+    counts = {("met", it): number for it, number in found.met.items()} | {("kept",): found.kept, ("offers",): found.offers, ("met", NONE): found.met[NONE]}
+    sums = [[(it, 1) for it in counts if it[0] == "met"], [(("met", NONE), 1), (("kept",), 1), (("offers",), 1)]]
+    for code, it in found.schools.items():
+        counts |= {("applied", code, at): it.applications[at] for at in range(1, LOWER + 1)}
+        counts |= {("class", code, at): it.offers[at] for at in range(len(it.criteria) + 2)}
+        counts |= {("applications", code): it.applications.total(), ("plans", code): it.plans, ("kept", code): it.kept, ("offers", code): it.offers.total()}
+        sums.append([(("applications", code), -1), *((("applied", code, at), 1) for at in range(1, LOWER + 1))])
+        sums.append([(("offers", code), -1), *((("class", code, at), 1) for at in range(len(it.criteria) + 2))])
+        if it.plans + it.kept + it.offers.total() == it.pan:
+            # (the admission number is published, and that the school is full can be seen)
+            sums.append([((what, code), 1) for what in ("plans", "kept", "offers")])
+    for what in ("kept", "offers"):
+        sums.append([((what,), -1), *(((what, code), 1) for code in found.schools)])
+    # (each child that takes part has one first preference)
+    sums.append([(("applied", code, 1), 1) for code in found.schools])
+    return counts, sums
+
+
+def is_published(found):
+    """Refuses figures of so few children that nothing can be published of them."""
+    if found.children < LEAST:
+        raise Refused(f"{found.children} children took part in round {found.round}: figures of fewer than {LEAST} children are not published")

@@ -1,0 +1,63 @@
+"""The header of a file of applications: where it is, and which columns it names."""
+import dataclasses
+import difflib
+import re
+
+from . import fields, texts
+
+# a row with so many known names is the header, if it is among the first rows; what is above it is a title
+LEAST_KNOWN, FIRST_ROWS = 4, 20
+
+
+@dataclasses.dataclass
+class Header:
+    """The place of each column that import takes, how many fields the header has, and its row."""
+
+    columns: dict
+    width: int
+    row: int
+
+
+def plain(cell):
+    """A name as import has it: small letters, and one _ for blanks and hyphens."""
+    return re.sub(r"[\s_-]+", "_", fields.trimmed(cell).lower())
+
+
+def place_of(rows):
+    """The place of the header among the rows, or None where no row has a known name."""
+    known = [sum(plain(it) in fields.COLUMNS for it in row.cells) for row in rows[:FIRST_ROWS]]
+    return next((at for at, it in enumerate(known) if it >= LEAST_KNOWN), 0 if known and known[0] else None)
+
+
+def read(row, add):
+    """Reads the header. `add` takes what is found: row, column, value, text, and for a change what is written instead (or None)."""
+    columns, unknown = {}, []
+    for at, cell in enumerate(row.cells):
+        name = plain(cell)
+        if name in fields.COLUMNS and name in columns:
+            add(row.number, name, cell, "each column once")
+        elif name in fields.COLUMNS:
+            columns[name] = at
+            if cell != name:
+                add(row.number, name, cell, "", "fixed", name)
+        elif name:
+            unknown.append(cell)
+    missing = [it for it in fields.COLUMNS[:-1] if it not in columns]
+    near = {it: next((cell for cell in unknown if difflib.SequenceMatcher(None, plain(cell), it).ratio() > 0.7), None) for it in missing}
+    for it in missing:
+        add(row.number, it, "", "a column of this name in the header" + (f" (is it {texts.shown(near[it])}?)" if near[it] else ""))
+    for it in unknown:
+        if it not in near.values():
+            add(row.number, it, it, "import has no such column: it is left out", "fixed", None)
+    if not missing:
+        see_order(row, columns, add)
+    return Header(columns, len(row.cells), row.number)
+
+
+def see_order(row, columns, add):
+    """Names a change of the order, and empty columns."""
+    wanted = [it for it in fields.COLUMNS if it in columns]
+    if [columns[it] for it in wanted] != list(range(len(wanted))):
+        add(row.number, "", "", f"the columns are put in the order {', '.join(wanted)}", "fixed", None)
+    elif len(row.cells) > len(wanted) and not any(it.strip() for it in row.cells[len(wanted):]):
+        add(row.number, "", "", "empty columns at the end are left out", "fixed", None)

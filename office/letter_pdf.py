@@ -1,0 +1,251 @@
+"""Letters as PDF, by a template that the office edits: one file for each child, and one of all of them for the printer.
+
+Embedding the fonts of one letter takes longer than laying it out. So letters are laid out in batches that share their fonts, by two processes, and the
+pages of each child are then taken from its batch, with what they need and nothing else: no file has anything of another child.
+"""
+import importlib.util
+import multiprocessing
+import multiprocessing.connection
+import os
+import pickle
+import re
+import urllib.parse
+
+from register_files import Refused
+
+from . import days, sheet
+from .run import Progress
+from .serving import ends_with
+
+BATCH, PROCESSES = 50, 2
+TEMPLATE = os.path.join(os.path.dirname(os.path.realpath(__file__)), "templates", "letter.html")
+PRINTER = "printer.pdf"
+# the number of the list of pages in each file that WeasyPrint or pydyf makes, and how one object names another
+PAGES = 1
+REFERENCE = re.compile(rb"\b([0-9]+) 0 R\b")
+A4 = (0, 0, 595.28, 841.89)
+
+
+def copy_template(name):
+    """Writes the template that comes with the program to a new file, to be edited."""
+    with open(TEMPLATE, "rb") as file:
+        sheet.write_new(name, file.read())
+
+
+def template_of(name):
+    """A template, whose values are escaped for HTML, and in which a misspelt name is an error."""
+    import jinja2  # pylint: disable=import-outside-toplevel
+    import jinja2.sandbox  # pylint: disable=import-outside-toplevel
+
+    made = jinja2.sandbox.ImmutableSandboxedEnvironment(autoescape=True, undefined=jinja2.StrictUndefined, trim_blocks=True, lstrip_blocks=True)
+    made.filters["day"] = days.in_words
+    made.filters["thousands"] = "{:,}".format
+    try:
+        with open(name, encoding="utf-8") as file:
+            return made.from_string(file.read())
+    except OSError as error:
+        raise Refused(f"{name} cannot be read: {error.strerror}") from error
+    except UnicodeDecodeError as error:
+        raise Refused(f"{name} is not in UTF-8") from error
+    except jinja2.TemplateSyntaxError as error:
+        raise Refused(f"{name}, line {error.lineno}: {error.message}") from error
+
+
+def html_of(template, name, letter, address, day):
+    """One letter as HTML."""
+    import jinja2  # pylint: disable=import-outside-toplevel
+
+    try:
+        return template.render(letter=letter, address=address, date=days.in_words(day))
+    except (jinja2.TemplateError, ArithmeticError, AttributeError, LookupError, TypeError, ValueError) as error:
+        raise Refused(f"{name}: {error}") from error
+
+
+def addresses_of(name):
+    """The lines of the address of each child, from a sheet with a column `child`: the other columns in their order."""
+    rows = sheet.read(name).rows
+    header = [it.strip().lower() for it in rows[0].cells] if rows else []
+    if "child" not in header:
+        raise Refused(f"{name} has no column `child`")
+    at, found = header.index("child"), {}
+    for row in rows[1:]:
+        number = row.cells[at].strip() if at < len(row.cells) else ""
+        if not re.fullmatch("[1-9][0-9]{0,6}", number, re.ASCII):
+            raise Refused(f"{name}, row {row.number}, column child: {number or 'nothing'} is no child's number")
+        if int(number) in found:
+            raise Refused(f"{name}, row {row.number}: child {number} is there twice")
+        found[int(number)] = [it.strip() for place, it in enumerate(row.cells) if place != at and it.strip()]
+    return found
+
+
+def fetcher(folder, missing):
+    """Reads the pictures of a template: those of its own folder alone, and nothing from a network. What it does not read it adds to a list."""
+    from weasyprint import default_url_fetcher  # pylint: disable=import-outside-toplevel
+
+    def fetch(url, *given, **named):
+        parts = urllib.parse.urlsplit(url)
+        path = os.path.realpath(urllib.parse.unquote(parts.path))
+        if parts.scheme == "data" or parts.scheme == "file" and os.path.commonpath((path, folder)) == folder and os.path.isfile(path):
+            return default_url_fetcher(url, *given, **named)
+        missing.append(url)
+        raise ValueError(f"{url} is not read")
+
+    return fetch
+
+
+def laid_out(pages, folder):
+    """A batch: the objects of its pages by their numbers, as bytes, and the numbers of each letter's pages. `pages` are letters as HTML."""
+    from weasyprint import HTML  # pylint: disable=import-outside-toplevel
+    from weasyprint.text.fonts import FontConfiguration  # pylint: disable=import-outside-toplevel
+
+    config, made, missing = FontConfiguration(), {}, []
+    fetch = fetcher(folder, missing)
+    letters = [HTML(string=it, base_url=folder + os.sep, url_fetcher=fetch).render(font_config=config) for it in pages]
+    if missing:
+        name = urllib.parse.unquote(missing[0]).removeprefix(f"file://{folder}/")
+        raise Refused(f"the template names the picture {name}, which is no file in its folder")
+
+    def finish(_, pdf):
+        made.update({it.number: it.data for it in pdf.objects[1:] if it.free != "f"})
+        made["kids"] = [int(it.split()[0]) for it in pdf.page_references]
+
+    letters[0].copy([page for it in letters for page in it.pages]).write_pdf(finisher=finish)
+    kids, numbers = iter(made.pop("kids")), []
+    for it in letters:
+        numbers.append([next(kids) for _ in it.pages])
+    return made, numbers
+
+
+def head_of(data):
+    """What an object has before its stream, and the stream."""
+    head, mark, rest = data.partition(b"\nstream\n")
+    return head, mark + rest
+
+
+def needed(objects, pages):
+    """The numbers of all objects that these pages need, without the list of pages."""
+    found, open_ones = set(), list(pages)
+    while open_ones:
+        number = open_ones.pop()
+        if number not in found and number != PAGES:
+            found.add(number)
+            open_ones += [int(it) for it in REFERENCE.findall(head_of(objects[number])[0])]
+    return found
+
+
+def add_pages(pdf, objects, pages):
+    """Adds pages to a file, with the objects that they need under new numbers. None is an empty page."""
+    import pydyf  # pylint: disable=import-outside-toplevel
+
+    class Whole(pydyf.Object):
+        """An object that was written before."""
+
+        data = b""
+
+    numbers, added = {PAGES: PAGES}, {}
+    for number in sorted(needed(objects, filter(None, pages))):
+        added[number] = Whole()
+        pdf.add_object(added[number])
+        numbers[number] = added[number].number
+    for number, it in added.items():
+        head, stream = head_of(objects[number])
+        it.data = REFERENCE.sub(lambda found: b"%d 0 R" % numbers[int(found[1])], head) + stream
+    for number in pages:
+        if number is None:
+            pdf.add_page(pydyf.Dictionary({"Type": "/Page", "Parent": pdf.pages.reference, "MediaBox": pydyf.Array(A4), "Resources": pydyf.Dictionary({})}))
+        else:
+            pdf.pages["Count"] += 1
+            pdf.pages["Kids"].extend([numbers[number], 0, "R"])
+
+
+def new_file(title):
+    """A file without pages."""
+    import pydyf  # pylint: disable=import-outside-toplevel
+
+    pdf = pydyf.PDF()
+    pdf.info["Title"] = pydyf.String(title)
+    pdf.catalog["Lang"] = pydyf.String("en-GB")
+    return pdf
+
+
+def write(pdf, room, name):
+    """Writes a file into a folder."""
+    with open(os.path.join(room, name), "xb") as file:
+        pdf.write(file)
+
+
+def write_batch(children, pages, folder, room):
+    """Writes the files of some letters, and returns the batch."""
+    objects, numbers = laid_out(pages, folder)
+    for child, its in zip(children, numbers):
+        pdf = new_file(f"Letter of child {child}")
+        add_pages(pdf, objects, its)
+        write(pdf, room, f"letter-{child:07}.pdf")
+    return objects, numbers
+
+
+def batch_file(room, at):
+    """Where a batch is kept until all of them are there."""
+    return os.path.join(room, f"batch-{at:05}")
+
+
+def work(batches, folder, room, parent):
+    """What a process does: writes its batches, each as a file when it is done. What goes wrong is written to a file too."""
+    ends_with(parent)()
+    try:
+        for at, children, pages in batches:
+            found = write_batch(children, pages, folder, room)
+            with open(batch_file(room, at) + ".new", "xb") as file:
+                pickle.dump(found, file)
+            os.rename(batch_file(room, at) + ".new", batch_file(room, at))
+    except Exception as error:  # pylint: disable=broad-except
+        text = str(error) if isinstance(error, (Refused, OSError)) else f"a letter is not laid out: {type(error).__name__}: {error}"
+        try:
+            with open(os.path.join(room, f"error-{os.getpid()}"), "x", encoding="utf-8") as file:
+                file.write(text)
+        finally:
+            os._exit(1)
+
+
+def done_by(processes, room, count):
+    """Waits for the processes, with progress by the letters that are there. Refuses what one of them could not do."""
+    progress = Progress("PDF letters", count)
+    try:
+        while alive := [it.sentinel for it in processes if it.is_alive()]:
+            multiprocessing.connection.wait(alive, timeout=0.3)
+            progress.at(sum(it.endswith(".pdf") for it in os.listdir(room)))
+            if any(it.exitcode for it in processes):
+                break
+    finally:
+        progress.end()
+        for it in processes:
+            it.terminate()
+            it.join()
+    for it in sorted(os.listdir(room)):
+        if it.startswith("error-"):
+            with open(os.path.join(room, it), encoding="utf-8") as file:
+                raise Refused(file.read())
+    if any(it.exitcode for it in processes):
+        raise Refused("a process that writes the letters was ended")
+
+
+def write_letters(letters, template_name, addresses, day, room, is_double):
+    """Writes the files of all letters into a folder, and the one for the printer."""
+    if importlib.util.find_spec("weasyprint") is None:
+        raise ImportError("weasyprint is not there", name="weasyprint")
+    template, folder = template_of(template_name), os.path.realpath(os.path.dirname(template_name) or ".")
+    pages = [html_of(template, template_name, it, addresses.get(it.child, []), day) for it in letters]
+    numbers = [it.child for it in letters]
+    batches = [(at, numbers[at : at + BATCH], pages[at : at + BATCH]) for at in range(0, len(letters), BATCH)]
+    context = multiprocessing.get_context("fork")
+    processes = [context.Process(target=work, args=(batches[at::PROCESSES], folder, room, os.getpid()), daemon=True) for at in range(PROCESSES)]
+    for it in processes:
+        it.start()
+    done_by(processes, room, len(letters))
+    whole = new_file("Letters")
+    for at, *_ in batches:
+        with open(batch_file(room, at), "rb") as file:
+            objects, found = pickle.load(file)
+        add_pages(whole, objects, [page for its in found for page in its + [None] * (is_double and len(its) % 2)])
+        os.unlink(batch_file(room, at))
+    write(whole, room, PRINTER)

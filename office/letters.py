@@ -1,0 +1,221 @@
+"""Writes the letters of all children, or of a worklist: as proved texts, as a file for a mail merge, as PDF.
+
+  admissions-letters FILE [FOLDER] [--csv OUT.csv] [--pdf FOLDER] [--only NAME [--day D]]
+  admissions-letters --copy-template letter.html
+
+FOLDER gets the proved text of each child, letter-0000123.txt. --csv writes one row for each child: its place in words and dates, the criterion of its
+class, and its positions on waiting lists. --pdf writes letter-0000123.pdf for each child, and printer.pdf with all of them, by the template that comes
+with the program or by --template. Folders must be new or empty; no file is overwritten. All is for its owner alone.
+
+With --before COPY, a copy of the register from before the last round or fill, the PDF and the CSV name the place of a child that ended. --addresses is a
+CSV or .xlsx with a column `child`; its other columns are the lines of the address.
+
+The program opens FILE and closes it, so that the file alone is the register, and serves it on a free port of this machine while each letter is requested:
+nobody else should be logged in meanwhile. What the PDF and the CSV say is worked out from the file, and each letter must then be the program's to the
+letter; where one differs, nothing is written. At the end the program opens FILE and closes it once more. If this command is killed, delete the folder
+FOLDER.part-.. that remains.
+
+examples:
+  admissions-letters reg.db letters-1
+  admissions-letters --copy-template letter.html
+  admissions-letters reg.db --pdf letters-1 --template letter.html --before copies/before-draw-1.db --date 2025-03-03
+
+exit status: 0 the letters are there; 1 refused or failed, and nothing was written; 2 wrong arguments; 3 the letters are there, but FILE and its log are
+the register together, as the program did not open it at the end. The program is the one that ADMISSIONS names, or the one beside this command, or in PATH.
+"""
+import argparse
+import contextlib
+import csv
+import datetime
+import io
+import os
+import shutil
+import signal
+import subprocess
+import sys
+import tempfile
+import time
+
+import register_files as files
+from register_files import Refused
+
+from . import days, letter_fields, letter_pdf, register, sheet, texts
+from .serving import letter, serving
+
+STEP = 100
+
+
+def children_of(file, name, day):
+    """The children of a worklist, each once, in its order."""
+    query = files.found(["admissions-query", "query"])
+    if not query:
+        raise Refused("there is no admissions-query beside this program")
+    words = [query, file, name, *(["--day", day] if day else [])]
+    ran = subprocess.run(words, capture_output=True, text=True, encoding="utf-8", check=False)
+    if ran.returncode == 2:
+        raise Refused(ran.stderr.strip().split("\n")[-1].replace("admissions-query: error: ", ""), 2)
+    if ran.returncode:
+        raise Refused(ran.stderr.strip().split("\n")[-1].replace("admissions-query: ", ""))
+    rows = csv.DictReader(io.StringIO(ran.stdout, newline=""))
+    if "child" not in (rows.fieldnames or []):
+        raise Refused(f"{name} has no column `child`", 2)
+    return list(dict.fromkeys(int(it["child"]) for it in rows))
+
+
+def see_room(target):
+    """Refuses a folder that has files, or whose own folder is not there."""
+    folder = os.path.abspath(target)
+    if os.path.lexists(folder) and (not os.path.isdir(folder) or os.path.islink(folder) or os.listdir(folder)):
+        raise Refused(f"{target} is there already, and not empty")
+    if not os.path.isdir(os.path.dirname(folder)):
+        raise Refused(f"the folder of {target} is not there")
+
+
+@contextlib.contextmanager
+def new_folder(target):
+    """A new folder beside the one that is to be made, which is removed at the end where it was not renamed."""
+    folder = os.path.abspath(target)
+    room = tempfile.mkdtemp(prefix=os.path.basename(folder) + ".part-", dir=os.path.dirname(folder))
+    try:
+        yield room
+    finally:
+        shutil.rmtree(room, ignore_errors=True)
+
+
+def proved_letters(program, file, name, children):
+    """The letters that the program prints, by child."""
+    start, found = time.monotonic(), {}
+    with serving(program, file, name) as port:
+        for at, child in enumerate(children, 1):
+            found[child] = letter(port, child)
+            if at % STEP == 0 or at == len(children):
+                print(f"{at} of {len(children)} letters, {time.monotonic() - start:.1f} seconds", file=sys.stderr, flush=True)
+    return found
+
+
+def worked_out(given, file, children):
+    """The letters with all their fields, if the CSV or the PDF is wanted."""
+    if not given.csv and not given.pdf:
+        return []
+    now, before = register.read(file), None
+    if given.before:
+        before = register.read(given.before)
+        register.same_season(before, now)
+    if given.pdf and not now.draws:
+        raise Refused(f"{given.file} had no round yet, so there is no place to write of")
+    writer = letter_fields.Writer(now, before)
+    return [writer.letter(it) for it in children]
+
+
+def compare(letters, proved):
+    """Refuses a letter that is not the program's."""
+    for it in letters:
+        if it.proved().encode() != proved[it.child]:
+            raise Refused(f"the letter of child {it.child} is not what the program prints: no letter is written; report this with a copy of the register")
+
+
+def csv_of(letters):
+    """The file for a mail merge: with a mark by which spreadsheets know UTF-8, and without cells that they would run."""
+    rows = [[texts.for_spreadsheet(it) if isinstance(it, str) else it for it in letter_fields.row_of(one)] for one in letters]
+    return b"\xef\xbb\xbf" + sheet.csv_bytes([letter_fields.header(), *rows])
+
+
+def write_texts(proved, room):
+    """Writes the proved text of each child."""
+    for child, text in proved.items():
+        with open(os.path.join(room, f"letter-{child:07}.txt"), "xb") as file:
+            file.write(text)
+
+
+def name_all(rooms):
+    """Gives each folder its name. No signal interrupts that; a folder takes the name of an empty one, and of none that has files."""
+    os.sync()
+    for it in files.SIGNALS:
+        signal.signal(it, signal.SIG_IGN)
+    for room, target in rooms:
+        os.rename(room, os.path.abspath(target))
+    os.sync()
+
+
+def make(given):
+    """Writes all that is wanted, and returns the exit status."""
+    program = files.program()
+    # (an absolute path, so that no name that begins with a dash is mistaken for an option)
+    file = os.path.realpath(given.file)
+    if not os.path.isfile(file):
+        raise Refused(f"{given.file} is no file")
+    for it in filter(None, (given.folder, given.pdf)):
+        see_room(it)
+    if given.csv and os.path.lexists(given.csv):
+        raise Refused(f"{given.csv} is there already: nothing was written; choose another name")
+    failure = files.merge_log(program, file)
+    if failure:
+        raise Refused(f"{given.file} does not open: {failure}")
+    files.warn("letters", given.file, os.stat(file))
+    children = children_of(file, given.only, given.day)
+    addresses = letter_pdf.addresses_of(given.addresses) if given.addresses else {}
+    letters = worked_out(given, file, children)
+    with contextlib.ExitStack() as stack:
+        rooms = [(stack.enter_context(new_folder(it)), it) for it in (given.folder, given.pdf) if it]
+        try:
+            proved = proved_letters(program, file, given.file, children)
+        finally:
+            failure = files.merge_log(program, file)
+        compare(letters, proved)
+        if given.folder:
+            write_texts(proved, rooms[0][0])
+        if given.pdf:
+            letter_pdf.write_letters(letters, given.template or letter_pdf.TEMPLATE, addresses, given.date, rooms[-1][0], given.double_sided)
+        if given.csv:
+            sheet.write_new(given.csv, csv_of(letters))
+        name_all(rooms)
+    # (if nobody reads these lines, the letters are there all the same)
+    with contextlib.suppress(OSError):
+        for it in filter(None, (given.folder, given.pdf, given.csv)):
+            print(f"{len(children)} letters are in {it}", flush=True)
+    if failure:
+        text = f"the letters are there, but {given.file} and its log are the register together, for it does not open: {failure}"
+        print(f"admissions-letters: {text}", file=sys.stderr)
+    return 3 if failure else 0
+
+
+def read_day(text):
+    """A day of an option."""
+    found = days.read(text)
+    if found is None:
+        raise argparse.ArgumentTypeError(f"{text} is no day YYYY-MM-DD")
+    return found
+
+
+def arguments(reader):
+    """The arguments of the command."""
+    reader.add_argument("file", metavar="FILE", nargs="?", help="the register")
+    reader.add_argument("folder", metavar="FOLDER", nargs="?", help="the folder for the proved texts")
+    reader.add_argument("--only", metavar="NAME", default="children", help="the letters of this worklist of admissions-query")
+    reader.add_argument("--day", metavar="D", help="the day of the worklist, YYYY-MM-DD")
+    reader.add_argument("--csv", metavar="OUT.csv", help="write a file for a mail merge")
+    reader.add_argument("--pdf", metavar="FOLDER", help="write PDF files, one for each child and printer.pdf")
+    reader.add_argument("--template", metavar="FILE", help="the template of the PDF")
+    reader.add_argument("--copy-template", metavar="FILE", help="write the template that comes with the program, to be edited")
+    reader.add_argument("--addresses", metavar="FILE", help="the lines of the addresses, by child")
+    reader.add_argument("--before", metavar="COPY", help="a copy from before the last round or fill, to name the places that ended")
+    reader.add_argument("--date", metavar="D", type=read_day, default=datetime.date.today(), help="the date of the PDF letters, today by default")
+    reader.add_argument("--double-sided", action="store_true", help="in printer.pdf each letter begins on a new sheet")
+
+
+def main(given):
+    """Writes letters, or the template."""
+    if given.copy_template:
+        if given.file or given.folder:
+            raise Refused("--copy-template takes no FILE", 2)
+        letter_pdf.copy_template(given.copy_template)
+        print(f"the template is in {given.copy_template}: edit it, and use it by --template {given.copy_template}")
+        return 0
+    missing = [name for name, it in (("FILE", given.file), ("FOLDER", given.folder or given.csv or given.pdf)) if not it]
+    if missing:
+        raise Refused(f"error: the following arguments are required: {', '.join(missing)}", 2)
+    if not given.pdf and (given.template or given.addresses or given.double_sided):
+        raise Refused("--template, --addresses and --double-sided need --pdf", 2)
+    if given.before and not given.pdf and not given.csv:
+        raise Refused("--before needs --pdf or --csv", 2)
+    return make(given)

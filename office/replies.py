@@ -1,0 +1,76 @@
+"""A sheet of families' answers, or a worklist, as a file of commands: a line for each row."""
+import json
+
+from . import fields, sheet, texts
+from .run import Refused
+
+# what a row may say of itself, and what --as may say of all rows
+ANSWERS = {"accept": "accept", "decline": "decline", "leave_list": "leave_list", "leave": "leave_list"}
+KINDS = ("accept", "decline", "leave_list", "remind", "lapse")
+DATED = ("remind", "lapse")
+WHAT = ("reply", "answer", "cmd", "command", "what")
+
+
+def is_sheet(name):
+    """Whether a file is a sheet by its ending, and no file of commands."""
+    return name.lower().endswith((".csv", ".xlsx"))
+
+
+def places_of(header, kind):
+    """Where the columns are: by a header, or in the order answer, child, school, name. Whether there is a header."""
+    names = [fields.trimmed(it).lower() for it in header]
+    if {"child", "school"} <= set(names):
+        what = next((names.index(it) for it in WHAT if it in names), None)
+        return (what, names.index("child"), names.index("school")), True
+    return ((None, 0, 1) if kind else (0, 1, 2)), False
+
+
+def command_of(row, places, kind, day):
+    """The command of a row, and what is wrong with it."""
+    cell = lambda at: fields.trimmed(row.cells[at]) if at is not None and at < len(row.cells) else ""  # noqa: E731
+    what, child, school = (cell(it) for it in places)
+    found = kind or ANSWERS.get(what.lower())
+    wrong = []
+    if not found:
+        wrong.append(f"row {row.number}, {texts.shown(what)}: expected accept, decline or leave_list")
+    number, code = fields.child(child, None), school.upper()
+    if number.expected:
+        wrong.append(f"row {row.number}, {texts.shown(child)}: expected {number.expected}")
+    if not texts.is_code(code):
+        wrong.append(f"row {row.number}, {texts.shown(school)}: expected the code of a school (1 to 8 of A-Z and 0-9)")
+    if wrong:
+        return None, wrong
+    return {"cmd": found, "child": int(number.text), "school": code, **({"day": day} if found in DATED else {})}, []
+
+
+def commands_of(name, kind, day):
+    """The commands of a sheet, as bytes, and whether it has names. All rows that cannot be read are reported at once."""
+    rows = sheet.read(name).rows
+    if not rows:
+        raise Refused(f"{name} has no row")
+    places, has_header = places_of(rows[0].cells, kind)
+    found = [command_of(row, places, kind, day) for row in rows[has_header:]]
+    wrong = [it for _, them in found for it in them]
+    for it in wrong:
+        print(it)
+    if wrong:
+        raise Refused(f"nothing was sent: correct {texts.count(len(wrong), 'error')} in {name} first")
+    names = [fields.trimmed(it).lower() for it in rows[0].cells]
+    has_names = "name" in names if has_header else not kind and any(len(row.cells) > 3 and row.cells[3].strip() for row in rows)
+    lines = (json.dumps(it, separators=(",", ":")) + "\n" for it, _ in found)
+    return "".join(lines).encode(), has_names
+
+
+def convert(name, kind, day):
+    """Writes the commands of a sheet beside it. The name of their file, and whether the sheet has names."""
+    data, has_names = commands_of(name, kind, day)
+    made = name.rpartition(".")[0] + ".jsonl"
+    try:
+        with open(made, "rb") as file:
+            if file.read() != data:
+                raise Refused(f"nothing was sent: {made} is there already, with other commands: rename it, or give {name} another name")
+    except FileNotFoundError:
+        sheet.write_new(made, data)
+    except OSError as error:
+        raise Refused(f"{made} cannot be read: {error.strerror}") from error
+    return made, has_names

@@ -1,0 +1,149 @@
+"""What looks wrong in commands that cannot be undone: each as a sentence that is asked before anything is sent."""
+import dataclasses
+import filecmp
+import os
+import statistics
+
+from . import commands, days, fields, sheet, texts
+from .register import ACCEPTED
+from .run import Refused
+
+DATED = ("round", "fill", "remind", "lapse")
+ANSWERED = ("accept", "decline", "leave_list", "name_plan")
+FINAL = ("decline", "leave_list", "name_plan")
+FAR_FROM_TODAY, FAR_FROM_OTHERS = 60, {"apply": 370}
+FAR_BY_DEFAULT = 45
+
+
+@dataclasses.dataclass
+class Line:
+    """A line of the file: its number, its bytes, and its command where it can be read."""
+
+    number: int
+    text: bytes
+    command: object
+
+    @property
+    def kind(self):
+        """The name of its command, where its fields are of the right kind."""
+        return self.command["cmd"] if not commands.wrong_field(self.command) else None
+
+
+def day_risks(lines, register, today):
+    """Days outside the season, far from today, or far from the other days of the file."""
+    given = [(it, days.read(it.command["day"])) for it in lines if it.kind in (*DATED, "apply")]
+    for line, day in given:
+        name = f"{line.kind} with the day {day}"
+        others = [other.toordinal() for it, other in given if it.kind == line.kind and it is not line]
+        if register:
+            closing, offer, end = register.days
+            if line.kind != "apply" and not offer <= day <= end:
+                yield line, f"{name}, which is outside the season: offers are made on {offer}, and lists close on {end}"
+            elif line.kind == "apply" and (closing - day).days > FAR_FROM_OTHERS["apply"]:
+                yield line, f"{name}, more than a year before the closing date, {closing}"
+            elif line.kind == "apply" and day > closing and not register.draws:
+                yield line, f"{name}, after the closing date, {closing}: the child takes no part in the first round"
+        if line.kind != "apply" and abs((day - today).days) > FAR_FROM_TODAY:
+            yield line, f"{name}, which is {abs((day - today).days):,} days {'after' if day > today else 'before'} today"
+        elif len(others) > 1 and abs(day.toordinal() - statistics.median_low(others)) > FAR_FROM_OTHERS.get(line.kind, FAR_BY_DEFAULT):
+            yield line, f"{name}, which is far from the days of the other lines"
+
+
+def names_of(name):
+    """The name of each child that a sheet of replies has: by its columns child and name, or as kind, number, school and name."""
+    rows = sheet.read(name).rows
+    header = [fields.trimmed(it).lower() for it in rows[0].cells] if rows else []
+    at = (header.index("child"), header.index("name")) if {"child", "name"} <= set(header) else (1, 3)
+    found = {}
+    for row in rows[1:] if at != (1, 3) else rows:
+        number = fields.child(row.cells[at[0]], None).text if len(row.cells) > max(at) else ""
+        if number and row.cells[at[1]].strip():
+            found.setdefault(int(number), set()).add(row.cells[at[1]].strip())
+    if not found:
+        raise Refused(f"{name} has no names: it needs the columns child and name, or rows as decline,23,ELM,Bo Bell")
+    return found
+
+
+def name_risks(lines, known, names):
+    """Answers whose child has another name in the register than in the sheet."""
+    for line in lines:
+        if line.kind not in ANSWERED:
+            continue
+        number = line.command["child"]
+        given, has = names.get(number), known(number)
+        if has is None:
+            continue
+        if given is None and line.kind in FINAL:
+            yield line, f"{line.kind} of child {number}, {texts.shown(has)}, which the names do not have"
+        for it in sorted(given or ()):
+            if texts.folded(it) != texts.folded(has):
+                yield line, f"{line.kind} of child {number}: the name given is {texts.shown(it)}, and the register has {texts.shown(has)}"
+
+
+def change_risks(lines, register):
+    """Answers that contradict one another or what was accepted, and amendments that remove the present school."""
+    accepted = {(it.command["child"], it.command["school"]) for it in lines if it.kind == "accept"}
+    for line in lines:
+        command = line.command
+        if line.kind in ("decline", "leave_list") and (command["child"], command["school"]) in accepted:
+            yield line, f"{line.kind} of {command['school']} by child {command['child']}, which another line accepts"
+        if not register:
+            continue
+        child = command.get("child") if isinstance(command, dict) else None
+        place = register.places.get(child) if isinstance(child, int) else None
+        if line.kind == "decline" and place and (place.school, place.kind) == (command["school"], ACCEPTED):
+            yield line, f"decline of {place.school} by child {child}, which had accepted it"
+        if line.kind == "amend" and "present" not in command and child in register.children and register.children[child].present:
+            had = register.children[child].present
+            yield line, f'amend of child {child} without "present": its present school {had} would be removed, and with it perhaps a priority'
+
+
+def draw_risks(lines, register, path, backups):
+    """Rounds and fills without a copy of this very register."""
+    draws = [it for it in lines if it.kind in ("round", "fill")]
+    if not draws:
+        return
+    if not path:
+        yield draws[0], f"{draws[0].kind} over HTTP: whether there is a copy of the register from before it cannot be seen from here"
+        return
+    if not any(is_copy(it, path) for it in backups):
+        yield draws[0], f"{draws[0].kind} without a copy of this very register, in copies/ or beside it: make one by admissions-backup"
+    for line in draws:
+        if line is not lines[0]:
+            yield line, f"{line.kind} after other commands of the same file: the copy does not have them"
+        if register and line.command["draw"] != len(register.draws) + 1 + draws.index(line):
+            yield line, f"{line.kind} with draw {line.command['draw']}: the register has {texts.count(len(register.draws), 'draw')}"
+
+
+def is_copy(name, path):
+    """Whether a file is a copy of the register, byte for byte."""
+    try:
+        return not os.path.samefile(name, path) and filecmp.cmp(name, path, shallow=False)
+    except OSError:
+        return False
+
+
+def backups_near(path):
+    """The files that may be copies of a register: those beside it, and in folders `copies`."""
+    here = os.path.dirname(os.path.realpath(path))
+    folders = dict.fromkeys([os.path.join(os.getcwd(), "copies"), os.path.join(here, "copies"), here])
+    return [os.path.join(it, name) for it in folders if os.path.isdir(it) for name in sorted(os.listdir(it)) if name.endswith(".db")]
+
+
+def grouped(risks):
+    """Sentences with the numbers of their lines."""
+    found = {}
+    for line, text in risks:
+        found.setdefault(text, []).append(line.number)
+    return [f"{'line' if len(numbers) == 1 else 'lines'} {spans(numbers)}: {text}" for text, numbers in sorted(found.items(), key=lambda it: it[1])]
+
+
+def spans(numbers):
+    """Numbers in rising order, with those that follow each other as 3 to 9."""
+    parts = []
+    for it in numbers:
+        if parts and parts[-1][1] == it - 1:
+            parts[-1][1] = it
+        else:
+            parts.append([it, it])
+    return ", ".join(str(a) if a == b else f"{a} to {b}" if b > a + 1 else f"{a}, {b}" for a, b in parts)

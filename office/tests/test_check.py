@@ -1,0 +1,351 @@
+"""admissions-check: planted faults in CSV and workbooks, what the real program takes and refuses, and what --fix writes."""
+import csv
+import datetime
+import io
+import random
+import re
+import subprocess
+
+import openpyxl
+import pytest
+from conftest import HEADER, PROGRAM, child, make, school
+
+from office import check, register, sheet, texts
+
+COLUMNS = HEADER.split(",")
+GIVEN = ["Ada", "Ben", "Cleo", "Dov", "Eve", "Finn", "Gus", "Hana", "Ivo", "June"]
+FAMILY = ["Abbot", "Brook", "Carver", "Drake", "Ellis", "Fenwick", "Grant", "Hurst"]
+
+
+def good(at):
+    """The fields of a row in which nothing is wrong."""
+    return {
+        "child": str(100 + at), "name": f"{GIVEN[at % 10]} {FAMILY[at // 10]}", "east": str(1000 + 13 * at), "north": str(2000 + 17 * at), "looked_after": "no",
+        "flags": "2;5" if at % 3 else "", "siblings": "OAK" if at % 4 == 0 else "", "day": f"2024-10-{1 + at % 28:02}", "preferences": "OAK;ELM"
+        if at % 2 else "ELM",
+        "present": "PRIM7" if at % 5 == 0 else "",
+    }
+
+
+# each with the column that must be named: what the field has, and whether it is an error or can be read in one way alone
+PLANTED = [
+    ("child", "", "error"), ("child", "0", "error"), ("child", "10000000", "error"), ("child", "12a", "error"), ("child", "1,017", "error"),
+    ("child", "-7", "error"),
+    ("child", "1E+05", "error"), ("child", "00931", "fixed"), ("child", " 932", "fixed"), ("child", "933.0", "fixed"),
+    ("name", "", "error"), ("name", " ", "error"), ("name", "\xa0", "error"), ("name", "Ann\x07Abel", "error"), ("name", "Ann\nAbel", "error"),
+    ("name", "Å" * 41, "error"),
+    ("name", "Si\ufffdn Howe", "error"), ("name", " Una Upton ", "fixed"),
+    ("east", "", "error"), ("east", "1500001", "error"), ("east", "4150.5", "error"), ("east", "SP4100", "error"), ("east", "1E+06", "error"),
+    ("east", "2100.0", "fixed"),
+    ("north", "3,620", "error"), ("north", "-1", "error"), ("north", "99999999999999999999", "error"), ("north", "03620", "fixed"),
+    ("looked_after", "", "error"), ("looked_after", "maybe", "error"), ("looked_after", "1", "error"), ("looked_after", "Yes", "fixed"),
+    ("looked_after", "N", "fixed"),
+    ("flags", "16", "error"), ("flags", "2;x", "error"), ("flags", "-1", "error"), ("flags", "2;;5", "error"), ("flags", "2, 5", "fixed"),
+    ("flags", "2.0", "fixed"),
+    ("siblings", "OAKS", "error"), ("siblings", "OAK;OAK", "error"), ("siblings", "ZZZ", "error"), ("siblings", "oak", "fixed"),
+    ("day", "", "error"), ("day", "2024-02-30", "error"), ("day", "03/04/2024", "error"), ("day", "20/13/2024", "error"), ("day", "45585", "error"),
+    ("day", "20/10/24", "error"),
+    ("day", "2025-32-01", "error"), ("day", "20/10/2024", "fixed"), ("day", "20 Oct 2024", "fixed"), ("day", "2024/10/20", "fixed"),
+    ("day", "2026-01-01", "error"),
+    ("preferences", "", "error"), ("preferences", "OAK;OAK", "error"), ("preferences", "OKA;ELM", "error"), ("preferences", "OAK;;ELM", "error"),
+    ("preferences", "OAK ELM", "error"),
+    ("preferences", "elm", "fixed"), ("preferences", "ELM; OAK", "fixed"), ("preferences", "OAK,ELM", "fixed"), ("preferences", "Oak School;ELM", "fixed"),
+    ("present", "PRIM70000", "error"), ("present", "prim7", "fixed"), ("present", "St. Ann", "error"),
+    ("preferences", "A;B;C;D;E;F;G;H;I;J;K", "error"), ("siblings", "A;B;C;D;E;F;G", "error"),
+]
+ACROSS = [("child", "a number of another row"), ("name", "the same child"), ("day", "late"), ("east", "far")]
+TOWN = [school("OAK", name="Oak School"), school("ELM", name="Elm School", east=500), child(7, name="Old Hand"),
+    child(60, name="Zoe Zander", east=77, north=88)]
+
+
+@pytest.fixture(name="town", scope="module")
+def town_fixture(tmp_path_factory):
+    """A register with two schools and two children that were added by commands."""
+    path = tmp_path_factory.mktemp("town") / "reg.db"
+    make(path, TOWN)
+    return path
+
+
+def planted():
+    """The rows with each fault in a row of its own, and what must be found: row of the spreadsheet, column, kind."""
+    rows, must = [], set()
+    for at, (column, value, kind) in enumerate(PLANTED):
+        rows.append({**good(at), column: value})
+        must.add((at + 2, column, kind))
+    odd = [
+        ({"child": "199"}, []), ({"child": "199"}, [("child", "error")]), ({"child": "7"}, [("child", "error")]),
+        ({"name": "Zander, Zoë", "east": "77", "north": "88"}, [("name", "look at")]), ({"day": "2024-11-01"}, [("day", "look at")]),
+        ({"day": "2022-10-01"}, [("day", "look at")]), ({"east": "900000"}, [("east", "look at")]),
+    ]
+    more = [["Pip", "Quinn", "Rhys", "Sol", "Tess", "Uma", "Vic"][at] + " Yates" for at in range(len(odd))]
+    for at, (changed, found) in enumerate(odd):
+        number = len(rows)
+        rows.append({**good(at), "child": str(300 + at), "name": more[at], "east": str(5000 + 1000 * at), **changed})
+        must |= {(number + 2, *it) for it in found}
+    return rows, must
+
+
+def found_in(output):
+    """Row, column and kind of each line of a report without --fix."""
+    found = set()
+    for line in output.splitlines():
+        match = re.match(r"(look at )?row ([0-9]+), column (\w+)", line)
+        if match:
+            kind = "look at" if match[1] else "error" if ": expected " in line else "fixed"
+            found.add((int(match[2]), match[3], kind))
+    return found
+
+
+def test_sixty_faults_of_a_csv_in_one_run(office, town, tmp_path):
+    rows, must = planted()
+    (tmp_path / "all.csv").write_bytes(sheet.csv_bytes([COLUMNS, *([row[it] for it in COLUMNS] for row in rows)]))
+    ran = office("check", "all.csv", "--register", town)
+    assert len(must) >= 60
+    assert found_in(ran.stdout) == must
+    assert ran.returncode == 1 and not ran.stderr
+    assert f"{len(rows)} rows, {sum(it[2] == 'error' for it in must)} errors, {sum(it[2] == 'fixed' for it in must)} changes, " in ran.stdout
+
+
+def typed(column, value):
+    """A value as a spreadsheet keeps it: numbers and days as such where a cell would take them for that."""
+    if column in ("child", "east", "north", "flags") and re.fullmatch(r"[1-9][0-9]{0,15}", value):
+        return int(value)
+    if column == "day" and re.fullmatch(r"20[0-9]{2}-(0[1-9]|1[0-2])-[0-2][0-9]", value) and value != "2024-02-30":
+        return datetime.datetime.fromisoformat(value)
+    return value or None
+
+
+def test_sixty_faults_of_a_workbook_in_one_run(office, town, tmp_path):
+    rows, must = planted()
+    book = openpyxl.Workbook()
+    page = book.active
+    page.append(COLUMNS)
+    for row in rows:
+        # (no workbook can hold a control character)
+        page.append([typed(it, row[it].replace("\x07", "\n")) for it in COLUMNS])
+    # what workbooks alone can have: a day with a time, a number with a fraction, a truth value, a day in place of flags, an error, a text of a number
+    special = {"day": datetime.datetime(2024, 10, 3, 14, 30), "north": 10.25, "flags": datetime.datetime(2024, 5, 2), "preferences": "#N/A",
+        "looked_after": True, "east": "77.00"}
+    for at, (column, value) in enumerate(special.items()):
+        number = page.max_row + 1
+        row = {**good(at), "child": str(400 + at), "name": f"{GIVEN[at]} Zimmer", "north": str(9000 + 900 * at)}
+        page.append([value if it == column else typed(it, row[it]) for it in COLUMNS])
+        must.add((number, column, "fixed" if column in ("looked_after", "east") else "error"))
+    book.create_sheet("empty")
+    book.save(tmp_path / "all.xlsx")
+    ran = office("check", "all.xlsx", "--register", town)
+    assert found_in(ran.stdout) == must
+    assert ran.returncode == 1 and not ran.stderr
+
+
+def imported(path, csv_file):
+    """What the real program says to an import, on a copy of the register."""
+    copy = str(csv_file) + ".db"
+    with open(path, "rb") as one, open(copy, "wb") as other:
+        other.write(one.read())
+    ran = subprocess.run([PROGRAM, "import", copy, str(csv_file)], capture_output=True, text=True, check=False)
+    return ran.returncode, ran.stdout + ran.stderr
+
+
+def test_fixed_files_are_imported(office, town, tmp_path):
+    """Everything that has one reading, in a file as spreadsheets of several kinds save it."""
+    rows, must = planted()
+    fixable = [(at, row) for at, row in enumerate(rows) if not {kind for where, _, kind in must if where == at + 2} & {"error"}]
+    assert len(fixable) > 20
+    for kind, text in (("semi", ";"), ("tab", "\t"), ("comma", ",")):
+        out = io.StringIO()
+        writer = csv.writer(out, delimiter=text, lineterminator="\r\n")
+        order = COLUMNS[::-1] if kind == "tab" else COLUMNS
+        writer.writerows([[it.replace("_", " ").title() for it in order] + ["phone", ""], *([row[it] for it in order] + ["01234", ""] for _, row in fixable)])
+        data = out.getvalue()
+        (tmp_path / f"{kind}.csv").write_bytes({"semi": b"\xef\xbb\xbf", "tab": b"", "comma": b"sep=,\r\n"}[kind] + data.encode("utf-8"))
+        ran = office("check", f"{kind}.csv", "--fix", f"{kind}.fixed.csv", "--register", town)
+        assert ran.returncode == 0, ran
+        assert imported(town, tmp_path / f"{kind}.fixed.csv") == (0, f'{{"added":{len(fixable)},"done":true,"known":0}}\n')
+        again = office("check", f"{kind}.fixed.csv", "--register", town)
+        assert again.returncode == 0 and " 0 errors, 0 changes" in again.stdout
+        assert office("check", f"{kind}.csv", "--fix", f"{kind}.fixed.csv", "--register", town).returncode == 1, "it was there already"
+    one, other = (tmp_path / "semi.fixed.csv").read_bytes(), (tmp_path / "tab.fixed.csv").read_bytes()
+    assert one == other == (tmp_path / "comma.fixed.csv").read_bytes()
+    want = {"child": "931", "name": "Una Upton", "east": "2100", "north": "3620", "looked_after": "yes", "flags": "2;5", "day": "2024-10-20",
+        "preferences": "ELM;OAK", "present": "PRIM7"}
+    got = list(csv.DictReader(io.StringIO(one.decode())))
+    for column, value in want.items():
+        assert value in {it[column] for it in got}, column
+
+
+def test_windows_letters_are_kept_and_shown(office, tmp_path):
+    (tmp_path / "old.csv").write_bytes((HEADER + "\n1,Siân O’Neil,0,0,no,,,2024-10-20,OAK,\n").encode("cp1252"))
+    ran = office("check", "old.csv", "--fix", "new.csv")
+    assert ran.returncode == 0 and "Windows-1252" in ran.stdout and 'look at row 2, column name, "Siân O’Neil"' in ran.stdout
+    assert (tmp_path / "new.csv").read_text("utf-8").splitlines()[1] == "1,Siân O’Neil,0,0,no,,,2024-10-20,OAK,"
+
+
+def test_days_with_two_readings_are_asked_for(office, tmp_path):
+    (tmp_path / "days.csv").write_text(f"{HEADER}\n1,Ann,0,0,no,,,03/04/2024,OAK,\n2,Bo,9,0,no,,,04/04/2024,OAK,\n")
+    ran = office("check", "days.csv", "--fix", "out.csv")
+    assert ran.returncode == 1 and "is it 4 March 2024 or 3 April 2024?" in ran.stdout and not (tmp_path / "out.csv").exists()
+    ran = office("check", "days.csv", "--fix", "out.csv", "--uk-days")
+    assert ran.returncode == 0 and (tmp_path / "out.csv").read_text().splitlines()[1:] == ["1,Ann,0,0,no,,,2024-04-03,OAK,", "2,Bo,9,0,no,,,2024-04-04,OAK,"]
+
+
+@pytest.mark.parametrize("line, column", [
+    ("5,Abel, Ann,4150,3620,no,,,2024-10-20,OAK,", "name"), ("5,Ann Abel,4150,3620,no,,,2024-10-20", "preferences"),
+    ("5,Ann Abel,4150,3620,no,,,2024-10-20,OAK,,,OAK", "present"), ('5,"Ann Abel,4150,3620,no,,,2024-10-20,OAK,', "name"),
+])
+def test_rows_of_another_width(office, tmp_path, line, column):
+    (tmp_path / "w.csv").write_text(f"{HEADER}\n{line}\n")
+    ran = office("check", "w.csv")
+    assert ran.returncode == 1 and ("row 2", column) in [tuple(re.match(r"(row 2), column (\w+)", it).groups()) for it in ran.stdout.splitlines()
+        if it.startswith("row 2")]
+
+
+def test_rows_that_are_known(office, town, tmp_path):
+    """A file that was imported is right again, also with rows more; a changed field is named."""
+    copy = tmp_path / "reg.db"
+    copy.write_bytes(town.read_bytes())
+    rows = [HEADER, '1,"Abel, Ann",0,10,no,2;5,OAK;ELM,2024-10-20,OAK;ELM,PRIM7', "2,Bo,0,20,yes,,,2024-10-21,ELM,"]
+    (tmp_path / "a.csv").write_text("\n".join(rows))
+    assert office("", "import", "reg.db", "a.csv").returncode == 0
+    assert office("check", "a.csv", "--register", "reg.db").returncode == 0
+    changes = [(2, "name", "Abel", "Able"), (2, "siblings", "OAK;ELM,2024", "ELM;OAK,2024"), (2, "day", "-20,", "-22,"), (3, "present", "ELM,", "ELM,PRIM8"),
+        (3, "north", ",20,", ",21,")]
+    for number, column, old, new in changes:
+        text = rows[:]
+        text[number - 1] = text[number - 1].replace(old, new)
+        assert text != rows
+        (tmp_path / "b.csv").write_text("\n".join(text))
+        ran = office("check", "b.csv", "--register", "reg.db")
+        assert (ran.returncode, found_in(ran.stdout)) == (1, {(number, column, "error")})
+        assert imported(copy, tmp_path / "b.csv")[0] == 3
+
+
+def test_the_program_and_the_check_agree_on_random_files(town, tmp_path, capsys):
+    """Fields drawn from what is right, odd and wrong: what check accepts is imported, and what is refused check reports; so it is with --fix."""
+    values = {column: [value for it, value, _ in PLANTED if it == column] for column in COLUMNS}
+    values["child"] += ["9999999", "60", "7"]
+    values["name"] += ["Å" * 40, "=1+1", '"', "a,b", "\u202ea", "Tŷ"]
+    values["flags"] += ["0;0", "15", "00"]
+    values["siblings"] += ["", "ELM;OAK", "OAK;ELM;"]
+    values["day"] += ["1990-01-01", "1989-12-31", "2110-12-31", "2025-12-31", "٢٠٢٤-١٠-٢٠"]
+    values["looked_after"] += ["no ", "ja"]
+    chance = random.Random(48)
+    reg = register.read(str(town))
+    counts = {True: 0, False: 0}
+    for at in range(160):
+        rows = [good(it) for it in chance.sample(range(70), 3)]
+        for _ in range(chance.choice([0, 1, 1, 2])):
+            column = chance.choice(COLUMNS)
+            rows[chance.randrange(3)][column] = chance.choice(values[column])
+        file = tmp_path / f"{at}.csv"
+        data = sheet.csv_bytes([COLUMNS, *([row[it] for it in COLUMNS] for row in rows)])
+        file.write_bytes(chance.choice([b"", b"\xef\xbb\xbf"]) + chance.choice([data, data.replace(b"\n", b"\r\n"), data.replace(b"\n", b"\n\n")]))
+        found = check.Check(sheet.read(str(file)), reg, False)
+        found.run()
+        accepted = not any(it.kind == check.ERROR or it.kind == check.FIXED and not check.is_taken(it) for it in found.findings)
+        status, said = imported(town, file)
+        assert status == 0 or not accepted, (rows, said)
+        counts[accepted] += 1
+        if not any(it.kind == check.ERROR for it in found.findings):
+            fixed = tmp_path / f"{at}.fixed.csv"
+            fixed.write_bytes(sheet.csv_bytes([COLUMNS, *([row.fields[it] for it in COLUMNS] for row in found.rows)]))
+            assert imported(town, fixed)[0] == 0, rows
+    assert min(counts.values()) > 40 and not capsys.readouterr().err
+
+
+def test_too_many_rows(office, town, tmp_path):
+    rows = [[str(it), f"C{it} {it * 7919 % 10007}", str(it * 3), "0", "no", "", "", "2024-10-20", "OAK", ""] for it in range(1001, 3002)]
+    (tmp_path / "many.csv").write_bytes(sheet.csv_bytes([COLUMNS, *rows]))
+    ran = office("check", "many.csv")
+    assert ran.returncode == 1 and ran.stdout.startswith('row 2002, column child, "3001": expected at most 2,000 rows')
+    (tmp_path / "fewer.csv").write_bytes(sheet.csv_bytes([COLUMNS, *rows[:1999]]))
+    assert office("check", "fewer.csv").returncode == 0
+    ran = office("check", "fewer.csv", "--register", town)
+    assert ran.returncode == 1 and "at most 2,000 children in a register" in ran.stdout
+    assert imported(town, tmp_path / "fewer.csv")[0] == 3
+
+
+def test_a_header_with_faults_hides_no_row(office, tmp_path):
+    """A column that is missing, one with another name, one that import does not have, and a title above: the rows are checked all the same."""
+    title = "Applications 2025,,,,,,,,\n,,,,,,,,\n"
+    (tmp_path / "h.csv").write_text(title + "Child,name,east,north,LAC,flags,day,prefrences,phone\n1,Ann,0,x,no,16,20/10/2024,OAK,01234\n1,Ann,0,0,no,,2024-10-20,OAK,\n")
+    ran = office("check", "h.csv")
+    assert ran.returncode == 1 and not ran.stderr
+    assert found_in(ran.stdout) == {
+        (3, "child", "fixed"), (3, "looked_after", "error"), (3, "siblings", "error"), (3, "preferences", "error"), (3, "LAC", "fixed"), (3, "phone", "fixed"),
+        (4, "north", "error"), (4, "flags", "error"), (4, "day", "fixed"), (5, "child", "error"),
+    }
+    assert "row 1: the row is above the header: it is left out" in ran.stdout and "row 2: the row is empty" in ran.stdout
+    assert '(is it "prefrences"?)' in ran.stdout
+
+
+def test_too_many_in_a_list(office, tmp_path):
+    (tmp_path / "n.csv").write_text(f"{HEADER}\n1,Ann,0,0,no,,A;B;C;D;E;F;G,2024-10-20,A;B;C;D;E;F;G;H;I;J;K,\n2,Bo,9,9,no,,A;B;C;D;E;F,2024-10-20,A;B;C;D;E;F;G;H;I;J,\n")
+    ran = office("check", "n.csv")
+    assert found_in(ran.stdout) == {(2, "siblings", "error"), (2, "preferences", "error")} and "(it has 7)" in ran.stdout and "(it has 11)" in ran.stdout
+
+
+def test_what_only_a_workbook_has(office, tmp_path):
+    """Merged cells, a formula without its value and one with it, hidden and empty rows, a day as text, numbers as text, several sheets."""
+    book = openpyxl.Workbook()
+    page = book.active
+    page.title = "Autumn"
+    page.append(COLUMNS)
+    for at in range(8):
+        page.append([typed(it, good(at)[it]) for it in COLUMNS])
+    page.merge_cells("I3:I4")
+    page["C5"] = "=1000+39"
+    page.row_dimensions[6].hidden = True
+    page["H7"], page["A8"] = "06/10/2024", "106"
+    for column in "ABCDEFGHIJ":
+        page[f"{column}9"] = None
+    page.append([typed(it, {**good(7), "day": "2024-10-09"}[it]) for it in COLUMNS])
+    book.save(tmp_path / "w.xlsx")
+    ran = office("check", "w.xlsx", "--fix", "w.csv")
+    assert found_in(ran.stdout) == {(3, "preferences", "error"), (4, "preferences", "error"), (5, "east", "error"), (6, "child", "look at"),
+        (7, "day", "error")}
+    assert "I3:I4 are merged" in ran.stdout and "C5 is a formula that was never calculated" in ran.stdout and ran.returncode == 1
+    assert "8 rows, 4 errors, 0 changes, 1 to look at" in ran.stdout
+    page.unmerge_cells("I3:I4")
+    page["I4"], page["C5"], page["H7"] = "ELM", 1039, "26/10/2024"
+    book.save(tmp_path / "w.xlsx")
+    ran = office("check", "w.xlsx", "--fix", "w.csv")
+    assert ran.returncode == 0 and found_in(ran.stdout) == {(6, "child", "look at"), (7, "day", "fixed")}, ran
+    wanted = [[good(at)[it] for it in COLUMNS] for at in range(8)]
+    wanted[2][8], wanted[5][7], wanted[7][7] = "ELM", "2024-10-26", "2024-10-09"
+    assert list(csv.reader(io.StringIO((tmp_path / "w.csv").read_text("utf-8"))))[1:] == wanted
+    book.create_sheet("Spring").append(["x"])
+    book.save(tmp_path / "w.xlsx")
+    ran = office("check", "w.xlsx")
+    assert ran.returncode == 1 and "has the sheets Autumn, Spring: name one that is not empty by --sheet" in ran.stderr
+    assert office("check", "w.xlsx", "--sheet", "Autumn").stdout.endswith("8 rows, 0 errors, 1 change, 1 to look at\n--fix OUT.csv writes the file with this change\n")
+
+
+@pytest.mark.parametrize("one, other, is_alike", [
+    ("Ada Ewart", "Dai Ewart", False), ("Ann Abel", "ABEL, Ann", True), ("Ann Abel", "Ann Mary Abel", True), ("Jon Bell", "John Bell", True),
+    ("Zoë Zander", "Zoe Zandre", True),
+    ("Ann", "Ann Bell", False), ("Mia Bell", "Max Bell", False), ("Tom Bell", "Tom Bells", True), ("Tom Bxll", "Tim Bell", False),
+    ("Siân O’Neil", "Sian ONeil", True),
+])
+def test_names_of_one_person(one, other, is_alike):
+    assert texts.is_alike(one, other) == texts.is_alike(other, one) == is_alike
+
+
+@pytest.mark.parametrize("data, text", [
+    (b"", "expected a header"), (b"PK\x03\x04junk", "no workbook"), (b"\xd0\xcf\x11\xe0junk", "older kind"), (b"%PDF-1.4", "PDF"),
+    (b"child,child,name\n", "each column once"),
+    (b"a,b,c\n1,2,3\n", "expected a header"), (b"17,Ann Abel,0,0,no,,,2024-10-20,OAK\n", "expected a header"),
+    (b"child,name\n1,Ann\n", "a column of this name"), (b"child\x81\n\x81", "neither in UTF-8"), (b"\x00\x00\x00", "expected"),
+])
+def test_files_that_are_none(office, tmp_path, data, text):
+    (tmp_path / "x.csv").write_bytes(data)
+    ran = office("check", "x.csv")
+    assert ran.returncode == 1 and text in ran.stdout + ran.stderr and "Traceback" not in ran.stderr and "error in this command" not in ran.stderr
+
+
+def test_arguments(office):
+    assert office("check").returncode == 2
+    ran = office("check", "--help")
+    assert ran.returncode == 0 and "example:" in ran.stdout
+    ran = office("check", "none.csv")
+    assert (ran.returncode, ran.stdout, ran.stderr) == (1, "", "admissions-check: none.csv cannot be read: No such file or directory\n")

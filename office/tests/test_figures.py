@@ -1,0 +1,107 @@
+"""admissions-figures beside the model of the example season, which shares no code with it, and as a page that a screen reader reads."""
+import re
+import shutil
+import sqlite3
+
+import model_season
+import pytest
+from conftest import apply, child, do, make, school
+from figures_page import Page, beside_model, table
+from files import write
+
+from office import charts, figure_counts, register
+
+
+@pytest.mark.parametrize("name, played, at", [("after-1.db", model_season.after_first, 1), ("reg.db", model_season.after_second, 2)])
+def test_the_example_season(office, season, tmp_path, name, played, at):
+    """Both rounds: each number of the page is that of the model, or withheld, and none from 1 to 4 is printed."""
+    ran = office("figures", season / name, "out.html")
+    assert ran.returncode == 0 and f"round {at}," in ran.stdout, ran
+    text = (tmp_path / "out.html").read_text("utf-8")
+    assert beside_model(text, played()) > 10
+    assert (tmp_path / "out.html").stat().st_mode & 0o777 == 0o600
+    for it in {one["name"] for one in played().children.values()}:
+        assert it not in text
+
+
+def test_counts_are_those_of_the_model(season):
+    """The counts before any is withheld: all of them, by class and by preference."""
+    for name, played in (("after-1.db", model_season.after_first), ("reg.db", model_season.after_second)):
+        found, wanted = figure_counts.count(register.read(str(season / name))), model_season.figures(played())
+        assert (found.children, found.offers, found.kept, found.met) == (wanted["children"], wanted["offers"], wanted["kept"], wanted["met"])
+        for code, it in wanted["schools"].items():
+            one = found.schools[code]
+            assert (one.plans, one.kept, one.last, one.turned_away) == (it["plans"], it["kept"], it["last"], it["turned_away"])
+            assert one.applications == it["applied"] and one.offers == it["classes"]
+    earlier = figure_counts.count(register.read(str(season / "reg.db")), 1)
+    assert earlier.round == 1 and earlier.children == 598
+
+
+def test_the_page_is_whole_and_escaped(office, season, tmp_path):
+    """Nothing is loaded from elsewhere, no script runs, and names of schools are as they are: Welsh, right to left, with a script."""
+    shutil.copy(season / "after-1.db", tmp_path / "named.db")
+    conn = sqlite3.connect(tmp_path / "named.db")
+    for code, name in (("ASHS", 'Ysgol Tŷ "Ash" <script>alert(1)</script>'), ("BIRS", "مدرسة الزيتون"), ("CEDS", "=SUM(A1:A9) & 'Son'")):
+        conn.execute("UPDATE school SET name = ? WHERE code = ?", (name, code))
+    conn.commit()
+    conn.close()
+    assert office("figures", "named.db", "out.html").returncode == 0
+    text = (tmp_path / "out.html").read_text("utf-8")
+    page = Page(text)
+    assert "<script" not in text and not re.search(r'(src|href)="(?!#)', text) and "url(http" not in text and "@import" not in text
+    names = [it[0] for it in table(page, "Places, applications")]
+    assert {'Ysgol Tŷ "Ash" <script>alert(1)</script>', "مدرسة الزيتون", "=SUM(A1:A9) & 'Son'"} <= set(names)
+    assert len(page.titles) == 3 == page.tags["svg"] == page.tags["desc"] == page.tags["figcaption"] and page.tags["caption"] == page.tags["table"] == 3
+    ids = re.findall(r'\bid="([^"]*)"', text)
+    assert len(ids) == len(set(ids))
+    assert '<html lang="en-GB">' in text and page.tags["h1"] == page.tags["main"] == 1
+
+
+def test_last_year(office, season, tmp_path):
+    """Last year is another register: earlier, of the same phase, with other numbers."""
+    shutil.copy(season / "after-1.db", tmp_path / "last.db")
+    conn = sqlite3.connect(tmp_path / "last.db")
+    conn.execute("UPDATE meta SET year = 2024")
+    conn.execute("UPDATE school SET pan = 400 WHERE code = 'ASHA'")
+    conn.commit()
+    conn.close()
+    ran = office("figures", season / "after-1.db", "out.html", "--before", "last.db")
+    assert ran.returncode == 0, ran
+    rows = table(Page((tmp_path / "out.html").read_text("utf-8")), "Each school in round 1 of 2025 and of 2024")
+    assert next(it[1:3] for it in rows if it[0].endswith("(ASHA)")) == ["27", "400"] and len(rows) == 22
+    ran = office("figures", season / "after-1.db", "other.html", "--before", season / "after-1.db")
+    assert ran.returncode == 1 and "cannot be compared" in ran.stderr and not (tmp_path / "other.html").exists()
+
+
+def test_what_is_refused(office, season, tmp_path):
+    """A page that is there, no round, a round that is none, so few children that nothing can be published; and no traceback."""
+    make(tmp_path / "few.db", [school("OAK"), *(it for at in range(1, 5) for it in (child(at), apply(at, ["OAK"])))])
+    (tmp_path / "there.html").write_text("mine", "utf-8")
+    wrong = [([season / "after-1.db", "there.html"], "is there already"), (["few.db", "new.html"], "had no round yet")]
+    for words, text in (*wrong, ([season / "after-1.db", "new.html", "--round", "2"], "no round 2")):
+        ran = office("figures", *words)
+        assert ran.returncode == 1 and text in ran.stderr and ran.stderr.count("\n") == 1, ran
+    do(tmp_path / "few.db", [{"cmd": "round", "draw": 1, "day": "2025-03-03", "lots": [1, 2, 3, 4]}])
+    ran = office("figures", "few.db", "new.html")
+    assert ran.returncode == 1 and "fewer than 5 children are not published" in ran.stderr
+    assert (tmp_path / "there.html").read_text("utf-8") == "mine" and not (tmp_path / "new.html").exists() and office("figures", "few.db").returncode == 2
+
+
+def test_homes_are_counted_in_squares():
+    """Squares with fewer than five homes are left out; by hand."""
+    homes = [(10, 10)] * 5 + [(999, 10)] * 4 + [(1000, 10)] * 6 + [(1500, 999)]
+    assert charts.homes_by_cell(homes, 1000, 5) == {(0, 0): 9, (1000, 0): 7}
+    assert charts.homes_by_cell(homes, 500, 5) == {(0, 0): 5, (1000, 0): 6}
+
+
+def test_a_full_school_does_not_show_its_plans(tmp_path):
+    """Oak has 20 places, 2 by plans, and is full: 18 offers would show the 2, so they are withheld as well."""
+    oak = {"school": "OAK", "name": "Oak", "pan": 20, "east": 0, "north": 0, "criteria": []}
+    children = {it: {"child": it, "name": f"C{it}", "east": it, "north": 0, "looked_after": False, "flags": [], "siblings": []} for it in range(1, 31)}
+    lists = {it: ["OAK"] for it in range(3, 31)}
+    has = {it: "OAK" if it <= 20 else None for it in lists}
+    lots = {("OAK", it): it for it in lists}
+    places = {1: ("OAK", "plan"), 2: ("OAK", "plan"), **{it: ("OAK", "offered") for it in range(3, 21)}}
+    write(tmp_path / "a.db", {"OAK": oak}, children, lists, places=places, draws=[("2025-03-03", has, lots, {it for it in has if has[it]})])
+    found = figure_counts.count(register.read(str(tmp_path / "a.db")))
+    assert found.schools["OAK"].plans == 2 and {("plans", "OAK"), ("offers", "OAK")} <= found.hidden

@@ -1,0 +1,204 @@
+"""admissions-letters: the proved texts, the file for a mail merge and the PDF, beside the model of the example season and by hand."""
+import csv
+import datetime
+import os
+import re
+import shutil
+import signal
+import subprocess
+import time
+
+import model_season
+import pytest
+from conftest import PROGRAM, apply, child, do, make, school
+
+NAMES = {1: 'Ann "Nan" O\'Abel', 2: "<script>alert(1)</script>", 3: "Siân Tŷ Gwyn Ŵyn", 4: "محمد علي", 5: "=SUM(A1)", 6: "שרה כהן", 7: "Bo & Bell, jr."}
+
+
+def town(tmp_path):
+    """Oak has 2 places, one by a plan for child 7; Elm has 3; 5 has declined; 6 has no application. 1 and 2 want Oak; 2 is its sibling."""
+    make(tmp_path / "reg.db", [
+        school("OAK", pan=2, criteria=["sibling", "within:100"], name='Oak "Tŷ" <b>'), school("ELM", pan=4, east=1000, name="مدرسة الزيتون"),
+        *(child(it, east=10 * it, name=NAMES[it], siblings=["OAK"] if it == 2 else []) for it in NAMES),
+        *(apply(it, ["OAK", "ELM"]) for it in (1, 2, 3, 4)), apply(5, ["ELM"]), {"cmd": "name_plan", "child": 7, "school": "OAK"},
+    ])
+    shutil.copy(tmp_path / "reg.db", tmp_path / "before.db")
+    do(tmp_path / "reg.db", [{"cmd": "round", "draw": 1, "day": "2025-03-03", "lots": [1, 2, 3, 4, 5, 1, 2, 3, 4]}])
+    return tmp_path / "reg.db"
+
+
+def rows_of(path):
+    """The rows of a file for a mail merge, by child."""
+    data = path.read_bytes()
+    assert data.startswith(b"\xef\xbb\xbf")
+    return {int(it["child"]): it for it in csv.DictReader(data.decode("utf-8-sig").splitlines())}
+
+
+def text_of(path):
+    """The text of a PDF."""
+    return subprocess.run(["pdftotext", "-layout", path, "-"], capture_output=True, check=True).stdout.decode()
+
+
+def test_a_mail_merge_by_hand(office, tmp_path):
+    """Each kind of place: an offer with its days, a plan, none, no application; positions, criteria in words; cells that no spreadsheet runs."""
+    remind = {"cmd": "remind", "child": 4, "school": "ELM", "day": "2025-03-17"}
+    do(town(tmp_path), [{"cmd": "accept", "child": 3, "school": "ELM"}, remind, {"cmd": "decline", "child": 5, "school": "ELM"}])
+    ran = office("letters", "reg.db", "--csv", "out.csv")
+    assert ran.returncode == 0 and ran.stdout == "7 letters are in out.csv\n", ran
+    rows = rows_of(tmp_path / "out.csv")
+    keys = ("state", "school", "preference", "offered", "answer_by", "answer_by_words", "reminded", "criterion_code", "criterion", "metres")
+    sibling = "with a brother or sister at the school"
+    assert [rows[2][it] for it in keys] == ["offered", "OAK", "1", "2025-03-03", "2025-03-17", "17 March 2025", "", "sibling", sibling, "20"]
+    alone = "ranked by distance alone"
+    assert [rows[4][it] for it in keys] == ["offered", "ELM", "2", "2025-03-03", "2025-03-31", "31 March 2025", "2025-03-17", "none", alone, "960"]
+    assert [rows[3][it] for it in keys] == ["accepted", "ELM", "2", "", "", "", "", "none", alone, "970"]
+    assert [rows[7][it] for it in keys] == ["plan", "OAK", "", "", "", "", "", "plan", "named by an EHC plan", ""]
+    assert (rows[4]["offered_words"], rows[4]["reminded_words"]) == ("3 March 2025", "17 March 2025")
+    assert [rows[it]["state"] for it in (5, 6)] == ["none", "none"] and rows[5]["waiting_1_school"] == ""
+    waits = [rows[3][f"waiting_1_{it}"] for it in ("school", "name", "position", "of", "criterion", "metres")]
+    assert waits == ["OAK", 'Oak "Tŷ" <b>', "2", "3", "living within 100 metres of the school", "30"] and rows[3]["waiting_2_school"] == ""
+    assert [rows[it]["name"] for it in (1, 2, 3, 4, 5)] == [NAMES[1], NAMES[2], NAMES[3], NAMES[4], "'=SUM(A1)"]
+    assert rows[3]["school_name"] == "مدرسة الزيتون"
+    assert (tmp_path / "out.csv").stat().st_mode & 0o777 == 0o600
+
+
+def test_the_place_that_ended(office, tmp_path):
+    """A fill moves a child that had accepted Elm to Oak: with the copy from before it the letter names Elm. By a decline and by a plan it ends too."""
+    reg = town(tmp_path)
+    do(reg, [{"cmd": "accept", "child": 1, "school": "ELM"}, {"cmd": "decline", "child": 2, "school": "OAK"}])
+    shutil.copy(reg, tmp_path / "copy.db")
+    assert do(reg, [{"cmd": "fill", "draw": 2, "school": "OAK", "day": "2025-04-07", "lots": [1, 2, 3]}])[0]["child"] == 1
+    do(reg, [{"cmd": "decline", "child": 3, "school": "ELM"}, {"cmd": "name_plan", "child": 4, "school": "OAK"}])
+    assert office("letters", "reg.db", "--csv", "out.csv", "--pdf", "out", "--before", "copy.db", "--date", "2025-04-07").returncode == 0
+    rows = rows_of(tmp_path / "out.csv")
+    ended = {it: (one["ended_school"], one["ended_because"]) for it, one in rows.items() if one["ended_school"]}
+    assert set(ended) == {1, 3, 4} and all(it[0] == "ELM" for it in ended.values())
+    assert "which you prefer" in ended[1][1] and "declined" in ended[3][1] and "EHC plan" in ended[4][1]
+    text = text_of(tmp_path / "out" / "letter-0000001.pdf")
+    assert "has ended, because" in text and "7 April 2025" in text and "21 April 2025" in text
+    assert "has ended" not in text_of(tmp_path / "out" / "letter-0000002.pdf")
+
+
+def test_pdf(office, tmp_path):
+    """Names as they are, one file for each child with nothing of another, and all of them for the printer in the order of the children."""
+    town(tmp_path)
+    (tmp_path / "addresses.csv").write_text("child,line 1,line 2\n2,7 Nowhere Lane,Tŷ Newydd\n", "utf-8")
+    ran = office("letters", "reg.db", "texts", "--pdf", "out", "--addresses", "addresses.csv", "--date", "2025-03-03", "--double-sided")
+    assert ran.returncode == 0 and ran.stdout == "7 letters are in texts\n7 letters are in out\n", ran
+    assert sorted(it.name for it in (tmp_path / "out").iterdir()) == [*(f"letter-000000{it}.pdf" for it in NAMES), "printer.pdf"]
+    shown = {1: 'Ann "Nan" O\'Abel', 2: "<script>alert(1)</script>", 3: "Siân Tŷ Gwyn Ŵyn", 5: "=SUM(A1)", 7: "Bo & Bell, jr."}
+    pages = 0
+    for number in NAMES:
+        path = tmp_path / "out" / f"letter-000000{number}.pdf"
+        text, data = text_of(path), path.read_bytes()
+        assert path.stat().st_mode & 0o777 == 0o600 and (tmp_path / "out").stat().st_mode & 0o777 == 0o700
+        for other, name in shown.items():
+            assert (name in text) == (other == number), (number, other)
+        assert re.search(rb"/Title \(Letter of child ([0-9]+)\)", data)[1] == b"%d" % number
+        count = int(re.search(rb"/Count ([0-9]+)", data)[1])
+        pages += count + count % 2
+    assert b"/Count %d\n" % pages in (tmp_path / "out" / "printer.pdf").read_bytes()
+    text = text_of(tmp_path / "out" / "printer.pdf")
+    places = [text.index(f"Child {it} · page 1") for it in NAMES]
+    assert places == sorted(places)
+    two = text_of(tmp_path / "out" / "letter-0000002.pdf")
+    for it in ("7 Nowhere Lane", "Tŷ Newydd", "3 March 2025", "17 March 2025", "with a brother or sister at the school", 'Oak "Tŷ" <b>'):
+        assert it in two, it
+    assert "Nowhere" not in text_of(tmp_path / "out" / "letter-0000001.pdf")
+
+
+def test_the_template_is_the_offices(office, tmp_path):
+    """It is copied by one option, edited, and an error in it is one line."""
+    town(tmp_path)
+    assert office("letters", "--copy-template", "letter.html").returncode == 0 and office("letters", "--copy-template", "letter.html").returncode == 1
+    text = (tmp_path / "letter.html").read_text("utf-8")
+    assert "Example County Council" in text
+    (tmp_path / "letter.html").write_text(text.replace("Example County Council", "Tŷ Council & Sons"), "utf-8")
+    assert office("letters", "reg.db", "--pdf", "out", "--template", "letter.html", "--only", "no-answer").returncode == 0
+    assert "Tŷ Council" in text_of(tmp_path / "out" / "letter-0000001.pdf")
+    wrong = [("{% if %}", "line 1"), ("{{ letter.nmae }}", "nmae"), ("{{ letter.ended_school | day }}", "letter.html")]
+    wrong += [(f'<img src="{it}">', "no file in its folder") for it in ("none.png", "/etc/hostname", "http://127.0.0.1:9/a.png")]
+    for bad, said in wrong:
+        (tmp_path / "letter.html").write_text(bad, "utf-8")
+        ran = office("letters", "reg.db", "--pdf", "new", "--template", "letter.html")
+        assert ran.returncode == 1 and said in ran.stderr and "Traceback" not in ran.stderr and not (tmp_path / "new").exists(), (bad, ran)
+
+
+def test_a_letter_that_is_not_the_programs(office, tmp_path):
+    """A program that prints another letter for one child: nothing is written."""
+    town(tmp_path)
+    fake = tmp_path / "fake"
+    fake.write_text(f"""#!/usr/bin/python3
+import re, socket, subprocess, sys
+if sys.argv[1] != "serve":
+    sys.exit(subprocess.run(["{PROGRAM}", *sys.argv[1:]]).returncode)
+desk = socket.create_server(("127.0.0.1", int(sys.argv[3])))
+print("serving on 127.0.0.1:" + sys.argv[3], flush=True)
+while True:
+    conn, _ = desk.accept()
+    child = re.match(rb"GET /child/([0-9]+)/", conn.recv(999))[1].decode()
+    text = subprocess.run(["{PROGRAM}", "letter", "reg.db", child], capture_output=True).stdout
+    text = text.replace(b"position 2 of", b"position 1 of")
+    conn.sendall(b"HTTP/1.1 200 OK\\r\\nContent-Length: %d\\r\\n\\r\\n" % len(text) + text)
+    conn.close()
+""", "utf-8")
+    fake.chmod(0o700)
+    ran = office("letters", "reg.db", "--csv", "out.csv", program=fake)
+    assert ran.returncode == 1 and "the letter of child 3 is not what the program prints" in ran.stderr and not (tmp_path / "out.csv").exists(), ran
+    assert office("letters", "reg.db", "texts", program=fake).returncode == 0
+
+
+@pytest.mark.parametrize("name, played", [("after-1.db", model_season.after_first), ("reg.db", model_season.after_second)])
+def test_the_example_season(office, season, tmp_path, name, played):
+    """Each row of the file for a mail merge has what the model's letter of that child has."""
+    shutil.copy(season / name, tmp_path / "reg.db")
+    assert office("letters", "reg.db", "--csv", "out.csv").returncode == 0
+    rows, model = rows_of(tmp_path / "out.csv"), played()
+    assert set(rows) == set(model.children)
+    for number, row in rows.items():
+        place, waits = model.places.get(number), [(it["school"], it["position"]) for it in model.state(number)["waiting"]]
+        assert (row["state"], row["school"]) == ((place["kind"], place["school"]) if place else ("none", ""))
+        assert row["offered"] == (place["day"] if place and place["kind"] == "offered" else "")
+        assert [(row[f"waiting_{at}_school"], int(row[f"waiting_{at}_position"])) for at in range(1, 11) if row[f"waiting_{at}_school"]] == waits
+        if row["offered"]:
+            start = datetime.date.fromisoformat(place["reminded"] or place["day"])
+            assert row["answer_by"] == (start + datetime.timedelta(days=14)).isoformat()
+
+
+def test_what_is_refused(office, tmp_path):
+    """Before a round there is nothing to write of; files that are there stay; options that do not fit."""
+    town(tmp_path)
+    (tmp_path / "mine.csv").write_text("mine", "utf-8")
+    (tmp_path / "full").mkdir()
+    (tmp_path / "full" / "mine").write_text("mine", "utf-8")
+    (tmp_path / "bad.csv").write_text("child,a\n1,x\n1,y\n", "utf-8")
+    for words, status, said in (
+        (["before.db", "--pdf", "out"], 1, "had no round yet"), (["reg.db", "--csv", "mine.csv"], 1, "is there already"),
+        (["reg.db", "--pdf", "full"], 1, "not empty"), (["reg.db", "--pdf", "out", "--addresses", "bad.csv"], 1, "row 3: child 1 is there twice"),
+        (["reg.db", "out", "--template", "x"], 2, "need --pdf"), (["reg.db", "out", "--before", "before.db"], 2, "--before needs"),
+        (["reg.db"], 2, "required: FOLDER"), ([], 2, "required: FILE, FOLDER"), (["reg.db", "--pdf", "out", "--date", "3.3.2025"], 2, "no day"),
+        (["reg.db", "--copy-template", "x"], 2, "takes no FILE"),
+    ):
+        ran = office("letters", *words)
+        assert ran.returncode == status and said in ran.stderr and "Traceback" not in ran.stderr and not (tmp_path / "out").exists(), (words, ran)
+    assert (tmp_path / "mine.csv").read_text("utf-8") == "mine" and sorted(it.name for it in tmp_path.iterdir() if ".part-" in it.name) == []
+
+
+@pytest.mark.parametrize("number, is_group", [(signal.SIGTERM, False), (signal.SIGTERM, True), (signal.SIGINT, True), (signal.SIGKILL, False)])
+def test_ended_while_it_writes(tools, season, tmp_path, number, is_group):
+    """Ended at some moment, alone or with its processes as by Ctrl-C: no folder has its name, no process remains, and the register opens."""
+    shutil.copy(season / "after-1.db", tmp_path / "reg.db")
+    quiet = {"stdout": subprocess.DEVNULL, "stderr": subprocess.DEVNULL, "start_new_session": True}
+    command = subprocess.Popen([tools / "admissions-letters", "reg.db", "--pdf", "out"], cwd=tmp_path, **quiet)
+    deadline = time.monotonic() + 60
+    while not list(tmp_path.glob("out.part-*/letter-*.pdf")) and time.monotonic() < deadline and command.poll() is None:
+        time.sleep(0.05)
+    children = subprocess.run(["pgrep", "-P", str(command.pid)], capture_output=True, text=True, check=False).stdout.split()
+    assert command.poll() is None and children
+    os.killpg(command.pid, number) if is_group else command.send_signal(number)
+    command.wait(timeout=60)
+    while time.monotonic() < deadline and subprocess.run(["ps", "-o", "pid=", "-p", ",".join(children)], capture_output=True, check=False).stdout.strip():
+        time.sleep(0.05)
+    assert not subprocess.run(["ps", "-o", "pid=", "-p", ",".join(children)], capture_output=True, check=False).stdout.strip()
+    assert not (tmp_path / "out").exists() and (list(tmp_path.glob("out.part-*")) == []) == (number != signal.SIGKILL)
+    assert subprocess.run([PROGRAM, "do", tmp_path / "reg.db"], stdin=subprocess.DEVNULL, check=False).returncode == 0

@@ -1,0 +1,172 @@
+"""admissions-lots: the supervisor's sheet there and back, and pairs that are not those of the next draw; the other forms are in cases/lots."""
+import csv
+import io
+import json
+import random
+
+import openpyxl
+import pytest
+from conftest import PROGRAM
+from seasons import Town, file_of
+
+from office import next_draw, ranking, register
+
+DAY = ("--day", "2025-06-09")
+
+
+@pytest.fixture(name="town")
+def town_fixture(tmp_path):
+    """A season after a first round, its register, and its pairs as the program prints them: of a round, and of a fill at A."""
+    town = Town(5)
+    town.round("2025-03-03")
+    town.answers()
+    file_of(town.season, tmp_path / "reg.db")
+    write_pairs(tmp_path / "round.pairs", town.season.pairs())
+    write_pairs(tmp_path / "fill.pairs", fill_pairs(town.season, "A"))
+    return town
+
+
+def fill_pairs(season, school):
+    """The pairs of a fill, by the model."""
+    return [(school, it) for it in sorted(it[1] for it in season.waiting(school))]
+
+
+def write_pairs(path, pairs):
+    """Pairs as they are printed."""
+    path.write_text("".join(f"{code} {number}\n" for code, number in pairs))
+
+
+def filled(path, out, lots, shuffle=None):
+    """Fills the last column of a sheet as a supervisor does, in a spreadsheet."""
+    if path.suffix == ".xlsx":
+        book = openpyxl.load_workbook(path)
+        page = book.active
+        for row, lot in zip(page.iter_rows(min_row=2), lots):
+            row[-1].value = lot
+        book.save(out)
+        return
+    rows = list(csv.reader(io.StringIO(path.read_text("utf-8-sig"), newline="")))
+    for row, lot in zip(rows[1:], lots):
+        row[-1] = lot
+    if shuffle:
+        rows[1:] = shuffle.sample(rows[1:], len(rows) - 1)
+    text = io.StringIO()
+    csv.writer(text, delimiter=";" if shuffle else ",").writerows(rows)
+    out.write_text("\ufeff" + text.getvalue(), "utf-8")
+
+
+@pytest.mark.parametrize("end", ["xlsx", "csv"])
+@pytest.mark.parametrize("named", [True, False])
+def test_a_sheet_there_and_back(office, town, tmp_path, end, named):
+    pairs, chance = town.season.pairs(), random.Random(1)
+    lots = chance.sample(range(4_294_967_296), len(pairs) - 2) + [0, 4_294_967_295]
+    ran = office("lots", "round.pairs", "--sheet", f"s.{end}", "--register", "reg.db", *(["--names"] if named else []))
+    assert (ran.returncode, ran.stdout) == (0, f"s.{end} has {len(pairs)} rows, each for a lot\n"), ran
+    assert (tmp_path / f"s.{end}").stat().st_mode & 0o77 == 0
+    if end == "xlsx":
+        page = openpyxl.load_workbook(tmp_path / "s.xlsx").active
+        rows = [[it for it in row] for row in page.iter_rows(values_only=True)]
+        assert not [cell for row in page.iter_rows() for cell in row if cell.data_type == "f"] and page.print_title_rows == "$1:$1"
+        assert page.data_validations.dataValidation[0].formula2 == "4294967295"
+        assert str(page.data_validations.dataValidation[0].sqref) == f"{'D' if named else 'C'}2:{'D' if named else 'C'}{len(pairs) + 1}"
+        names = [town.season.children[it]["name"] for _, it in pairs]
+    else:
+        rows = list(csv.reader(io.StringIO((tmp_path / "s.csv").read_text("utf-8-sig"), newline="")))
+        names = [("'" if town.season.children[it]["name"][0] in "=-" else "") + town.season.children[it]["name"] for _, it in pairs]
+    wanted = [[code, number, *([name] if named else [])] for (code, number), name in zip(pairs, names)]
+    assert [list(map(str, row[: len(wanted[0])])) for row in rows[1:]] == [list(map(str, it)) for it in wanted]
+    assert rows[0] == ["school", "child", *(["name"] if named else []), "lot"]
+    filled(tmp_path / f"s.{end}", tmp_path / f"f.{end}", lots, chance if end == "csv" else None)
+    ran = office("lots", "round.pairs", f"f.{end}", "--number", "2", *DAY, "--register", "reg.db")
+    assert ran.returncode == 0 and json.loads(ran.stdout) == {"cmd": "round", "draw": 2, "day": "2025-06-09", "lots": lots}, ran
+    ran = office("lots", "round.pairs", "--sheet", f"s.{end}", "--register", "reg.db")
+    assert ran.returncode == 1 and "is there already" in ran.stderr
+
+
+@pytest.mark.parametrize("lot, said", [
+    (None, "row 4 of f.xlsx has no lot: "), (1.5, "has a lot that is no number: 1.5"), (4_294_967_296, "has a lot above 4294967295"),
+    ("ten", "has a lot that is no number: ten"),
+    (-1, "has a lot that is no number: -1"), (100, "row 4 of f.xlsx has a lot that row 2 has at A: 100"), ("=5+5", "row 4 of f.xlsx has no lot: "),
+])
+def test_a_workbook_that_is_filled_wrongly(office, town, tmp_path, lot, said):
+    office("lots", "fill.pairs", "--sheet", "s.xlsx", "--register", "reg.db", "--names")
+    lots = [100 + it for it in range(len(fill_pairs(town.season, "A")))]
+    assert len(lots) > 3
+    lots[2] = lot
+    filled(tmp_path / "s.xlsx", tmp_path / "f.xlsx", lots)
+    ran = office("lots", "fill.pairs", "f.xlsx", "--number", "2", *DAY, "--school", "A")
+    assert ran.returncode == 1 and said in ran.stderr and ran.stderr.count("\n") == 1 and not ran.stdout
+
+
+@pytest.mark.skipif(not PROGRAM or PROGRAM == "/bin/false", reason="no program")
+def test_the_pairs_are_those_of_the_program(tmp_path, office):
+    """On the copies of random seasons, before and after a first round, with plans, places, children who left lists, and late applications."""
+    for seed in range(12):
+        town = Town(seed)
+        if seed % 3:
+            town.round("2025-03-03")
+            town.answers()
+        late = set(range(1, 9)) if seed % 3 == 0 else set()
+        reg = file_of(town.season, tmp_path / f"{seed}.db", late)
+        problem = ranking.Problem(register.read(str(reg)))
+        as_printed = lambda found: "".join(f"{code} {number}\n" for code, number in sorted(found))  # noqa: E731
+        wanted = [(tuple(), next_draw.round_pairs(problem)), *(((it,), next_draw.fill_pairs(problem, it)) for it in "ABCD")]
+        printed = [office("", "pairs", reg, *words).stdout for words, _ in wanted]
+        assert printed == [as_printed(found) for _, found in wanted] and any(printed)
+
+
+def command(office, name, sheet, number, *more):
+    """What is printed for pairs and a sheet that fits them, checked beside the register."""
+    return office("lots", name, sheet, "--number", number, *DAY, "--register", "reg.db", *more)
+
+
+def test_what_is_wrong_with_the_pairs_is_named(office, town, tmp_path):
+    """A fill with a forgotten school is not taken for a changed register, nor the other way round."""
+    season = town.season
+    for name, pairs in (("round", season.pairs()), ("fill", fill_pairs(season, "A"))):
+        (tmp_path / f"{name}.csv").write_text("".join(f"{code},{number},{at}\n" for at, (code, number) in enumerate(pairs)))
+    assert command(office, "fill.pairs", "fill.csv", 2, "--school", "A").returncode == 0
+    ran = command(office, "fill.pairs", "fill.csv", 2)
+    assert (ran.returncode, ran.stdout, ran.stderr) == (1, "",
+        "admissions-lots: the pairs are those of a fill at A, not of a round: give --school A. The lots remain valid\n")
+    assert command(office, "round.pairs", "round.csv", 2).returncode == 0
+    assert "the next number is 2, not 1. Was this draw sent already?" in command(office, "round.pairs", "round.csv", 1).stderr
+    assert "the next number is 2, not 3" in command(office, "round.pairs", "round.csv", 3).stderr
+    there = fill_pairs(season, "A")
+    gone = there[1][1]
+    season.left.add((gone, "A"))
+    new = next(it for it in sorted(season.lists) if "A" not in season.lists[it] and it not in season.places)
+    season.lists[new] = season.lists[new] + ["A"]
+    file_of(season, tmp_path / "reg.db")
+    for words in (("round.pairs", "round.csv", 2), ("fill.pairs", "fill.csv", 2, "--school", "A")):
+        ran = command(office, *words)
+        assert ran.returncode == 1 and not ran.stdout
+        assert f"reg.db has changed since the pairs were printed: no lot is needed any more for A {gone}; a lot is needed for A {new}. Print the pairs again" in ran.stderr
+
+
+def test_a_round_where_one_school_alone_is_wanted(office, tmp_path):
+    """Its pairs are those of a fill too: each command is printed as it was asked for."""
+    town = Town(2)
+    town.round("2025-03-03")
+    season = town.season
+    season.left |= {(child, code) for code, child in season.pairs() if code != "B"}
+    file_of(season, tmp_path / "reg.db")
+    assert season.pairs() == fill_pairs(season, "B") != []
+    write_pairs(tmp_path / "p", season.pairs())
+    (tmp_path / "s.csv").write_text("".join(f"{code},{number},{at}\n" for at, (code, number) in enumerate(season.pairs())))
+    ran = command(office, "p", "s.csv", 2)
+    assert json.loads(ran.stdout)["cmd"] == "round" and "this is a round; the pairs are also those of a fill at B, for which --school B is needed" in ran.stderr
+    ran = command(office, "p", "s.csv", 2, "--school", "B")
+    assert json.loads(ran.stdout)["cmd"] == "fill" and not ran.stderr
+
+
+def test_wrong_arguments(office, town):
+    season = len(town.season.pairs())
+    assert season
+    for words in (["round.pairs", "--sheet", "x.csv", "--names"], ["round.pairs", "x", "--sheet", "y.csv"],
+        ["round.pairs", "s", "--number", "2", *DAY, "--names"], ["round.pairs", "--sheet", "x", "--draw", "y"]):
+        assert office("lots", *words).returncode == 2, words
+    ran = office("lots", "round.pairs", "--sheet", "no/x.csv")
+    assert ran.returncode == 1 and "the folder of no/x.csv is not there" in ran.stderr
+    ran = office("lots", "-", "--sheet", "x.csv", "--register", "reg.db", stdin="A 999\n")
+    assert ran.returncode == 1 and "the pair A 999 is not of reg.db" in ran.stderr

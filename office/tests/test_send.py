@@ -1,0 +1,335 @@
+"""admissions-send: with the real program, by do and over HTTP, killed in the middle, sent twice, and what is asked before."""
+import json
+import os
+import pty
+import re
+import signal
+import socket
+import sqlite3
+import subprocess
+import time
+
+import pytest
+from conftest import PROGRAM, ROOT, apply, child, do, make, school
+
+from office import commands
+
+TODAY = ("--today", "2025-03-10")
+TOWN = [school("OAK", pan=1), school("ELM", pan=2, east=500), child(1, name="Ann Abel", present="PRIM7"), child(2, name="Bo Bell"), apply(1, ["OAK", "ELM"]),
+    apply(2, ["OAK", "ELM"])]
+ROUND = {"cmd": "round", "draw": 1, "day": "2025-03-03", "lots": [1, 2, 1, 2]}
+
+
+def text(lines):
+    """Commands as lines."""
+    return "".join((it if isinstance(it, str) else json.dumps(it, separators=(",", ":"))) + "\n" for it in lines)
+
+
+@pytest.fixture(name="reg")
+def reg_fixture(tmp_path):
+    """A register with two schools and two children that applied."""
+    make(tmp_path / "reg.db", TOWN)
+    return tmp_path / "reg.db"
+
+
+def count(path, table="child"):
+    """The rows of a table."""
+    conn = sqlite3.connect(path)
+    try:
+        return conn.execute(f"SELECT count(*) FROM {table}").fetchone()[0]
+    finally:
+        conn.close()
+
+
+MIXED = [
+    child(3), "", '{"cmd":"add_child","child":"4"}', {**child(5), "looked_after": "no"}, {**school("elm")}, child(6), "{",
+    {"cmd": "accept", "child": 6, "school": "OAK"}, child(3),
+    {"cmd": "apply", "child": 6, "day": "2024-10-20", "preferences": ["OAK", "ZZZ"]}, {"cmd": "dance"}, {**child(7), "flags": [1.5]}, {**child(8), "home": 1},
+]
+# line, a part of what is printed
+WRONG = [
+    (3, '"child" is "4", and must be a child\'s number'), (4, '"looked_after" is "no", and must be true or false'), (5, '"school" is "elm"'), (7, "no JSON"),
+    (8, "child 6 has no open offer at OAK"), (9, "the register has a child 3 already"), (10, "the register has not all of the schools OAK, ZZZ"),
+    (11, '"cmd" is "dance"'),
+    (12, '"flags" is [1.5]'), (13, '"home" is none of add_child'),
+]
+
+
+def test_each_line_that_was_not_done_is_named(office, reg, tmp_path):
+    (tmp_path / "a.jsonl").write_bytes(b"\xef\xbb\xbf" + text(MIXED).encode()[:-1])
+    ran = office("send", "a.jsonl", *TODAY)
+    assert ran.returncode == 1 and count(reg) == 4 and not ran.stderr
+    numbers = [int(it) for it in re.findall(r"^line ([0-9]+): ", ran.stdout, re.MULTILINE)]
+    assert numbers == [it for it, _ in WRONG]
+    for number, part in WRONG:
+        assert part in next(it for it in ran.stdout.splitlines() if it.startswith(f"line {number}: "))
+    assert "2 of 12 lines done; the answers are in a.answers, the lines that were not done in a.left.jsonl" in ran.stdout
+    lines = text(MIXED).splitlines()
+    assert (tmp_path / "a.left.jsonl").read_text() == "".join(lines[number - 1] + "\n" for number, _ in WRONG)
+    answers = (tmp_path / "a.answers").read_text().splitlines()
+    assert len(answers) == len(lines) and [at for at, it in enumerate(answers, 1) if it == '{"done":true}'] == [1, 6]
+    assert os.stat(tmp_path / "a.left.jsonl").st_mode & 0o77 == 0 == os.stat(tmp_path / "a.answers").st_mode & 0o77
+
+
+def test_a_line_that_would_act_on_a_terminal_is_shown_escaped(office, reg, tmp_path):
+    (tmp_path / "a.jsonl").write_text('{"cmd":"add_child","name":"\x1b[2J\u202eAnn"}\n')
+    ran = office("send", "a.jsonl")
+    assert ran.returncode == 1 and "\x1b" not in ran.stdout and "\\u001b[2J\\u202eAnn" in ran.stdout
+    assert (tmp_path / "a.left.jsonl").read_bytes() == (tmp_path / "a.jsonl").read_bytes()
+
+
+def test_sent_twice(office, reg, tmp_path):
+    (tmp_path / "a.jsonl").write_text(text([child(3), child(4)]))
+    assert office("send", "a.jsonl").returncode == 0
+    first = (tmp_path / "a.answers").read_bytes()
+    ran = office("send", "a.jsonl")
+    assert ran.returncode == 1 and "was sent before" in ran.stdout and "nothing was sent" in ran.stderr and sorted(os.listdir(tmp_path)) == ["a.answers",
+        "a.jsonl", "reg.db", "reg.db-wal"]
+    ran = office("send", "a.jsonl", "--again")
+    assert ran.returncode == 1 and "if the line was sent before, nothing is to be done" in ran.stdout and count(reg) == 4
+    assert (tmp_path / "a.answers").read_bytes() == first and len((tmp_path / "a.2.answers").read_text().splitlines()) == 2
+
+
+@pytest.mark.parametrize("number", [signal.SIGKILL, signal.SIGINT, signal.SIGTERM])
+def test_ended_in_the_middle(office, tools, reg, tmp_path, number):
+    """Each line is done once and answered once, whichever way the run ended."""
+    size = 400
+    (tmp_path / "a.jsonl").write_text(text(child(it) for it in range(101, 101 + size)))
+    run = subprocess.Popen([tools / "admissions-send", "a.jsonl"], cwd=tmp_path, env={**os.environ, "ADMISSIONS": str(tools / "admissions")},
+        stdout=subprocess.PIPE, stderr=subprocess.PIPE)
+    deadline = time.monotonic() + 300
+    while time.monotonic() < deadline:
+        parts = [it for it in os.listdir(tmp_path) if it.startswith("a.answers.part-")]
+        if parts and (tmp_path / parts[0]).read_bytes().count(b"\n") >= 40:
+            break
+    run.send_signal(number)
+    out, errors = run.communicate(timeout=300)
+    if number == signal.SIGKILL:
+        part, = [it for it in os.listdir(tmp_path) if it.startswith("a.answers.part-")]
+        known = (tmp_path / part).read_bytes().count(b"\n")
+        ran = wait_for(lambda: office("send", "a.jsonl"), lambda it: "in use" not in it.stderr)
+        assert ran.returncode == 1 and f"has {known} answers" in ran.stderr
+        ran = office("send", "a.jsonl", "--continue")
+        refused = ran.stdout.count("the interrupted run may have done it")
+        assert ran.returncode == refused <= 1 and count(reg) == 2 + size
+        assert (tmp_path / "a.answers").read_text().count('{"done":true}') == size - refused
+    else:
+        assert run.returncode == 1 and b"stopped: ended by the signal" in errors, errors
+        done = (tmp_path / "a.answers").read_text().splitlines()
+        assert 40 <= len(done) < size and set(done) == {'{"done":true}'}
+        assert (tmp_path / "a.left.jsonl").read_text() == text(child(it)
+            for it in range(101 + len(done), 101 + size)) and f"{len(done)} of {size} lines done".encode() in out
+        assert count(reg) == 2 + len(done)
+        assert office("send", "a.left.jsonl").returncode == 0 and count(reg) == 2 + size
+
+
+def wait_for(task, is_good):
+    """The result of a task, repeated until it is good; at most five minutes."""
+    deadline = time.monotonic() + 300
+    while not is_good(found := task()) and time.monotonic() < deadline:
+        time.sleep(0.05)
+    return found
+
+
+def test_the_program_dies(office, reg, tmp_path):
+    """What is stopped by a program that ends is not taken for done, and all lines are in the file of the rest or answered."""
+    fake = tmp_path / "fake"
+    fake.write_text(f'#!/bin/bash\nif [ -e once ]; then for it in 1 2 3; do IFS= read -r it; printf "%s\\n" "$it"; done | {PROGRAM} "$@"; kill -9 $$; fi\n: > once\nexec {PROGRAM} "$@"\n')
+    fake.chmod(0o755)
+    (tmp_path / "a.jsonl").write_text(text(child(it) for it in range(11, 20)))
+    environment = {**os.environ, "ADMISSIONS": str(fake)}
+    ran = subprocess.run([ROOT / "office" / "command", "a.jsonl"], executable=None, cwd=tmp_path, capture_output=True, text=True, check=False, env=environment)
+    assert ran.returncode == 1 and "call it as" in ran.stderr
+    os.symlink(ROOT / "office" / "command", tmp_path / "admissions-send")
+    ran = subprocess.run([tmp_path / "admissions-send", "a.jsonl"], cwd=tmp_path, capture_output=True, text=True, check=False, env=environment, timeout=300)
+    assert ran.returncode == 1 and "line 4: no answer; it may be done" in ran.stdout and "stopped: " in ran.stderr
+    assert (tmp_path / "a.left.jsonl").read_text() == text(child(it) for it in range(14, 20)) and count(reg) == 5
+
+
+RISKS = [
+    ([{**ROUND, "day": "2035-03-05"}], "outside the season", ()), ([{**ROUND, "day": "2025-09-01"}], "175 days after today", ()),
+    ([{**ROUND}], "without a copy of this very register", ()), ([child(9), {**ROUND}], "after other commands of the same file", ("copy",)),
+    ([{**ROUND, "draw": 2}], "the register has 0 draws", ("copy",)),
+    ([{"cmd": "amend", **{k: v for k, v in child(1).items() if k != "cmd"}}], "PRIM7 would be removed", ()),
+    ([{"cmd": "leave_list", "child": 2, "school": "OAK"}], 'the name given is "Bea Bell", and the register has "Bo Bell"', ("names",)),
+    ([{"cmd": "decline", "child": 1, "school": "OAK"}], 'child 1, "Ann Abel", which the names do not have', ("names",)),
+    ([{"cmd": "accept", "child": 1, "school": "OAK"}, {"cmd": "decline", "child": 1, "school": "OAK"}], "which another line accepts", ()),
+    ([child(9), apply(9, ["OAK"], "2023-10-01")], "more than a year before the closing date", ()),
+    ([child(9), apply(9, ["OAK"], "2024-12-01")], "takes no part in the first round", ()),
+    ([{"cmd": "remind", "child": it, "school": "OAK", "day": "2025-03-17" if it < 5 else "2025-05-08"} for it in range(1, 6)],
+    "far from the days of the other lines", ()),
+]
+
+
+@pytest.mark.parametrize("lines, part, how", RISKS)
+def test_what_looks_wrong_is_asked_before_anything_is_sent(office, reg, tmp_path, lines, part, how):
+    (tmp_path / "a.jsonl").write_text(text(lines))
+    (tmp_path / "names.csv").write_text("reply;child;name\nleave;2;Bea Bell\n")
+    if "copy" in how:
+        (tmp_path / "copies").mkdir()
+        assert office("backup", "reg.db", "copies/b.db").returncode == 0
+    was = reg.read_bytes()
+    names = ("--names", "names.csv") if "names" in how else ()
+    ran = office("send", "a.jsonl", *TODAY, *names)
+    assert ran.returncode == 1 and part in ran.stdout and "nothing was sent: " in ran.stderr and reg.read_bytes() == was
+    assert not (tmp_path / "a.answers").exists()
+    assert office("send", "a.jsonl", *TODAY, *names, "--yes").stdout.count("Before anything is sent") == 1 and (tmp_path / "a.answers").exists()
+
+
+def test_what_is_right_is_not_asked(office, reg, tmp_path):
+    """A round with its copy, answers with the names of a sheet, reminders of one day, a complete amend."""
+    (tmp_path / "copies").mkdir()
+    assert office("backup", "reg.db", "copies/b.db").returncode == 0
+    (tmp_path / "r.jsonl").write_text(text([ROUND]))
+    ran = office("send", "r.jsonl", *TODAY)
+    assert ran.returncode == 0 and "Before" not in ran.stdout, ran
+    (tmp_path / "replies.csv").write_text("accept,1,OAK,ABEL Ann\ndecline,2,ELM,bo bell\n")
+    (tmp_path / "a.jsonl").write_text(text([{"cmd": "accept", "child": 1, "school": "OAK"},
+        {"cmd": "amend", **{k: v for k, v in child(1, present="PRIM7").items() if k != "cmd"}}]))
+    assert office("send", "a.jsonl", *TODAY, "--names", "replies.csv").returncode == 0
+    (tmp_path / "d.jsonl").write_text(text([{"cmd": "decline", "child": 1, "school": "OAK"}]))
+    assert "child 1, which had accepted it" in office("send", "d.jsonl", *TODAY).stdout
+
+
+@pytest.mark.parametrize("said, done", [("yes\n", True), ("y\n", False), ("\n", False)])
+def test_asked_on_a_terminal(tools, reg, tmp_path, said, done):
+    (tmp_path / "a.jsonl").write_text(text([ROUND]))
+    ours, theirs = pty.openpty()
+    run = subprocess.Popen([tools / "admissions-send", "a.jsonl", *TODAY], cwd=tmp_path, stdin=theirs, stdout=subprocess.PIPE, stderr=subprocess.STDOUT,
+                           env={**os.environ, "ADMISSIONS": str(tools / "admissions")})
+    os.close(theirs)
+    os.write(ours, said.encode())
+    out = run.communicate(timeout=300)[0]
+    os.close(ours)
+    assert b"Send all the same? Type yes: " in out and (run.returncode == 0) == done == (count(reg, "draw") == 1)
+
+
+@pytest.fixture(name="desk")
+def desk_fixture(reg):
+    """The address at which the register is served."""
+    with socket.socket() as held:
+        # (a port that is bound so is given to nobody else, and the program can listen on it)
+        held.setsockopt(socket.SOL_SOCKET, socket.SO_REUSEADDR, 1)
+        held.bind(("127.0.0.1", 0))
+        port = held.getsockname()[1]
+        run = subprocess.Popen([PROGRAM, "serve", str(reg), str(port)], stdout=subprocess.PIPE, text=True)
+        assert run.stdout.readline() == f"serving on 127.0.0.1:{port}\n"
+        yield f"http://127.0.0.1:{port}", run
+        run.terminate()
+        run.wait()
+        run.stdout.close()
+
+
+def test_over_http(office, desk, tmp_path):
+    (tmp_path / "a.jsonl").write_text(text(MIXED))
+    ran = office("send", "a.jsonl", *TODAY, "--url", desk[0])
+    assert [int(it) for it in re.findall(r"^line ([0-9]+): ", ran.stdout, re.MULTILINE)] == [it for it, _ in WRONG] and "2 of 12 lines done" in ran.stdout
+    (tmp_path / "names.csv").write_text("child,name\n2,Bea Bell\n3,Child 3\n")
+    (tmp_path / "b.jsonl").write_text(text([{"cmd": "leave_list", "child": 2, "school": "OAK"}, {"cmd": "leave_list", "child": 3, "school": "OAK"}]))
+    ran = office("send", "b.jsonl", *TODAY, "--url", desk[0], "--names", "names.csv")
+    assert ran.returncode == 1 and 'line 1: leave_list of child 2: the name given is "Bea Bell"' in ran.stdout and "line 2" not in ran.stdout
+    assert "nothing was sent" in ran.stderr
+    assert "in use" in office("send", "b.jsonl", *TODAY).stderr
+    desk[1].terminate()
+    desk[1].wait()
+    ran = office("send", "b.jsonl", *TODAY, "--url", desk[0])
+    assert ran.returncode == 1 and "no connection" in ran.stderr and "line 1 and those after it were not sent" in ran.stdout
+    assert (tmp_path / "b.left.jsonl").read_bytes() == (tmp_path / "b.jsonl").read_bytes()
+
+
+def test_the_field_of_each_unreadable_line(tmp_path):
+    """The program and this package agree on which lines can be read, and on the kind of error: each field of each command with each odd value."""
+    good = {
+        commands.NUMBER: 1, commands.TEXT: "x", commands.CHILD: 1, commands.TRUTH: True, commands.DAY: "2025-03-03", commands.CODE: "A", commands.PRESENT: "",
+        commands.CRITERIA: [],
+        commands.FLAGS: [], commands.CODES: [], commands.LOTS: [],
+    }
+    odd = [None, "", "x", "A", -1, "1", 1, True, [], [1], ["A"], ["a"], [16], ["flag:01"], ["sibling", "within:5"], {}, "2025-02-29", "1989-12-31", 4294967296,
+        [-1], 10**30]
+    lines = [b'{"cmd":"raise_pan","school":"A","pan":%s}' % it for it in (b"1.0", b"1e0", b"-0", b"0")] + [b"[]", b"1", b'{"cmd":1}', b"{}", b'{"cmd":"x"}',
+        b"\xff", b"", b'{"a":1e400}', b'{"a":NaN}', b'{"a":"\\ud800"}']
+    lines += [b'{"a":1%s}' % (b"0" * count) for count in (300, 309, 400)] + [b'{"a":"\\ud83d\\ude00"}', b'{"a":-Infinity}', b'{"a":1,"a":}']
+    for name, kinds in commands.FIELDS.items():
+        base = {"cmd": name, **{field: good[kind] for field, kind in kinds.items()}}
+        lines += [json.dumps({**base, field: value}).encode() for field in kinds for value in odd]
+        lines += [json.dumps({k: v for k, v in base.items() if k != field}).encode() for field in kinds] + [json.dumps({**base, "more": 1}).encode()]
+    make(tmp_path / "reg.db", [])
+    ran = subprocess.run([PROGRAM, "do", tmp_path / "reg.db"], input=b"\n".join(lines) + b"\n", capture_output=True, check=False)
+    answers = [json.loads(it) for it in ran.stdout.splitlines()]
+    assert len(answers) == len(lines) > 700
+    for line, answer in zip(lines, answers):
+        value = commands.read(line)
+        said = commands.wrong_field(value) if value is not None else "no JSON"
+        assert bool(said) == ("fault" in answer), (line, answer, said)
+        name = answer.get("name") if "fault" in answer else ""
+        kind = "NotJson" if value is None else "MissingField" if "missing" in said or said.startswith('"cmd" must') and "cmd" not in value else "ExtraField" if "is none of" in said else ""
+        kind = kind or ("UnknownCommand" if "which is no command" in said else "WrongKind" if said else "")
+        assert name == kind, (line, answer, said)
+
+
+SHEETS = [
+    ("accept,1,OAK,Ann Abel\r\nDecline,2,oak,Bo Bell\r\n", (), [("accept", 1, "OAK"), ("decline", 2, "OAK")]),
+    ("\ufeffChild;Name;School;Reply\n00001;ABEL Ann;OAK;accept\n;;;\n2;Bo Bell;OAK;leave\n", (), [("accept", 1, "OAK"), ("leave_list", 2, "OAK")]),
+    ("child,school,offered,due,name\n1,OAK,2025-03-03,2025-03-17,Ann Abel\n", ("--as", "remind", "--day", "2025-03-17"), [("remind", 1, "OAK", "2025-03-17")]),
+    ("1,OAK\n2,OAK\n", ("--as", "decline"), [("decline", 1, "OAK"), ("decline", 2, "OAK")]),
+]
+
+
+@pytest.mark.parametrize("sheet, how, wanted", SHEETS)
+def test_a_sheet_is_sent_as_commands(office, reg, tmp_path, sheet, how, wanted):
+    do(reg, [ROUND])
+    (tmp_path / "r.csv").write_text(sheet, "utf-8")
+    ran = office("send", "r.csv", *TODAY, "--yes", *how)
+    lines = [json.loads(it) for it in (tmp_path / "r.jsonl").read_text().splitlines()]
+    assert [(it["cmd"], it["child"], it["school"], *([it["day"]] if "day" in it else [])) for it in lines] == wanted, ran
+    assert len((tmp_path / "r.answers").read_text().splitlines()) == len(wanted) and (tmp_path / "r.jsonl").stat().st_mode & 0o77 == 0
+    assert "has another name" not in ran.stdout and "was sent before" in office("send", "r.csv", *TODAY, *how).stdout
+    (tmp_path / "r.csv").write_text("accept,2,ELM\n")
+    ran = office("send", "r.csv", *TODAY, "--yes")
+    assert ran.returncode == 1 and "r.jsonl is there already, with other commands" in ran.stderr
+
+
+def test_the_names_of_a_sheet_are_compared(office, reg, tmp_path):
+    (tmp_path / "r.csv").write_text('decline,1,OAK,"Bell, Bo"\ndecline,2,OAK,"Bell, Bo"\n')
+    ran = office("send", "r.csv", *TODAY)
+    assert ran.returncode == 1 and 'line 1: decline of child 1: the name given is "Bell, Bo", and the register has "Ann Abel"' in ran.stdout
+    assert "line 2" not in ran.stdout
+
+
+def test_every_row_that_is_no_command_is_reported(office, reg, tmp_path):
+    (tmp_path / "r.csv").write_text("accept,1,OAK\nmaybe,1x,Oak School\naccept,,ELM\n\ndecline,2\n")
+    was = reg.read_bytes()
+    ran = office("send", "r.csv", "--yes")
+    assert ran.returncode == 1 and [it.split(":")[0] for it in ran.stdout.splitlines()] == ['row 2, "maybe"', 'row 2, "1x"', 'row 2, "Oak School"',
+        'row 3, ""', 'row 5, ""']
+    assert "correct 5 errors in r.csv first" in ran.stderr and reg.read_bytes() == was and not (tmp_path / "r.jsonl").exists()
+    for how in (["r.csv", "--as", "remind"], ["r.csv", "--as", "accept", "--day", "2025-03-17"], ["r.jsonl", "--as", "accept"], ["r.csv", "--as", "round"]):
+        assert office("send", *how).returncode == 2, how
+
+
+def test_what_a_draw_did_is_printed(office, reg, tmp_path):
+    """Child 1 and 2 want both schools; OAK has one place and ELM two. Child 1 declines, and a fill offers its place to child 2."""
+    for at, lines in enumerate([[ROUND], [{"cmd": "decline", "child": 1, "school": "OAK"}],
+        [{"cmd": "fill", "draw": 2, "school": "OAK", "day": "2025-03-10", "lots": [5]}]]):
+        (tmp_path / f"{at}.jsonl").write_text(text(lines))
+    said = [office("send", f"{at}.jsonl", *TODAY, "--yes").stdout for at in range(3)]
+    assert "line 1: round 1: 2 children were offered a place, 0 kept theirs, 0 have none\n" in said[0]
+    assert said[1] == "1 of 1 line done; the answers are in 1.answers\n"
+    assert "line 1: child 2 was offered the place\n1 of 1 line done" in said[2]
+
+
+def test_what_cannot_be_read(office, reg, tmp_path):
+    assert office("send").returncode == 2 and "example:" in office("send", "--help").stdout
+    assert office("send", "none.jsonl").stderr == "admissions-send: none.jsonl cannot be read: No such file or directory\n"
+    (tmp_path / "a.jsonl").write_text(text([child(3)]))
+    for given in (["--register", "none.db"], ["--register", "no/reg.db"], ["--url", "ftp://x"], ["--url", "http://127.0.0.1:1"], ["--names", "none.csv"],
+        ["--user", "x"], ["--continue"]):
+        ran = office("send", "a.jsonl", *given)
+        assert ran.returncode in (1, 2) and ran.stderr.startswith("admissions-send: ") and ran.stderr.count("\n") == 1 and "error in this command" not in ran.stderr, ran
+        for it in tmp_path.glob("a.*s*"):
+            if it.name != "a.jsonl":
+                it.unlink()
+    assert count(reg) == 2
+    (tmp_path / "reg2.db").write_text("no register")
+    assert "does not open" in office("send", "a.jsonl", "--register", "reg2.db").stderr
+    assert do(reg, [child(3)]) == [{"done": True}]

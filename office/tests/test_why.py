@@ -1,0 +1,183 @@
+"""admissions-why beside a search over the round's problem that shares no code with it (bench/questions), and beside admissions-audit on the example season."""
+import os
+import random
+import re
+import subprocess
+import sys
+
+import pytest
+from conftest import ROOT, apply, child, do, make, school
+from files import write
+
+from office import register, why
+
+ROUNDS = 400
+
+
+def search():
+    """The definitions of bench/questions, without a run of it."""
+    source = (ROOT / "bench" / "questions" / "run").read_text("utf-8")
+    assert source.endswith("\n\nmain()\n")
+    found = {"__name__": "search"}
+    exec(compile(source.removesuffix("main()\n"), "questions", "exec"), found)  # pylint: disable=exec-used
+    return found
+
+
+def one_round(questions, seed, folder):
+    """A random register before and after a round whose outcome is that of the search: the search's register, own lists, lots and outcome, and both files."""
+    chance = random.Random(seed)
+    town = questions["Register"](chance)
+    for it in town.schools.values():
+        it["name"] = f"School {it['school']}"
+    earlier = []
+    if seed % 2:
+        pairs = town.pairs()
+        town.hold_round(chance)
+        told = next(it for it in town.commands if it["cmd"] == "round")
+        said = [(it["child"], it["school"], it["cmd"]) for it in town.commands if it["cmd"] in ("accept", "decline")]
+        has = {entrant: town.places.get(entrant, (None,))[0] for entrant in town.lists if entrant not in town.late}
+        has |= {number: code for number, code, word in said if word == "decline"}
+        earlier = [("2025-03-03", has, dict(zip(pairs, told["lots"])), {it for it in has if has[it]})]
+    lots = questions["drawn"](len(town.pairs()), chance)
+    own = {it: town.wanted(it) for it in town.entrants()}
+    has = questions["best"](town, own, lots)
+    places = {number: (code, "plan" if kind == "plan" else "offered") for number, (code, kind) in town.places.items()}
+    fresh = {it for it in has if has[it] and has[it] != town.places.get(it, (None,))[0]}
+    lot = dict(zip(town.pairs(), lots))
+    before, after = folder / "before.db", folder / "after.db"
+    write(before, town.schools, town.children, town.lists, town.late, places, town.left, earlier)
+    now = {**places, **{it: (has[it], "offered") for it in fresh}}
+    write(after, town.schools, town.children, town.lists, town.late, now, town.left, [*earlier, ("2025-04-07", has, lot, fresh)])
+    return town, lot, has, register.read(str(before)), register.read(str(after))
+
+
+def test_random_rounds_beside_the_search(tmp_path):
+    """Each child of each round: what it got, and at each school above that its places, who was before it, the last admitted, and what decided."""
+    questions = search()
+    counts = dict.fromkeys(("schools", "class", "distance", "lot", "left", "kept", "out", "refused", "keeps", "moved", "plans", "full", "planned", "late"), 0)
+    for seed in range(ROUNDS):
+        town, lot, has, before, after = one_round(questions, seed, tmp_path)
+        for number in town.children:
+            found = why.explain(before, after, number)
+            assert found.takes_part == (number in has)
+            if number not in has:
+                counts["out"] += 1
+                counts["planned"] += number in town.places
+                counts["late"] += number in town.late
+                continue
+            counts["refused"] += has[number] is None
+            counts["keeps"] += has[number] is not None and has[number] == found.had
+            counts["moved"] += found.had is not None and has[number] != found.had
+            assert (found.got, found.had) == (has[number], town.places.get(number, (None,))[0])
+            listed = town.lists[number]
+            assert [it.code for it in found.schools] == (listed[: listed.index(has[number])] if has[number] else listed)
+            for it in found.schools:
+                beside(questions, town, lot, has, number, it, counts)
+    assert counts["schools"] > 200 and min(counts.values()) > 5, counts
+
+
+def beside(questions, town, lot, has, number, found, counts):
+    """One school of one child, counted by the search's definitions alone."""
+    code = found.code
+    counts["schools"] += 1
+    own = {it: town.places.get(it, (None,))[0] for it in has}
+    plans = sum(1 for where, kind in town.places.values() if where == code and kind == "plan")
+    kept = [it for it in has if has[it] == code == own[it]]
+    assert (found.pan, found.plans, found.kept, found.was_left) == (town.schools[code]["pan"], plans, len(kept), (number, code) in town.left)
+    counts["kept"] += bool(kept)
+    counts["plans"] += bool(plans)
+    counts["full"] += found.places == 0
+    if found.was_left:
+        counts["left"] += 1
+        return
+    keys = {one: (*questions["standing"](town.schools[code], town.children[one]), lot[code, one]) for where, one in lot if where == code}
+    new = [it for it in keys if has[it] == code]
+    ahead = [it for it in keys if keys[it] < keys[number]]
+    assert found.wanted == len(keys) and found.key == keys[number] and not found.faults
+    assert sum(found.before.values()) == len(ahead) and all(count == sum(keys[it][0] == at for it in ahead) for at, count in found.before.items())
+    better = [it for it in ahead if has[it] in town.lists[it][: town.lists[it].index(code)]]
+    assert found.elsewhere == len(better) and found.refused == sum(has[it] != code for it in ahead if it not in better) and found.admitted == len(new) and len(new) + len(kept) >= found.places
+    assert found.last == (max(keys[it] for it in new) if new else ())
+    if new:
+        decided = [name for name, one, other in zip(("class", "distance", "lot"), keys[number], found.last) if one != other][0]
+        assert found.decided == decided
+        counts[decided] += 1
+
+
+def test_what_is_not_right_is_said(tmp_path):
+    """Outcomes that were changed by hand: a child that ranks after another has its place, or a place stays free."""
+    schools = {"A": {"school": "A", "name": "Alpha", "pan": 1, "east": 0, "north": 0, "criteria": []}}
+    children = {it: {"child": it, "name": f"C{it}", "east": 100 * it, "north": 0, "looked_after": False, "flags": [], "siblings": []} for it in (1, 2)}
+    lists, lots = {1: ["A"], 2: ["A"]}, {("A", 1): 5, ("A", 2): 3}
+    write(tmp_path / "before.db", schools, children, lists)
+    before = register.read(str(tmp_path / "before.db"))
+    for outcomes, faults in (({1: "A", 2: None}, []), ({1: None, 2: "A"}, ["ranks after"]), ({1: None, 2: None}, ["remained free"])):
+        write(tmp_path / "after.db", schools, children, lists, draws=[("2025-03-03", outcomes, lots, {it for it in outcomes if outcomes[it]})])
+        after = register.read(str(tmp_path / "after.db"))
+        loser = 2 if outcomes[1] else 1
+        found = why.explain(before, after, loser)
+        assert len(found.schools[0].faults) == len(faults) and all(part in it for part, it in zip(faults, found.schools[0].faults))
+        ran = subprocess.run([sys.executable, "-c", "import sys; sys.path[:0] = [sys.argv.pop(1), sys.argv.pop(1)]; sys.argv[0] = 'why'\nfrom office import run, why\nsys.exit(run.run('why', why))",
+                              str(ROOT), str(ROOT / "tools"), "before.db", "after.db", "--child", str(loser)], cwd=tmp_path, capture_output=True, text=True, check=False)
+        assert ran.returncode == bool(faults) and ("THIS IS NOT RIGHT" in ran.stdout) == bool(faults), ran
+
+
+def test_the_sentences_of_a_family(tmp_path):
+    """Worked by hand. Oak has 3 places, one by a plan. Of six that want it, a sibling and the nearest get the two others; two at the same distance have lots 9 and 4."""
+    oak = {"school": "OAK", "name": "Oak School", "pan": 3, "east": 0, "north": 0, "criteria": ["sibling"]}
+    elm = {"school": "ELM", "name": "Elm School", "pan": 9, "east": 900, "north": 0, "criteria": []}
+    homes = {1: 50, 2: 700, 3: 400, 4: 400, 5: 800}
+    children = {it: {"child": it, "name": f"C{it}", "east": at, "north": 0, "looked_after": False, "flags": [], "siblings": ["OAK"] if it == 2 else []} for it, at in homes.items()}
+    lists = {2: ["OAK"], 3: ["OAK", "ELM"], 4: ["OAK"], 5: ["OAK", "ELM"]}
+    lots = {("OAK", 2): 1, ("OAK", 3): 9, ("OAK", 4): 4, ("OAK", 5): 2, ("ELM", 3): 7, ("ELM", 5): 8}
+    write(tmp_path / "b.db", {"OAK": oak, "ELM": elm}, children, lists, places={1: ("OAK", "plan")})
+    has = {2: "OAK", 3: "ELM", 4: "OAK", 5: "ELM"}
+    now = {1: ("OAK", "plan"), **{it: (at, "offered") for it, at in has.items()}}
+    write(tmp_path / "a.db", {"OAK": oak, "ELM": elm}, children, lists, places=now, draws=[("2025-03-03", has, lots, set(has))])
+    before, after = register.read(str(tmp_path / "b.db")), register.read(str(tmp_path / "a.db"))
+    lines = list(why.lines_of(why.explain(before, after, 3), before, after))
+    assert lines == [
+        "Admission 2025 secondary, round 1 of 3 March 2025", "Child 3 C3", "", "The child was offered Elm School (ELM), its second preference.", "",
+        "Oak School (OAK), first preference: no place.", "The school has 3 places. 1 of them is taken by an EHC plan.",
+        "4 children wanted a place there in this round, this child among them. 2 were admitted.", "2 children rank before this child there:",
+        "- 1 with a brother or sister at the school", "- 1 meeting no criterion of the school, nearer or with a smaller lot",
+        "The last child admitted: class 2 (meeting no criterion of the school), 400 metres, lot 4.", "This child: class 2 (meeting no criterion of the school), 400 metres, lot 9.",
+        "Both are in the same class and live at the same distance, and the lot decided: the smaller one ranks first.",
+    ]
+    text = "\n".join(why.lines_of(why.explain(before, after, 5), before, after))
+    assert "3 children rank before this child there:\n- 1 with a brother or sister at the school\n- 2 meeting no criterion of the school, nearer to the school\n" in text
+    assert "has a school that" not in text and "1 of them was refused a place here too.\n" in text and "This child: class 2 (meeting no criterion of the school), 800 metres.\n" in text
+    assert "by its EHC plan" in "\n".join(why.lines_of(why.explain(before, after, 1), before, after))
+    assert list(why.lines_of(why.explain(before, after, 2), before, after))[-1] == "No school was preferred to it."
+
+
+def test_with_the_program(office, tmp_path):
+    """A round of the program, and what is refused."""
+    make(tmp_path / "reg.db", [school("OAK", pan=1), child(1, east=50), child(2, east=10), apply(1, ["OAK"]), apply(2, ["OAK"])])
+    assert office("backup", "reg.db", "before.db").returncode == 0
+    do(tmp_path / "reg.db", [{"cmd": "round", "draw": 1, "day": "2025-03-03", "lots": [2, 1]}])
+    ran = office("why", "before.db", "reg.db", "--child", "1")
+    assert ran.returncode == 0 and "50 metres" in ran.stdout and "the distance decided" in ran.stdout, ran
+    for words, text in ((["before.db", "before.db"], "has no draw 1"), (["reg.db", "reg.db"], "has no draw 2"), (["none.db", "reg.db"], "No such file")):
+        ran = office("why", *words, "--child", "1")
+        assert ran.returncode == 1 and text in ran.stderr and ran.stderr.count("\n") == 1
+    assert office("why", "before.db", "reg.db", "--child", "9").returncode == 1 and office("why", "before.db", "reg.db").returncode == 2
+
+
+@pytest.mark.parametrize("number, first, second", [(1, "before-1.db", "after-1.db"), (2, "before-2.db", "reg.db")])
+def test_the_example_season(tools, season, number, first, second):
+    """Both rounds of the example: all that admissions-audit says of each child that a school turned away, why says too."""
+    ran = subprocess.run([tools / "admissions-audit", season / first, season / second], capture_output=True, text=True, check=False)
+    assert ran.returncode == 0
+    before, after, found, code, checked = register.read(str(season / first)), register.read(str(season / second)), {}, None, 0
+    for line in ran.stdout.splitlines():
+        if at := re.match(r"School (\w+): places ([0-9]+), children ([0-9]+)(?:, the last child [0-9]+, class ([0-9]+), ([0-9]+) metres, lot ([0-9]+))?", line):
+            code, places, held, last = at[1], int(at[2]), int(at[3]), tuple(int(it) for it in at.groups()[3:] if it is not None)
+        elif at := re.match(r"  turned away child ([0-9]+), class ([0-9]+), ([0-9]+) metres, lot ([0-9]+): by (.*)", line):
+            child_no, key, by = int(at[1]), tuple(int(it) for it in at.groups()[1:4]), at[5]
+            found.setdefault(child_no, why.explain(before, after, child_no))
+            one = next(it for it in found[child_no].schools if it.code == code)
+            assert (one.places, one.kept + one.admitted, one.last, one.key) == (places, held, last, key) and not one.faults
+            assert (one.decided or "no place that was free") == by and found[child_no].round == number
+            checked += 1
+    assert checked > 100 and os.path.exists(season / second)

@@ -1,0 +1,211 @@
+"""Tries what a change of an admission number or of criteria would have done to a round: who would have gained, and who would have lost.
+
+  admissions-trial BEFORE [AFTER] --pan OAK=70 .. --criteria 'OAK=sibling;within:800' .. [--html OUT.html] [--csv OUT.csv]
+
+BEFORE is a copy of the register from before the round, AFTER the register, or a copy, from after it. The program itself makes two new registers in a
+folder that is deleted at the end, one as it was and one with the change, and holds the round in both by the lots that AFTER has; the one as it was must
+have the outcome of AFTER. Without AFTER both rounds have lots that are drawn by the rule of admissions-lots --draw. BEFORE and AFTER are only read.
+
+It prints a table by school, and one by school and criterion. A child gains if it would have a school that it prefers, and loses if it would have one that it
+wants less, or none; by the same lists, for nobody knows what families would have listed. --html writes the tables and a chart as a page, --csv a row for each
+child that would have another school. Both must be new. The numbers are small and not for publication.
+
+Criteria are given whole, in their order, with semicolons; 'OAK=' is none. A later round can be tried with raised admission numbers alone.
+
+example:
+  admissions-trial copies/before-draw-1.db reg.db --pan OAK=70 --criteria 'ELM=sibling;within:800' --html trial.html
+
+exit status: 0 tried; 1 refused or failed; 2 wrong arguments. The program is the one that ADMISSIONS names, or the one beside this command, or in PATH.
+"""
+import argparse
+import dataclasses
+import os
+import re
+import tempfile
+
+import register_files as files
+from register_files import Refused
+
+from . import charts, commands, days, pages, ranking, register, sheet, texts, trial_effects, trial_registers
+from .run import Progress
+
+
+def changed_schools(before, given):
+    """The schools with the changes of the arguments, and each change in words."""
+    schools, words = dict(before.schools), []
+    for code, value in given:
+        if code not in schools:
+            raise Refused(f"{before.name} has no school {texts.shown(code)}")
+        old = schools[code]
+        if isinstance(value, int):
+            words.append(f"{code}: admission number {value} in place of {old.pan}")
+            schools[code] = dataclasses.replace(old, pan=value)
+        else:
+            words.append(f"{code}: criteria {';'.join(value) or 'none'} in place of {';'.join(old.criteria) or 'none'}")
+            schools[code] = dataclasses.replace(old, criteria=value)
+    if schools == before.schools:
+        raise Refused("nothing is changed: the schools have these admission numbers and criteria already", 2)
+    return schools, words
+
+
+def round_of(before, after):
+    """The day of the round that is tried, and its lots, if AFTER is given."""
+    if after is None:
+        return max([before.days[1], *(it.day for it in before.draws)]), None
+    register.same_season(before, after)
+    number = len(before.draws) + 1
+    draw = after.draws[number - 1] if len(after.draws) >= number else None
+    if draw is None or not draw.round:
+        raise Refused(f"{after.name} has no round as draw {number}: {before.name} must be from right before the round")
+    return draw.day, after.lots.get(number, {})
+
+
+class Trial:
+    """A round as it was and as it would have been."""
+
+    def __init__(self, before, after, schools):
+        program, self.number, progress = files.program(), len(before.draws) + 1, Progress("rounds", 2)
+        self.day, given = round_of(before, after)
+        with tempfile.TemporaryDirectory(prefix="admissions-trial-") as room:
+            path = os.path.join(room, "plain.db")
+            self.plain, lots = trial_registers.held_round(program, path, before, before.schools, self.day, given)
+            progress.at(1)
+            if after is not None and self.plain.outcomes[self.number] != after.outcomes.get(self.number):
+                raise Refused(f"the round of {before.name} does not have the outcome of {after.name}: run admissions-audit on them")
+            self.changed, _ = trial_registers.held_round(program, os.path.join(room, "changed.db"), before, schools, self.day, lots)
+        progress.at(2)
+        progress.end()
+        self.effects = trial_effects.effects_of(self.plain, self.changed, self.number)
+        self.schools = trial_effects.by_school(self.plain, self.changed, self.number, lots, self.effects)
+        self.gains = sum(it.gains for it in self.effects)
+        self.losses = len(self.effects) - self.gains
+
+    def unplaced(self, reg):
+        """How many children have no place."""
+        return sum(it is None for it in reg.outcomes[self.number].values())
+
+    def last(self, reg, code, key):
+        """The last child that was offered a place, in words."""
+        return f"{ranking.in_words(reg.schools[code], key[0])}, {key[1]:,} metres" if key else "no offer"
+
+    def school_rows(self):
+        """The table by school: those where anything would be different."""
+        for it in self.schools:
+            old, new = self.plain.schools[it.code], self.changed.schools[it.code]
+            if old != new or it.gains or it.losses or (it.offered, it.last) != (it.would_offer, it.would_last):
+                lasts = self.last(self.plain, it.code, it.last), self.last(self.changed, it.code, it.would_last)
+                yield [it.code, old.name, old.pan, new.pan, it.offered, it.would_offer, it.gains.total(), it.losses.total(), *lasts]
+
+    def criterion_rows(self):
+        """The table by school and criterion. A gain is by the criteria of the trial, a loss by those that there were."""
+        for it in self.schools:
+            counts: dict = {}
+            for at, (reg, them) in enumerate(((self.changed, it.gains), (self.plain, it.losses))):
+                for number, count in them.items():
+                    counts.setdefault((number, ranking.in_words(reg.schools[it.code], number)), [0, 0])[at] += count
+            for (_, words), (gains, losses) in sorted(counts.items()):
+                yield [it.code, words, gains, losses]
+
+    def summary(self, words, is_drawn):
+        """The first lines."""
+        count = len(self.plain.outcomes[self.number])
+        at = sum(bool(it.round) for it in self.plain.draws)
+        yield f"Trial of round {at} of {days.in_words(self.day)}, by {'lots drawn for this trial' if is_drawn else 'the lots of the round'}"
+        yield from words
+        same = count - len(self.effects)
+        yield f"{texts.count(count, 'child', 'children')} took part: {self.gains:,} would gain, {self.losses:,} would lose, {same:,} would have the same school"
+        yield f"Without a place: {self.unplaced(self.plain):,}, would be {self.unplaced(self.changed):,}"
+
+    def child_rows(self):
+        """A row for each child that would have another school."""
+        for it in self.effects:
+            words = lambda reg, code, number: ranking.in_words(reg.schools[code], number) if code else None  # noqa: E731
+            name = texts.for_spreadsheet(self.plain.children[it.child].name)
+            had, would = words(self.plain, it.had, it.had_class), words(self.changed, it.would, it.would_class)
+            yield [it.child, name, "gains" if it.gains else "loses", it.had, had, it.would, would]
+
+
+SCHOOL_HEAD = ("School", "Number", "tried", "Offers", "would be", "Gain", "Lose", "Last offered", "would be")
+CRITERION_HEAD = ("School", "Children", "Gain", "Lose")
+CHILD_HEAD = ("child", "name", "effect", "school", "criterion", "would_have", "by_criterion")
+
+
+def table(head, rows):
+    """A table as text: numbers to the right, texts to the left."""
+    cells = [[f"{it:,}" if isinstance(it, int) else str(it) for it in row] for row in rows]
+    widths = [max(map(len, column)) for column in zip(head, *cells)]
+    is_number = [all(isinstance(it, int) for it in column) for column in zip(*rows)] if rows else [False] * len(head)
+    for row in (list(head), *cells):
+        yield "  ".join(it.rjust(width) if right else it.ljust(width) for it, width, right in zip(row, widths, is_number)).rstrip()
+
+
+def text_of(trial, words, is_drawn):
+    """All that is printed."""
+    yield from trial.summary(words, is_drawn)
+    rows = list(trial.school_rows())
+    if not trial.effects:
+        yield "Nobody would gain or lose."
+    yield ""
+    yield from table(SCHOOL_HEAD, [[row[0], *row[2:]] for row in rows])
+    if trial.effects:
+        yield ""
+        yield from table(CRITERION_HEAD, list(trial.criterion_rows()))
+
+
+def page(trial, words, is_drawn):
+    """The page."""
+    there = [it for it in trial.schools if it.gains or it.losses]
+    series = [("would gain", [it.gains.total() for it in there]), ("would lose", [it.losses.total() for it in there])]
+    title, description = "Children who would gain or lose, by school", "Two bars for each school, with the numbers of the table above."
+    drawing = charts.bars("trial", title, description, [it.code for it in there], series, "children") if there else ""
+    return pages.render("trial.html", {
+        "summary": list(trial.summary(words, is_drawn)), "schools": list(trial.school_rows()), "criteria": list(trial.criterion_rows()),
+        "names": {code: it.name for code, it in trial.plain.schools.items()}, "charts": {"trial": drawing},
+    })
+
+
+def pan_change(text):
+    """OAK=70."""
+    found = re.fullmatch(r"([^=]+)=([1-9][0-9]{0,2})", text, re.ASCII)
+    if not found or int(found[2]) > 500:
+        raise argparse.ArgumentTypeError(f"{text} is no school with an admission number from 1 to 500, as OAK=70")
+    return found[1], int(found[2])
+
+
+def criteria_change(text):
+    """OAK=sibling;within:800."""
+    code, mark, listed = text.partition("=")
+    criteria = tuple(listed.split(";")) if listed else ()
+    if not mark or len(criteria) > 8 or not all(commands.CRITERION.fullmatch(it) for it in criteria):
+        raise argparse.ArgumentTypeError(f"{text} is no school with at most 8 criteria, as 'OAK=sibling;within:800;flag:2;feeder:PRIM7'")
+    return code, criteria
+
+
+def arguments(reader):
+    """The arguments of the command."""
+    reader.add_argument("before", metavar="BEFORE", help="a copy of the register from before the round")
+    reader.add_argument("after", metavar="AFTER", nargs="?", help="the register, or a copy, from after it, which has the lots")
+    changes = {"action": "append", "dest": "changes"}
+    reader.add_argument("--pan", metavar="CODE=N", type=pan_change, help="another admission number of a school; may be repeated", **changes)
+    reader.add_argument("--criteria", metavar="CODE=C;C", type=criteria_change, help="other criteria of a school; may be repeated", **changes)
+    reader.add_argument("--html", metavar="OUT.html", help="write the tables and a chart as a page")
+    reader.add_argument("--csv", metavar="OUT.csv", help="write a row for each child that would have another school")
+
+
+def main(given):
+    """Tries."""
+    if not given.changes:
+        raise Refused("give at least one change, by --pan or --criteria", 2)
+    for it in filter(None, (given.html, given.csv)):
+        if os.path.lexists(it):
+            raise Refused(f"{it} is there already: nothing was tried; choose another name")
+    before, after = register.read(given.before), register.read(given.after) if given.after else None
+    schools, words = changed_schools(before, given.changes)
+    trial = Trial(before, after, schools)
+    if given.html:
+        sheet.write_new(given.html, page(trial, words, after is None).encode())
+    if given.csv:
+        sheet.write_new(given.csv, b"\xef\xbb\xbf" + sheet.csv_bytes([CHILD_HEAD, *trial.child_rows()]))
+    for it in text_of(trial, words, after is None):
+        print(it)
+    return 0

@@ -1,0 +1,79 @@
+"""Which counts must not be published: those from 1 to 4, and others from which one of those could be worked out.
+
+A count that is published as a sum, or the number of places of a school, ties the counts beside it together: if one of them alone is withheld, it can be
+worked out as the difference. So counts are withheld until for each count from 1 to 4 there is another table that has the same published numbers and
+another number there. Such a table is searched by moves: one count rises or falls by 1, and each sum that is wrong by that is put right by another
+withheld count in it. A count of 0 is published, so whoever knows the page knows that a withheld count is at least 1.
+"""
+
+LEAST = 5
+MOST_MOVES, MOST_TRIES = 12, 3000
+
+
+def is_small(value):
+    """Whether a count by itself must not be published."""
+    return 0 < value < LEAST
+
+
+def withheld(counts, sums):
+    """The keys of the counts that are withheld. `sums` are lists of keys with 1 or -1, each with a known sum, as [(total, -1), (part, 1), (part, 1)]."""
+    lines_of: dict = {}
+    for it in sums:
+        for key, _ in it:
+            lines_of.setdefault(key, []).append(it)
+    hidden = {key for key, value in counts.items() if is_small(value)}
+    unsafe = set(hidden)
+    while unsafe:
+        unsafe = {key for key in unsafe if not Search(counts, lines_of, hidden).has_another(key)}
+        more = {best for key in unsafe if (best := companion(counts, lines_of, hidden, key)) is not None}
+        if not more:
+            # (all is withheld that hangs together with these)
+            break
+        hidden |= more
+    return hidden
+
+
+class Search:
+    """The search for another table: which counts were moved, and by how much."""
+
+    def __init__(self, counts, lines_of, hidden):
+        self.counts, self.lines_of, self.hidden = counts, lines_of, hidden
+        self.least = int(all(counts[it] for it in hidden))
+        self.moved: dict = {}
+        self.tries = 0
+
+    def has_another(self, key):
+        """Whether a withheld count has another number in some table with the same published numbers."""
+        return any(self.move(key, step) for step in (1, -1))
+
+    def move(self, key, step):
+        """Moves a count, and then puts right what is wrong by that. If that cannot be done, the count has its number again."""
+        self.tries += 1
+        if self.counts[key] + step < self.least or len(self.moved) >= MOST_MOVES or self.tries > MOST_TRIES:
+            return False
+        self.moved[key] = step
+        if self.put_right():
+            return True
+        del self.moved[key]
+        return False
+
+    def put_right(self):
+        """Whether the sums can be put right by further moves."""
+        for key in self.moved:
+            for line in self.lines_of.get(key, ()):
+                wrong = sum(sign * self.moved.get(one, 0) for one, sign in line)
+                if wrong:
+                    free = [(one, sign) for one, sign in line if one in self.hidden and one not in self.moved]
+                    return any(self.move(one, -wrong * sign) for one, sign in sorted(free, key=lambda it: -self.counts[it[0]]))
+        return True
+
+
+def companion(counts, lines_of, hidden, key):
+    """The smallest published count beside a withheld one that is not 0; else beside those that are withheld with it, and so on; at last one that is 0."""
+    near: set = {key}
+    while True:
+        beside = {other for one in near for line in lines_of.get(one, ()) for other, _ in line}
+        published = [it for it in beside - hidden if counts[it]]
+        if published or beside <= near:
+            return min(published or beside - hidden, key=lambda it: (counts[it], repr(it)), default=None)
+        near |= beside
