@@ -10,28 +10,39 @@ import time
 
 from checks.world import NAME, until
 
-KEYS = {"Tab": (9, ""), "Enter": (13, "\r"), "Escape": (27, ""), " ": (32, " ")}
+KEYS = {"Tab": (9, ""), "Enter": (13, "\r"), "Escape": (27, ""), " ": (32, " "), "ArrowDown": (40, ""), "ArrowUp": (38, "")}
+# The page reads this machine's calendar: here it is moved to another day
+CLOCK = """(() => {{
+    const Real = Date, shift = Real.parse("{0}T10:00:00Z") - Real.now();
+    window.Date = class extends Real {{
+        constructor(...given) {{ given.length ? super(...given) : super(Real.now() + shift); }}
+        static now() {{ return Real.now() + shift; }}
+    }};
+}})()"""
 
 
 class Browser:
-    """One page. `rule` may give a response (status, body) in place of the site's, or 'broken', for a request of a method and a path."""
+    """One page. `rule` may give a response (status, body) in place of the site's, or 'broken', for a request of a method and a path. `posted` has the body
+    of each POST that the page has sent."""
 
     def __init__(self, world, who):
         self.who, self.password = who, world.passwords.get(who, "")
-        self.rule, self.errors, self.number, self.rest = None, [], 0, b""
+        self.rule, self.errors, self.posted, self.number, self.rest = None, [], [], 0, b""
         key = world.run("openssl", "x509", "-in", world.certificate, "-pubkey", "-noout").stdout
         raw = base64.b64decode("".join(key.strip().split("\n")[1:-1]))
         pinned = base64.b64encode(hashlib.sha256(raw).digest()).decode()
         take, self.out = os.pipe()
         self.into, give = os.pipe()
         folder = world.room / f"chromium-{who}-{time.monotonic_ns()}"
-        arguments = ["chromium", "--headless=new", "--remote-debugging-pipe", f"--user-data-dir={folder}", "--disable-gpu", "--disable-dev-shm-usage", "--no-first-run",
+        arguments = ["chromium", "--headless=new", "--remote-debugging-pipe", f"--user-data-dir={folder}", "--disable-gpu", "--disable-dev-shm-usage",
+            "--no-first-run",
                  "--disable-background-networking", "--disable-component-update", "--disable-extensions", "--lang=en-GB", "--no-proxy-server",
                  f"--host-resolver-rules=MAP {NAME} 127.0.0.1:{world.site_port}", f"--ignore-certificate-errors-spki-list={pinned}"]
         if os.getuid() == 0:
             arguments.append("--no-sandbox")  # chromium refuses to run as root with one
         with open(world.room / "log/chromium", "a") as log:
-            self.process = subprocess.Popen(["bash", "-c", f'exec "$@" 3<&{take} 4>&{give}', "bash", *arguments], pass_fds=(take, give), stdin=subprocess.DEVNULL,
+            self.process = subprocess.Popen(["bash", "-c", f'exec "$@" 3<&{take} 4>&{give}', "bash", *arguments], pass_fds=(take, give),
+                stdin=subprocess.DEVNULL,
                                             stdout=log, stderr=log, env=world.environment)
         world.processes.append(self.process)
         os.close(take)
@@ -78,7 +89,8 @@ class Browser:
         method, given = message.get("method"), message.get("params", {})
         if method == "Fetch.authRequired":
             response = "ProvideCredentials" if self.who else "CancelAuth"
-            self.send("Fetch.continueWithAuth", requestId=given["requestId"], authChallengeResponse={"response": response, "username": self.who, "password": self.password})
+            self.send("Fetch.continueWithAuth", requestId=given["requestId"],
+                authChallengeResponse={"response": response, "username": self.who, "password": self.password})
         elif method == "Fetch.requestPaused":
             self.paused(given)
         elif method == "Runtime.exceptionThrown":
@@ -88,6 +100,8 @@ class Browser:
 
     def paused(self, given):
         asked = given["request"]
+        if asked["method"] == "POST":
+            self.posted.append(asked.get("postData", ""))
         answer = self.rule and self.rule(asked["method"], asked["url"].partition(NAME)[2])
         if answer == "broken":
             self.send("Fetch.failRequest", requestId=given["requestId"], errorReason="ConnectionReset")
@@ -120,12 +134,35 @@ class Browser:
         for character in text:
             self.call("Input.dispatchKeyEvent", type="char", text=character)
 
-    def width(self, pixels, height=800):
-        self.call("Emulation.setDeviceMetricsOverride", width=pixels, height=height, deviceScaleFactor=1, mobile=False)
+    def width(self, pixels, height=800, scale=1):
+        self.call("Emulation.setDeviceMetricsOverride", width=pixels, height=height, deviceScaleFactor=scale, mobile=False)
+
+    def clock(self, day):
+        """From the next page that is opened, today is this day, at ten in London."""
+        self.call("Emulation.setTimezoneOverride", timezoneId="Europe/London")
+        self.call("Page.addScriptToEvaluateOnNewDocument", source=CLOCK.format(day))
+
+    def scheme(self, name):
+        self.call("Emulation.setEmulatedMedia", media="", features=[{"name": "prefers-color-scheme", "value": name}])
+
+    def choose(self, selector, path):
+        """Chooses a file in a field, as the dialog of the browser does."""
+        root = self.call("DOM.getDocument")["root"]["nodeId"]
+        node = self.call("DOM.querySelector", nodeId=root, selector=selector)["nodeId"]
+        self.call("DOM.setFileInputFiles", nodeId=node, files=[str(path)])
+
+    def save_to(self, folder):
+        """What is downloaded is written to a folder."""
+        self.call("Page.setDownloadBehavior", behavior="allow", downloadPath=str(folder))
+
+    def undisturbed(self):
+        """Stops pausing each request: for measurements, after somebody has signed in."""
+        self.call("Fetch.disable")
 
     def picture(self, path):
         path.write_bytes(base64.b64decode(self.call("Page.captureScreenshot", format="png")["data"]))
 
     def nodes(self):
         """What a screen reader gets: role and name of each node."""
-        return [(node["role"]["value"], node.get("name", {}).get("value", "")) for node in self.call("Accessibility.getFullAXTree")["nodes"] if not node.get("ignored")]
+        return [(node["role"]["value"], node.get("name", {}).get("value",
+            "")) for node in self.call("Accessibility.getFullAXTree")["nodes"] if not node.get("ignored")]

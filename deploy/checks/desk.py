@@ -2,6 +2,7 @@
 
 import concurrent.futures
 import json
+import re
 import signal
 import threading
 import time
@@ -27,7 +28,7 @@ def units(world, see):
     (world.root / "usr/local/bin").mkdir()
     (world.root / "usr/local/bin/admissions").symlink_to(world.program)
     for unit in folder.iterdir():
-        unit.write_text(unit.read_text().replace("=/usr/local/", f"={world.root}/usr/local/"))
+        unit.write_text(re.sub("=(-?)/usr/local/", rf"=\1{world.root}/usr/local/", unit.read_text()))
     verified = world.run("systemd-analyze", "verify", *sorted(folder.iterdir()))
     see("systemd accepts the units without a remark", (verified.returncode, verified.stdout + verified.stderr), (0, ""))
 

@@ -4,7 +4,8 @@ import base64
 import xml.etree.ElementTree
 
 from checks.browser import Browser
-from checks.page import act, find
+from checks.page import confirm, opened, press, visit
+from checks.world import AUTHORITY
 
 # A has one place, and criteria: siblings, then at most 1,000 metres. So at A class 0 is looked after, 1 has a sibling there, 2 lives within
 # 1,000 metres, and 3 are all others; at the other schools 1 are all who are not looked after. The home of each child and its distance
@@ -33,15 +34,17 @@ CHILDREN = [
 # For A each child but 7 has a lot, in the order of the numbers; for B child 6, and for C child 7
 ROUND = '{{"cmd":"round","draw":1,"day":"2025-03-03","lots":{0}}}\n'.format([*range(1, 88), 1, 1])
 
-COLUMNS = "Position Child Class Metres"
+COLUMNS = "Position Child Name Priority Metres"
+SIBLING, NEAR, NONE = "sibling at the school", "home within 1,000 metres", "none of the criteria"
 # By class, then by metres: 1 has the place. Only a lot would separate 4 and 5, so they have one position, and the next is two more
 LIST = [
-    "1 2 0 500", "2 3 1 12345", "3 4 2 1000", "3 5 2 1000", "5 6 3 1001",
-    *(f"{6 + at} {child} 3 {2010 + 10 * at}" for at, child in enumerate(MANY)), "86 1234567 3 50000",
+    "1 2 Zoë Tŷ-Owen looked after 500", f"2 3 Cyd Cole {SIBLING} 12,345", f"3 4 Dan Dunn {NEAR} 1,000", f"3 5 Eve Eden {NEAR} 1,000", f"5 6 Flo Ford {NONE} 1,001",
+    *(f"{6 + at} {child} Child of {child} {NONE} {2010 + 10 * at:,}" for at, child in enumerate(MANY)), f"86 1234567 Gus Gale {NONE} 50,000",
 ]
-REPORT = ["1 A", "2 none", "3 none", "4 none", "5 none", "6 B", "7 C", *(f"{child} none" for child in MANY), "1234567 none"]
-
-PRESS = {"letter": "document.querySelector('[data-at=letter]').click()", "round": "document.getElementById('round-number').value = '1'; document.querySelector('#round-form button').click()"}
+NAMES = {child[0]: child[1] for child in CHILDREN}
+REPORT = [f"{child} {NAMES[child]} {school}" for child, school in ((1, "A 1"), (2, "none"), (3, "none"), (4, "none"), (5, "none"), (6, "B 2"), (7, "C 1"),
+    *((it, "none") for it in MANY), (1234567, "none"))]
+TODAY = "20 March 2025"
 
 
 def check(world, see):
@@ -61,79 +64,118 @@ def check(world, see):
 def views(world, see):
     page = Browser(world, "jane")
     page.width(1280, 800)
-    page.open("/")
+    page.clock("2025-03-20")
+    opened(page)
     waiting_list(page, world, see)
     report(page, world, see)
+    worklist(page, world, see)
     child_and_letter(page, world, see)
-    narrow(page, see)
+    many_letters(page, world, see)
+    every_view(page, world, see)
     see("no script failed on the way to paper", page.errors, [])
     world.end(page.process)
 
 
-def school(page, code):
-    act(page, f"document.getElementById('school-code').value = '{code}'; document.querySelector('#school-form button').click()")
+def edges(sheets, see, what):
+    """The authority, the day and the page at the edges of each sheet; what is between them is returned."""
+    tops, bottoms = [texts(sheet)[0] for sheet in sheets], [texts(sheet)[-1] for sheet in sheets]
+    count = len(sheets)
+    see(f"each sheet of {what} has the authority, the day and its number", (tops, bottoms),
+        ([f"{AUTHORITY} {TODAY}"] * count, [f"School admissions, secondary 2025 Page {number} of {count}" for number in range(1, count + 1)]))
+    return [sheet[1:-1] for sheet in sheets]
 
 
 def waiting_list(page, world, see):
-    school(page, "A")
-    sheets = printed(page, world, "list")
+    visit(page, "#school/A")
+    sheets = edges(printed(page, world, "list"), see, "a waiting list")
     see("a printed waiting list takes more than one sheet", len(sheets) > 1)
     see("each has the names of the columns", [COLUMNS in texts(sheet) for sheet in sheets], [True] * len(sheets))
-    see("a printed waiting list has the school, the counts, and of each child position, number, class and metres, and nothing else",
-        [text for sheet in sheets for text in texts(sheet) if text != COLUMNS],
-        ["Waiting list of A Alpha", "86 children wait. 0 places are free.", "Who waits, by position", *LIST])
-    rows = [row for sheet in sheets for row in sheet if len(row) == 4 and all(word.text.isdigit() for word in row)]
-    names = [row for row in sheets[0] if " ".join(word.text for word in row) == COLUMNS]
-    for at, name in enumerate(COLUMNS.split()):
-        see(f"its figures end below the end of their column's name: {name}", (len(names), len(rows), spread([row[at].right for row in names + rows]) < 1), (1, 86, True))
-    school(page, "D")
-    see("a printed list of nobody", lines(printed(page, world, "empty")), ["Waiting list of D Delta", "0 children wait. 1 place is free.", "Who waits, by position", COLUMNS])
+    see("a printed waiting list has the school, its criteria, the counts, and of each child position, number, name, priority and metres, and nothing else",
+        " ".join(text for sheet in sheets for text in texts(sheet) if text != COLUMNS),
+        " ".join(["A Alpha", "Admission number 1", f"Criteria 0. looked after; 1. {SIBLING}; 2. {NEAR}; then distance",
+            "86 children wait. 0 places are vacant.", "Waiting list of A Alpha", *LIST]))
+    rows = [row for sheet in sheets for row in sheet if row[0].text.isdigit() and row[-1].text.replace(",", "").isdigit() and len(row) > 4]
+    for at, name in ((0, "position"), (1, "child"), (-1, "metres")):
+        see(f"its figures end below each other: {name}", (len(rows), spread([row[at].right for row in rows]) < 1), (86, True))
+    visit(page, "#school/D")
+    see("a printed list of nobody", lines(edges(printed(page, world, "empty"), see, "an empty list"))[3:],
+        ["0 children wait. 1 place is vacant.", "Waiting list of D Delta", COLUMNS, "None."])
 
 
 def report(page, world, see):
-    act(page, PRESS["round"])
-    sheets = printed(page, world, "round")
-    see("a printed report takes more than one sheet, each with the names of the columns", [texts(sheet).count("Child School") for sheet in sheets], [1] * max(2, len(sheets)))
-    see("a printed report has the round, its counts, and of each child number and school, and nothing else",
-        [text for sheet in sheets for text in texts(sheet) if text != "Child School"],
-        ["Round 1, draw 1, 3 March 2025", "3 children were offered a new place, 0 kept the one that they had, and 85 had none.", "What each child was allotted", *REPORT])
-    rows = [row for sheet in sheets for row in sheet if len(row) == 2 and row[0].text.isdigit()]
-    see("its numbers end below each other", (len(rows), spread([row[0].right for row in rows]) < 1), (88, True))
+    visit(page, "#round/1")
+    sheets = edges(printed(page, world, "round"), see, "a report")
+    heads = "Child Name School Preference"
+    see("a printed report has the round, its counts, and of each child number, name and school, and nothing else",
+        [text for sheet in sheets for text in texts(sheet) if text != heads],
+        ["Round 1, draw 1, 3 March 2025", "3 children were offered a new place, 0 kept the one that they had, and 85 had none.",
+            "Round 1: what each child was allotted", *REPORT,
+         "Children of each school in this round", "School Name Children", "A Alpha 1", "B Beta 1", "C Gamma, offered 2024-01-01, reminded 2024-01-02 1"])
+
+
+def worklist(page, world, see):
+    visit(page, "#list/no-answer")
+    page.value("document.querySelector('tbody input').click()")
+    see("a printed worklist has no ticks and no buttons", lines(edges(printed(page, world, "worklist"), see, "a worklist"))[2:],
+        ["Child Name School Offered Reminded", "1 Ada Abel A 3 March 2025",
+        "6 Flo Ford B 3 March 2025", "7 Hal Hill C 3 March 2025"])
 
 
 def child_and_letter(page, world, see):
-    find(page, 6)
+    visit(page, "#child/6")
     page.call("Emulation.setEmulatedMedia", media="print")
-    see("what has the focus has no frame on paper", page.value("[document.activeElement.textContent, getComputedStyle(document.activeElement).outlineStyle]"), ["Child 6, Flo Ford", "none"])
+    see("what has the focus has no frame on paper", page.value("[document.activeElement.textContent, getComputedStyle(document.activeElement).outlineStyle]"),
+        ["Child 6, Flo Ford", "none"])
     page.call("Emulation.setEmulatedMedia", media="")
     see("but has one on the screen", page.value("getComputedStyle(document.activeElement).outlineStyle"), "solid")
-    see("a printed child", lines(printed(page, world, "child")), ["Child 6, Flo Ford", "Place", "It was offered a place at B Beta on 3 March 2025. There is no answer yet.",
-        "Waiting", "A Alpha: position 5 of 86, 1001 metres from home."])
-    act(page, "document.getElementById('remind-day').value = '2025-03-20'; document.querySelector('.remind button').click()")
-    see("a printed child with its warning", lines(printed(page, world, "warned")), ["Child 6, Flo Ford", "Place",
-        "It was offered a place at B Beta on 3 March 2025, and reminded on 20 March 2025.", "The offer may be withdrawn 14 days after 20 March 2025 if it is not answered.",
-        "Waiting", "A Alpha: position 5 of 86, 1001 metres from home."])
+    see("a printed child", " ".join(lines(edges(printed(page, world, "child"), see, "a child"))),
+        " ".join(["Child 6, Flo Ford", "Place", "It was offered a place at B Beta on 3 March 2025. There is no answer yet.",
+        "A reminder is due from 17 March 2025.", "Waiting", "Where it waits, in the order of its list", "School Name Position Priority Metres",
+        f"A Alpha 5 of 86 {NONE} 1,001",
+        "A school ranks children by its criteria in their order, then by distance. Children who are equal in both share a position.",
+        "Application", "Applied 31 October 2024", "Home 0 east, 1001 north", "Looked after no", "Flags none", "Siblings at no school", "Present school none",
+        "Its schools, best first", "Preference School Name Result", "1 A Alpha waits, position 5 of 86", "2 B Beta its place"]))
+    press(page, "#day-form button")
+    confirm(page)
     letters = {
-        6: ["Child 6 Flo Ford", "Place: B Beta, offered 3 March 2025, reminded 20 March 2025", "The offer may be withdrawn 14 days after 20 March 2025 if it is not answered.",
+        6: ["Child 6 Flo Ford", "Place: B Beta, offered 3 March 2025, reminded 20 March 2025",
+            "The offer may be withdrawn 14 days after 20 March 2025 if it is not answered.",
             "Waiting: A Alpha, position 5 of 86, class 3, 1001 metres"],
         2: ["Child 2 Zoë Tŷ-Owen", "Place: none", "Waiting: A Alpha, position 1 of 86, class 0, 500 metres"],
         7: ["Child 7 Hal Hill", "Place: C Gamma, offered 2024-01-01, reminded 2024-01-02, offered 3 March 2025", "Waiting: nowhere"],
     }
     for number, wanted in letters.items():
-        find(page, number)
-        act(page, PRESS["letter"])
+        visit(page, f"#child/{number}/letter")
         sheets = printed(page, world, f"letter-{number}")
-        see(f"the printed letter of child {number}, on one sheet", (len(sheets), lines(sheets)), (1, ["Admission 2025 secondary", *wanted]))
+        see(f"the printed letter of child {number}, on one sheet", (len(sheets), lines(sheets)),
+            (1, [f"{AUTHORITY} {TODAY}", "Admission 2025 secondary", *wanted]))
 
 
-def narrow(page, see):
-    """What is longer than the window has a scroll bar beside it, which takes some of the 320 pixels."""
-    page.width(320, 640)
-    fits = "(() => { const all = document.documentElement; return [all.clientWidth < 320, all.scrollWidth <= all.clientWidth] })()"
-    school(page, "A")
-    see("a long list at 320 pixels needs no moving sideways", page.value(fits), [True, True])
-    act(page, PRESS["round"])
-    see("nor does a long report", page.value(fits), [True, True])
+def many_letters(page, world, see):
+    """The letters of those who are ticked on a list, each on a sheet of its own, in the order of the list."""
+    visit(page, "#list/no-answer")
+    page.value("[...document.querySelectorAll('.sort')].find(it => it.innerText === 'School').click()")
+    page.value("[...document.querySelectorAll('.sort')].find(it => it.innerText.startsWith('School')).click()")
+    page.value("document.getElementById('tick-all').click()")
+    press(page, "#do-letters")
+    page.wait("document.querySelectorAll('.letter').length === 3")
+    sheets = printed(page, world, "letters")
+    see("the letters of a ticked list in one print", [texts(sheet)[2].split()[1] for sheet in sheets], ["7", "6", "1"])
+    see("each with the authority and the day", [texts(sheet)[0] for sheet in sheets], [f"{AUTHORITY} {TODAY}"] * 3)
+    see("its address has them", page.value("location.hash"), "#letters/7,6,1")
+
+
+def every_view(page, world, see):
+    """No view prints a control, and none an empty sheet."""
+    for view in ("#start", "#answers", "#add", "#file", "#draw", "#draw/A", "#child/2", "#child/2/amend", "#round/1", "#list/unplaced", "#list/vacancies",
+        "#find/o"):
+        visit(page, view)
+        sheets = printed(page, world, "view")
+        content = lines([sheet[1:-1] for sheet in sheets])
+        found = [text for text in content if any(word in text for word in ("Download", "Print", "Copy", "Find", "Ticked", "Send", "Look up"))]
+        see(f"a printed view has its heading and no control: {view}",
+            (content[0] == page.value("document.querySelector('h2').innerText"), [text for text in found if not text.startswith("Find “")][:3]),
+            (True, ["Send a file of commands"] if view == "#file" else []))
 
 
 class Word:

@@ -88,10 +88,11 @@ def bounds(world, see):
     body.write_text(" " * 1_048_577)
     see("one byte more", world.ask("/command", "jane", f"@{body}").status, 413)
     see("one byte more, in chunks", world.ask("/command", "jane", f"@{body}", options=("--header", "Transfer-Encoding: chunked")).status, 413)
-    see("a target that is too long", world.ask("/" + "x" * 8192, "jane").status, 414)
-    see("a field that is too long", world.ask("/child/1", "jane", options=("--header", "X: " + "x" * 8192)).status, 400)
     fields = [option for number in range(40) for option in ("--header", f"X{number}: {'x' * 300}")]
-    see("a head that is too long", world.ask("/child/1", "jane", options=fields).status, 400)
+    # Over HTTP/2 the site closes the connection instead of an answer
+    for what, path, options, status in (("a target", "/" + "x" * 8192, (), 414), ("a field", "/child/1", ("--header", "X: " + "x" * 8192), 400), ("a head", "/child/1", fields, 400)):
+        see(f"{what} that is too long", [world.ask(path, "jane", options=(version, *options)).status for version in ("--http1.1", "--http2")], [status, 0])
+    see("the same without what is too long", [world.ask("/child/1", "jane", options=(version,)).status for version in ("--http1.1", "--http2")], [200, 200])
     many = [option for number in range(100) for option in ("--header", f"X{number}: x")]
     see("100 short fields stay here, and the desk does not see them", world.ask("/child/1", "jane", options=many).status, 200)
 

@@ -11,6 +11,7 @@ import time
 
 HERE = pathlib.Path(__file__).resolve().parent.parent
 NAME = "admissions.example"
+AUTHORITY = "Cyngor Sir Tŷ \"Ddewi\" Council"
 PEOPLE = {"jane": "office;", "alpha": "school-A;", "smith": None}
 
 REGISTER = r"""
@@ -61,7 +62,7 @@ class World:
         self.program, self.room, self.processes = str(program), room, []
         self.root, self.file = room / "root", room / "reg.db"
         self.site_port, self.desk_port = None, free_port()  # the desk's port is in a network of its own
-        for folder in ("run", "log", "copies", "temp"):
+        for folder in ("run", "log", "copies", "temp", "index", "downloads"):
             (room / folder).mkdir()
         self.passwords = {name: os.urandom(9).hex() for name in PEOPLE}
         self.environment = {**os.environ, "PATH": f"{room}/bin:/usr/sbin:/sbin:{os.environ['PATH']}", "no_proxy": "*", "HOME": str(room)}
@@ -107,7 +108,7 @@ class World:
             raise RuntimeError(made.stderr)
         (self.room / "bin").mkdir()
         (self.room / "bin/admissions").symlink_to(self.program)
-        for script in ("backup", "restore"):
+        for script in ("backup", "restore", "lots", "audit"):
             (self.room / f"bin/admissions-{script}").symlink_to(HERE.parent / "tools" / script)
 
     def make_register(self, file, lines):
@@ -125,8 +126,10 @@ class World:
 
     def make_people(self):
         folder = self.root / "etc/admissions"
-        hashed = {name: self.run("openssl", "passwd", "-6", password).stdout.strip() for name, password in self.passwords.items()}
+        hash_of = ("perl", "-e", 'print crypt($ARGV[0], "\\$6\\$rounds=1000\\$$ARGV[1]")')
+        hashed = {name: self.run(*hash_of, password, os.urandom(8).hex()).stdout for name, password in self.passwords.items()}
         (folder / "passwords").write_text("".join(f"{name}:{text}\n" for name, text in hashed.items()))
+        (folder / "authority").write_text(f"{AUTHORITY}\n")
         (folder / "roles").write_text("".join(f"{name} {role}\n" for name, role in PEOPLE.items() if role))
 
     def hold_network(self):
@@ -138,7 +141,13 @@ class World:
     def inside(self, *arguments):
         return ("nsenter", "--target", self.holder.pid, "--user", "--net", "--preserve-credentials", *arguments)
 
+    def write_index(self):
+        """As the unit of the desk does before each start, after the log is merged."""
+        self.run("admissions", "do", self.file)
+        return self.run(self.root / "usr/local/lib/admissions/index", self.file, self.room / "index")
+
     def start_desk(self):
+        self.write_index()
         log = self.room / "log/desk"
         log.unlink(missing_ok=True)
         self.desk = self.spawn(*self.inside("admissions", "serve", self.file, self.desk_port), log="desk")
@@ -176,7 +185,8 @@ class World:
 
     def write_site(self):
         text = (self.root / "etc/nginx/sites-available/admissions").read_text()
-        for old, new in (("/etc/admissions", f"{self.root}/etc/admissions"), ("/run/admissions", f"{self.room}/run"), ("/var/log/admissions", f"{self.room}/log"),
+        for old, new in (("/etc/admissions", f"{self.root}/etc/admissions"), ("/run/admissions-index", f"{self.room}/index"),
+            ("/run/admissions", f"{self.room}/run"), ("/var/log/admissions", f"{self.room}/log"),
                          ("/usr/local/share", f"{self.root}/usr/local/share"), ("listen 443", f"listen 127.0.0.1:{self.site_port}")):
             if old not in text:
                 raise RuntimeError(f"the site does not name {old}")

@@ -1,0 +1,118 @@
+"""The forms of the page: corrections that keep what they do not change, new children with their applications, plans and raised admission numbers.
+
+Called by checks/work.py, on its register."""
+
+import json
+
+from checks.page import FOCUS, RESULT, confirm, opened, press, question, visit, write
+from checks.world import until
+
+TODAY = "2025-04-02"
+
+FIELDS = """Object.fromEntries(['name', 'east', 'north', 'flags', 'siblings', 'present'].map(id => [id, document.getElementById(id).value])
+    .concat([['looked-after', document.getElementById('looked-after').checked]]))"""
+
+
+def data(world, child):
+    """A child as the register has it, read by sqlite3 from a copy of the file and its log."""
+    script = ("SELECT name, east, north, looked_after, flags, siblings, coalesce(school, '') AS present "
+              f"FROM child LEFT JOIN present ON present.child = child.child AND imported = 0 WHERE child.child = {child}")
+    for part in ("", "-wal"):
+        (world.room / f"copy.db{part}").write_bytes(world.file.with_name(world.file.name + part).read_bytes())
+    return world.run("sqlite3", "-json", world.room / "copy.db", script).stdout
+
+
+def corrections(world, page, see):
+    visit(page, "#child/8/amend")
+    see("a correction begins with every present value", page.value(FIELDS),
+        {"name": "D’Arcy Bell", "east": "0", "north": "800", "flags": "2 5", "siblings": "", "present": "PRIM7", "looked-after": False})
+    see("without a change nothing is sent", press(page, "#amend-form button"), "Nothing was sent. Nothing was changed.")
+    for name, text, reason in (("east", "1.5", "East must be a whole number from 0 to 1,500,000."),
+        ("north", "1500001", "North must be a whole number from 0 to 1,500,000."),
+                               ("flags", "2 16", "Flags must be numbers from 0 to 15."), ("siblings", "A X", "Schools of siblings: no school has the code X."),
+                               ("present", "PRIM-7", "The present school must be a code of 1 to 8 letters and digits."), ("name", " ", "The name is empty.")):
+        before = page.value(FIELDS)[name]
+        write(page, **{name: text})
+        see(f"a wrong value is not sent, and its field has the focus: {name}",
+            (press(page, "#amend-form button"), page.value(f"[{FOCUS}.id, {FOCUS}.getAttribute('aria-invalid')]")),
+            (f"Nothing was sent. {reason}", [name, "true"]))
+        write(page, **{name: before})
+    write(page, name="D'Arcy Tŷ-Bell")
+    press(page, "#amend-form button")
+    see("a question says what changes", question(page), "Correct child 8: name from D’Arcy Bell to D'Arcy Tŷ-Bell? Its priorities may change with it.")
+    page.posted.clear()
+    confirm(page)
+    see("every other field is sent as it was", json.loads(page.posted[0]),
+        {"cmd": "amend", "child": 8, "name": "D'Arcy Tŷ-Bell", "east": 0, "north": 800, "looked_after": False, "flags": [2, 5], "siblings": [],
+        "present": "PRIM7"})
+    see("and the register has it", json.loads(data(world, 8))[0]["name"], "D'Arcy Tŷ-Bell")
+    # Another clerk corrects the child while the form is open
+    visit(page, "#child/10/amend")
+    other = {"cmd": "amend", "child": 10, "name": "Child of 10", "east": 7, "north": 1000, "looked_after": False, "flags": [], "siblings": [], "present": "PRIM9"}
+    world.ask("/command", "jane", json.dumps(other))
+    until(lambda: "PRIM9" in (world.room / "index/since.jsonl").read_text(), "the line of the commands since")
+    write(page, name="Ten")
+    page.posted.clear()
+    see("what somebody else corrected meanwhile is not overwritten", press(page, "#amend-form button"),
+        "Nothing was sent: somebody else has corrected this child meanwhile. The form has the data as it is now.")
+    see("it is in the form then", (page.value(FIELDS)["present"], page.value(FIELDS)["east"], page.posted), ("PRIM9", "7", []))
+    # A field that this page does not know
+    page.value("import('/register.js').then(it => { it.child(9).data.boarder = true; })")
+    page.rule = lambda method, path: (200, '{"done":true}') if method == "POST" else None
+    page.value("location.hash = '#child/9/amend'")
+    page.wait("document.getElementById('other-boarder')")
+    write(page, north="901")
+    page.value("document.querySelector('#amend-form button').click()")
+    confirm(page)
+    see("a field that the page does not know is sent as it was", json.loads(page.posted[-1]),
+        {"cmd": "amend", "child": 9, "name": "Child of 9", "east": 0, "north": 901, "looked_after": False,
+        "flags": [], "siblings": ["A"], "present": "", "boarder": True})
+    page.rule = None
+    opened(page, "/?again")
+
+
+def additions(world, page, see):
+    visit(page, "#add")
+    see("the next number is proposed, and today", page.value("[document.getElementById('child').value, document.getElementById('applied').value]"),
+        ["17", TODAY])
+    write(page, name="ann ábel", east="10", north="20", flags="3", siblings="b a", present="prim7", preference_1="B", preference_2="E")
+    press(page, "#add-form button")
+    asked = question(page)
+    see("a new child is asked about, with those of the same name",
+        all(part in asked for part in ("Add child 17, ann ábel: applied 2 April 2025 for B, E?", "after the closing day, 31 October 2024",
+        "There is already child 1 of this name: home 0 east, 100 north", "There is already child 2 of this name: home 0 east, 200 north")), True)
+    see("it is added with its application", confirm(page), "Done, and stored. Child 17 is added: applied 2 April 2025 for B, E.")
+    see("as it was entered", json.loads(data(world, 17))[0], {"name": "ann ábel", "east": 10, "north": 20, "looked_after": 0, "flags": 8, "siblings": "B;A",
+        "present": "PRIM7"})
+    page.value("document.getElementById('find').focus()")
+    page.type("abel")
+    see("and found by its name", page.value("[...document.querySelectorAll('#found a')].map(it => it.innerText.split(' ')[0])"), ["1", "2", "17"])
+    visit(page, "#add")
+    write(page, child="3", name="X", east="1", north="1", preference_1="A")
+    see("a number that is taken is not sent", press(page, "#add-form button"),
+        "Nothing was sent. Child 3 is in the register already: <script>document.title='hit'</script>.")
+    write(page, child="18", preference_2="A")
+    see("nor a school twice", press(page, "#add-form button"), "Nothing was sent. The school A is repeated.")
+    write(page, preference_2="", applied="2026-01-01")
+    press(page, "#add-form button")
+    see("if the application is refused, both are said", confirm(page),
+        "Child 18 is added, but without its application. Refused, and nothing has changed. The lists are closed: it is after 31 December of the year of entry.")
+    write(page, applied="2025-04-01", preference_1="A")
+    press(page, "#apply-form button")
+    see("and the application is entered at the child", confirm(page), "Done, and stored. Child 18: applied 1 April 2025 for A.")
+
+
+def plans(page, see):
+    visit(page, "#child/16")
+    write(page, plan="E")
+    press(page, "#plan-form button")
+    effect = "The child is admitted there, and its application ends. This cannot be undone."
+    see("a plan is asked about", question(page), f"Record that the EHC plan of child 16, Child of 16, names E \u2068مدرسة الأمل\u2069? {effect}")
+    see("and recorded", confirm(page), "Done, and stored. Child 16 has a place at E \u2068مدرسة الأمل\u2069 by its plan.")
+    visit(page, "#school/E")
+    write(page, pan="2")
+    see("an admission number is not lowered", press(page, "#raise-form button"), "Nothing was sent. The admission number can only be raised: it is 2.")
+    write(page, pan="5")
+    press(page, "#raise-form button")
+    confirm(page)
+    see("and raised", page.value(RESULT).split("\n")[1:3], ["Admission number", "5"])

@@ -1,0 +1,162 @@
+// A child: where it has a place and since when, until when to answer, where it waits and why; and what can be done for it.
+import { Shown } from "./desk.js";
+import { button, element, facts, field, link, schoolLink } from "./elements.js";
+import { amendView, applyForm, planForm } from "./forms.js";
+import { withDays } from "./reading.js";
+import { child, hasIndex, letterOf, lettersOf, register, school } from "./register.js";
+import { again } from "./router.js";
+import { isDaySure, isSure, send } from "./sending.js";
+import { column, table } from "./tables.js";
+import { IS_FINAL, count, day, deadline, isolated, placeInWords, plural, priority, today } from "./words.js";
+
+const numberOf = (text) => {
+  if (!/^[1-9][0-9]{0,6}$/.test(text || "")) throw new Shown("A child has a number from 1 to 9999999.");
+  return Number(text);
+};
+
+// #child/17, #child/17/amend, #child/17/letter
+export async function childView([text, part]) {
+  const number = numberOf(text);
+  if (part === "letter") return lettersView([text]);
+  const letter = await letterOf(number);
+  if (part === "amend") return amendView(letter);
+  return {
+    title: `Child ${number}, ${isolated(letter.name)}`, status: `Child ${number}.`, nodes: [
+      element("h3", {}, "Place"), ...place(letter), element("h3", {}, "Waiting"), ...waiting(letter),
+      element("h3", {}, "Application"), ...application(letter),
+      element("p", { className: "tools screen-only" }, link(`#child/${number}/letter`, "Letter"), hasIndex
+        ? link(`#child/${number}/amend`, "Correct its data") : null),
+    ],
+  };
+}
+
+// Sends a command, and shows the child as it is then
+async function act(command, done) {
+  const reply = await send(command, done);
+  if (reply) again(reply);
+}
+
+function place(letter) {
+  const { place: held, number } = letter;
+  const nodes = [element("p", { id: "place" }, placeInWords(held))];
+  if (!held) return nodes;
+  const where = `${held.school} ${isolated(held.name)}`;
+  if (held.kind === "offered") nodes.push(element("p", { className: held.reminded ? "warning" : "", id: "deadline" }, deadline(held)));
+  const answers = element("div", { className: "actions screen-only" });
+  if (held.kind === "offered") {
+    answers.append(button("Accept the place", () => act({ cmd: "accept", child: number, school: held.school },
+      `Child ${number} has accepted its place at ${where}.`), { id: "accept" }));
+  }
+  if (held.kind !== "plan") answers.append(button("Decline the place", () => decline(letter, where), { id: "decline", className: "final" }));
+  nodes.push(answers);
+  if (held.kind === "offered") nodes.push(dayForm(letter, where));
+  return nodes;
+}
+
+async function decline({ number, name, place: held }, where) {
+  const question = `Decline the place of child ${number}, ${isolated(name)}, at ${where}? ${IS_FINAL}`;
+  if (await isSure(question, "Yes, decline")) act({ cmd: "decline", child: number, school: held.school },
+    `Child ${number} has declined its place at ${where}.`);
+}
+
+// The reminder of an offer, and after it the withdrawal
+function dayForm({ number, name, place: held }, where) {
+  const isReminder = !held.reminded;
+  const input = element("input", { type: "date", id: "on", required: true, value: today() });
+  const form = element("form", { className: "actions screen-only", id: "day-form" },
+    field(isReminder ? "Day of the reminder" : "Day of the withdrawal", input),
+      element("button", { className: "final" }, isReminder ? "Record the reminder" : "Withdraw the offer"));
+  form.onsubmit = async (event) => {
+    event.preventDefault();
+    const on = input.value;
+    if (!await isDaySure(on, isReminder ? "Record the reminder" : "Withdraw the offer")) return;
+    const what = isReminder ? `Record a reminder of ${day(on)} for` : `Withdraw the offer of ${where}, on ${day(on)}, from`;
+    if (!await isSure(`${what} child ${number}, ${isolated(name)}? This cannot be undone.`, isReminder ? "Yes, record it" : "Yes, withdraw it")) return;
+    const done = isReminder ? `The reminder of ${day(on)} is recorded. Print the letter again: it has the warning.` : `The offer of ${where} is withdrawn.`;
+    act({ cmd: isReminder ? "remind" : "lapse", child: number, school: held.school, day: on }, done);
+  };
+  return form;
+}
+
+function waiting(letter) {
+  if (!letter.waits.length) {
+    return [element("p", {}, register.draws.size || !hasIndex ? "It waits at no school." : "There are no waiting lists before the first round.")];
+  }
+  const leave = async (wait) => {
+    const where = `${wait.school} ${isolated(wait.name)}`;
+    const who = `child ${letter.number}, ${isolated(letter.name)}`;
+    const question = `Remove ${who}, from the waiting list of ${where}? This cannot be undone: the child cannot return to it.`;
+    if (await isSure(question, "Yes, leave the list")) act({ cmd: "leave_list", child: letter.number, school: wait.school },
+      `Child ${letter.number} has left the waiting list of ${where}.`);
+  };
+  const made = table({
+    caption: "Where it waits, in the order of its list", file: `child-${letter.number}.csv`, rows: letter.waits,
+    columns: [
+      column("School", (it) => it.school, { cell: (it) => schoolLink(it.school) }),
+        column("Name", (it) => it.name, { cell: (it) => element("bdi", {}, it.name) }),
+      column("Position", (it) => it.position, { isFigure: true, cell: (it) => `${count(it.position)} of ${count(it.of)}` }),
+      column("Priority", (it) => priority(school(it.school), it.number)),
+      column("Metres", (it) => it.metres, { isFigure: true }),
+    ],
+  });
+  for (const [index, row] of [...made.node.querySelectorAll("tbody tr")].entries()) {
+    const wait = letter.waits[index];
+    row.append(element("td", { className: "screen-only" },
+      button("Leave", () => leave(wait), { className: "final small", "aria-label": `Leave the list of ${wait.school} ${isolated(wait.name)}` })));
+  }
+  made.node.querySelector("thead tr").append(element("th", { scope: "col", className: "screen-only" }, "Leave"));
+  const why = element("p", {}, "A school ranks children by its criteria in their order, then by distance. Children who are equal in both share a position.");
+  return [made.node, why];
+}
+
+// What became of each school of its list
+function fate(code, index, letter, preferences) {
+  if (letter.place && letter.place.school === code) return "its place";
+  const own = letter.place ? preferences.indexOf(letter.place.school) : -1;
+  const wait = letter.waits.find((it) => it.school === code);
+  if (wait) return `waits, position ${count(wait.position)} of ${count(wait.of)}`;
+  if (own >= 0 && index > own) return "below its place";
+  return register.draws.size ? "declined, left or withdrawn" : "before the first round";
+}
+
+function application(letter) {
+  const known = child(letter.number);
+  if (!known) return [element("p", {}, hasIndex ? "The index does not have this child." : "The index of the register is missing.")];
+  const { data, applied, preferences } = known;
+  const isPlan = letter.place && letter.place.kind === "plan";
+  const about = facts([
+    ["Applied", applied ? `${day(applied)}${register.season && applied > register.season.closing_day ? ", after the closing day" : ""}` : "no application"],
+    ["Home", `${data.east} east, ${data.north} north`],
+    ["Looked after", data.looked_after ? "yes" : "no"],
+    ["Flags", data.flags.join(", ") || "none"],
+    ["Siblings at", data.siblings.join(", ") || "no school"],
+    ["Present school", data.present || "none"],
+  ]);
+  if (isPlan) return [about];
+  const plan = planForm(letter, act);
+  if (!applied) return [about, applyForm(letter.number, act), plan];
+  const rows = preferences.map((code, index) => ({ code, index, fate: fate(code, index, letter, preferences) }));
+  const list = table({
+    caption: "Its schools, best first", file: `child-${letter.number}-schools.csv`, rows,
+    columns: [
+      column("Preference", (it) => it.index + 1, { isFigure: true }), column("School", (it) => it.code, { cell: (it) => schoolLink(it.code) }),
+      column("Name", (it) => (school(it.code) ? school(it.code).name : ""), { cell: (it) => element("bdi", {}, school(it.code) ? school(it.code).name : "") }),
+      column("Result", (it) => it.fate),
+    ],
+  });
+  return [about, list.node, plan];
+}
+
+// Letters to print, each on a sheet of its own: #letters/17,23,41
+export async function lettersView([text = ""]) {
+  const numbers = text.split(",").filter(Boolean).map(numberOf);
+  if (!numbers.length) throw new Shown("No child is chosen.");
+  const articles = [];
+  for (const letter of await lettersOf(numbers)) {
+    articles.push(element("article", { className: "letter", "aria-label": `Letter of child ${letter.number}` },
+      ...letter.lines.map((line) => element("p", { dir: "auto" }, withDays(line)))));
+  }
+  const title = numbers.length === 1 ? `Letter of child ${numbers[0]}` : plural(numbers.length, "letter", "letters");
+  const back = numbers.length === 1 ? element("p", { className: "screen-only" }, link(`#child/${numbers[0]}`, "Back to the child")) : null;
+  return { title, nodes: [element("div", { className: "letters" }, ...articles), back].filter(Boolean), status: `${title}, as of now.` };
+}

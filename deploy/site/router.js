@@ -1,0 +1,77 @@
+// Which view is shown: each has an address after the #, so that reload, Back and bookmarks work.
+import { at, button, element, say } from "./elements.js";
+import { Shown } from "./desk.js";
+import { update } from "./register.js";
+
+let views = {};
+// Each view has a turn: one that is complete after a later request is not shown
+let turn = 0;
+// After a load the focus is at the top; after each later view it is on the heading
+let isFirst = true;
+// What a command was answered, to be shown with the next view
+let answer = null;
+
+export const isCurrent = (mine) => mine === turn;
+
+// The parts of the address: #child/17/amend
+export function address() {
+  const text = location.hash.slice(1) || "start";
+  try { return text.split("/").map(decodeURIComponent); } catch { return [""]; }
+}
+
+export function begin(all) {
+  views = all;
+  window.addEventListener("hashchange", () => render());
+  at("skip").onclick = (event) => {
+    event.preventDefault();
+    (at("heading") || at("answer")).focus();
+  };
+  render();
+}
+
+// Shows another view, or the same one as it is now. `reply` is the answer to a command: it remains shown and has the focus
+export function go(hash, reply = null) {
+  answer = reply;
+  if (location.hash === hash) render();
+  else location.hash = hash;
+}
+
+export const again = (reply) => go(location.hash || "#start", reply);
+
+async function render() {
+  const mine = ++turn;
+  const reply = answer;
+  answer = null;
+  if (!reply) say("Loading …");
+  const [name, ...rest] = address();
+  try {
+    await update();
+    const view = Object.hasOwn(views, name) ? await views[name](rest, mine) : null;
+    if (!view) throw new Shown("There is no such view.");
+    if (mine === turn) show(view, reply);
+  } catch (error) {
+    if (mine !== turn) return;
+    at("result").replaceChildren();
+    if (!(error instanceof Shown)) reportError(error);
+    const reason = error instanceof Shown ? error.message : `This view has an error: ${error.message}`;
+    say(reply ? `${reply.text} It cannot be shown now.` : reason, true);
+    at("answer").focus();
+  }
+}
+
+// A view has a title, its nodes, and a text that is read out
+function show({ title, nodes, status, focus, isBad }, reply) {
+  const heading = element("h2", { tabIndex: -1, id: "heading" }, title);
+  const tools = element("p", { className: "tools screen-only" }, button("Print", () => window.print(), { id: "print" }));
+  at("result").replaceChildren(heading, ...nodes, tools);
+  document.title = `${address().slice(0, 2).join(" ")} – School admissions`;
+  for (const entry of document.querySelectorAll("nav a")) {
+    if (entry.hash === (location.hash || "#start")) entry.setAttribute("aria-current", "page");
+    else entry.removeAttribute("aria-current");
+  }
+  say(reply ? reply.text : status, reply ? reply.bad : isBad);
+  if (focus) focus.focus();
+  else if (reply) at("answer").focus();
+  else if (!isFirst) heading.focus();
+  isFirst = false;
+}
