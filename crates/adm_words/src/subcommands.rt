@@ -95,7 +95,7 @@ pub(crate) fn do_command<'a>(alloc: Global) -> Result<Command<'a>, AllocError>
 pub(crate) fn what_if_command<'a>(alloc: Global) -> Result<Command<'a>, AllocError>
     ensures { Builds what_if_app result }
 {
-    let about = "Reports the place that a child would have with another list, for each line";
+    let about = "Reports the place of a child by another list, line by line";
     file_command(alloc, "what-if", about, help::WHAT_IF, REGISTER)
 }
 
