@@ -2,7 +2,8 @@ pub mod AcknowledgedLemmas
 pub mod AnswerLemmas
 pub mod CutLemmas
 pub mod Known
-pub mod RestartLemmas
+pub mod OpenLemmas
+pub mod FoundLemmas
 pub mod RunLemmas
 pub mod Runs
 pub mod DeskStateLemmas

@@ -1,6 +1,6 @@
 -- What the rounds of a run leave: recorded outcomes stay, also after a crash.
 use Rattle.std.proofs.Common.{◌≡◌, ◌∙◌, refl, ap, sym, subst, ℕ, ◌+◌, ◌≤◌, Bool, true, false, List, [], ◌∷◌, ◌++◌, arith}
-use Rattle.std.specs.Prelude.{Option, Some, None, ◌&&◌, nat_eq}
+use Rattle.std.specs.Prelude.{Option, Some, None}
 use Rattle.std.specs.Cmp.{nat_cmp_total, unsigned_Decides}
 use Rattle.std.specs.FinMap.{get, values, nat_cmp-IsAntisymmetric}
 use Rattle.std.proofs.lemmas.Bool.{and_parts}
@@ -27,7 +27,7 @@ use Rattle.adm_desk.specs.Acknowledged.{FindsAgain, LeavesAcknowledged}
 use Rattle.adm_desk.specs.Rounds.{EachRoundRecorded, RoundRecordedOrNot, RoundsAreRecorded, RoundsStay}
 
 -- draws stay over accepted commands
-stay : DrawsKept → (commands : List Command) (old new : Register) → DrawsInOrder old → Reaches old commands new → DrawsInOrder new × DrawsStay old new
+pub stay : DrawsKept → (commands : List Command) (old new : Register) → DrawsInOrder old → Reaches old commands new → DrawsInOrder new × DrawsStay old new
 stay law [] old new ordered run = subst (λ s. DrawsInOrder s × DrawsStay old s) (sym run) (ordered, λ number draw there. there)
 stay law (command ∷ commands) old new ordered run =
     let one = law old run.0 command ordered run.1 in

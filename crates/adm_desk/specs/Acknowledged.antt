@@ -1,8 +1,6 @@
 -- What a run promises over a crash: the register after the acknowledged commands, or also the one after the command in flight.
-use Rattle.std.specs.Prelude.{◌≡◌, ◌≤◌, ◌⊎◌, ℕ, List, [], ◌∷◌, Option, Some, None, is_some, zip, Result, Ok, Err}
-use Rattle.sqlite.specs.State.{State as Disk, HasCleanDisk}
-use Rattle.sqlite.specs.View.{doubt}
-use Rattle.sqlite.specs.Tree.{Trees}
+use Rattle.std.specs.Prelude.{◌≡◌, ◌⊎◌, ℕ, List, [], ◌∷◌, Option, Some, None, is_some, Result, Ok, Err}
+use Rattle.sqlite.specs.State.{State as Disk}
 use Rattle.adm_types.specs.declared.commands.Command.{Command}
 use Rattle.adm_wire.specs.declared.fault.WireFault.{WireFault}
 use Rattle.adm_wire.specs.Commands.{command_of}
@@ -11,7 +9,7 @@ use Rattle.adm_commands.specs.Steps.{Accepts}
 use Rattle.adm_commands.specs.Imports.{Reaches}
 use Rattle.adm_rows.specs.Represents.{LeavesOnly}
 use Rattle.adm_desk.specs.declared.answer.Answer.{Answer}
-use Rattle.adm_desk.specs.declared.answer.Answer.TheVariants.{Done, Refused, Memory, Failed}
+use Rattle.adm_desk.specs.declared.answer.Answer.TheVariants.{Done, Failed}
 use Rattle.adm_desk.specs.declared.answer.LineAnswer.{LineAnswer}
 use Rattle.adm_desk.specs.declared.answer.LineAnswer.TheVariants.{Handled, Faulty, Queried}
 use Rattle.adm_desk.specs.Lines.{AnswersLines}
@@ -29,17 +27,13 @@ OneAfter = (old a b : Register) (commands : List Command) → Reaches old comman
 abbrev pub acknowledged : List (Command × Answer) → List Command
 acknowledged [] = []
 acknowledged ((command, Done reply) ∷ more) = command ∷ acknowledged more
-acknowledged ((command, Refused refusal row) ∷ more) = acknowledged more
-acknowledged ((command, Memory) ∷ more) = acknowledged more
-acknowledged ((command, Failed) ∷ more) = acknowledged more
+acknowledged ((command, other) ∷ more) = acknowledged more
 
 -- the command in flight: the first that was answered Failed
 abbrev pub in_flight : List (Command × Answer) → Option Command
 in_flight [] = None
-in_flight ((command, Done reply) ∷ more) = in_flight more
-in_flight ((command, Refused refusal row) ∷ more) = in_flight more
-in_flight ((command, Memory) ∷ more) = in_flight more
 in_flight ((command, Failed) ∷ more) = Some command
+in_flight ((command, other) ∷ more) = in_flight more
 
 -- these commands and answers, after the command of a line and its answer, if the line is a command
 abbrev pub with_command : Result Command WireFault → Answer → List (Command × Answer) → List (Command × Answer)
@@ -68,14 +62,6 @@ FindsAgain register (Some command) found = (found ≡ register) ⊎ Accepts regi
 
 -- ---- by the commands and their answers
 
--- the register is one after the acknowledged commands, or one that the command in flight leaves after these
-abbrev pub FindsAfter : Register → List Command → List Answer → Register → Type 0
-FindsAfter r commands answers found = (kept : Register) × Reaches r (acknowledged (zip commands answers)) kept × FindsAgain kept (in_flight (zip commands answers)) found
-
--- all that a crash may leave represents such a register
-abbrev pub LeavesAfter : Register → List Command → List Answer → Disk → Type 0
-LeavesAfter r commands answers disk = (kept : Register) × Reaches r (acknowledged (zip commands answers)) kept × LeavesAcknowledged kept (in_flight (zip commands answers)) disk
-
 -- The desk has a register after the acknowledged commands, in their order, each of which was accepted. It has failed just where a command is
 -- in flight. All that a crash may leave represents that register, or also one that the command in flight leaves.
 pub record KeepsAcknowledged {C : Type 0} (disk : C → Disk) (old new : DeskState C) (answered : List (Command × Answer)) : Type 0 where
@@ -86,11 +72,3 @@ pub record KeepsAcknowledged {C : Type 0} (disk : C → Disk) (old new : DeskSta
 -- whatever lines were answered so: what their answers acknowledge is kept
 abbrev pub KeepsLines : {C : Type 0} → (C → Disk) → (DeskState C → List ℕ → LineAnswer → DeskState C → Type 0) → DeskState C → DeskState C → Type 0
 KeepsLines disk runs old new = (lines : List (List ℕ)) (answers : List LineAnswer) → AnswersLines runs old lines answers new → KeepsAcknowledged disk old new (handled lines answers)
-
--- ---- for a private clause
-
--- the start found one of the things that the crash could leave, and nothing else may remain now
-pub record Reopens (old new : Disk) : Type 0 where
-  pub clean : doubt old.is_clean ≤ doubt new.is_clean
-  pub found : HasCleanDisk new → old.may_leave new.committed.trees
-  pub only : HasCleanDisk new → (db : Trees) → new.may_leave db → db ≡ new.committed.trees

@@ -1,47 +1,84 @@
--- Two disks that hold a register: what a crash may leave on them, and on what a start leaves that fails.
-use Rattle.std.specs.Prelude.{◌≡◌, ◌⊎◌, IsTrue, List, [], Option, Some, Result, Err, false}
+-- Two disks that hold a register, and what a run of commands leaves on them, whatever a crash makes of them.
+use Rattle.std.specs.Prelude.{◌⊎◌, List, Option, Result, Ok, Err}
 use Rattle.sqlite_disk.specs.declared.Disk.{Ghosts}
 use Rattle.sqlite_wal.specs.Recovery.{Image}
 use Rattle.sqlite_wal.specs.Files.{outcomes}
 use Rattle.sqlite_pool.specs.Stored.{StandsAs}
+use Rattle.sqlite_trees.specs.View.{IsClean}
 use Rattle.sqlite_store.specs.declared.store.FileStore.{FileStore}
-use Rattle.sqlite_store.specs.FileStore.{recovers}
+use Rattle.sqlite_store.specs.FileStore.{state, view, recovers}
 use Rattle.sqlite_store.specs.Unopened.{state_of}
 use Rattle.sqlite.specs.declared.file.Leftover.{Leftover}
 use Rattle.sqlite.specs.declared.file.Leftover.TheVariants as left
 use Rattle.sqlite.specs.Files.{HoldsDatabase, file_state}
+use Rattle.sqlite.specs.State.{HasCleanDisk}
 use Rattle.sqlite.specs.Held.{Held}
 use Rattle.sqlite.specs.Tree.{Trees}
 use Rattle.adm_types.specs.declared.commands.Command.{Command}
 use Rattle.adm_register.specs.State.{State as Register}
-use Rattle.adm_rows.specs.Represents.{RepresentsNow}
+use Rattle.adm_commands.specs.History.{DrawsStay}
+use Rattle.adm_commands.specs.Imports.{Reaches}
+use Rattle.adm_rows.specs.Represents.{Represents}
+use Rattle.adm_rows.specs.Faults.{IsNoRegister}
 use Rattle.adm_rows.specs.declared.fault.OpenFault.{OpenFault}
-use Rattle.adm_rows.specs.declared.fault.OpenFault.TheVariants.{Memory}
 use Rattle.adm_desk.specs.declared.answer.Answer.{Answer}
+use Rattle.adm_desk.specs.Acknowledged.{acknowledged, in_flight, FindsAgain}
 use Rattle.adm_desk.specs.DeskState.{DeskState, Handles}
+use Rattle.adm_desk.specs.Rounds.{EachRoundRecorded, RoundRecordedOrNot}
 use Rattle.adm_desk.specs.Steps.{IsRun}
 
--- the two files hold a database that represents the register, in the version that is written
-abbrev pub IsFileOf : Register → Image → Type 0
-IsFileOf r image = ∥ ((db : Trees) × HoldsDatabase image db × RepresentsNow db r) ∥₁
+-- ---- the files of a register
 
--- Each thing that a crash may leave of the two disks is a file of the register. A disk of their kind never takes a wrong answer as true.
-pub record AreDisksOf {D : Type 0} (g : Ghosts D) (r : Register) (log db : D) : Type 0 where
-  pub honest : (disk : D) → IsTrue (g.is_clean disk)
-  pub leave : (image : Image) → outcomes g log db image → IsFileOf r image
+-- the two files hold a database that represents the register
+abbrev pub IsFileOf : Register → Image → Type 0
+IsFileOf r image = ∥ ((db : Trees) × HoldsDatabase image db × Represents db r) ∥₁
+
+-- whatever two files a crash may leave of the disks are files of the register
+abbrev pub AreDisksOf : {D : Type 0} → Ghosts D → Register → D → D → Type 0
+AreDisksOf g r log db = (image : Image) → outcomes g log db image → IsFileOf r image
+
+-- they are disks of the register, or of one that the command in flight leaves
+abbrev pub AreDisksAfter : {D : Type 0} → Ghosts D → Register → Option Command → D → D → Type 0
+AreDisksAfter g r work log db = (found : Register) × FindsAgain r work found × AreDisksOf g found log db
+
+-- ---- what a run of commands keeps
+
+-- A register that may be found after commands: the one to which the acknowledged commands lead, or one that the command in flight leaves after it. It has
+-- the best outcomes of each acknowledged round; of a round in flight likewise, or nothing; and the draws from before.
+pub record IsFoundAfter (r : Register) (answered : List (Command × Answer)) (found : Register) : Type 0 where
+  pub kept : Register
+  pub reached : Reaches r (acknowledged answered) kept
+  pub again : FindsAgain kept (in_flight answered) found
+  pub rounds : EachRoundRecorded r (acknowledged answered) found
+  pub round : RoundRecordedOrNot kept (in_flight answered) found
+  pub draws : DrawsStay r found
 
 module _ {D : Type 0} {g : Ghosts D} where
-  -- After a start that failed: each thing that a crash may leave still represents the register. Of files that were not opened it is a file of
-  -- the register, or has the pages of one.
+  -- whatever two files a crash may leave of the store are files of a register that may be found after the commands
+  abbrev pub KeepsEveryImage : Register → List (Command × Answer) → FileStore D g → Type 0
+  KeepsEveryImage r answered store = (image : Image) → (state store).may_leave image → ∥ ((found : Register) × IsFileOf found image × IsFoundAfter r answered found) ∥₁
+
+  -- the answers are those of the desk to the commands, one after another
+  abbrev pub IsAnswered : DeskState (Held (FileStore D g)) → List Command → List Answer → Type 0
+  IsAnswered desk commands answers = (last : DeskState (Held (FileStore D g))) × IsRun (Handles file_state) desk commands answers last
+
+  -- After a start that failed: each thing that a crash may leave still represents the register. Of files that
+  -- were not opened it is a file of the register, or has the pages of one.
   abbrev pub StillRepresents : Register → Leftover D g → Type 0
   StillRepresents r (left.Files now) = (image : Image) → outcomes g now.log now.db image → IsFileOf r image
   StillRepresents r (left.Unopened now) =
       (image : Image) → (state_of now).may_leave image → IsFileOf r image ⊎ ((before : Image) × IsFileOf r before × StandsAs (state_of now).page_size before image)
-  StillRepresents r (left.Store now) = (db : Trees) → recovers now db → ∥ RepresentsNow db r ∥₁
+  StillRepresents r (left.Store now) = (db : Trees) → recovers now db → ∥ Represents db r ∥₁
 
-  -- The answers are a run of the commands on a desk of the register. Where there was no room for them, none was handled, and the connection is the desk's as it was.
-  pub record RunsOn (r : Register) (commands : List Command) (answers : List Answer) (opened : Result (DeskState (Held (FileStore D g))) (OpenFault × Option (Held (FileStore D g)))) : Type 0 where
-    pub desk : DeskState (Held (FileStore D g))
-    pub register : desk.register ≡ r
-    pub alive : desk.failed ≡ false
-    pub run : ((mid : DeskState (Held (FileStore D g))) × IsRun (Handles file_state) desk commands answers mid) ⊎ ((answers ≡ []) × (opened ≡ Err (Memory, Some desk.conn)))
+-- ---- a start after the crash
+
+-- each database that is left represents a register that may be found after the commands
+abbrev pub KeepsEachDatabase : Register → List (Command × Answer) → (Trees → Type 0) → Type 0
+KeepsEachDatabase r answered left = (db : Trees) → left db → (found : Register) × Represents db found × IsFoundAfter r answered found
+
+module _ {D : Type 0} {g : Ghosts D} where
+  -- A start after a run of the commands and a crash. On a clean disk the desk has a register that may be found after the commands. Where it was not opened, what
+  -- remains represents such registers, and the error is not NotOurs, Version or BadRow.
+  abbrev pub IsRestartOf : Register → List (Command × Answer) → Result (DeskState (Held (FileStore D g))) (OpenFault × FileStore D g) → Type 0
+  IsRestartOf r answered (Ok desk) = HasCleanDisk (file_state desk.conn) → IsFoundAfter r answered desk.register
+  IsRestartOf r answered (Err (fault, store)) = IsClean (view store) → (¬ IsNoRegister fault) × KeepsEachDatabase r answered (recovers store)

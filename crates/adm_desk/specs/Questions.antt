@@ -1,5 +1,5 @@
 -- The questions that a desk answers: which school a child would get by another list.
-use Rattle.std.specs.Prelude.{◌≡◌, ⊤, ℕ, List, Bool, true, false, Option, Some, None, Ok, Err}
+use Rattle.std.specs.Prelude.{◌≡◌, ⊤, ℕ, List, true, false, Some, None, Ok, Err}
 use Rattle.adm_wire.specs.WhatIfs.{what_if_of}
 use Rattle.adm_wire.specs.declared.fault.WireFault.TheVariants as fault
 use Rattle.adm_wire.specs.declared.what_if.WhatIf.{WhatIf}

@@ -4,6 +4,7 @@
 mod answer;
 mod crashes;
 mod desk;
+mod files;
 mod handler;
 mod laws;
 mod lines;
@@ -12,8 +13,9 @@ mod restart;
 mod run;
 
 pub use answer::{Answer, LineAnswer, WhatIfAnswer};
-pub use crashes::run_until_crash;
+pub use crashes::{CommandRun, run_commands, run_until_crash};
 pub use desk::Desk;
+pub use files::close_files;
 pub use laws::{one_after, rounds_are_recorded, rounds_stay};
-pub use restart::{Restarted, run_and_reopen};
+pub use restart::Restarted;
 pub use run::{Run, RunFault};

@@ -1,6 +1,6 @@
 // A run of commands over disks that stop, a crash of both, and what the start after it finds.
 
-use adm_desk::{Answer, Restarted, run_until_crash};
+use adm_desk::{Answer, Desk, Restarted, run_until_crash};
 use adm_register::{Register, Rows};
 use adm_rows::OpenFault;
 use adm_types::Command;
@@ -27,7 +27,7 @@ fn commands_of(alloc: Global, input: &[u8]) -> io::Result<Option<Vec<Command>>> 
     Ok(Some(commands))
 }
 
-/// The answers, and what the start after the crash finds; or why the first start failed, and what it left.
+/// The answers, and what the start after the crash finds; or why no command was handled, and what is left.
 type Ran = Result<Restarted<FileStore<Fuse<Memory>>>, (OpenFault, Leftover<Fuse<Memory>>)>;
 
 /// Runs the commands over files that hold what the disks hold, and stop after so many calls. `None`: such files cannot be used.
@@ -37,10 +37,20 @@ fn run(
     (log_calls, db_calls): (u64, u64),
     commands: &[Command],
 ) -> Option<Ran> {
-    if files.may_be_used() {
-        Some(run_until_crash(alloc, files, log_calls, db_calls, commands))
-    } else {
-        None
+    let Files { log, db } = files;
+    let files = Files {
+        log: Fuse::new(log, log_calls),
+        db: Fuse::new(db, db_calls),
+    };
+    if !files.may_be_used() {
+        return None;
+    }
+    match Desk::open_files(alloc, files) {
+        Ok(desk) => match run_until_crash(alloc, desk, commands) {
+            Ok(restarted) => Some(Ok(restarted)),
+            Err(store) => Some(Err((OpenFault::Memory, Leftover::Store(store)))),
+        },
+        Err(refused) => Some(Err(refused)),
     }
 }
 

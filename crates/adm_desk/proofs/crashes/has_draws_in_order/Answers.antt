@@ -2,7 +2,7 @@ use Rattle.std.proofs.Common.{◌≡◌, ◌∙◌, ap, subst, Some, None}
 use Rattle.std.specs.Prelude.{if◌then◌else◌}
 use Rattle.adm_register.specs.State.{State as Register}
 use Rattle.adm_register.specs.WellFormed.{WellFormed}
-use Rattle.adm_desk.proofs.restart.has_draws_in_order.Goals as goal
+use Rattle.adm_desk.proofs.crashes.has_draws_in_order.Goals as goal
 
 same_Some : (x y : Register) → Some x ≡ Some y → x ≡ y
 same_Some x y e = cc
