@@ -28,7 +28,8 @@ find_is p (y ∷ ys) (suc k) x e t h =
     ap (λ b. cond b (Some y) (find p ys)) (h 0 y (omega arith) refl)
     ∙ find_is p ys k x e t (λ j z l a. h (suc j) z (omega arith) a)
 
-find_none : {X : Type 0} (p : X → Bool) (xs : List X) → ((j : ℕ) (y : X) → slice_get xs j ≡ Some y → p y ≡ false) → find p xs ≡ None
+-- none passes
+pub find_none : {X : Type 0} (p : X → Bool) (xs : List X) → ((j : ℕ) (y : X) → slice_get xs j ≡ Some y → p y ≡ false) → find p xs ≡ None
 find_none p [] h = refl
 find_none p (y ∷ ys) h =
     ap (λ b. cond b (Some y) (find p ys)) (h 0 y refl) ∙ find_none p ys (λ j z a. h (suc j) z a)
@@ -134,11 +135,7 @@ pub none_if : {E : Type 0} (m : Market) (rows : List Progress) (result : Result 
 none_if m rows (Ok offers) h is = gives_none m rows offers h is
 none_if m rows (Err e) h is = tt
 
-pub proposals_if : {E : Type 0} (m : Market) (rows rows' : List Progress) (result : Result Allotment E) → Settled m rows → IfOk result (IsGiven rows) → rows' ≡ rows
-    → IfOk result (λ offers. offers.proposals ≡ sum_by reached rows') → IfOk result (λ offers. offers.proposals ≡ proposals_of m (school_of offers))
-proposals_if m rows rows' (Ok offers) h is same n = gives_proposals m rows offers h is (n ∙ ap (sum_by reached) same)
-proposals_if m rows rows' (Err e) h is same n = tt
-
-pub given_if : {E : Type 0} (rows rows' : List Progress) (result : Result Allotment E) → rows' ≡ rows → IfOk result (IsGiven rows') → IfOk result (IsGiven rows)
-given_if rows rows' (Ok offers) same is = subst (λ (r : List Progress). IsGiven r offers) same is
-given_if rows rows' (Err e) same is = tt
+pub proposals_if : {E : Type 0} (m : Market) (rows : List Progress) (result : Result Allotment E) → Settled m rows → IfOk result (IsGiven rows)
+    → IfOk result (λ offers. offers.proposals ≡ sum_by reached rows) → IfOk result (λ offers. offers.proposals ≡ proposals_of m (school_of offers))
+proposals_if m rows (Ok offers) h is n = gives_proposals m rows offers h is n
+proposals_if m rows (Err e) h is n = tt

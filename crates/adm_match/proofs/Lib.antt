@@ -20,8 +20,10 @@ pub mod Relisted
 pub mod FullSchools
 pub mod AnyList
 pub mod Heap
+mod HeldChildren
 pub mod Mirror
 pub mod DirectoryLemmas
+pub mod PlaceLemmas
 pub mod Turning
 pub mod NextTurn
 pub mod QueueLemmas

@@ -8,11 +8,10 @@ use Rattle.std.proofs.lemmas.Option.{none-some, same_Some, slice_get_within, sli
 use Rattle.std.proofs.lemmas.List.Folds.{list_any-append}
 use Rattle.adm_match.specs.declared.problem.Seats.{Seats}
 use Rattle.adm_match.specs.declared.progress.Progress.{Progress}
-use Rattle.adm_match.specs.declared.directory.Directory.{Directory}
 use Rattle.adm_match.specs.Market.{Code, Candidate, Market}
 use Rattle.adm_match.specs.Turns.{held_at, IsFree, AllDone, Sound, start_of}
-use Rattle.adm_match.specs.Holding.{Holding, guests_of, nobody_held}
-use Rattle.adm_match.specs.Queue.{FindsMarket, IsMirror, Turned, Queued, BetweenTurns}
+use Rattle.adm_match.specs.Holding.{Holding, guests_from, guests_of, nobody_held}
+use Rattle.adm_match.specs.Queue.{IsMirror, Turned, Queued, BetweenTurns}
 use Rattle.adm_match.proofs.RanksAndBlocks.{at_All, All_at}
 use Rattle.adm_match.proofs.Turn.{starts}
 
@@ -68,12 +67,11 @@ not_free_if es rows k e r ek rk h f =
     false≢true (sym h ∙ and_from (is_none r.school) (nat_lt r.rejections (length e.list)) none (lt-ltb _ _ less))
 
 -- an index that is not free is skipped
-pub skipped : (m : Market) (directory : Directory) (rows : List Progress) (schools : List Holding) (index : ℕ) (queue rest : List ℕ)
-    → BetweenTurns m directory rows schools queue → queue ≡ index ∷ rest → (IsFree m.entrants rows index → ⊥) → BetweenTurns m directory rows schools rest
-skipped m directory rows schools index queue rest h is not_free =
+pub skipped : (m : Market) (rows : List Progress) (schools : List Holding) (index : ℕ) (queue rest : List ℕ)
+    → BetweenTurns m rows schools queue → queue ≡ index ∷ rest → (IsFree m.entrants rows index → ⊥) → BetweenTurns m rows schools rest
+skipped m rows schools index queue rest h is not_free =
     let q : Queued m.entrants rows (index ∷ rest) = subst (λ (x : List ℕ). Queued m.entrants rows x) is h.queued in
     record {
-      directs = h.directs;
       sound = h.sound;
       mirrored = h.mirrored;
       queued = record {
@@ -83,12 +81,11 @@ skipped m directory rows schools index queue rest h is not_free =
     }
 
 -- nobody was rejected
-pub nobody_back : (m : Market) (directory : Directory) (old new : List Progress) (schools now : List Holding) (index : ℕ) (queue rest : List ℕ)
-    → BetweenTurns m directory old schools queue → queue ≡ index ∷ rest → Turned m old new now index None → BetweenTurns m directory new now rest
-nobody_back m directory old new schools now index queue rest h is t =
+pub nobody_back : (m : Market) (old new : List Progress) (schools now : List Holding) (index : ℕ) (queue rest : List ℕ)
+    → BetweenTurns m old schools queue → queue ≡ index ∷ rest → Turned m old new now index None → BetweenTurns m new now rest
+nobody_back m old new schools now index queue rest h is t =
     let q : Queued m.entrants old (index ∷ rest) = subst (λ (x : List ℕ). Queued m.entrants old x) is h.queued in
     record {
-      directs = h.directs;
       sound = t.sound;
       mirrored = t.mirrored;
       queued = record {
@@ -101,12 +98,11 @@ nobody_back m directory old new schools now index queue rest h is t =
     }
 
 -- the one who was rejected joins the queue
-pub one_back : (m : Market) (directory : Directory) (old new : List Progress) (schools now : List Holding) (index back_at : ℕ) (queue rest queue' : List ℕ)
-    → BetweenTurns m directory old schools queue → queue ≡ index ∷ rest → Turned m old new now index (Some back_at) → queue' ≡ rest ++ back_at ∷ [] → BetweenTurns m directory new now queue'
-one_back m directory old new schools now index back_at queue rest queue' h is t pushed =
+pub one_back : (m : Market) (old new : List Progress) (schools now : List Holding) (index back_at : ℕ) (queue rest queue' : List ℕ)
+    → BetweenTurns m old schools queue → queue ≡ index ∷ rest → Turned m old new now index (Some back_at) → queue' ≡ rest ++ back_at ∷ [] → BetweenTurns m new now queue'
+one_back m old new schools now index back_at queue rest queue' h is t pushed =
     let q : Queued m.entrants old (index ∷ rest) = subst (λ (x : List ℕ). Queued m.entrants old x) is h.queued in
-    subst (λ (x : List ℕ). BetweenTurns m directory new now x) (sym pushed) (record {
-      directs = h.directs;
+    subst (λ (x : List ℕ). BetweenTurns m new now x) (sym pushed) (record {
       sound = t.sound;
       mirrored = t.mirrored;
       queued = record {
@@ -118,23 +114,23 @@ one_back m directory old new schools now index back_at queue rest queue' h is t 
       };
     })
 
-pub some_back : (m : Market) (directory : Directory) (old new : List Progress) (schools now : List Holding) (index : ℕ) (out : Option ℕ) (queue rest queue' : List ℕ)
-    → BetweenTurns m directory old schools queue → queue ≡ index ∷ rest → Turned m old new now index out → queue' ≡ rest ++ option_to_list out → BetweenTurns m directory new now queue'
-some_back m directory old new schools now index None queue rest queue' h is t pushed =
-    subst (λ (x : List ℕ). BetweenTurns m directory new now x) (sym (pushed ∙ append-nil rest)) (nobody_back m directory old new schools now index queue rest h is t)
-some_back m directory old new schools now index (Some back_at) queue rest queue' h is t pushed =
-    one_back m directory old new schools now index back_at queue rest queue' h is t pushed
+pub some_back : (m : Market) (old new : List Progress) (schools now : List Holding) (index : ℕ) (out : Option ℕ) (queue rest queue' : List ℕ)
+    → BetweenTurns m old schools queue → queue ≡ index ∷ rest → Turned m old new now index out → queue' ≡ rest ++ option_to_list out → BetweenTurns m new now queue'
+some_back m old new schools now index None queue rest queue' h is t pushed =
+    subst (λ (x : List ℕ). BetweenTurns m new now x) (sym (pushed ∙ append-nil rest)) (nobody_back m old new schools now index queue rest h is t)
+some_back m old new schools now index (Some back_at) queue rest queue' h is t pushed =
+    one_back m old new schools now index back_at queue rest queue' h is t pushed
 
 -- the index that leaves the queue is one of an entrant
-pub queued_within : (m : Market) (directory : Directory) (rows : List Progress) (schools : List Holding) (index : ℕ) (queue rest : List ℕ)
-    → BetweenTurns m directory rows schools queue → queue ≡ index ∷ rest → index < length m.entrants
-queued_within m directory rows schools index queue rest h is =
+pub queued_within : (m : Market) (rows : List Progress) (schools : List Holding) (index : ℕ) (queue rest : List ℕ)
+    → BetweenTurns m rows schools queue → queue ≡ index ∷ rest → index < length m.entrants
+queued_within m rows schools index queue rest h is =
     first_of_all (λ x. x < length m.entrants) index rest (subst (λ (x : List ℕ). All (λ x. x < length m.entrants) x) is h.queued.within)
 
 -- where the queue is empty no turn remains
-pub empty_done : (m : Market) (directory : Directory) (rows : List Progress) (schools : List Holding) (queue : List ℕ) → BetweenTurns m directory rows schools queue
+pub empty_done : (m : Market) (rows : List Progress) (schools : List Holding) (queue : List ℕ) → BetweenTurns m rows schools queue
     → queue ≡ [] → AllDone m.entrants rows
-empty_done m directory rows schools queue h is k e r ek rk none = elim (cases_lt r.rejections (length e.list)) [
+empty_done m rows schools queue h is k e r ek rk none = elim (cases_lt r.rejections (length e.list)) [
   | inr most ↦ most
   | inl less ↦ absurd (false≢true (ap (list_any (λ q. q == k)) (sym is) ∙ h.queued.waiting k (e, r, ek, rk, none, less)))
 ]
@@ -147,15 +143,14 @@ none_held (e ∷ es) s = omega (arith, count_none es s, none_held es s)
     count_none : (es : List Candidate) (s : Code) → held_at (map start_of es) s ≡ held_at (map start_of es) s
     count_none es s = refl
 
-no_guests : (es : List Candidate) (s : Code) → guests_of es (map start_of es) s ≡ []
-no_guests [] s = refl
-no_guests (e ∷ es) s = no_guests es s
+no_guests : (k : ℕ) (es : List Candidate) (s : Code) → guests_from k es (map start_of es) s ≡ []
+no_guests k [] s = refl
+no_guests k (e ∷ es) s = no_guests (k + 1) es s
 
-pub between_turns_first : (m : Market) (directory : Directory) (rows : List Progress) (schools : List Holding) (queue : List ℕ) → FindsMarket m directory
+pub between_turns_first : (m : Market) (rows : List Progress) (schools : List Holding) (queue : List ℕ)
     → rows ≡ map start_of m.entrants → schools ≡ map nobody_held m.seats → ((k : ℕ) → k < length m.entrants → list_any (λ q. q == k) queue ≡ true)
-    → All (λ q. q < length m.entrants) queue → BetweenTurns m directory rows schools queue
-between_turns_first m directory rows schools queue directs rows_is schools_is waiting within = record {
-  directs = directs;
+    → All (λ q. q < length m.entrants) queue → BetweenTurns m rows schools queue
+between_turns_first m rows schools queue rows_is schools_is waiting within = record {
   sound = subst (λ (x : List Progress). Sound m x) (sym rows_is) (starts m);
   mirrored = record {
     same = ap length schools_is ∙ length_of m.seats;
@@ -165,7 +160,7 @@ between_turns_first m directory rows schools queue directs rows_is schools_is wa
         subst (λ (k : Holding). IsMirror m rows seat k) held_is (record {
           quota = refl;
           count = sym (ap (λ (x : List Progress). held_at x seat.code) rows_is ∙ none_held m.entrants seat.code);
-          guests = λ p. ap (count_by p) (ap (λ (x : List Progress). guests_of m.entrants x seat.code) rows_is ∙ no_guests m.entrants seat.code);
+          guests = λ p. ap (count_by p) (ap (λ (x : List Progress). guests_of m.entrants x seat.code) rows_is ∙ no_guests 0 m.entrants seat.code);
         });
   };
   queued = record { waiting = λ k f. waiting k (slice_get_within m.entrants k f.0 f.2); within = within };
@@ -204,10 +199,10 @@ written n new old same is = rw (drop_all old (length new) same) (rw append-nil (
         all [] = refl
         all (x ∷ xs) = ap (λ (ys : List _). x ∷ ys) (all xs)
 
-pub between_turns_as : (m : Market) (directory : Directory) (rows' rows : List Progress) (schools' schools : List Holding) (queue : List ℕ) → rows' ≡ rows
-    → schools' ≡ schools → BetweenTurns m directory rows schools queue → BetweenTurns m directory rows' schools' queue
-between_turns_as m directory rows' rows schools' schools queue r s h =
-    subst (λ (x : List Progress). BetweenTurns m directory x schools' queue) (sym r) (subst (λ (x : List Holding). BetweenTurns m directory rows x queue) (sym s) h)
+pub between_turns_as : (m : Market) (rows' rows : List Progress) (schools' schools : List Holding) (queue : List ℕ) → rows' ≡ rows
+    → schools' ≡ schools → BetweenTurns m rows schools queue → BetweenTurns m rows' schools' queue
+between_turns_as m rows' rows schools' schools queue r s h =
+    subst (λ (x : List Progress). BetweenTurns m x schools' queue) (sym r) (subst (λ (x : List Holding). BetweenTurns m rows x queue) (sym s) h)
 
 pub empty_if : (xs : List ℕ) → length xs ≡ 0 → xs ≡ []
 empty_if [] h = refl

@@ -14,9 +14,9 @@ use Rattle.adm_match.specs.declared.held.Guest.{Guest}
 use Rattle.adm_match.specs.declared.progress.Progress.{Progress}
 use Rattle.adm_match.specs.Market.{Code, Candidate, Market, is_tenant, key_at, quota_of, some_pair, same_code}
 use Rattle.adm_match.specs.Turns.{held_at, Shaped, Sound, IsFree, IsLast, NoGuest, held_by, with_rejection}
-use Rattle.adm_match.specs.Distinct.{Distinct, Seated, ChildrenOnce}
+use Rattle.adm_match.specs.Distinct.{Distinct, Seated}
 use Rattle.adm_match.specs.Holding.{Holding, Proposal, tenants_with, guests_with, HoldsAll, Rejects, Considers, guest_entry, guests_of, SameBag}
-use Rattle.adm_match.specs.Queue.{StandsAt, IsMirror, Mirrored, Turned}
+use Rattle.adm_match.specs.Queue.{IsMirror, Mirrored, Turned}
 use Rattle.adm_match.proofs.SideBySide.{after_set}
 use Rattle.adm_match.proofs.RanksAndBlocks.{has_true}
 use Rattle.adm_match.proofs.Arrival.{stay, held_set_more, held_set_less, held_set_other, none_has, other_has}
@@ -47,23 +47,23 @@ quota_at m j seat h at =
 bag_other : (es : List Candidate) (rows : List Progress) (t : Code) (i : ℕ) (e : Candidate) (r v : Progress) → slice_get es i ≡ Some e → slice_get rows i ≡ Some r
     → has r.school t ≡ false → has v.school t ≡ false → SameBag (guests_of es (set rows i v) t) (guests_of es rows t)
 bag_other es rows t i e r v ei ri was is p =
-    let before : guest_entry e r t ≡ [] = entry_none e r t (ap (λ b. b && not (is_tenant e t)) was) in
-    let after : guest_entry e v t ≡ [] = entry_none e v t (ap (λ b. b && not (is_tenant e t)) is) in
+    let before : guest_entry i e r t ≡ [] = entry_none i e r t (ap (λ b. b && not (is_tenant e t)) was) in
+    let after : guest_entry i e v t ≡ [] = entry_none i e v t (ap (λ b. b && not (is_tenant e t)) is) in
     let moved = bag_of _ _ (guests_set es rows t i e r v ei ri) p in
     sym ((λ k. count_by p (sym after k ++ guests_of es rows t)) ∙ (moved ∙ (λ k. count_by p (before k ++ guests_of es (set rows i v) t))))
 
--- what an entrant proposes to the school of a wish, as a tenant of it or not
-abbrev proposed : Candidate → Wish → Bool → Proposal
-proposed e w tenant = record { child = e.child; key = w.key; tenant = tenant }
+-- what the entrant at an index proposes to the school of a wish, as a tenant of it or not
+abbrev proposed : ℕ → Wish → Bool → Proposal
+proposed i w tenant = record { child = i; key = w.key; tenant = tenant }
 
-abbrev pub proposal_of : Candidate → Wish → Proposal
-proposal_of e w = proposed e w (is_tenant e w.school)
+abbrev pub proposal_of : ℕ → Candidate → Wish → Proposal
+proposal_of i e w = proposed i w (is_tenant e w.school)
 
 -- the newcomer's school: how many it holds now, and which guests
 pub came_here : (m : Market) (rows : List Progress) (i : ℕ) (e : Candidate) (r : Progress) (w : Wish) (seat : Seats) (old : Holding) → Distinct m
     → slice_get m.entrants i ≡ Some e → slice_get rows i ≡ Some r → r.school ≡ None → slice_get e.list r.rejections ≡ Some w → IsMirror m rows seat old
-    → seat.code ≡ w.school → (length (tenants_with old (proposal_of e w)) + length (guests_with old (proposal_of e w)) ≡ held_at
-    (set rows i (held_by r w.school)) w.school) × SameBag (guests_of m.entrants (set rows i (held_by r w.school)) w.school) (guests_with old (proposal_of e w))
+    → seat.code ≡ w.school → (length (tenants_with old (proposal_of i e w)) + length (guests_with old (proposal_of i e w)) ≡ held_at
+    (set rows i (held_by r w.school)) w.school) × SameBag (guests_of m.entrants (set rows i (held_by r w.school)) w.school) (guests_with old (proposal_of i e w))
 came_here m rows i e r w seat old d ei ri free next mirror code =
     let s = w.school in
     let v = held_by r s in
@@ -71,22 +71,22 @@ came_here m rows i e r w seat old d ei ri free next mirror code =
     let more : held_at now s ≡ held_at rows s + 1 = held_set_more rows i r v s ri (none_has r.school s free) (has_true v.school s refl) in
     let count : length old.tenants + length old.guests ≡ held_at rows s = mirror.count ∙ ap (held_at rows) code in
     let bag : SameBag (guests_of m.entrants rows s) old.guests = λ p. ap (λ (c : Code). count_by p (guests_of m.entrants rows c)) (sym code) ∙ mirror.guests p in
-    let before : guest_entry e r s ≡ [] = entry_none e r s (ap (λ b. b && not (is_tenant e s)) (none_has r.school s free)) in
-    let moved : SameBag (guest_entry e v s ++ guests_of m.entrants rows s) (guests_of m.entrants now s)
+    let before : guest_entry i e r s ≡ [] = entry_none i e r s (ap (λ b. b && not (is_tenant e s)) (none_has r.school s free)) in
+    let moved : SameBag (guest_entry i e v s ++ guests_of m.entrants rows s) (guests_of m.entrants now s)
     = λ p. bag_of _ _ (guests_set m.entrants rows s i e r v ei ri) p ∙ (λ k. count_by p (before k ++ guests_of m.entrants now s)) in
     elim (cases_Bool (is_tenant e s)) [
       | inl tenant ↦
-          let after : guest_entry e v s ≡ [] = entry_none e v s ((λ k. has v.school s && not (tenant k)) ∙ ap (λ b. b && false) (has_true v.school s refl)) in (
-            subst (λ b. length (tenants_with old (proposed e w b)) + length (guests_with old (proposed e w b)) ≡ held_at now s) (sym tenant)
-                (omega (arith, more, count, length_more old.tenants e.child)),
-            λ p. sym (moved p) ∙ ((λ k. count_by p (after k ++ guests_of m.entrants rows s)) ∙ (bag p ∙ (λ k. count_by p (guests_with old (proposed e w (sym tenant k)))))),
+          let after : guest_entry i e v s ≡ [] = entry_none i e v s ((λ k. has v.school s && not (tenant k)) ∙ ap (λ b. b && false) (has_true v.school s refl)) in (
+            subst (λ b. length (tenants_with old (proposed i w b)) + length (guests_with old (proposed i w b)) ≡ held_at now s) (sym tenant)
+                (omega (arith, more, count, length_more old.tenants i)),
+            λ p. sym (moved p) ∙ ((λ k. count_by p (after k ++ guests_of m.entrants rows s)) ∙ (bag p ∙ (λ k. count_by p (guests_with old (proposed i w (sym tenant k)))))),
           )
       | inr guest ↦
-          let g : Guest = record { key = w.key; child = e.child } in
-          let after : guest_entry e v s ≡ (g ∷ []) = entry_is e v s w.key refl guest (d.key_of i e r.rejections w ei next) in (
-            subst (λ b. length (tenants_with old (proposed e w b)) + length (guests_with old (proposed e w b)) ≡ held_at now s) (sym guest) (omega (arith, more, count)),
+          let g : Guest = record { key = w.key; child = i } in
+          let after : guest_entry i e v s ≡ (g ∷ []) = entry_is i e v s w.key refl guest (d.key_of i e r.rejections w ei next) in (
+            subst (λ b. length (tenants_with old (proposed i w b)) + length (guests_with old (proposed i w b)) ≡ held_at now s) (sym guest) (omega (arith, more, count)),
             λ p. sym (moved p) ∙ ((λ k. count_by p (after k ++ guests_of m.entrants rows s))
-                ∙ (one_more p g (guests_of m.entrants rows s) old.guests (bag p) ∙ (λ k. count_by p (guests_with old (proposed e w (sym guest k)))))),
+                ∙ (one_more p g (guests_of m.entrants rows s) old.guests (bag p) ∙ (λ k. count_by p (guests_with old (proposed i w (sym guest k)))))),
           )
     ]
   where
@@ -159,7 +159,7 @@ empty_bag es rows s gs m es_is d shaped bag none k e g =
 
 -- nobody is rejected
 pub turn_holds : (m : Market) (rows now : List Progress) (schools : List Holding) (i at : ℕ) (e : Candidate) (r : Progress) (w : Wish) (seat : Seats) (old new : Holding)
-    → Coming m rows schools i at e r w seat old → now ≡ set rows i (held_by r w.school) → Considers old new (proposal_of e w) None → Turned m rows now (set schools at new) i None
+    → Coming m rows schools i at e r w seat old → now ≡ set rows i (held_by r w.school) → Considers old new (proposal_of i e w) None → Turned m rows now (set schools at new) i None
 turn_holds m rows now schools i at e r w seat old new c now_is considers =
     subst (λ (x : List Progress). Turned m rows x (set schools at new) i None) (sym now_is) (
     let s = w.school in
@@ -167,10 +167,10 @@ turn_holds m rows now schools i at e r w seat old new c now_is considers =
     let here = came m rows mid i w (e, r, c.entrant, c.row, c.free, c.less) c.sound c.next refl in
     let mine = came_here m rows i e r w seat old c.distinct c.entrant c.row c.free c.next (c.mirrored.each at seat old c.seat_at c.held_at) c.code in
     let quota : quota_of m.seats s ≡ old.quota = ap (quota_of m.seats) (sym c.code) ∙ (quota_at m at seat c.seated c.seat_at ∙ sym (c.mirrored.each at seat old c.seat_at c.held_at).quota) in
-    let holds : HoldsAll old new (proposal_of e w) = considers.guests in
+    let holds : HoldsAll old new (proposal_of i e w) = considers.guests in
     let may_stay : (held_at mid s ≤ quota_of m.seats s) ⊎ NoGuest m.entrants mid s = elim holds.may_stay [
       | inl room ↦ inl (omega (arith, room, mine.0, quota))
-      | inr none ↦ inr (empty_bag m.entrants mid s (guests_with old (proposal_of e w)) m refl c.distinct here.0.shaped mine.1 none)
+      | inr none ↦ inr (empty_bag m.entrants mid s (guests_with old (proposal_of i e w)) m refl c.distinct here.0.shaped mine.1 none)
     ] in
     record {
       sound = stay m mid i s here.0 may_stay;
@@ -186,45 +186,38 @@ turn_holds m rows now schools i at e r w seat old new c now_is considers =
       within = tt;
     })
 
--- the guest that ranks last is rejected, and is at the index that the directory has for it
+-- the guest that ranks last is rejected
 pub record Leaving (m : Market) (mid : List Progress) (s : Code) (k : ℕ) (guest : Guest) : Type 0 where
   pub last : IsLast m.entrants mid s k
-  pub child : last.0.child ≡ guest.child
+  pub child : k ≡ guest.child
   pub key : key_at last.0.list s ≡ Some guest.key
 
 pub leaving : (m : Market) (rows mid : List Progress) (schools : List Holding) (i at : ℕ) (e : Candidate) (r : Progress) (w : Wish) (seat : Seats) (old new : Holding)
-    (out out_at : ℕ) → Coming m rows schools i at e r w seat old → mid ≡ set rows i (held_by r w.school) → (considers : Considers old new (proposal_of e w) (Some out))
-    → StandsAt m.entrants out out_at → Leaving m mid w.school out_at considers.guests.last.guest
-leaving m rows mid schools i at e r w seat old new out out_at c mid_is considers stands =
+    (out : ℕ) → Coming m rows schools i at e r w seat old → mid ≡ set rows i (held_by r w.school) → (considers : Considers old new (proposal_of i e w) (Some out))
+    → Leaving m mid w.school out considers.guests.last.guest
+leaving m rows mid schools i at e r w seat old new out c mid_is considers =
     let s = w.school in
     let here = came m rows mid i w (e, r, c.entrant, c.row, c.free, c.less) c.sound c.next mid_is in
     let mine = came_here m rows i e r w seat old c.distinct c.entrant c.row c.free c.next (c.mirrored.each at seat old c.seat_at c.held_at) c.code in
-    let bag : SameBag (guests_of m.entrants mid s) (guests_with old (proposal_of e w)) = λ p. ap (λ (x : List Progress). count_by p (guests_of m.entrants x s)) mid_is ∙ mine.1 p in
-    let gone : Rejects old new (proposal_of e w) out = considers.guests in
-    let last = last_from_heap m mid s (guests_with old (proposal_of e w)) new.guests out c.distinct here.0.shaped bag gone.last in
-    let same : last.0 ≡ out_at = one_index m.entrants c.distinct.children last.0 out_at last.1.0 stands.0 last.1.1.0 stands.1 (last.2 ∙ sym stands.2) in
-    subst (λ k. Leaving m mid s k gone.last.guest) same (record { last = last.1; child = last.2 ∙ sym gone.last.is_child; key = last.3 })
-  where
-    one_index : (es : List Candidate) → ChildrenOnce es → (i j : ℕ) (a b : Candidate) → slice_get es i ≡ Some a → slice_get es j ≡ Some b → a.child ≡ b.child → i ≡ j
-    one_index es d i j a b ia jb same = elim (cases_order i j) [
-      | inl is ↦ is
-      | inr other ↦ elim other [ inl less ↦ absurd (d i j a b ia jb less same) | inr more ↦ absurd (d j i b a jb ia more (sym same)) ]
-    ]
+    let bag : SameBag (guests_of m.entrants mid s) (guests_with old (proposal_of i e w)) = λ p. ap (λ (x : List Progress). count_by p (guests_of m.entrants x s)) mid_is ∙ mine.1 p in
+    let gone : Rejects old new (proposal_of i e w) out = considers.guests in
+    let last = last_from_heap m mid s (guests_with old (proposal_of i e w)) new.guests out c.distinct here.0.shaped bag gone.last in
+    record { last = last.0; child = sym gone.last.is_child; key = last.1 }
 
 pub turn_rejects : (m : Market) (rows mid now : List Progress) (schools : List Holding) (i at : ℕ) (e : Candidate) (r : Progress) (w : Wish) (seat : Seats)
-    (old new : Holding) (out k : ℕ) → Coming m rows schools i at e r w seat old → mid ≡ set rows i (held_by r w.school)
-    → (considers : Considers old new (proposal_of e w) (Some out)) → (gone : Leaving m mid w.school k considers.guests.last.guest)
+    (old new : Holding) (k : ℕ) → Coming m rows schools i at e r w seat old → mid ≡ set rows i (held_by r w.school)
+    → (considers : Considers old new (proposal_of i e w) (Some k)) → (gone : Leaving m mid w.school k considers.guests.last.guest)
     → now ≡ set mid k (with_rejection gone.last.1.1.0) → Turned m rows now (set schools at new) i (Some k)
-turn_rejects m rows mid now schools i at e r w seat old new out k c mid_is considers gone now_is =
+turn_rejects m rows mid now schools i at e r w seat old new k c mid_is considers gone now_is =
     let s = w.school in
     let here = came m rows mid i w (e, r, c.entrant, c.row, c.free, c.less) c.sound c.next mid_is in
     let mine = came_here m rows i e r w seat old c.distinct c.entrant c.row c.free c.next (c.mirrored.each at seat old c.seat_at c.held_at) c.code in
     let mirror = c.mirrored.each at seat old c.seat_at c.held_at in
     let quota : quota_of m.seats s ≡ old.quota = ap (quota_of m.seats) (sym c.code) ∙ (quota_at m at seat c.seated c.seat_at ∙ sym mirror.quota) in
-    let rejects : Rejects old new (proposal_of e w) out = considers.guests in
+    let rejects : Rejects old new (proposal_of i e w) k = considers.guests in
     let guest = rejects.last.guest in
-    let all = guests_with old (proposal_of e w) in
-    let count : length (tenants_with old (proposal_of e w)) + length all ≡ held_at mid s = mine.0 ∙ ap (λ (x : List Progress). held_at x s) (sym mid_is) in
+    let all = guests_with old (proposal_of i e w) in
+    let count : length (tenants_with old (proposal_of i e w)) + length all ≡ held_at mid s = mine.0 ∙ ap (λ (x : List Progress). held_at x s) (sym mid_is) in
     let bag : SameBag (guests_of m.entrants mid s) all = λ p. ap (λ (x : List Progress). count_by p (guests_of m.entrants x s)) mid_is ∙ mine.1 p in
     let d = gone.last.0 in
     let g = gone.last.1 in
@@ -233,8 +226,8 @@ turn_rejects m rows mid now schools i at e r w seat old new out k c mid_is consi
     let after = set mid k v in
     let over : quota_of m.seats s < held_at mid s = omega (arith, rejects.over, count, quota) in
     let less : held_at after s + 1 ≡ held_at mid s = held_set_less mid k q v s g.1.1 (has_true q.school s g.1.2) refl in
-    let was_entry : guest_entry d q s ≡ (guest ∷ []) = entry_is d q s guest.key g.1.2 g.2 gone.key ∙ (λ l. record { key = guest.key; child = gone.child l } ∷ []) in
-    let no_entry : guest_entry d v s ≡ [] = entry_none d v s refl in
+    let was_entry : guest_entry k d q s ≡ (guest ∷ []) = entry_is k d q s guest.key g.1.2 g.2 gone.key ∙ (λ l. record { key = guest.key; child = gone.child l } ∷ []) in
+    let no_entry : guest_entry k d v s ≡ [] = entry_none k d v s refl in
     let split : SameBag (guests_of m.entrants mid s) (guest ∷ guests_of m.entrants after s)
     = λ p. (λ l. count_by p (sym no_entry l ++ guests_of m.entrants mid s))
     ∙ (bag_of _ _ (guests_set m.entrants mid s k d q v g.0 g.1.1) p ∙ (λ l. count_by p (was_entry l ++ guests_of m.entrants after s))) in

@@ -4,6 +4,7 @@ use Rattle.std.specs.Ordering.{nat_cmp, ordering_then}
 use Rattle.std.specs.Option.{option_to_list}
 use Rattle.std.specs.declared.cmp.Ordering.{Ordering}
 use Rattle.adm_types.specs.Code.{has}
+use Rattle.adm_types.specs.Numbers.{highest_child}
 use Rattle.adm_rank.specs.declared.keys.RankKey.{RankKey}
 use Rattle.adm_match.specs.declared.held.Guest.{Guest}
 use Rattle.adm_match.specs.declared.problem.Seats.{Seats}
@@ -71,20 +72,28 @@ pub record Considers (old new : Holding) (proposal : Proposal) (out : Option ℕ
   pub tenants : new.tenants ≡ tenants_with old proposal
   pub guests : GuestsAfter old new proposal out
 
--- the guest's entry at a school that holds it and of which it is no tenant, or nothing
-abbrev pub guest_entry : Candidate → Progress → Code → List Guest
-guest_entry e r s =
-    if has r.school s && not (is_tenant e s) then option_to_list (option_map (λ key. record { key = key; child = e.child }) (key_at e.list s)) else []
+-- the entry of the entrant at an index, at a school that holds it and of which it is no tenant, or nothing
+abbrev pub guest_entry : ℕ → Candidate → Progress → Code → List Guest
+guest_entry k e r s =
+    if has r.school s && not (is_tenant e s) then option_to_list (option_map (λ key. record { key = key; child = k }) (key_at e.list s)) else []
 
--- the guests of a school, in the order of the entrants
+-- the guests of a school among the entrants from an index on
+abbrev pub guests_from : ℕ → List Candidate → List Progress → Code → List Guest
+guests_from k [] rows s = []
+guests_from k (e ∷ es) [] s = []
+guests_from k (e ∷ es) (r ∷ rows) s = guest_entry k e r s ++ guests_from (k + 1) es rows s
+
+-- the guests of a school, by their indices among the entrants
 abbrev pub guests_of : List Candidate → List Progress → Code → List Guest
-guests_of [] rows s = []
-guests_of (e ∷ es) [] s = []
-guests_of (e ∷ es) (r ∷ rows) s = guest_entry e r s ++ guests_of es rows s
+guests_of = guests_from 0
 
 -- the same guests, as often: every test passes as often on the one side as on the other
 abbrev pub SameBag : List Guest → List Guest → Type 0
 SameBag xs ys = (p : Guest → Bool) → count_by p xs ≡ count_by p ys
+
+-- the guest is known by the number of a child
+abbrev pub IsChild : Guest → Type 0
+IsChild guest = (1 ≤ guest.child) × (guest.child ≤ highest_child)
 
 -- what a school holds before anybody comes
 abbrev pub nobody_held : Seats → Holding

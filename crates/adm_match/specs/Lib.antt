@@ -6,6 +6,7 @@ pub mod Distinct
 pub mod Blocks
 pub mod Relisting
 pub mod Holding
+pub mod Places
 pub mod Queue
 pub mod Claims
 pub mod FullSchools

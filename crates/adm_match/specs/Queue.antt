@@ -1,4 +1,4 @@
--- What holds between two turns of the queue: the rows, the schools' holdings, the directory and the queue.
+-- What holds between two turns of the queue: the rows, the schools' holdings and the queue.
 use Rattle.std.specs.Prelude.{◌≡◌, ◌≢◌, ◌⊎◌, ℕ, ◌+◌, ◌<◌, ◌==◌, true, List, length, Option, Some, IfSome, All, slice_get}
 use Rattle.std.specs.List.{list_any, Contains}
 use Rattle.std.specs.List.Sorted.{IsSortedByKey}
@@ -7,18 +7,9 @@ use Rattle.std.specs.Ordering.{nat_cmp}
 use Rattle.std.specs.Cmp.Lexicographic.{slice_cmp}
 use Rattle.adm_match.specs.declared.problem.Seats.{Seats}
 use Rattle.adm_match.specs.declared.progress.Progress.{Progress}
-use Rattle.adm_match.specs.declared.directory.Directory.{Directory}
 use Rattle.adm_match.specs.Market.{Code, Candidate, Market}
 use Rattle.adm_match.specs.Turns.{held_at, IsFree, Sound, turns_left}
 use Rattle.adm_match.specs.Holding.{Holding, SameBag, guests_of}
-
--- the child is at that index among the entrants
-abbrev pub StandsAt : List Candidate → ℕ → ℕ → Type 0
-StandsAt entrants child k = (e : Candidate) × (slice_get entrants k ≡ Some e) × (e.child ≡ child)
-
--- the school's seats are at that index
-abbrev pub SeatedAt : List Seats → Code → ℕ → Type 0
-SeatedAt seats school j = (seat : Seats) × (slice_get seats j ≡ Some seat) × (seat.code ≡ school)
 
 -- pairs of a key and an index, in the order of the keys: each item's key beside its index, and no other pair
 pub record FindsEach {V K : Type 0} (R : K → K → Ordering) (key : V → K) (items : List V) (pairs : List (K × ℕ)) : Type 0 where
@@ -26,17 +17,9 @@ pub record FindsEach {V K : Type 0} (R : K → K → Ordering) (key : V → K) (
   pub each : (k : ℕ) (v : V) → slice_get items k ≡ Some v → Contains pairs (key v, k)
   pub only : (pair : K × ℕ) → Contains pairs pair → (v : V) × (slice_get items pair.1 ≡ Some v) × (key v ≡ pair.0)
 
--- each child is found at its index among the entrants
-abbrev pub FindsChildren : List Candidate → List (ℕ × ℕ) → Type 0
-FindsChildren = FindsEach nat_cmp (λ (e : Candidate). e.child)
-
 -- each school is found at its index among the seats
 abbrev pub FindsSchools : List Seats → List (Code × ℕ) → Type 0
 FindsSchools = FindsEach (slice_cmp nat_cmp) (λ (seat : Seats). seat.code)
-
-pub record FindsMarket (m : Market) (directory : Directory) : Type 0 where
-  pub children : FindsChildren m.entrants directory.children.items
-  pub schools : FindsSchools m.seats directory.schools.items
 
 -- a school holds whom the rows say, with its quota
 pub record IsMirror (m : Market) (rows : List Progress) (seat : Seats) (held : Holding) : Type 0 where
@@ -67,8 +50,7 @@ pub record Queued (entrants : List Candidate) (rows : List Progress) (queue : Li
   pub within : All (λ q. q < length entrants) queue
 
 -- what holds between two turns
-pub record BetweenTurns (m : Market) (directory : Directory) (rows : List Progress) (schools : List Holding) (queue : List ℕ) : Type 0 where
-  pub directs : FindsMarket m directory
+pub record BetweenTurns (m : Market) (rows : List Progress) (schools : List Holding) (queue : List ℕ) : Type 0 where
   pub sound : Sound m rows
   pub mirrored : Mirrored m rows schools
   pub queued : Queued m.entrants rows queue

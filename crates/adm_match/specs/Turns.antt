@@ -113,6 +113,10 @@ with_rejection row = record row { school = None; rejections = row.rejections + 1
 abbrev pub reached : Progress → ℕ
 reached row = row.rejections + (if is_some row.school then 1 else 0)
 
+-- a child with the school that holds it, or none
+abbrev pub given_by : Progress → ℕ × Option Code
+given_by row = (row.child, row.school)
+
 -- the school that holds a child, by its first row
 abbrev pub found_in : List Progress → Allocation
 found_in rows child = unwrap_or (option_map (λ row. row.school) (find (λ row. row.child == child) rows)) None

@@ -7,23 +7,24 @@ ghost use Rattle.adm_match.specs.Market.{market_of};
 ghost use Rattle.adm_match.specs.Turns.{IsFree, AllDone, Sound};
 ghost use Rattle.adm_match.specs.Distinct.{Distinct, Seated};
 ghost use Rattle.adm_match.specs.Holding.{nobody_held};
-ghost use Rattle.adm_match.specs.Queue.{FindsMarket, Mirrored, Turned, Queued};
+ghost use Rattle.adm_match.specs.Places.{IsPlaced};
+ghost use Rattle.adm_match.specs.Queue.{Mirrored, Turned, Queued};
 
 use crate::allotment::{Offers, offers_of};
-use crate::directory::{Directory, directory_of, index_of_child, index_of_school};
-use crate::held::{Held, consider_at};
+use crate::held::{HeldByIndex, consider_at};
+use crate::places::Places;
 use crate::problem::{Entrant, Problem, Seats};
 use crate::progress::{Progress, hold, reject, start};
 use std::alloc::{AllocError, Global};
 use std::collections::VecDeque;
 
 /// Each school of the problem, holding nobody, in the order of the seats.
-fn schools_of(alloc: Global, seats: &[Seats]) -> Result<Vec<Held>, AllocError>
+fn schools_of(alloc: Global, seats: &[Seats]) -> Result<Vec<HeldByIndex>, AllocError>
     ensures { IfOk result (λ schools. schools.items ≡ map nobody_held seats.now) }
 {
     seats
         .iter()
-        .map(|seat| Held::new(alloc, seat.quota))
+        .map(|seat| HeldByIndex::new(alloc, seat.quota))
         .collect(alloc)
 }
 
@@ -65,41 +66,46 @@ fn is_free(entrant: &Entrant, row: Progress) -> bool
 fn propose(
     entrants: &[Entrant],
     seats: &[Seats],
-    directory: &Directory,
+    places: &[Places],
     rows: &mut [Progress],
-    schools: &mut [Held],
+    schools: &mut [HeldByIndex],
     index: usize,
 ) -> Result<Option<usize>, AllocError>
     requires distinct { Distinct (market_of entrants.now seats.now) }
     requires seated { Seated (market_of entrants.now seats.now) }
-    requires directs { FindsMarket (market_of entrants.now seats.now) directory.now }
+    requires placed { IsPlaced (market_of entrants.now seats.now) places.now }
     requires sound { Sound (market_of entrants.now seats.now) rows.old }
     requires mirrored { Mirrored (market_of entrants.now seats.now) rows.old schools.old }
     requires free { IsFree entrants.now rows.old index }
     ensures { IfOk result (Turned (market_of entrants.now seats.now) rows.old rows.new schools.new index) }
 {
     let entrant = &entrants[index];
-    let wish = entrant.list[rows[index].rejections];
-    let at = index_of_school(directory, seats, wish.school);
+    let row = rows[index];
+    let wish = entrant.list[row.rejections];
+    let at = places[index].of(row.rejections);
     let tenant = entrant.is_tenant_of(wish.school);
-    let out = consider_at(schools, at, entrant.child, wish.key, tenant)?;
+    let out = consider_at(schools, at, index, wish.key, tenant)?;
     hold(rows, index, wish.school);
-    let Some(child) = out else {
+    let Some(rejected) = out else {
         return Ok(None);
     };
-    let rejected = index_of_child(directory, entrants, child);
     reject(&entrants[rejected], rows, rejected);
     Ok(Some(rejected))
 }
 
 /// The state of the entrants when no turn remains.
-fn settle(alloc: Global, entrants: &[Entrant], seats: &[Seats]) -> Result<Vec<Progress>, AllocError>
+fn settle(
+    alloc: Global,
+    entrants: &[Entrant],
+    seats: &[Seats],
+    places: &[Places],
+) -> Result<Vec<Progress>, AllocError>
     requires distinct { Distinct (market_of entrants.now seats.now) }
     requires seated { Seated (market_of entrants.now seats.now) }
+    requires placed { IsPlaced (market_of entrants.now seats.now) places.now }
     ensures sound { IfOk result (λ rows. Sound (market_of entrants.now seats.now) rows.items) }
     ensures done { IfOk result (λ rows. AllDone entrants.now rows.items) }
 {
-    let directory = directory_of(alloc, entrants, seats)?;
     let mut rows = start(alloc, entrants)?;
     let mut schools = schools_of(alloc, seats)?;
     let mut queue = queue_of(alloc, entrants)?;
@@ -108,7 +114,7 @@ fn settle(alloc: Global, entrants: &[Entrant], seats: &[Seats]) -> Result<Vec<Pr
         if !is_free(entrant, rows[index]) {
             continue;
         }
-        let out = propose(entrants, seats, &directory, &mut rows, &mut schools, index)?;
+        let out = propose(entrants, seats, places, &mut rows, &mut schools, index)?;
         line_up(&mut queue, out)?;
     }
     Ok(rows)
@@ -119,15 +125,17 @@ pub(crate) fn allot(
     alloc: Global,
     entrants: &[Entrant],
     seats: &[Seats],
+    places: &[Places],
 ) -> Result<Offers, AllocError>
     requires distinct { Distinct (market_of entrants.now seats.now) }
     requires seated { Seated (market_of entrants.now seats.now) }
+    requires placed { IsPlaced (market_of entrants.now seats.now) places.now }
     ensures best { IfOk result (λ offers. IsBest (market_of entrants.now seats.now) (school_of offers)) }
     ensures others { IfOk result (λ offers. (child : ℕ) → is_entrant (market_of entrants.now seats.now) child ≡ false → school_of offers child ≡ None) }
     ensures proposals { IfOk result (λ offers. offers.proposals ≡ proposals_of (market_of entrants.now seats.now) (school_of offers)) }
 {
-    let rows = settle(alloc, entrants, seats)?;
-    offers_of(alloc, &rows)
+    let rows = settle(alloc, entrants, seats, places)?;
+    offers_of(rows)
 }
 
 /// The best stable allocation of the problem: deferred acceptance, in which the children propose.
@@ -139,5 +147,5 @@ pub fn offers(alloc: Global, problem: &Problem) -> Result<Offers, AllocError>
     ensures others { IfOk result (λ offers. (child : ℕ) → is_entrant problem.now child ≡ false → school_of offers child ≡ None) }
     ensures proposals { IfOk result (λ offers. offers.proposals ≡ proposals_of problem.now (school_of offers)) }
 {
-    allot(alloc, &problem.entrants, &problem.seats)
+    allot(alloc, &problem.entrants, &problem.seats, &problem.places)
 }

@@ -1,22 +1,14 @@
-// The index of each child among the entrants, and of each school among the seats.
+// The index of each school among the seats, by halving.
 ghost use Rattle.std.specs.Prelude.{◌≡◌, ◌<◌, ℕ, length, IfOk};
 ghost use Rattle.std.specs.List.{Contains};
 ghost use Rattle.std.specs.List.Sorted.{IsSortedByKey, IsPermutation};
 ghost use Rattle.std.specs.declared.cmp.Ordering.TheVariants.{Equal};
-ghost use Rattle.adm_match.specs.Market.{market_of};
-ghost use Rattle.adm_match.specs.Queue.{FindsChildren, FindsSchools, StandsAt, SeatedAt, FindsMarket};
+ghost use Rattle.adm_match.specs.Places.{SeatedAt};
+ghost use Rattle.adm_match.specs.Queue.{FindsSchools};
 
-use crate::problem::{Entrant, Seats};
-use adm_types::{ChildNo, SchoolCode};
+use crate::problem::Seats;
+use adm_types::SchoolCode;
 use std::alloc::{AllocError, Global};
-
-/// Each child beside its index among the entrants, and each school beside its index among the
-/// seats, in the order of the children and of the schools. They are looked up by halving.
-#[derive(Drop)]
-pub struct Directory {
-    pub(crate) children: Vec<(ChildNo, usize)>,
-    pub(crate) schools: Vec<(SchoolCode, usize)>,
-}
 
 /// An index that is beside the key, which one of the pairs has.
 fn index_beside<K: Ord + Copy + Drop>(pairs: &[(K, usize)], key: K) -> usize
@@ -40,41 +32,22 @@ fn in_order<K: Ord + Copy + Drop>(pairs: Vec<(K, usize)>) -> Vec<(K, usize)>
     pairs
 }
 
-/// The child's index among the entrants.
-pub(crate) fn index_of_child(directory: &Directory, entrants: &[Entrant], child: ChildNo) -> usize
-    requires finds { FindsChildren entrants.now directory.now.children.items }
-    requires there { (k : ℕ) × StandsAt entrants.now child k }
-    ensures at { StandsAt entrants.now child result }
-    ensures within { result < length entrants.now }
-{
-    index_beside(&directory.children, child)
-}
-
 /// The school's index among the seats.
-pub(crate) fn index_of_school(directory: &Directory, seats: &[Seats], school: SchoolCode) -> usize
-    requires finds { FindsSchools seats.now directory.now.schools.items }
+pub(crate) fn index_of_school(
+    schools: &[(SchoolCode, usize)],
+    seats: &[Seats],
+    school: SchoolCode,
+) -> usize
+    requires finds { FindsSchools seats.now schools.now }
     requires there { (j : ℕ) × SeatedAt seats.now school j }
     ensures at { SeatedAt seats.now school result }
     ensures within { result < length seats.now }
 {
-    index_beside(&directory.schools, school)
+    index_beside(schools, school)
 }
 
-fn indices_of_children(
-    alloc: Global,
-    entrants: &[Entrant],
-) -> Result<Vec<(ChildNo, usize)>, AllocError>
-    ensures { IfOk result (λ indices. FindsChildren entrants.now indices.items) }
-{
-    let mut indices = Vec::with_capacity(alloc, entrants.len())?;
-    for index in 0..entrants.len() {
-        let entrant = &entrants[index];
-        indices.push((entrant.child, index))?;
-    }
-    Ok(in_order(indices))
-}
-
-fn indices_of_schools(
+/// Each school beside its index among the seats, in the order of the schools.
+pub(crate) fn indices_of_schools(
     alloc: Global,
     seats: &[Seats],
 ) -> Result<Vec<(SchoolCode, usize)>, AllocError>
@@ -86,17 +59,4 @@ fn indices_of_schools(
         indices.push((seat.code, index))?;
     }
     Ok(in_order(indices))
-}
-
-/// The directory of a problem.
-pub(crate) fn directory_of(
-    alloc: Global,
-    entrants: &[Entrant],
-    seats: &[Seats],
-) -> Result<Directory, AllocError>
-    ensures { IfOk result (FindsMarket (market_of entrants.now seats.now)) }
-{
-    let children = indices_of_children(alloc, entrants)?;
-    let schools = indices_of_schools(alloc, seats)?;
-    Ok(Directory { children, schools })
 }

@@ -9,15 +9,16 @@ use std::alloc::{AllocError, Global};
 use std::collections::BinaryHeap;
 use std::marker::Model;
 
-/// A child that a school holds, and that is no tenant of it. The greatest ranks last.
+/// A child that a school holds, and that is no tenant of it, by its number or its index. The
+/// greatest ranks last.
 #[derive(Clone, Copy, Debug, PartialEq, Eq, PartialOrd, Ord)]
 pub struct Guest {
     pub key: RankKey,
-    pub child: ChildNo,
+    pub child: usize,
 }
 
 /// Takes out the guest that ranks last.
-fn pop_last(guests: &mut BinaryHeap<Guest>) -> Option<ChildNo>
+fn pop_last(guests: &mut BinaryHeap<Guest>) -> Option<usize>
     requires { IsHeap guest_cmp (heap_items guests.old) }
     ensures heap { IsHeap guest_cmp (heap_items guests.new) }
     ensures last { IfSome result (RanksLast (heap_items guests.old) (heap_items guests.new)) }
@@ -29,15 +30,16 @@ fn pop_last(guests: &mut BinaryHeap<Guest>) -> Option<ChildNo>
     }
 }
 
-/// Whom a school tentatively holds: its tenants, and the guests in a heap whose top ranks last.
+/// Whom a school tentatively holds, each by an index that the caller gives: its tenants, and the
+/// guests in a heap whose top ranks last.
 #[derive(Drop)]
-pub struct Held {
+pub struct HeldByIndex {
     quota: u32,
-    tenants: Vec<ChildNo>,
+    tenants: Vec<usize>,
     guests: BinaryHeap<Guest>,
 }
 
-impl Model for Held {
+impl Model for HeldByIndex {
     ghost use Rattle.std.specs.BinaryHeap.{heap_items, IsHeap};
     ghost use Rattle.adm_match.specs.Holding.{Holding, holding_of, guest_cmp};
 
@@ -48,6 +50,59 @@ impl Model for Held {
     ghost invariant = { λ k. IsHeap guest_cmp (heap_items k.guests) };
 }
 
+impl HeldByIndex {
+    ghost use Rattle.adm_match.specs.Holding.{holding_of};
+
+    /// Holds nobody. It takes no memory.
+    pub(crate) fn new(alloc: Global, quota: u32) -> HeldByIndex
+        ensures { result ≡ holding_of quota [] [] }
+    {
+        HeldByIndex {
+            quota,
+            tenants: Vec::new(alloc),
+            guests: BinaryHeap::new(alloc),
+        }
+    }
+
+    /// Considers the proposal of the child at the index, as `Held::consider` does.
+    pub(crate) fn consider(
+        &mut self,
+        child: usize,
+        key: RankKey,
+        tenant: bool,
+    ) -> Result<Option<usize>, AllocError>
+        ensures ok { IfOk result (Considers self.old self.new (record { child = child; key = key; tenant = tenant })) }
+        ensures err { OnErr result (self.new ≡ self.old) }
+    {
+        if tenant {
+            self.tenants.push(child)?;
+        } else {
+            self.guests.push(Guest { key, child })?;
+        }
+        if self.tenants.len() + self.guests.len() <= self.quota as usize {
+            return Ok(None);
+        }
+        Ok(pop_last(&mut self.guests))
+    }
+}
+
+/// Whom a school tentatively holds, each by its number.
+#[derive(Drop)]
+pub struct Held {
+    held: HeldByIndex,
+}
+
+impl Model for Held {
+    ghost use Rattle.std.specs.Prelude.{All};
+    ghost use Rattle.adm_match.specs.Holding.{Holding, IsChild};
+
+    ghost Value = { Holding };
+
+    ghost view = { λ k. k.held };
+
+    ghost invariant = { λ k. All IsChild k.held.guests };
+}
+
 impl Held {
     ghost use Rattle.adm_match.specs.Holding.{holding_of};
 
@@ -56,9 +111,7 @@ impl Held {
         ensures { result ≡ holding_of quota [] [] }
     {
         Held {
-            quota,
-            tenants: Vec::new(alloc),
-            guests: BinaryHeap::new(alloc),
+            held: HeldByIndex::new(alloc, quota),
         }
     }
 
@@ -74,26 +127,22 @@ impl Held {
         // After an error it holds whom it held.
         ensures err { OnErr result (self.new ≡ self.old) }
     {
-        if tenant {
-            self.tenants.push(child)?;
-        } else {
-            self.guests.push(Guest { key, child })?;
-        }
-        if self.tenants.len() + self.guests.len() <= self.quota as usize {
+        let out = self.held.consider(child.get() as usize, key, tenant)?;
+        let Some(number) = out else {
             return Ok(None);
-        }
-        Ok(pop_last(&mut self.guests))
+        };
+        Ok(ChildNo::new(number as u32))
     }
 }
 
-/// One school of several considers the child's proposal.
+/// One school of several considers the proposal of the child at the index.
 pub(crate) fn consider_at(
-    schools: &mut [Held],
+    schools: &mut [HeldByIndex],
     at: usize,
-    child: ChildNo,
+    child: usize,
     key: RankKey,
     tenant: bool,
-) -> Result<Option<ChildNo>, AllocError>
+) -> Result<Option<usize>, AllocError>
     requires { at < length schools.old }
     ensures ok { IfOk result (λ out. (old : Holding) → slice_get schools.old at ≡ Some old → (new : Holding) × (schools.new ≡ slice_set schools.old at new) × Considers old new (record { child = child; key = key; tenant = tenant }) out) }
     ensures err { OnErr result (schools.new ≡ schools.old) }

@@ -9,6 +9,7 @@ mod directory;
 mod faults;
 mod held;
 mod laws;
+mod places;
 mod problem;
 mod progress;
 mod relisting;

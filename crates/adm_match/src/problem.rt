@@ -4,6 +4,7 @@ ghost use Rattle.std.specs.List.{position};
 ghost use Rattle.adm_match.specs.Market.{quota_of};
 
 use crate::faults::first_fault;
+use crate::places::{Places, places_of};
 use adm_rank::RankKey;
 use adm_types::{ChildNo, SchoolCode};
 use std::alloc::{AllocError, Global};
@@ -139,17 +140,20 @@ impl From<AllocError> for BadProblem {
 pub struct Problem {
     pub(crate) entrants: Vec<Entrant>,
     pub(crate) seats: Vec<Seats>,
+    // of each entrant's list
+    pub(crate) places: Vec<Places>,
 }
 
 impl Model for Problem {
     ghost use Rattle.std.specs.Prelude.{◌≡◌, None};
     ghost use Rattle.adm_match.specs.Market.{Market, market_of, first_fault};
+    ghost use Rattle.adm_match.specs.Places.{IsPlaced};
 
     ghost Value = { Market };
 
     ghost view = { λ p. market_of p.entrants.items p.seats.items };
 
-    ghost invariant = { λ p. first_fault (market_of p.entrants.items p.seats.items) ≡ None };
+    ghost invariant = { λ p. (first_fault (market_of p.entrants.items p.seats.items) ≡ None) × IsPlaced (market_of p.entrants.items p.seats.items) p.places.items };
 }
 
 impl Problem {
@@ -174,7 +178,12 @@ impl Problem {
         if let Some(fault) = first_fault(alloc, &entrants, &seats)? {
             return Err(fault);
         }
-        Ok(Problem { entrants, seats })
+        let places = places_of(alloc, &entrants, &seats)?;
+        Ok(Problem {
+            entrants,
+            seats,
+            places,
+        })
     }
 }
 

@@ -122,5 +122,5 @@ pub fn offers_by_scan(alloc: Global, problem: &Problem) -> Result<Offers, AllocE
     ensures proposals { IfOk result (λ offers. offers.proposals ≡ proposals_of problem.now (school_of offers)) }
 {
     let rows = settle(alloc, &problem.entrants, &problem.seats)?;
-    offers_of(alloc, &rows)
+    offers_of(rows)
 }

@@ -7,6 +7,7 @@ ghost use Rattle.adm_match.specs.Relisting.{is_wanted, may_list, list_fault, wha
 ghost use Rattle.adm_match.specs.declared.what_ifs.WhatIfFault.TheVariants.{Memory};
 
 use crate::acceptance::allot;
+use crate::places::places_of;
 use crate::problem::{Entrant, Problem, Wish};
 use crate::relisting::relisted;
 use crate::repeats::has_repeat;
@@ -123,6 +124,7 @@ pub fn what_if(
         return Err(fault);
     }
     let entrants = relisted(alloc, &problem.entrants, child, schools)?;
-    let offers = allot(alloc, &entrants, &problem.seats)?;
+    let places = places_of(alloc, &entrants, &problem.seats)?;
+    let offers = allot(alloc, &entrants, &problem.seats, &places)?;
     Ok(offers.of(child))
 }

@@ -1,5 +1,6 @@
-use Rattle.adm_match.proofs.Offered.{given_in}
+use Rattle.std.proofs.Common.{◌∙◌}
+use Rattle.adm_match.proofs.Offered.{school_given}
 use Rattle.adm_match.proofs.allotment.offers_of.Goals as goal
 
 pub returns-clause-given : goal.returns-clause-given
-returns-clause-given c = given_in c.in_ok-given.given c.proposals-proposals.result c.args.rows.now c.in_ok-given.ensures
+returns-clause-given c child = school_given c.in_ok-rows.rows.items c.proposals-proposals.result child ∙ c.in_ok-rows.ensures.found child

@@ -1,37 +1,33 @@
--- The child comes, and where more than the quota are held the guest that ranks last goes.
-use Rattle.std.proofs.Common.{◌∙◌, ◌<◌, ◌+◌, false, length, sym, ap, subst, arith}
-use Rattle.std.specs.Prelude.{IsPermutation}
-use Rattle.std.specs.BinaryHeap.{heap_items}
-use Rattle.std.proofs.lemmas.List.Sorted.{IsPermutation-refl}
-use Rattle.adm_match.specs.Holding.{holding_of, tenants_with, guests_with, Considers}
-use Rattle.adm_match.proofs.Heap.{takes_over}
+-- It considers by numbers, which are those of children.
+use Rattle.std.proofs.Common.{ℕ, ◌≤◌, Option, Some, Bool, sym, subst, rules, arith}
+use Rattle.adm_rank.specs.declared.keys.RankKey.{RankKey}
+use Rattle.adm_types.specs.Numbers.{highest_child}
+use Rattle.adm_match.specs.Holding.{Holding, Considers}
+use Rattle.adm_match.proofs.HeldChildren.{still_children, rejects_child, considers_child}
 use Rattle.adm_match.proofs.held.Held.consider.Goals as goal
-use Rattle.adm_match.proofs.held.Held.consider.Goals.{then-tenant+in_ok-push, else-tenant+in_ok-push-2}
+
+pub invariant_of-self-in_default : goal.invariant_of-self-in_default
+invariant_of-self-in_default c =
+    let range = subst (λ (n : ℕ). (1 ≤ n) × (n ≤ highest_child)) (sym c.get.ensures.value) c.get.ensures.in_range in
+    still_children c.self.inside.held c.consider.new.self (record { child = c.get.result; key = c.args.key; tenant = c.args.tenant }) c.in_ok-out.out c.self.invariant range
+    c.in_ok-out.ensures.ok
+
+pub invariant_of-self-2 : goal.invariant_of-self-2
+invariant_of-self-2 c =
+    let range = subst (λ (n : ℕ). (1 ≤ n) × (n ≤ highest_child)) (sym c.get.ensures.value) c.get.ensures.in_range in
+    still_children c.self.inside.held c.consider.new.self (record { child = c.get.result; key = c.args.key; tenant = c.args.tenant }) c.in_ok-out.out c.self.invariant range
+    c.in_ok-out.ensures.ok
+
+pub overflow_cast-number : goal.overflow_cast-number
+overflow_cast-number c =
+    let range = subst (λ (n : ℕ). (1 ≤ n) × (n ≤ highest_child)) (sym c.get.ensures.value) c.get.ensures.in_range in
+    let out = rejects_child c.self.inside.held c.consider.new.self (record { child = c.get.result; key = c.args.key; tenant = c.args.tenant }) c.in-Some.number c.self.invariant range
+    (subst (λ (o : Option ℕ). Considers c.self.inside.held c.consider.new.self (record { child = c.get.result; key = c.args.key; tenant = c.args.tenant }) o) c.in-Some.is
+    c.in_ok-out.ensures.ok) in
+    omega (arith, out.1)
 
 pub returns-clause-ok : goal.returns-clause-ok
 returns-clause-ok c =
-    let in' = c.self.inside in
-    let mid = c.if-tenant.self-inside in
-    let old = holding_of in'.quota in'.tenants.items (heap_items in'.guests) in
-    let over : mid.quota < length mid.tenants.items + length (heap_items mid.guests)
-    = omega (arith, c.if-len-self.false, c.len.ensures, c.len-2.ensures, mid.tenants.ok.0, mid.guests.data.ok.0) in
-    subst (λ k. Considers k (holding_of mid.quota mid.tenants.items (heap_items c.pop_last.new.guests))
-    (record { child = c.args.child; key = c.args.key; tenant = c.args.tenant }) c.pop_last.result) c.self.view_is
-    (elim c.if-tenant.branch [
-      | then-tenant+in_ok-push w ↦
-          takes_over old mid.quota mid.tenants.items (heap_items mid.guests) (heap_items c.pop_last.new.guests) c.args.child c.args.key c.args.tenant c.pop_last.result
-          (ap (λ s. s.quota) w.self-inside-is)
-          (ap (λ s. s.tenants.items) w.self-inside-is ∙ (w.in_ok-push.ensures.items
-          ∙ ap (λ b. tenants_with old (record { child = c.args.child; key = c.args.key; tenant = b })) (sym w.if-tenant.true)))
-          (subst (λ b. IsPermutation (guests_with old (record { child = c.args.child; key = c.args.key; tenant = b })) (heap_items mid.guests)) (sym w.if-tenant.true)
-          (subst (λ gs. IsPermutation (heap_items in'.guests) gs) (sym (ap (λ s. heap_items s.guests) w.self-inside-is)) (IsPermutation-refl (heap_items in'.guests))))
-          over c.pop_last.ensures.last c.pop_last.ensures.none
-      | else-tenant+in_ok-push-2 w ↦
-          takes_over old mid.quota mid.tenants.items (heap_items mid.guests) (heap_items c.pop_last.new.guests) c.args.child c.args.key c.args.tenant c.pop_last.result
-          (ap (λ s. s.quota) w.self-inside-is)
-          (ap (λ s. s.tenants.items) w.self-inside-is ∙ ap (λ b. tenants_with old (record { child = c.args.child; key = c.args.key; tenant = b })) (sym w.if-tenant.false))
-          (subst (λ b. IsPermutation (guests_with old (record { child = c.args.child; key = c.args.key; tenant = b })) (heap_items mid.guests)) (sym w.if-tenant.false)
-          (subst (λ gs. IsPermutation (guests_with old (record { child = c.args.child; key = c.args.key; tenant = false })) gs)
-          (sym (ap (λ s. heap_items s.guests) w.self-inside-is)) w.in_ok-push-2.ensures.permutation))
-          over c.pop_last.ensures.last c.pop_last.ensures.none
-    ])
+    let range = subst (λ (n : ℕ). (1 ≤ n) × (n ≤ highest_child)) (sym c.get.ensures.value) c.get.ensures.in_range in
+    considers_child c.self.inside.held c.args.self.now c.consider.new.self c.get.result c.args.child c.args.key c.args.tenant c.in_ok-out.out c.in-Some.number c.new.result
+    c.self.view_is c.get.ensures.value c.in-Some.is c.self.invariant range c.in_ok-out.ensures.ok c.new.ensures.valid.1 c.new.ensures.value
