@@ -1,0 +1,5 @@
+pub mod RowTexts
+pub mod Added
+pub mod Updates
+pub mod Found
+pub mod Eights
