@@ -1,4 +1,4 @@
--- What two statements do that find a row by its key, and delete it by its rowid.
+-- What two statements do that find a row by its key, and delete it or write it anew by its rowid.
 use Rattle.std.proofs.Common.{◌≡◌, ◌∙◌, ℕ, ℤ, ◌≤◌, List, [], ◌∷◌, false, Some, None, Ok, sym, ap, subst, arith, IsTrue}
 use Rattle.std.specs.Prelude.{is_some}
 use Rattle.std.specs.List.Sorted.{IsPermutation}
@@ -14,7 +14,8 @@ use Rattle.sqlite.specs.Clock.{timed}
 use Rattle.sqlite.proofs.Callers.{IsPlain}
 use Rattle.sqlite_trees.specs.View.{doubt}
 use Rattle.sqlite_rules.specs.Lists.{Has}
-use Rattle.adm_schema.specs.Effects.{DropsRow, drop_of}
+use Rattle.adm_batches.specs.Effects.{ReplacesRow}
+use Rattle.adm_schema.specs.Effects.{WritesOnly, DropsRow, drop_of}
 use Rattle.adm_schema.specs.Rows.{rows_of}
 use Rattle.adm_schema.specs.Schema.{register_schema}
 use Rattle.adm_store.specs.Found.{DeletesFound}
@@ -22,7 +23,7 @@ use Rattle.adm_store.specs.Writes.{Drops, Writes}
 use Rattle.adm_store.proofs.LogLemmas.{drop_one}
 
 -- what showed rows was open
-shown_open : (sql : List ℕ) (params : Row) (old new : State) (rows : List Row) → Shown sql params old new rows → IsTrue old.is_open
+pub shown_open : (sql : List ℕ) (params : Row) (old new : State) (rows : List Row) → Shown sql params old new rows → IsTrue old.is_open
 unfolding Shown
 shown_open sql params old new rows h = go h.0.returning h.2
   where
@@ -30,22 +31,33 @@ shown_open sql params old new rows h = go h.0.returning h.2
     go None it = it.3.0.was_open
     go (Some what) it = it.1.shown.was_open
 
+-- what is written of one table after nothing was written
+only_before : (table : Table) (old mid new : State) → IsTrue old.is_open → mid.now ≡ old.now → WritesOnly table mid new → WritesOnly table old new
+only_before table old mid new live same only = record {
+  was_open = live;
+  is_open = only.is_open;
+  schema = only.schema ∙ ap (λ (d : Database). d.schema) same;
+  sound = only.sound;
+  others = λ t listed apart. only.others t (subst (λ (s : Schema). Has s.tables t) (sym (ap (λ (d : Database). d.schema) same)) listed) apart ∙ ap (λ (d : Database). d.trees t.tree) same;
+}
+
+-- a row that is written in place of others after nothing was written
+pub replaces_before : (table : Table) (key row : Row) (old mid new : State) → IsTrue old.is_open → mid.now ≡ old.now → ReplacesRow table key row mid new → ReplacesRow table key row old new
+replaces_before table key row old mid new live same replaces = record {
+  only = only_before table old mid new live same replaces.only;
+  rows = subst (λ (d : Database). IsPermutation (row ∷ drop_of key (rows_of table d.trees)) (rows_of table new.now.trees)) same replaces.rows;
+}
+
 -- a row that is dropped after nothing was written
 drops_before : (table : Table) (key : Row) (old mid new : State) → IsTrue old.is_open → mid.now ≡ old.now → DropsRow table key mid new → DropsRow table key old new
 drops_before table key old mid new live same drops = record {
-  only = record {
-    was_open = live;
-    is_open = drops.only.is_open;
-    schema = drops.only.schema ∙ ap (λ (d : Database). d.schema) same;
-    sound = drops.only.sound;
-    others = λ t listed apart. drops.only.others t (subst (λ (s : Schema). Has s.tables t) (sym (ap (λ (d : Database). d.schema) same)) listed) apart ∙ ap (λ (d : Database). d.trees t.tree) same;
-  };
+  only = only_before table old mid new live same drops.only;
   rows = subst (λ (d : Database). IsPermutation (drop_of key (rows_of table d.trees)) (rows_of table new.now.trees)) same drops.rows;
 }
 
 module _ (table : Table) (listed : Has register_schema.tables table) (unkeyed : is_some table.key ≡ false) (find : List ℕ) (plain : IsPlain (understood register_schema find)) (key : Row) where
   -- the search writes nothing
-  search_alone : (old new : State) (rows : List Row) → old.now.schema ≡ register_schema → Shown find key old new rows → IsUnchanged old new
+  pub search_alone : (old new : State) (rows : List Row) → old.now.schema ≡ register_schema → Shown find key old new rows → IsUnchanged old new
   unfolding Shown
   search_alone old new rows has h =
       let known = sym h.1.is ∙ ap (λ s. understood s find) has in

@@ -100,6 +100,32 @@ one_write w old new here has only own = record {
         × IsTrue (are_keyed t (rows_of t new.now.trees))) (sym is)
         (subst (IsPermutation (rows_of t old.now.trees)) same (IsPermutation-refl _), subst (λ rows. IsTrue (are_keyed t rows)) same keyed)
 
+-- what writes of one table leave
+pub own_writes : (table : Table) (writes : List Write) (old new : State) → Has register_schema.tables table → old.now.schema ≡ register_schema → WritesOnly table old new
+    → ((t : Table) (rows : List Row) → (t.tree == table.tree) ≡ false → after_writes t writes rows ≡ rows)
+    → (IsTrue (are_keyed table (rows_of table old.now.trees))
+    → IsPermutation (after_writes table writes (rows_of table old.now.trees)) (rows_of table new.now.trees) × IsTrue (are_keyed table (rows_of table new.now.trees))) → Leaves writes old new
+own_writes table writes old new here has only apart own = record {
+  was_open = only.was_open;
+  is_open = only.is_open;
+  schema = only.schema;
+  sound = only.sound;
+  rows = λ t listed keyed. (each t listed keyed (t.tree == table.tree) refl).0;
+  keyed = λ t listed keyed. (each t listed keyed (t.tree == table.tree) refl).1;
+}
+  where
+    each : (t : Table) → Has register_schema.tables t → IsTrue (are_keyed t (rows_of t old.now.trees)) → (b : Bool) → (t.tree == table.tree) ≡ b
+        → IsPermutation (after_writes t writes (rows_of t old.now.trees)) (rows_of t new.now.trees) × IsTrue (are_keyed t (rows_of t new.now.trees))
+    each t listed keyed true is = subst (λ (u : Table). IsTrue (are_keyed u (rows_of u old.now.trees))
+        → IsPermutation (after_writes u writes (rows_of u old.now.trees)) (rows_of u new.now.trees) × IsTrue (are_keyed u (rows_of u new.now.trees)))
+        (same_table table t here listed (sym (eqb-true t.tree table.tree is))) own keyed
+    each t listed keyed false is =
+        let same : rows_of t old.now.trees ≡ rows_of t new.now.trees = ap (map (columns_of t))
+        (sym (only.others t (subst (λ (s : Schema). Has s.tables t) (sym has) listed) (eqb-false t.tree table.tree is))) in (
+          subst (λ rows. IsPermutation rows (rows_of t new.now.trees)) (sym (apart t (rows_of t old.now.trees) is)) (subst (IsPermutation (rows_of t old.now.trees)) same (IsPermutation-refl _)),
+          subst (λ rows. IsTrue (are_keyed t rows)) same keyed,
+        )
+
 module _ (table : Table) (listed : Has register_schema.tables table) (old new : State) (monotone : doubt old.is_clean ≤ doubt new.is_clean) where
   -- a row that is written
   pub put_one : is_some table.key ≡ true → (row : Row) → (HasCleanDisk new → Sees register_schema old → PutsRow table row old new)

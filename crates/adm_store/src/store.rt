@@ -25,7 +25,7 @@ use crate::offers::AddOffer;
 use crate::places::{DeletePlace, PutPlace};
 use crate::present::{AddPresent, DeletePresent};
 use crate::rows::{Changes, last_draw};
-use crate::schools::{AddSchool, DeleteSchool};
+use crate::schools::write_schools;
 use crate::season::SetDraws;
 use crate::statement::run_each;
 use crate::to_rows::ToRow;
@@ -210,8 +210,7 @@ fn write_base<S: Alter>(tx: &mut Transaction<'_, S>, changes: &Changes) -> Resul
     ensures writes { OnOk result (Writes (base_writes changes.now) (state S.Store tx.old.conn.now) (state S.Store tx.new.conn.now)) }
     ensures survives { Survives (state S.Store tx.old.conn.now) (state S.Store tx.new.conn.now) (λ _. ⊥) }
 {
-    run_each::<DeleteSchool, S>(tx, changes.replaced.as_slice())?;
-    run_each::<AddSchool, S>(tx, changes.schools.as_slice())?;
+    write_schools(tx, changes.replaced.as_slice(), changes.schools.as_slice())?;
     run_each::<PutChild, S>(tx, changes.children.as_slice())?;
     run_each::<DeleteApplication, S>(tx, changes.ended.as_slice())?;
     run_each::<PutApplication, S>(tx, changes.applications.as_slice())

@@ -4,9 +4,8 @@ use Rattle.adm_store.proofs.store.write_base.Goals as goal
 
 pub returns-clause-writes : goal.returns-clause-writes
 returns-clause-writes g c =
-    let replaced : Ran _ _ _ = record { survives = c.run_each.ensures.survives; leaves = rw c.as_slice.ensures at c.in_ok-run_each.ensures.writes } in
-    let schools : Ran _ _ _ = record { survives = c.run_each-2.ensures.survives; leaves = rw c.as_slice-2.ensures at c.in_ok-run_each-2.ensures.writes } in
-    let children : Ran _ _ _ = record { survives = c.run_each-3.ensures.survives; leaves = rw c.as_slice-3.ensures at c.in_ok-run_each-3.ensures.writes } in
-    let ended : Ran _ _ _ = record { survives = c.run_each-4.ensures.survives; leaves = rw c.as_slice-4.ensures at c.in_ok-run_each-4.ensures.writes } in
-    on_ok c.run_each-5.result _ _ (λ applications. (ran_then (ran_then (ran_then (ran_then replaced schools) children) ended)
-    (record { survives = c.run_each-5.ensures.survives; leaves = rw c.as_slice-5.ensures at applications })).leaves) c.run_each-5.ensures.writes
+    let schools : Ran _ _ _ = record { survives = c.write_schools.ensures.survives; leaves = rw (c.as_slice.ensures, c.as_slice-2.ensures) at c.in_ok-write_schools.ensures.writes } in
+    let children : Ran _ _ _ = record { survives = c.run_each.ensures.survives; leaves = rw c.as_slice-3.ensures at c.in_ok-run_each.ensures.writes } in
+    let ended : Ran _ _ _ = record { survives = c.run_each-2.ensures.survives; leaves = rw c.as_slice-4.ensures at c.in_ok-run_each-2.ensures.writes } in
+    on_ok c.run_each-3.result _ _ (λ applications. (ran_then (ran_then (ran_then schools children) ended)
+    (record { survives = c.run_each-3.ensures.survives; leaves = rw c.as_slice-5.ensures at applications })).leaves) c.run_each-3.ensures.writes
