@@ -1,6 +1,7 @@
 -- What the statements do on the tables of draws, outcomes and lots.
-use Rattle.std.proofs.Common.{◌≡◌, ◌≤◌, ℕ, pos, List, [], ◌∷◌, Option, Some, None, Ok, refl, arith}
-use Rattle.sqlite.specs.declared.types.Value.TheVariants.{Null, Int}
+use Rattle.std.proofs.Common.{◌≡◌, ◌≤◌, ℕ, pos, List, [], ◌∷◌, length, map, Option, Some, None, Ok, refl, arith}
+use Rattle.std.specs.List.{flat_map}
+use Rattle.sqlite.specs.declared.types.Value.TheVariants.{Null, Int, Text}
 use Rattle.sqlite.specs.Cast.{cast_row}
 use Rattle.sqlite.specs.Order.{Row}
 use Rattle.sqlite.specs.Edit.{with_rowid}
@@ -24,8 +25,12 @@ use Rattle.adm_schema.proofs.Texts.{inserts_draw}
 use Rattle.adm_rows.specs.Forms.{truth_code}
 use Rattle.adm_rows.specs.Forms.{school_value}
 use Rattle.adm_rows.specs.DrawForms.{draw_row, offer_row, lot_row}
-use Rattle.adm_store.specs.Writes.{Adds, Writes, write_of}
-use Rattle.adm_store.proofs.LogLemmas.{add_one, add_keyed}
+use Rattle.adm_store.specs.Writes.{RunsText, Adds, Writes, write_of}
+use Rattle.adm_batches.specs.Texts as eight
+use Rattle.adm_batches.proofs.Added.{inserted_all, adds_all}
+use Rattle.adm_batches.proofs.Eights.{given_lots, given_offers}
+use Rattle.adm_batches.proofs.RowTexts.{inserts_lots, inserts_offers}
+use Rattle.adm_store.proofs.LogLemmas.{add_one, add_many, add_keyed}
 
 -- the code of a school that may be none, as a parameter
 pub bound_school : (school : Option (List ℕ)) → bound_value (school_value school) ≡ school_value school
@@ -80,6 +85,18 @@ adds_offer old new count it later ran = add_one offer has_offer old new later re
     (inserted register_schema offer 7 refl refl refl (λ _ _. refl) text.offer_terms 5 text.insert_offer (offer_row it)
     (Null ∷ offer_row it) old new count inserts_offer.0 inserts_offer.1 (given_at it it.outcome.school) (sees early h.1.was_open) h))
 
+-- eight of them
+pub adds_offers : (old new : State) (rows : List OfferRow) → length rows ≡ 8 → doubt old.is_clean ≤ doubt new.is_clean → RunsText eight.insert_offers (flat_map offer_row rows) old new
+    → Writes (write_of Adds offer offer_row rows ∷ []) old new
+adds_offers old new rows long later ran = add_many offer has_offer old new later refl (map offer_row rows) (λ clean sees.
+    let early : HasCleanDisk old = omega (arith, later, clean) in
+    let h = (ran clean).1 in
+    adds_all register_schema offer 7 refl refl refl (λ _ _. refl) (λ it. Null ∷ offer_row it) offer_row rows old new (λ it. shown_at it it.outcome.school)
+    (inserted_all register_schema offer 7 refl refl refl (λ _ _. refl) eight.offers_terms 5 eight.insert_offers (flat_map offer_row rows)
+    (map (λ it. Null ∷ offer_row it) rows) old new (ran clean).0 inserts_offers.0 inserts_offers.1
+    (given_offers (λ (it : OfferRow). Int (pos it.draw)) (λ it. Int (pos it.outcome.child)) (λ it. school_value it.outcome.school) (λ it. Int (pos (truth_code it.outcome.fresh))) rows long)
+    (sees early h.1.was_open) h))
+
 -- ---- lots
 
 shown_lot : (it : LotRow) (rows : List Row) → columns_of lot (with_rowid Chosen rows (cast_row lot (Null ∷ lot_row it))) ≡ lot_row it
@@ -93,3 +110,15 @@ adds_lot old new count it later ran = add_one lot has_lot old new later refl (lo
     adds register_schema lot 8 refl refl refl (λ _ _. refl) old new (Null ∷ lot_row it) (lot_row it) (shown_lot it)
     (inserted register_schema lot 8 refl refl refl (λ _ _. refl) text.lot_terms 5 text.insert_lot (lot_row it)
     (Null ∷ lot_row it) old new count inserts_lot.0 inserts_lot.1 refl (sees early h.1.was_open) h))
+
+-- eight of them
+pub adds_lots : (old new : State) (rows : List LotRow) → length rows ≡ 8 → doubt old.is_clean ≤ doubt new.is_clean → RunsText eight.insert_lots (flat_map lot_row rows) old new
+    → Writes (write_of Adds lot lot_row rows ∷ []) old new
+adds_lots old new rows long later ran = add_many lot has_lot old new later refl (map lot_row rows) (λ clean sees.
+    let early : HasCleanDisk old = omega (arith, later, clean) in
+    let h = (ran clean).1 in
+    adds_all register_schema lot 8 refl refl refl (λ _ _. refl) (λ it. Null ∷ lot_row it) lot_row rows old new shown_lot
+    (inserted_all register_schema lot 8 refl refl refl (λ _ _. refl) eight.lots_terms 5 eight.insert_lots (flat_map lot_row rows)
+    (map (λ it. Null ∷ lot_row it) rows) old new (ran clean).0 inserts_lots.0 inserts_lots.1
+    (given_lots (λ (it : LotRow). Int (pos it.draw)) (λ it. Text it.lot.school) (λ it. Int (pos it.lot.child)) (λ it. Int (pos it.lot.lot)) rows long)
+    (sees early h.1.was_open) h))

@@ -6,6 +6,7 @@ pub mod AddedParts
 pub mod DrawOrder
 pub mod TurnLemmas
 pub mod LoopLemmas
+pub mod LentLemmas
 pub mod LogLemmas
 pub mod LeftByWrites
 pub mod FoundStatements

@@ -10,6 +10,7 @@ mod fault;
 mod found;
 mod imported;
 mod left_list;
+mod lent;
 mod lots;
 mod migration;
 mod offers;

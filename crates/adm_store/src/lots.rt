@@ -3,9 +3,12 @@ ghost use Rattle.adm_schema.specs.Schema.{lot};
 ghost use Rattle.adm_rows.specs.DrawForms.{lot_row};
 ghost use Rattle.adm_store.specs.Writes.{Adds};
 
-use crate::statement::Statement;
+use crate::lent::{Lent, Parameters, run_rows, with_value};
+use crate::statement::{Eights, Statement};
+use adm_batches::texts::insert_lots;
 use adm_schema::tables::draws::insert_lot;
 use adm_types::LotRow;
+use sqlite::types::ToSql;
 use sqlite::{Alter, Error, Transaction, params};
 
 pub(crate) struct AddLot;
@@ -24,5 +27,28 @@ impl Statement for AddLot {
         let child = row.lot.child.get();
         tx.execute(insert_lot(), params![row.draw, school, child, row.lot.lot])?;
         Ok(())
+    }
+}
+
+impl Lent for LotRow {
+    ghost width = { 4 };
+
+    ghost columns = { lot_row };
+
+    fn lend_at<'v>(&'v self, parameters: Parameters<'v>, at: usize) -> Parameters<'v> {
+        let draw = with_value(parameters, at, self.draw.to_sql());
+        let school = with_value(draw, at + 1, self.lot.school.as_str().to_sql());
+        let child = with_value(school, at + 2, self.lot.child.get().to_sql());
+        with_value(child, at + 3, self.lot.lot.to_sql())
+    }
+
+    fn width() -> usize {
+        4
+    }
+}
+
+impl Eights for AddLot {
+    fn run_eight<S: Alter>(tx: &mut Transaction<'_, S>, rows: &[LotRow]) -> Result<(), Error> {
+        run_rows(tx, insert_lots(), rows)
     }
 }

@@ -7,9 +7,12 @@ ghost use Rattle.adm_rows.specs.Forms.{school_value};
 ghost use Rattle.adm_rows.specs.DrawForms.{offer_row};
 ghost use Rattle.adm_store.specs.Writes.{Adds};
 
-use crate::statement::Statement;
+use crate::lent::{Lent, Parameters, run_rows, with_value};
+use crate::statement::{Eights, Statement};
+use adm_batches::texts::insert_offers;
 use adm_schema::tables::draws::insert_offer;
 use adm_types::{OfferRow, SchoolCode};
+use sqlite::types::ToSql;
 use sqlite::{Alter, Error, Transaction, params};
 
 /// The text of the code of a school that may be none.
@@ -41,5 +44,28 @@ impl Statement for AddOffer {
             params![row.draw, child, school, row.outcome.fresh],
         )?;
         Ok(())
+    }
+}
+
+impl Lent for OfferRow {
+    ghost width = { 4 };
+
+    ghost columns = { offer_row };
+
+    fn lend_at<'v>(&'v self, parameters: Parameters<'v>, at: usize) -> Parameters<'v> {
+        let draw = with_value(parameters, at, self.draw.to_sql());
+        let child = with_value(draw, at + 1, self.outcome.child.get().to_sql());
+        let school = with_value(child, at + 2, code_in(&self.outcome.school).to_sql());
+        with_value(school, at + 3, self.outcome.fresh.to_sql())
+    }
+
+    fn width() -> usize {
+        4
+    }
+}
+
+impl Eights for AddOffer {
+    fn run_eight<S: Alter>(tx: &mut Transaction<'_, S>, rows: &[OfferRow]) -> Result<(), Error> {
+        run_rows(tx, insert_offers(), rows)
     }
 }

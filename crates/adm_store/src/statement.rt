@@ -1,5 +1,5 @@
-// Statements that write one row each, run one after another.
-ghost use Rattle.std.specs.Prelude.{◌≡◌, [], ◌∷◌, OnOk};
+// Statements that write one row each, or eight, run one after another.
+ghost use Rattle.std.specs.Prelude.{◌≡◌, [], ◌∷◌, length, OnOk};
 ghost use Rattle.sqlite.specs.Held.{state};
 ghost use Rattle.sqlite.specs.State.{Survives};
 ghost use Rattle.adm_store.specs.Writes.{write_of, Writes};
@@ -41,4 +41,31 @@ pub(crate) fn run_each<W: Statement, S: Alter>(
         W::run(tx, item)?;
     }
     Ok(())
+}
+
+/// A statement that writes one row of a table, and one that writes eight.
+pub(crate) trait Eights: Statement {
+    fn run_eight<S: Alter>(tx: &mut Transaction<'_, S>, items: &[Self::Item]) -> Result<(), Error>
+        requires { length items.now ≡ 8 }
+        ensures same_reference { tx.new.conn.ghost_name ≡ tx.old.conn.ghost_name }
+        ensures writes { OnOk result (Writes (write_of Self.kind Self.table Self.row_of items.now ∷ []) (state S.Store tx.old.conn.now) (state S.Store tx.new.conn.now)) }
+        ensures survives { Survives (state S.Store tx.old.conn.now) (state S.Store tx.new.conn.now) (λ _. ⊥) };
+}
+
+/// Runs the statements for these items: for eight at a time, and for each of the rest. A statement costs much beside a row.
+pub(crate) fn run_all<W: Eights, S: Alter>(
+    tx: &mut Transaction<'_, S>,
+    items: &[W::Item],
+) -> Result<(), Error>
+    ensures same_reference { tx.new.conn.ghost_name ≡ tx.old.conn.ghost_name }
+    ensures writes { OnOk result (Writes (write_of W.kind W.table W.row_of items.now ∷ []) (state S.Store tx.old.conn.now) (state S.Store tx.new.conn.now)) }
+    ensures survives { Survives (state S.Store tx.old.conn.now) (state S.Store tx.new.conn.now) (λ _. ⊥) }
+{
+    let mut rest = items;
+    'eights: while rest.len() >= 8 {
+        let (eight, others) = rest.split_at(8);
+        W::run_eight(tx, eight)?;
+        rest = others;
+    }
+    run_each::<W, S>(tx, rest)
 }

@@ -27,7 +27,7 @@ use crate::present::{AddPresent, DeletePresent};
 use crate::rows::{Changes, last_draw};
 use crate::schools::write_schools;
 use crate::season::SetDraws;
-use crate::statement::run_each;
+use crate::statement::{run_all, run_each};
 use crate::to_rows::ToRow;
 use crate::{CreateFault, Failed, creation};
 use adm_register::Register;
@@ -234,8 +234,8 @@ fn write_draws<S: Alter>(tx: &mut Transaction<'_, S>, changes: &Changes) -> Resu
     ensures survives { Survives (state S.Store tx.old.conn.now) (state S.Store tx.new.conn.now) (λ _. ⊥) }
 {
     run_each::<AddDraw, S>(tx, changes.draws.as_slice())?;
-    run_each::<AddOffer, S>(tx, changes.offers.as_slice())?;
-    run_each::<AddLot, S>(tx, changes.lots.as_slice())?;
+    run_all::<AddOffer, S>(tx, changes.offers.as_slice())?;
+    run_all::<AddLot, S>(tx, changes.lots.as_slice())?;
     run_each::<SetDraws, S>(tx, last_draw(changes.draws.as_slice()))
 }
 
