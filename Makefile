@@ -17,7 +17,8 @@
 #   make bench    the aims for the costs, beside the measured costs, in one table; at most ten minutes once the program is built
 #   make bench-more  the costs of commands in more tables, beside a baseline in the same run
 #   make deploy-check  the deployment (site, desk in its own network, page), on this machine alone; needs nginx, openssl, curl, chromium, sqlite3 and poppler-utils; not in test
-#   make install  the program, the office's scripts, the manual page and the office's pages (docs/DEPLOYMENT.md); PREFIX=/usr/local by default
+#   make install  the proved program that is at bin/admissions (it builds nothing), the office's tools, their manual pages and completions, and the office's
+#                 pages; PREFIX=/usr/local by default, below DESTDIR; deploy/install adds what serves registers (docs/DEPLOYMENT.md)
 PREFIX ?= /usr/local
 PROGRAM ?= bin/admissions
 EXAMPLES := first_path applications season
@@ -90,11 +91,12 @@ bench-more: build
 	bench/season/run bin/admissions
 	bench/match/run.sh
 
-# With bin/admissions as it is there, or another: make deploy-check PROGRAM=..
+# With bin/admissions as it is there, or another: make deploy-check PROGRAM=.. Or with the files of the package that is installed: make deploy-check INSTALLED=yes
 deploy-check:
-	deploy/check $(PROGRAM)
+	deploy/check $(if $(INSTALLED),--installed,$(PROGRAM))
 
-install: build
+install:
+	@[ -x $(PROGRAM) ] || { echo "make install: $(PROGRAM) is not there: type make build, or name the program by PROGRAM=" >&2; exit 2; }
 	install -D -m 755 $(PROGRAM) $(DESTDIR)$(PREFIX)/bin/admissions
 	install -D -m 755 tools/backup $(DESTDIR)$(PREFIX)/bin/admissions-backup
 	install -D -m 755 tools/restore $(DESTDIR)$(PREFIX)/bin/admissions-restore
@@ -110,3 +112,4 @@ install: build
 	install -d $(DESTDIR)$(PREFIX)/share/doc/admissions
 	for page in HANDBOOK ERRORS DEPLOYMENT FORMATS; do install -m 644 docs/$$page.md $(DESTDIR)$(PREFIX)/share/doc/admissions || exit 1; done
 	install -m 644 docs/serving.png $(DESTDIR)$(PREFIX)/share/doc/admissions
+	deploy/manuals $(DESTDIR)$(PREFIX)

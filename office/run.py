@@ -5,7 +5,7 @@ import signal
 import sys
 import time
 
-from register_files import SIGNALS, Refused
+from register_files import SIGNALS, VERSION, Refused
 
 # what takes longer than this is shown on a terminal
 SHOWN_AFTER = 1.0
@@ -14,7 +14,9 @@ PACKAGES = {"jinja2": "python3-jinja2", "weasyprint": "weasyprint", "pydyf": "we
 
 def parser_of(name, text):
     """The reader of a command's arguments; its help is the text of the command's module."""
-    return argparse.ArgumentParser(prog=f"admissions-{name}", description=text, formatter_class=argparse.RawDescriptionHelpFormatter, allow_abbrev=False)
+    reader = argparse.ArgumentParser(prog=f"admissions-{name}", description=text, formatter_class=argparse.RawDescriptionHelpFormatter, allow_abbrev=False)
+    reader.add_argument("--version", action="version", version=f"admissions {VERSION}", help=argparse.SUPPRESS)
+    return reader
 
 
 def stopped(number, _):

@@ -15,6 +15,8 @@ import subprocess
 import sys
 import tempfile
 
+# that of the program and of each command: cases/installed compares them, and deploy/package compares it with CHANGELOG.md
+VERSION = "0.1.0"
 # the bytes of a database file that SQLite and the program lock while they have it open
 LOCK_START, LOCK_LENGTH = 1 << 30, 512
 # a log has 41 bytes after a close that succeeded; one of fewer than 56 bytes has no page
@@ -225,6 +227,9 @@ def run(tool, usage, task):
     """What a tool of two names does: its task returns the line that is printed, or raises what is printed before it ends."""
     os.umask(0o077)
     names = sys.argv[1:]
+    if names == ["--version"]:
+        say(1, f"admissions {VERSION}")
+        return 0
     if len(names) != 2 or not all(names):
         say(2, f"usage: {usage}")
         return 2

@@ -5,7 +5,7 @@ import json
 
 def check(world, see):
     copies = world.room / "copies"
-    nightly = world.root / "usr/local/lib/admissions/nightly"
+    nightly = world.prefix / "lib/admissions/nightly"
     night = lambda keep: world.run(nightly, world.file, copies, keep)
     names = lambda: sorted(path.name for path in copies.iterdir())
     (copies / "before-round-1.db").write_text("another's")

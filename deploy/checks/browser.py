@@ -8,7 +8,7 @@ import select
 import subprocess
 import time
 
-from checks.world import NAME, until
+from checks.world import until
 
 KEYS = {"Tab": (9, ""), "Enter": (13, "\r"), "Escape": (27, ""), " ": (32, " "), "ArrowDown": (40, ""), "ArrowUp": (38, "")}
 # The page reads this machine's calendar: here it is moved to another day
@@ -26,7 +26,7 @@ class Browser:
     of each POST that the page has sent."""
 
     def __init__(self, world, who):
-        self.who, self.password = who, world.passwords.get(who, "")
+        self.who, self.password, self.host = who, world.passwords.get(who, ""), world.host
         self.rule, self.errors, self.posted, self.number, self.rest = None, [], [], 0, b""
         key = world.run("openssl", "x509", "-in", world.certificate, "-pubkey", "-noout").stdout
         raw = base64.b64decode("".join(key.strip().split("\n")[1:-1]))
@@ -37,7 +37,7 @@ class Browser:
         arguments = ["chromium", "--headless=new", "--remote-debugging-pipe", f"--user-data-dir={folder}", "--disable-gpu", "--disable-dev-shm-usage",
             "--no-first-run",
                  "--disable-background-networking", "--disable-component-update", "--disable-extensions", "--lang=en-GB", "--no-proxy-server",
-                 f"--host-resolver-rules=MAP {NAME} 127.0.0.1:{world.site_port}", f"--ignore-certificate-errors-spki-list={pinned}"]
+                 f"--host-resolver-rules=MAP {self.host} 127.0.0.1:{world.site_port}", f"--ignore-certificate-errors-spki-list={pinned}"]
         if os.getuid() == 0:
             arguments.append("--no-sandbox")  # chromium refuses to run as root with one
         with open(world.room / "log/chromium", "a") as log:
@@ -102,7 +102,7 @@ class Browser:
         asked = given["request"]
         if asked["method"] == "POST":
             self.posted.append(asked.get("postData", ""))
-        answer = self.rule and self.rule(asked["method"], asked["url"].partition(NAME)[2])
+        answer = self.rule and self.rule(asked["method"], asked["url"].partition(self.host)[2])
         if answer == "broken":
             self.send("Fetch.failRequest", requestId=given["requestId"], errorReason="ConnectionReset")
         elif answer:
@@ -110,8 +110,8 @@ class Browser:
         else:
             self.send("Fetch.continueRequest", requestId=given["requestId"])
 
-    def open(self, path, host=NAME):
-        self.call("Page.navigate", url=f"https://{host}{path}")
+    def open(self, path):
+        self.call("Page.navigate", url=f"https://{self.host}{path}")
         self.wait("document.readyState === 'complete'")
 
     def value(self, script):
@@ -163,6 +163,6 @@ class Browser:
         path.write_bytes(base64.b64decode(self.call("Page.captureScreenshot", format="png")["data"]))
 
     def nodes(self):
-        """What a screen reader gets: role and name of each node."""
+        """What a screen reader gets: role and name of each node. Blanks around a name are not read."""
         return [(node["role"]["value"], node.get("name", {}).get("value",
-            "")) for node in self.call("Accessibility.getFullAXTree")["nodes"] if not node.get("ignored")]
+            "").strip()) for node in self.call("Accessibility.getFullAXTree")["nodes"] if not node.get("ignored")]

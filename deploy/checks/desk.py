@@ -24,11 +24,9 @@ def check(world, see):
 
 def units(world, see):
     """The units as systemd reads them, with the folders of the room."""
-    folder = world.root / "usr/local/lib/systemd/system"
-    (world.root / "usr/local/bin").mkdir()
-    (world.root / "usr/local/bin/admissions").symlink_to(world.program)
+    folder = world.prefix / "lib/systemd/system"
     for unit in folder.iterdir():
-        unit.write_text(re.sub("=(-?)/usr/local/", rf"=\1{world.root}/usr/local/", unit.read_text()))
+        unit.write_text(re.sub(f"=(-?){world.installation.usr}/(bin|lib/admissions)/", rf"=\1{world.prefix}/\2/", unit.read_text()))
     verified = world.run("systemd-analyze", "verify", *sorted(folder.iterdir()))
     see("systemd accepts the units without a remark", (verified.returncode, verified.stdout + verified.stderr), (0, ""))
 

@@ -1,4 +1,4 @@
-"""The index of a register that deploy/index writes: the days of a season by hand, the data of a child, its rights, and that no old one remains."""
+"""The index of a register that deploy/programs/index writes: the days of a season by hand, the data of a child, its rights, and that no old one remains."""
 
 import json
 import os
@@ -23,7 +23,7 @@ SEASONS = {
 def check(world, see):
     folder, file = world.room / "indexed", world.room / "indexed.db"
     folder.mkdir()
-    index = lambda *given: world.run(world.root / "usr/local/lib/admissions/index", *given)
+    index = lambda *given: world.run(world.prefix / "lib/admissions/index", *given)
     read = lambda: json.loads((folder / "index.json").read_text())
     for number, (season, days) in enumerate(SEASONS.items()):
         world.run("admissions", "init", world.room / f"season-{number}.db", *season)

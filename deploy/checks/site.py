@@ -23,7 +23,7 @@ def check(world, see):
     see("a command of the office is done", (lambda it: (it.status, it.body))(world.ask("/command", "jane", ACCEPT)), (200, '{"done":true}'))
     see("and refused when it is repeated", (lambda it: (it.status, it.body))(world.ask("/command", "jane", ACCEPT)), (409, '{"name":"NotOffered","refused":15}'))
     see("a body in chunks is passed on whole", world.ask("/command", "jane", ACCEPT, options=("--header", "Transfer-Encoding: chunked")).body, '{"name":"NotOffered","refused":15}')
-    passwords = world.root / "etc/admissions/passwords"
+    passwords = world.settings / "passwords"
     passwords.write_text("".join(line for line in passwords.read_text().splitlines(True) if not line.startswith("smith:")))
     see("whose password is removed is signed in no more", world.ask("/child/1", "smith").status, 401)
     log = world.logged()
@@ -102,6 +102,8 @@ def names(world, see):
     context = ssl.create_default_context(cafile=str(world.certificate))
     context.check_hostname = False
     see("another name in TLS", fails(lambda: wrapped(world, context, "evil.example")))
+    plain = world.run("curl", "--silent", "--output", "/dev/null", "--write-out", "%{http_code} %{redirect_url}", "--header", f"Host: {NAME}", f"http://127.0.0.1:{world.plain_port}/child/1")
+    see("plain HTTP leads to the site", plain.stdout, f"301 https://{NAME}/child/1")
     see("no TLS", world.run("curl", "--silent", "--output", "/dev/null", "--write-out", "%{http_code}", f"http://127.0.0.1:{world.site_port}/child/1").stdout, "400")
     old = world.ask("/child/1", "jane", options=("--tlsv1.0", "--tls-max", "1.1", "--ciphers", "DEFAULT:@SECLEVEL=0", "--show-error"))
     see("TLS of an old version is refused by the site", (old.status, "alert protocol version" in old.error), (0, True))

@@ -1,8 +1,10 @@
-"""What the checks run on: a desk in a network of its own, the door to it, and the site before it, all under one folder."""
+"""What the checks run on: a desk in a network of its own, the door to it, and the site before it, all under one folder; and beside it another register."""
 
 import base64
 import os
 import pathlib
+import re
+import shutil
 import signal
 import socket
 import ssl
@@ -13,6 +15,14 @@ HERE = pathlib.Path(__file__).resolve().parent.parent
 NAME = "admissions.example"
 AUTHORITY = "Cyngor Sir Tŷ \"Ddewi\" Council"
 PEOPLE = {"jane": "office;", "alpha": "school-A;", "smith": None}
+# Has the site of a register, or the machine's own part, made by the installed admissions-setup: its folder, then what is called and its arguments
+MAKE_SITE = """
+import pathlib, sys
+sys.path.insert(0, sys.argv[1])
+from machine import sites
+model = pathlib.Path(sys.argv[2]).read_text(encoding="utf-8")
+print(sites.site_text(model, *sys.argv[3:]) if sys.argv[3:] else sites.machine_text(model, (sites.share() / "machine.conf").read_text(encoding="utf-8")))
+"""
 
 REGISTER = r"""
 {"cmd":"add_school","school":"A","name":"Alpha","pan":2,"east":0,"north":0,"criteria":[]}
@@ -55,26 +65,62 @@ def until(what, name, seconds=120):
     raise TimeoutError(f"{name}: not within {seconds} seconds")
 
 
-class World:
-    """The room, and the processes in it, each ended by its own id at the end."""
+class Installation:
+    """The files that are tested, in a folder of their own: those of the repository as make and deploy/install install them, with a program; or without one
+    those of the package that is installed on this machine, as dpkg lists them."""
 
-    def __init__(self, program, room):
-        self.program, self.room, self.processes = str(program), room, []
-        self.root, self.file = room / "root", room / "reg.db"
+    def __init__(self, program, root):
+        self.program, self.root = program, root
+        self.usr = "/usr/local" if program else "/usr"
+        self.prefix = pathlib.Path(f"{root}{self.usr}")
+
+    def make(self):
+        if not self.program:
+            listed = subprocess.run(["dpkg", "-L", "admissions"], text=True, capture_output=True, check=True).stdout.splitlines()
+            for path in map(pathlib.Path, listed):
+                if path.is_file():
+                    (self.root / path.parent.relative_to("/")).mkdir(parents=True, exist_ok=True)
+                    shutil.copy2(path, self.root / path.relative_to("/"), follow_symlinks=False)
+            return
+        for step in (("make", "--silent", "-C", HERE.parent, "install", f"PROGRAM={self.program}"), (HERE / "install",)):
+            made = subprocess.run([str(it) for it in step], env={**os.environ, "DESTDIR": str(self.root), "PREFIX": self.usr}, text=True, capture_output=True, check=False)
+            if made.returncode != 0:
+                raise RuntimeError(made.stdout + made.stderr)
+
+    def site(self, *named):
+        """The site of a register by its name and host, or the machine's own part."""
+        model = self.root / "etc/nginx/sites-available/admissions"
+        made = subprocess.run(["/usr/bin/python3", "-B", "-c", MAKE_SITE, self.prefix / "share/admissions", model, *named], text=True, capture_output=True, check=False)
+        if made.returncode:
+            raise RuntimeError(made.stderr)
+        return made.stdout
+
+
+class World:
+    """The room of a register, and the processes in it, each ended by its own id at the end. `beside` are the worlds of other registers, whose sites are
+    before the same nginx."""
+
+    def __init__(self, installation, room, name="secondary-2025", host=NAME, lines=REGISTER, people=None):
+        self.installation, self.room, self.processes, self.beside = installation, room, [], []
+        self.name, self.host, self.lines, self.people = name, host, lines, people or PEOPLE
+        self.root, self.prefix, self.file, self.settings = installation.root, installation.prefix, room / "reg.db", room / "settings"
         self.site_port, self.desk_port = None, free_port()  # the desk's port is in a network of its own
-        for folder in ("run", "log", "copies", "temp", "index", "downloads"):
-            (room / folder).mkdir()
-        self.passwords = {name: os.urandom(9).hex() for name in PEOPLE}
-        self.environment = {**os.environ, "PATH": f"{room}/bin:/usr/sbin:/sbin:{os.environ['PATH']}", "no_proxy": "*", "HOME": str(room)}
+        for folder in ("run", "log", "copies", "temp", "index", "downloads", "settings"):
+            (room / folder).mkdir(parents=True)
+        self.passwords = {name: os.urandom(9).hex() for name in self.people}
+        self.environment = {**os.environ, "PATH": f"{self.prefix}/bin:/usr/sbin:/sbin:{os.environ['PATH']}", "no_proxy": "*", "HOME": str(room)}
 
     def start(self):
-        self.install()
-        self.make_register(self.file, REGISTER.lstrip())
-        self.make_certificate()
-        self.make_people()
-        self.hold_network()
-        self.start_desk()
-        self.start_door()
+        """Starts all but the site, for this register and those beside it, and then the site."""
+        self.installation.make()
+        (self.root / "etc/admissions/authority").write_text(f"{AUTHORITY}\n")
+        for world in (self, *self.beside):
+            world.make_register(world.file, world.lines.lstrip())
+            world.make_certificate()
+            world.make_people()
+            world.hold_network()
+            world.start_desk()
+            world.start_door()
         self.start_site()
 
     def run(self, *arguments, input="", **more):
@@ -98,39 +144,29 @@ class World:
         process.wait()
 
     def end_all(self):
+        for world in self.beside:
+            world.end_all()
         for process in reversed(self.processes):
             self.end(process)
 
-    def install(self):
-        """What deploy/install installs, under the room; the program and its scripts as an install names them."""
-        made = self.run("env", f"DESTDIR={self.root}", HERE / "install")
-        if made.returncode != 0:
-            raise RuntimeError(made.stderr)
-        (self.room / "bin").mkdir()
-        (self.room / "bin/admissions").symlink_to(self.program)
-        for script in ("backup", "restore", "lots", "audit"):
-            (self.room / f"bin/admissions-{script}").symlink_to(HERE.parent / "tools" / script)
-
     def make_register(self, file, lines):
-        made = self.run("admissions", "init", file, "secondary", "2025")
+        made = self.run("admissions", "init", file, *self.name.split("-"))
         done = self.run("admissions", "do", file, input=lines)
         if made.returncode or done.returncode:
             raise RuntimeError(f"the register could not be made: {made.stderr}{done.stdout}{done.stderr}")
 
     def make_certificate(self):
         for name in ("site", "other"):
-            at = self.root / "etc/admissions" / name
-            self.run("openssl", "req", "-x509", "-newkey", "ec", "-pkeyopt", "ec_paramgen_curve:P-256", "-nodes", "-days", "2", "-subj", f"/CN={NAME}",
-                     "-addext", f"subjectAltName=DNS:{NAME}", "-keyout", f"{at}.key", "-out", f"{at}.crt")
-        self.certificate = self.root / "etc/admissions/site.crt"
+            at = self.settings / name
+            self.run("openssl", "req", "-x509", "-newkey", "ec", "-pkeyopt", "ec_paramgen_curve:P-256", "-nodes", "-days", "2", "-subj", f"/CN={self.host}",
+                     "-addext", f"subjectAltName=DNS:{self.host}", "-keyout", f"{at}.key", "-out", f"{at}.crt")
+        self.certificate = self.settings / "site.crt"
 
     def make_people(self):
-        folder = self.root / "etc/admissions"
         hash_of = ("perl", "-e", 'print crypt($ARGV[0], "\\$6\\$rounds=1000\\$$ARGV[1]")')
         hashed = {name: self.run(*hash_of, password, os.urandom(8).hex()).stdout for name, password in self.passwords.items()}
-        (folder / "passwords").write_text("".join(f"{name}:{text}\n" for name, text in hashed.items()))
-        (folder / "authority").write_text(f"{AUTHORITY}\n")
-        (folder / "roles").write_text("".join(f"{name} {role}\n" for name, role in PEOPLE.items() if role))
+        (self.settings / "passwords").write_text("".join(f"{name}:{text}\n" for name, text in hashed.items()))
+        (self.settings / "roles").write_text("".join(f"{name} {role}\n" for name, role in self.people.items() if role))
 
     def hold_network(self):
         """A network namespace as PrivateNetwork= makes one. In a user namespace of its own, so that no privilege is needed."""
@@ -144,7 +180,7 @@ class World:
     def write_index(self):
         """As the unit of the desk does before each start, after the log is merged."""
         self.run("admissions", "do", self.file)
-        return self.run(self.root / "usr/local/lib/admissions/index", self.file, self.room / "index")
+        return self.run(self.prefix / "lib/admissions/index", self.file, self.room / "index")
 
     def start_desk(self):
         self.write_index()
@@ -166,16 +202,20 @@ class World:
         return sum(row[1].endswith(f":{self.desk_port:04X}") and row[3] == "01" and not row[4].endswith(":00000000") for row in rows)
 
     def start_door(self):
-        self.door = self.spawn(*self.inside("systemd-socket-activate", f"--listen={self.room}/run/desk.sock",
+        """The door, with as many files as its unit allows."""
+        limit = re.search(r"(?m)^LimitNOFILE=(\d+)$", (self.prefix / "lib/systemd/system/admissions-door@.service").read_text())[1]
+        self.door = self.spawn(*self.inside("prlimit", f"--nofile={limit}", "systemd-socket-activate", f"--listen={self.room}/run/desk.sock",
                                             "/lib/systemd/systemd-socket-proxyd", "--connections-max=300", f"127.0.0.1:{self.desk_port}"), log="door")
         until((self.room / "run/desk.sock").exists, "the door")
 
     def start_site(self):
-        """The site as it is installed, but with the folders and the port of the room. If another process took the port meanwhile, nginx
-        ends, and another port is tried."""
+        """The sites as they are installed, but with the folders of the rooms, and other ports. If another process took a port meanwhile, nginx
+        ends, and others are tried."""
         for _ in range(10):
-            self.site_port = free_port()
-            self.write_site()
+            self.site_port, self.plain_port = free_port(), free_port()
+            for world in self.beside:
+                world.site_port = self.site_port
+            self.write_sites()
             self.tested = self.run("nginx", "-t", "-c", self.room / "nginx.conf", "-e", self.room / "log/nginx")
             self.site = self.spawn("nginx", "-c", self.room / "nginx.conf", "-e", self.room / "log/nginx", log="nginx")
             until(lambda: self.site.poll() is not None or self.ask("/").status, "the site")
@@ -183,35 +223,38 @@ class World:
                 return
         raise RuntimeError((self.room / "log/nginx").read_text())
 
-    def write_site(self):
-        text = (self.root / "etc/nginx/sites-available/admissions").read_text()
-        for old, new in (("/etc/admissions", f"{self.root}/etc/admissions"), ("/run/admissions-index", f"{self.room}/index"),
-            ("/run/admissions", f"{self.room}/run"), ("/var/log/admissions", f"{self.room}/log"),
-                         ("/usr/local/share", f"{self.root}/usr/local/share"), ("listen 443", f"listen 127.0.0.1:{self.site_port}")):
-            if old not in text:
-                raise RuntimeError(f"the site does not name {old}")
-            text = text.replace(old, new)
-        (self.room / "site.conf").write_text(text)
+    def site_text(self):
+        """The site as admissions-setup makes it."""
+        usr = self.installation.usr
+        return replaced(self.installation.site(self.name, self.host), (
+            (f"/etc/admissions/{self.name}", f"{self.settings}"), ("root /etc/admissions;", f"root {self.root}/etc/admissions;"),
+            (f"/run/admissions-index/{self.name}", f"{self.room}/index"), (f"/run/admissions/{self.name}.sock", f"{self.room}/run/desk.sock"),
+            (f"/var/log/admissions/{self.name}", f"{self.room}/log"), (f"{usr}/share", f"{self.root}{usr}/share"), ("listen 443", f"listen 127.0.0.1:{self.site_port}")))
+
+    def write_sites(self):
+        machine = replaced(self.installation.site(), (("listen 443", f"listen 127.0.0.1:{self.site_port}"), ("listen 80", f"listen 127.0.0.1:{self.plain_port}")))
+        (self.room / "site.conf").write_text(machine + "".join(world.site_text() for world in (self, *self.beside)))
         temp = "".join(f"{kind}_temp_path {self.room}/temp/{kind};\n" for kind in ("client_body", "proxy", "fastcgi", "uwsgi", "scgi"))
         user = "user root;" if os.getuid() == 0 else ""
         (self.room / "nginx.conf").write_text(f"{user} daemon off; worker_processes 2; pid {self.room}/run/nginx.pid; error_log {self.room}/log/nginx;\n"
                                               f"events {{ worker_connections 768; }}\nhttp {{ include /etc/nginx/mime.types; {temp} include {self.room}/site.conf; }}\n")
 
-    def ask(self, path, who=None, body=None, origin=f"https://{NAME}", kind="application/json", password=None, options=()):
-        """What curl gets, with the site's own name mapped to the port of the room."""
-        arguments = ["curl", "--silent", "--cacert", self.certificate, "--connect-to", f"{NAME}:443:127.0.0.1:{self.site_port}", "--path-as-is",
+    def ask(self, path, who=None, body=None, origin=True, kind="application/json", password=None, options=()):
+        """What curl gets, with the site's own name mapped to the port of the room, and by default as from a page of the site."""
+        origin = f"https://{self.host}" if origin is True else origin
+        arguments = ["curl", "--silent", "--cacert", self.certificate, "--connect-to", f"{self.host}:443:127.0.0.1:{self.site_port}", "--path-as-is",
                  "--write-out", "\n%{http_code}", "--max-time", "150", "--dump-header", "-"]
         if who:
             arguments += ["--user", f"{who}:{password or self.passwords[who]}"]
         if body is not None:
             arguments += ["--data-binary", body, "--header", f"Content-Type: {kind}"]
             arguments += ["--header", f"Origin: {origin}"] if origin else []
-        return Answer(self.run(*arguments, *options, f"https://{NAME}{path}"))
+        return Answer(self.run(*arguments, *options, f"https://{self.host}{path}"))
 
     def connect(self):
         """A bare TLS connection to the site."""
         context = ssl.create_default_context(cafile=str(self.certificate))
-        return context.wrap_socket(self.knock(), server_hostname=NAME)
+        return context.wrap_socket(self.knock(), server_hostname=self.host)
 
     def knock(self):
         """A connection to the site's port, before TLS."""
@@ -223,6 +266,15 @@ class World:
 
     def logged(self):
         return (self.room / "log/asked.log").read_text()
+
+
+def replaced(text, pairs):
+    """A text with texts of it, which must be there, replaced."""
+    for old, new in pairs:
+        if old not in text:
+            raise RuntimeError(f"the site does not name {old}")
+        text = text.replace(old, new)
+    return text
 
 
 class Answer:

@@ -1,0 +1,1 @@
+"""What keeps registers on a machine: setting up, second copies, restore drills, status."""

@@ -1,0 +1,66 @@
+"""The key and the certificate of a site, and the request for one."""
+import datetime
+
+from . import files
+from .run import Failed, call, tool
+
+DAYS_OF_TRIAL = 90
+
+
+def openssl(*arguments, **more):
+    return call(tool("openssl", "openssl"), *arguments, **more)
+
+
+def paths(register):
+    return register.settings / "site.key", register.settings / "site.crt", register.settings / "site.csr"
+
+
+def make(register, host):
+    """Makes what is missing of a key, a request for a certificate, and a certificate that the key itself signs. Returns a line for each."""
+    key, certificate, request = paths(register)
+    name = ("-subj", f"/CN={host}", "-addext", f"subjectAltName=DNS:{host}")
+    lines = []
+    if not key.exists():
+        files.write(key, openssl("genpkey", "-algorithm", "EC", "-pkeyopt", "ec_paramgen_curve:P-256").stdout, 0o600)
+        lines.append(f"made the key {key}")
+    if not request.exists():
+        files.write(request, openssl("req", "-new", "-key", key, *name).stdout, 0o644)
+        lines.append(f"made the request {request}: let an authority sign it")
+    if not certificate.exists():
+        files.write(certificate, openssl("req", "-x509", "-key", key, "-days", str(DAYS_OF_TRIAL), *name).stdout, 0o644)
+        lines.append(f"made the certificate {certificate}, for a trial of {DAYS_OF_TRIAL} days")
+    return lines
+
+
+def warning(register):
+    """One line where browsers will not trust the certificate."""
+    key, certificate, request = paths(register)
+    if not is_self_signed(certificate):
+        return None
+    return f"WARNING: no authority has signed {certificate}, so browsers warn of the site. Let one sign {request}, and put its answer there; the key is {key}"
+
+
+def is_self_signed(certificate):
+    names = openssl("x509", "-in", certificate, "-noout", "-subject", "-issuer", "-nameopt", "RFC2253").stdout.splitlines()
+    return len({line.partition("=")[2] for line in names}) == 1
+
+
+def take(register, certificate, key):
+    """Takes a certificate and its key from files. Returns whether they are others than before."""
+    with open(certificate, encoding="ascii") as one, open(key, encoding="ascii") as other:
+        texts = one.read(), other.read()
+    if public_key("x509", "-pubkey", "-noout", "-in", certificate) != public_key("pkey", "-pubout", "-in", key):
+        raise Failed(f"{certificate} is not of the key {key}")
+    to_key, to_certificate, _ = paths(register)
+    return any([files.write(to_certificate, texts[0], 0o644), files.write(to_key, texts[1], 0o600)])
+
+
+def public_key(*arguments):
+    return openssl(*arguments).stdout.strip()
+
+
+def days_left(certificate):
+    """How many whole days a certificate is still valid, negative after its end."""
+    text = openssl("x509", "-in", certificate, "-noout", "-enddate", "-dateopt", "iso_8601").stdout.strip().partition("=")[2]
+    end = datetime.datetime.strptime(text, "%Y-%m-%d %H:%M:%SZ").replace(tzinfo=datetime.timezone.utc)
+    return (end - datetime.datetime.now(datetime.timezone.utc)).days

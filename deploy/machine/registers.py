@@ -1,0 +1,108 @@
+"""The registers of this machine, and where the files of each are."""
+import dataclasses
+import pathlib
+import re
+import sqlite3
+import urllib.parse
+
+from .run import Failed, call, program
+
+NAME = re.compile("[a-z0-9]([a-z0-9-]{0,38}[a-z0-9])?")
+PHASES = {1: "primary", 2: "secondary"}
+REGISTERS, COPIES = pathlib.Path("/var/lib/admissions"), pathlib.Path("/var/backups/admissions")
+SETTINGS, LOGS = pathlib.Path("/etc/admissions"), pathlib.Path("/var/log/admissions")
+NIGHTLY = "nightly-????-??-??T??????.db"
+
+
+@dataclasses.dataclass(frozen=True)
+class Register:
+    """A register by its name, which names its units and folders."""
+
+    name: str
+
+    @property
+    def folder(self):
+        return REGISTERS / self.name
+
+    @property
+    def file(self):
+        return self.folder / "reg.db"
+
+    @property
+    def copies(self):
+        return COPIES / self.name
+
+    @property
+    def settings(self):
+        return SETTINGS / self.name
+
+    @property
+    def logs(self):
+        return LOGS / self.name
+
+    @property
+    def socket(self):
+        return pathlib.Path(f"/run/admissions/{self.name}.sock")
+
+    @property
+    def index(self):
+        """The folder of its index, for the page."""
+        return pathlib.Path("/run/admissions-index", self.name)
+
+    @property
+    def host(self):
+        """The name of its site, or None."""
+        try:
+            return (self.settings / "site-name").read_text(encoding="utf-8").strip() or None
+        except FileNotFoundError:
+            return None
+
+    def nightly_copies(self):
+        """Its nightly copies, the oldest first: their names are in the order of time."""
+        return sorted(self.copies.glob(NIGHTLY))
+
+
+@dataclasses.dataclass(frozen=True)
+class Season:
+    """What the file of a register says of itself."""
+
+    phase: str
+    year: int
+    version: int
+
+
+def named(name):
+    if not NAME.fullmatch(name):
+        raise Failed(f"{name!r} is no name of a register: 1 to 40 small letters, digits and hyphens, and no hyphen at either end", 2)
+    return Register(name)
+
+
+def all_registers():
+    """Those that have a file here, by name."""
+    found = sorted(REGISTERS.glob("*/reg.db")) if REGISTERS.is_dir() else []
+    return [Register(it.parent.name) for it in found if NAME.fullmatch(it.parent.name)]
+
+
+def rows(file, query):
+    """What a query reads from a file as it is: without its log, and nothing is left beside it."""
+    try:
+        with_file = sqlite3.connect(f"file:{urllib.parse.quote(str(file))}?mode=ro&immutable=1", uri=True)
+        try:
+            return with_file.execute(query).fetchall()
+        finally:
+            with_file.close()
+    except sqlite3.Error as error:
+        raise Failed(f"{file} cannot be read as a register: {error}") from error
+
+
+def season_of(file):
+    found = rows(file, "SELECT phase, year, version FROM meta")
+    if len(found) != 1 or found[0][0] not in PHASES:
+        raise Failed(f"{file} is no register")
+    return Season(PHASES[found[0][0]], found[0][1], found[0][2])
+
+
+def open_error(file, as_user=None):
+    """What the program prints if it does not open a file; an empty text where it does. It merges the log."""
+    done = call(program("admissions"), "do", file, as_user=as_user, may_fail=True)
+    return "" if done.returncode == 0 else ", ".join((done.stderr + done.stdout).splitlines()) or f"status {done.returncode}"
