@@ -19,13 +19,15 @@
 #   make deploy-check  the deployment (site, desk in its own network, page), on this machine alone; needs nginx, openssl, curl, chromium, sqlite3 and poppler-utils; not in test
 #   make install  the proved program that is at bin/admissions (it builds nothing), the office's tools, their manual pages and completions, and the office's
 #                 pages; PREFIX=/usr/local by default, below DESTDIR; deploy/install adds what serves registers (docs/DEPLOYMENT.md)
+#   make package  a Debian package of that program, at out/package, with its manifest, SBOM and SHA-256; builds it twice, which must give equal bytes; needs
+#                 debhelper and lintian
 PREFIX ?= /usr/local
 PROGRAM ?= bin/admissions
 EXAMPLES := first_path applications season
 
 LOOKED_AT := $(addprefix examples/applications/,schools.jsonl children.jsonl applications.jsonl)
 
-.PHONY: look build demo cases test reference mutants sweep refusals killed-opens audits races costs bench bench-more deploy-check install needs-demo needs-cases needs-sweep needs-refusals needs-office office
+.PHONY: look build demo cases test reference mutants sweep refusals killed-opens audits races costs bench bench-more deploy-check install package needs-demo needs-cases needs-sweep needs-refusals needs-office office
 
 look:
 	@tools/needs look
@@ -113,3 +115,7 @@ install:
 	for page in HANDBOOK ERRORS DEPLOYMENT FORMATS; do install -m 644 docs/$$page.md $(DESTDIR)$(PREFIX)/share/doc/admissions || exit 1; done
 	install -m 644 docs/serving.png $(DESTDIR)$(PREFIX)/share/doc/admissions
 	deploy/manuals $(DESTDIR)$(PREFIX)
+
+# From the proved program as it is there, and the commit that is checked out
+package:
+	deploy/package $(PROGRAM)
