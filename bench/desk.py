@@ -67,16 +67,21 @@ def register(program, room, name, commands):
     return file
 
 
-def whole(program, file, commands):
-    """Wall-clock and CPU seconds for one run over these commands, from its start to its end. Each must be done."""
-    given = lines(commands)
+def spent_by(arguments, given=b""):
+    """Wall-clock and CPU seconds for one process, and what it printed."""
     before = resource.getrusage(resource.RUSAGE_CHILDREN)
     start = time.perf_counter()
-    ran = subprocess.run([program, "do", file], input=given, stdout=subprocess.PIPE, check=True)
+    ran = subprocess.run(arguments, input=given, stdout=subprocess.PIPE, check=True)
     seconds = time.perf_counter() - start
     after = resource.getrusage(resource.RUSAGE_CHILDREN)
-    are_done(commands, ran.stdout.decode().splitlines())
-    return seconds, after.ru_utime + after.ru_stime - before.ru_utime - before.ru_stime
+    return (seconds, after.ru_utime + after.ru_stime - before.ru_utime - before.ru_stime), ran.stdout
+
+
+def whole(program, file, commands):
+    """Wall-clock and CPU seconds for one run over these commands, from its start to its end. Each must be done."""
+    cost, printed = spent_by([program, "do", file], lines(commands))
+    are_done(commands, printed.decode().splitlines())
+    return cost
 
 
 def database(room, tables):
@@ -119,6 +124,12 @@ def rows_of(file, tables):
     """The rows of these tables of a file, in lists by the tables' names."""
     with contextlib.closing(sqlite3.connect(file)) as conn:
         return {table: conn.execute(f"SELECT * FROM {table}").fetchall() for table in tables}
+
+
+def tables_of(file, tables):
+    """The texts that make these tables, by their names."""
+    with contextlib.closing(sqlite3.connect(file)) as conn:
+        return dict(conn.execute(f"SELECT name, sql FROM sqlite_schema WHERE name IN ({', '.join('?' * len(tables))})", tables))
 
 
 def at_once(room, tables, rows):

@@ -1,4 +1,7 @@
 """The schools, children, applications and rounds of the scripts of bench/, and the same rows as statements of SQL."""
+import csv
+import os
+import random
 
 # ---- schools with three criteria each: bench/first_path
 
@@ -34,7 +37,7 @@ def raises_written(numbers):
     return [(RAISE, (31, f"S{n}")) for n in numbers]
 
 
-# ---- children and their applications: bench/applications and bench/profile
+# ---- children and their applications: bench/applications and bench/aims
 
 COUNT = 2000
 SCHOOLS = 20
@@ -127,6 +130,26 @@ def lots(count, chance):
 
 def a_round(draw, drawn):
     return {"cmd": "round", "draw": draw, "day": FIRST_ROUND, "lots": drawn}
+
+
+# ---- a file of applications: bench/imports
+
+COLUMNS = "child,name,east,north,looked_after,flags,siblings,day,preferences".split(",")
+IMPORT_TABLES = ("child", "application", "imported")
+
+
+def applications_file(room, count):
+    """A file of so many rows, for a register of the 200 schools of `season`."""
+    chance = random.Random(1962)
+    codes = [f"S{n:03}" for n in range(200)]
+    file = os.path.join(room, f"rows-{count}.csv")
+    with open(file, "w", encoding="utf-8", newline="") as out:
+        rows = csv.writer(out, lineterminator="\n")
+        rows.writerow(COLUMNS)
+        for child in range(1, count + 1):
+            preferences = ";".join(chance.sample(codes, 6))
+            rows.writerow([child, f"Child {child}", chance.randrange(50000), chance.randrange(50000), "no", "2;5", chance.choice(codes), "2024-10-31", preferences])
+    return file
 
 
 # ---- a town that is queried over HTTP: bench/http
