@@ -3,6 +3,7 @@ pub mod ResponseLemmas
 pub mod ReadingLemmas
 pub mod StepLemmas
 pub mod RowLemmas
+pub mod ConnectionLemmas
 pub mod FindLemmas
 pub mod WalkLemmas
 pub mod FormLemmas

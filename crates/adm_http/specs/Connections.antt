@@ -1,12 +1,95 @@
--- What serving connections, one after the other, leaves, and what is printed of an error.
-use Rattle.std.specs.Prelude.{◌≡◌, ℕ, zero, suc, ◌⊎◌, List, codes}
+-- What serving connections, one after the other, answers, leaves and prints.
+use Rattle.std.specs.Prelude.{◌≡◌, ℕ, zero, suc, ◌⊎◌, Bool, true, false, List, [], ◌∷◌, ◌++◌, codes, Option, None, Some, Result, Ok, Err, ⊤}
+use Rattle.std.specs.Io.KnownBytes.{Appends}
 use Rattle.adm_desk.specs.declared.answer.LineAnswer.{LineAnswer}
+use Rattle.adm_wire.specs.declared.streams.Output as output
+use Rattle.adm_http.specs.Reading.{Served}
 use Rattle.adm_http.specs.Responses.{Responds}
 use Rattle.adm_http.specs.declared.routes.Purpose.{Purpose}
 use Rattle.adm_http.specs.declared.routes.Resource.{Resource}
 use Rattle.adm_http.specs.declared.request_handler.Shown.{Shown}
 use Rattle.adm_http.specs.declared.serve.ServeFault.{ServeFault}
 use Rattle.adm_http.specs.declared.serve.ServeFault.TheVariants.{Read, Write, Memory}
+
+-- the bytes of each connection that is still to be taken, in this order; what was written to each that was taken and ended; and whether one is taken and not ended
+pub record Traffic : Type 0 where
+  pub coming : List (List ℕ)
+  pub answered : List (List ℕ)
+  pub is_open : Bool
+
+-- no connection is taken and not ended
+abbrev pub IsIdle : Option Traffic → Type 0
+IsIdle None = ⊤
+IsIdle (Some t) = t.is_open ≡ false
+
+-- one connection is taken and not ended
+abbrev pub IsOpen : Option Traffic → Type 0
+IsOpen None = ⊤
+IsOpen (Some t) = t.is_open ≡ true
+
+-- the first connection that comes is taken, with these bytes; or none is, where none comes
+abbrev pub Takes : Option Traffic → Option Traffic → Option (Option (List ℕ)) → Type 0
+Takes None new taken = new ≡ None
+Takes (Some t) None taken = ⊥
+Takes (Some t) (Some new) None = (t.coming ≡ []) × (new ≡ t)
+Takes (Some t) (Some new) (Some unread) =
+    (bytes : List ℕ) × (unread ≡ Some bytes) × (t.coming ≡ bytes ∷ new.coming) × (new.answered ≡ t.answered) × (new.is_open ≡ true)
+
+-- the connection that was taken is ended, and this was written to it
+abbrev pub Ends : Option Traffic → Option Traffic → List ℕ → Type 0
+Ends None new written = new ≡ None
+Ends (Some t) None written = ⊥
+Ends (Some t) (Some new) written = (new.coming ≡ t.coming) × (new.answered ≡ t.answered ++ written ∷ []) × (new.is_open ≡ false)
+
+-- the first connection that comes, with these bytes, was taken and ended, and this was written to it
+abbrev pub Exchanges : Option Traffic → Option Traffic → Option (List ℕ) → List ℕ → Type 0
+Exchanges None new unread written = new ≡ None
+Exchanges (Some t) None unread written = ⊥
+Exchanges (Some t) (Some new) unread written =
+    (bytes : List ℕ) × (unread ≡ Some bytes) × (t.coming ≡ bytes ∷ new.coming) × (new.answered ≡ t.answered ++ written ∷ []) × (new.is_open ≡ false)
+
+-- what a writer of errors holds, where it is known, and whether it has failed
+pub record Errors : Type 0 where
+  pub printed : Option (List ℕ)
+  pub has_failed : Bool
+
+-- the same of a writer
+abbrev pub errors_of : {E : Type 0} → output.Ghosts E → E → Errors
+errors_of g writer = record { printed = g.contents writer; has_failed = g.has_failed writer }
+
+-- unless the writer has failed by then, exactly this was printed
+abbrev pub Prints : Errors → Errors → List ℕ → Type 0
+Prints old new text = new.has_failed ≡ false → (old.has_failed ≡ false) × Appends old.printed new.printed text
+
+-- what is printed of so many accepts that failed
+abbrev pub accept_lines : ℕ → List ℕ
+accept_lines zero = []
+accept_lines (suc n) = accept_lines n ++ codes "fault: Accept\n"
+
+-- accepts that failed are printed, and nothing else
+abbrev pub PrintsAccepts : Errors → Errors → Type 0
+PrintsAccepts old new = (n : ℕ) × Prints old new (accept_lines n)
+
+-- what is printed of a connection's error
+abbrev pub connection_fault_line : ServeFault → List ℕ
+connection_fault_line Read = codes "fault: Read\n"
+connection_fault_line Write = codes "fault: Write\n"
+connection_fault_line Memory = codes "fault: Memory\n"
+
+-- the same of how a connection ended
+abbrev pub outcome_line : Result ℕ ServeFault → List ℕ
+outcome_line (Ok n) = []
+outcome_line (Err fault) = connection_fault_line fault
+
+-- the desk, the connections and the writer of errors between two turns
+pub record Moment (S : Type 0) : Type 0 where
+  pub desk : S
+  pub traffic : Option Traffic
+  pub errors : Errors
+
+-- the same of a desk, of connections and of a writer of errors
+abbrev pub moment : {S E : Type 0} → output.Ghosts E → S → Option Traffic → E → Moment S
+moment g desk traffic writer = record { desk = desk; traffic = traffic; errors = errors_of g writer }
 
 module _ {S : Type 0} (runs : Purpose → S → List ℕ → LineAnswer → S → Type 0) (shows : S → Resource → Shown → Type 0) where
   -- one request was answered, or none
@@ -18,8 +101,35 @@ module _ {S : Type 0} (runs : Purpose → S → List ℕ → LineAnswer → S �
   AnswersUpTo zero old new = new ≡ old
   AnswersUpTo (suc n) old new = (mid : S) × AnswersUpTo n old mid × AnswersOne mid new
 
--- what is printed of a connection's error
-abbrev pub connection_fault_line : ServeFault → List ℕ
-connection_fault_line Read = codes "fault: Read\n"
-connection_fault_line Write = codes "fault: Write\n"
-connection_fault_line Memory = codes "fault: Memory\n"
+  -- a turn to which no connection came: the desk is as it was
+  pub record ServesNone (old new : Moment S) : Type 0 where
+    pub none : Takes old.traffic new.traffic None
+    pub desk : new.desk ≡ old.desk
+    pub printed : PrintsAccepts old.errors new.errors
+
+  -- the turn of a connection: its own bytes were read and answered to it, and its error is printed
+  pub record ServesOne (old new : Moment S) : Type 0 where
+    pub unread : Option (List ℕ)
+    pub left : Option (List ℕ)
+    pub written : List ℕ
+    pub result : Result ℕ ServeFault
+    pub exchanged : Exchanges old.traffic new.traffic unread written
+    pub served : Served runs shows old.desk new.desk unread left (Some []) (Some written) result
+    pub failed : ℕ
+    pub printed : Prints old.errors new.errors (accept_lines failed ++ outcome_line result)
+
+  -- one turn
+  abbrev pub ServesTurn : Moment S → Moment S → Type 0
+  ServesTurn old new = ServesNone old new ⊎ ServesOne old new
+
+  -- so many turns, one after another
+  abbrev pub ServesEach : ℕ → Moment S → Moment S → Type 0
+  ServesEach zero old new = new ≡ old
+  ServesEach (suc n) old new = (mid : Moment S) × ServesEach n old mid × ServesTurn mid new
+
+  -- ---- for a private clause
+
+  -- a request of these bytes was answered to the connection that is open, which was ended
+  abbrev pub ServesOpen : S → S → Option Traffic → Option Traffic → Option (List ℕ) → Result ℕ ServeFault → Type 0
+  ServesOpen old new before after unread result =
+      (left : Option (List ℕ)) × (written : List ℕ) × Served runs shows old new unread left (Some []) (Some written) result × Ends before after written

@@ -89,6 +89,19 @@ is_write_fault (Err Memory) = false
 
 -- ---- for a private clause
 
+module _ {S : Type 0} (runs : Purpose → S → List ℕ → LineAnswer → S → Type 0) (shows : S → Resource → Shown → Type 0) where
+  -- a request was read, and these are the bytes of its response
+  abbrev pub IsAnswered : S → S → Option (List ℕ) → Option (List ℕ) → List ℕ → Type 0
+  IsAnswered old new unread left output = (got : List ℕ) × HasRead unread left got × Responds runs shows old got output new
+
+  -- there is no response, for this cause
+  abbrev pub IsUnanswered : S → S → Option (List ℕ) → Option (List ℕ) → ServeFault → Type 0
+  IsUnanswered old new unread left Read = (got : List ℕ) × HasReadSome unread left got × (new ≡ old)
+  IsUnanswered old new unread left Write = ⊥
+  IsUnanswered old new unread left Memory =
+      (got : List ℕ) × HasReadSome unread left got
+      × ((new ≡ old) ⊎ ((output : List ℕ) × HasRead unread left got × Responds runs shows old got output new))
+
 -- the bytes may be judged as not settled
 abbrev pub MayNeedMore : List ℕ → Type 0
 MayNeedMore bytes = (judgement : Judgement) × IsJudgement bytes judgement × ¬ (IsSettled bytes judgement)

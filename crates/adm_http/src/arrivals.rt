@@ -1,8 +1,10 @@
 // Connections that were accepted and wait together for their turn.
 ghost use Rattle.std.specs.Prelude.{◌<◌, IfSome, vec_len};
+ghost use Rattle.adm_http.specs.Connections.{PrintsAccepts, errors_of};
 
+use adm_wire::Output;
 use std::alloc::Global;
-use std::io::{ErrorKind, Write};
+use std::io::ErrorKind;
 use std::net::{TcpListener, TcpStream};
 use std::thread;
 use std::time::{Clock, Duration, Instant};
@@ -70,13 +72,15 @@ impl Arrivals {
 
     /// Waits for the first connection on which bytes have come, which has ended, or whose time is
     /// over. At most `most` are accepted before one is given out. `None` would come after 2^64 turns.
-    pub(crate) fn next<C: Clock, E: Write>(
+    pub(crate) fn next<C: Clock, E: Output>(
         &mut self,
         clock: &C,
         listener: &TcpListener,
         most: usize,
         errors: &mut E,
-    ) -> Option<Arrival> {
+    ) -> Option<Arrival>
+        ensures { PrintsAccepts (errors_of E.Output errors.old) (errors_of E.Output errors.new) }
+    {
         for _turn in 0..u64::MAX {
             if self.waiting.is_empty() {
                 let arrival = accept(clock, listener, errors)?;
@@ -132,17 +136,15 @@ impl Arrivals {
 
 /// Waits for a connection. An accept that fails, as where no descriptor is free, is no connection: it
 /// is reported, and tried again a second later. `None` would come after 2^64 such seconds.
-fn accept<C: Clock, E: Write>(
-    clock: &C,
-    listener: &TcpListener,
-    errors: &mut E,
-) -> Option<Arrival> {
+fn accept<C: Clock, E: Output>(clock: &C, listener: &TcpListener, errors: &mut E) -> Option<Arrival>
+    ensures { PrintsAccepts (errors_of E.Output errors.old) (errors_of E.Output errors.new) }
+{
     for _attempt in 0..u64::MAX {
         if let Ok((stream, _)) = listener.accept() {
             return Some(Arrival::now(clock, stream));
         }
         // A print that fails is ignored.
-        let _ = errors.write_all(b"fault: Accept\n");
+        let _ = errors.put(b"fault: Accept\n");
         thread::sleep(clock, Duration::from_secs(SECONDS_BETWEEN_ACCEPTS));
     }
     None

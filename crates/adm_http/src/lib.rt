@@ -2,12 +2,14 @@
 #![tactic(auto)]
 
 mod arrivals;
+mod connections;
 mod desk;
 mod heads;
 mod laws;
 mod lengths;
 mod listen;
 mod patience;
+mod port;
 mod request_handler;
 mod respond;
 mod responses;
@@ -16,8 +18,10 @@ mod routes;
 mod serve;
 mod states;
 
+pub use connections::Connections;
 pub use desk::{answer, serve_one};
 pub use laws::judged_in_one_way;
 pub use listen::serve_on;
+pub use port::Port;
 pub use router::Routes;
 pub use serve::ServeFault;

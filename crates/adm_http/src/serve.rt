@@ -2,7 +2,7 @@
 ghost use Rattle.std.specs.Prelude.{◌≡◌, ◌≢◌, ◌||◌, ◌≤◌, ◌⊎◌, ℕ, List, ◌++◌, drop, length, MatchResult, MatchBool, IfOk, IfErr};
 ghost use Rattle.std.specs.Io.KnownBytes.{Consumes, Keeps, IsAtEnd};
 ghost use Rattle.adm_http.specs.Heads.{IsJudgement, IsInside};
-ghost use Rattle.adm_http.specs.Reading.{HasBody, MayNeedMoreUpTo, IsNotFarPast, HasRead, HasReadSome, Served, is_read_fault, is_write_fault};
+ghost use Rattle.adm_http.specs.Reading.{HasBody, MayNeedMoreUpTo, IsNotFarPast, HasRead, HasReadSome, Served, IsAnswered, IsUnanswered, is_read_fault, is_write_fault};
 
 use crate::heads::{HEAD_LIMIT, Judgement, Verdict, judge};
 use crate::request_handler::RequestHandler;
@@ -40,16 +40,36 @@ pub(crate) fn serve<A: RequestHandler, R: Input, W: Output>(
     ensures reader { R.has_failed reader.new ≡ (R.has_failed reader.old || is_read_fault result) }
     ensures writer { W.has_failed writer.new ≡ (W.has_failed writer.old || is_write_fault result) }
 {
-    let request = match read_request(alloc, routes, reader) {
-        Ok(request) => request,
+    let output = match answer_request(alloc, routes, desk, reader) {
+        Ok(output) => output,
         Err(fault) => return Err(fault),
-    };
-    let Ok(output) = respond_to(alloc, desk, &request.input, request.judgement) else {
-        return Err(ServeFault::Memory);
     };
     match writer.put(&output) {
         Ok(()) => Ok(output.len()),
         Err(_) => Err(ServeFault::Write),
+    }
+}
+
+/// Reads one request, runs at most its one command, and gives the bytes of the response.
+pub(crate) fn answer_request<A: RequestHandler, R: Input>(
+    alloc: Global,
+    routes: &Routes,
+    desk: &mut A,
+    reader: &mut R,
+) -> Result<Vec<u8>, ServeFault>
+    ensures ok { IfOk result (λ output. IsAnswered A.runs A.shows (A.view desk.old) (A.view desk.new)
+        (R.remaining reader.old) (R.remaining reader.new) output.items) }
+    ensures err { IfErr result (λ fault. IsUnanswered A.runs A.shows (A.view desk.old) (A.view desk.new)
+        (R.remaining reader.old) (R.remaining reader.new) fault) }
+    ensures reader { R.has_failed reader.new ≡ (R.has_failed reader.old || is_read_fault result) }
+{
+    let request = match read_request(alloc, routes, reader) {
+        Ok(request) => request,
+        Err(fault) => return Err(fault),
+    };
+    match respond_to(alloc, desk, &request.input, request.judgement) {
+        Ok(output) => Ok(output),
+        Err(_) => Err(ServeFault::Memory),
     }
 }
 

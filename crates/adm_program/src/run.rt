@@ -21,14 +21,13 @@ use adm_wire::{Input, Output};
 use adm_words::{Action, action};
 use sqlite::{FileFrom, Start};
 use sqlite_disk::Disk;
-use std::io::Write;
 
 /// Does what the arguments say, with the program's name first, and gives the exit status: 0 done; 1
 /// an error, printed to `errors` as `fault: ` and its name; 2 a usage error; 3 an import or some
 /// line was refused, invalid or ran out of memory; 4 the store failed. What goes wrong with single
 /// connections while `serve` runs is printed to `log`, and nothing else is. `rows` opens the file
 /// that `import` reads.
-pub fn run_arguments<S: Start, F: Rows, I: Input, O: Output, E: Output, L: Write>(
+pub fn run_arguments<S: Start, F: Rows, I: Input, O: Output, E: Output, L: Output>(
     rt: &HostRuntime,
     arguments: &[&str],
     start: S,
@@ -53,7 +52,7 @@ pub fn run_arguments<S: Start, F: Rows, I: Input, O: Output, E: Output, L: Write
 
 /// Does what a line of the command line says. The `Err` is why there is no season of these
 /// values, or why the file was not opened; then nothing was read or written.
-fn run_action<S: Start, F: Rows, I: Input, O: Output, L: Write>(
+fn run_action<S: Start, F: Rows, I: Input, O: Output, L: Output>(
     rt: &HostRuntime,
     action: Action<'_>,
     start: S,
@@ -99,7 +98,7 @@ fn run_action<S: Start, F: Rows, I: Input, O: Output, L: Write>(
 
 /// Serves connections to a port over the register in the file, which is there. The `Err` is why it was
 /// not opened; then nothing was written.
-fn serve<S: Start, O: Output, L: Write>(
+fn serve<S: Start, O: Output, L: Output>(
     rt: &HostRuntime,
     file: &str,
     start: S,

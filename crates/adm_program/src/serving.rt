@@ -6,12 +6,11 @@ ghost use Rattle.adm_files.specs.Texts.{Puts};
 
 use adm_desk::Desk;
 use adm_files::{Ended, Exit, Fault, close, put};
-use adm_http::{Routes, serve_on};
+use adm_http::{Port, Routes, serve_on};
 use adm_wire::Output;
 use sqlite::FileStore;
 use sqlite_disk::Disk;
 use std::alloc::{AllocError, Global};
-use std::io::Write;
 use std::net::{Ipv4Addr, TcpListener};
 
 /// What is printed before the first connection is waited for.
@@ -48,7 +47,7 @@ fn listen(rt: &HostRuntime, port: u16) -> Result<(Routes, TcpListener), Fault>
 
 /// Prints that the port is served, serves as many connections over the desk, and closes its own
 /// connection, whatever comes.
-pub fn serve_connections<D: Disk + Drop, O: Output, L: Write>(
+pub fn serve_connections<D: Disk + Drop, O: Output, L: Output>(
     rt: &HostRuntime,
     mut desk: Desk<FileStore<D>>,
     port: u16,
@@ -63,7 +62,8 @@ pub fn serve_connections<D: Disk + Drop, O: Output, L: Write>(
     match listen(rt, port) {
         Ok((routes, listener)) => match put_serving(rt.alloc(), port, output) {
             Ok(()) => {
-                let status = serve_on(rt, rt.alloc(), &routes, &mut desk, &listener, count, log);
+                let mut connections = Port::new(rt.alloc(), rt, &listener);
+                let status = serve_on(rt.alloc(), &routes, &mut desk, &mut connections, count, log);
                 close(desk, Ok(Exit::of_served(status)))
             }
             Err(fault) => close(desk, Err(fault)),

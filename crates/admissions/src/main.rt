@@ -39,6 +39,6 @@ fn run(rt: &HostRuntime) -> io::Result<u8> {
         &mut Watched::new(rt.stdin()),
         &mut Watched::new(rt.stdout()),
         &mut Watched::new(rt.stderr()),
-        &mut rt.stderr(),
+        &mut Watched::new(rt.stderr()),
     ))
 }

@@ -1,4 +1,5 @@
 // The desk as the steps before left it, and what each step does.
+use crate::clients::Turns;
 use crate::desks::{MemoryDesk, answers, desk_after};
 use crate::served::Served;
 use crate::sockets::Connection;
@@ -33,6 +34,8 @@ impl Bench {
     /// - `request TEXT`: the desk serves the request that the bytes of the text are, over a reader and a writer
     ///   without limits.
     /// - `connection TEXT`: the same, over a connection to a free port of this machine.
+    /// - `turns COUNT CLIENT | CLIENT ..`: so many turns over connections in memory. A client is the text that it sends, after
+    ///   `reads N ` where its read N + 1 fails, or `takes N ` where it takes N bytes of the response.
     /// - `pieces TEXT`: the request, over readers and then writers of 1, 2 and 7 bytes a call.
     /// - `beginnings TEXT`: each beginning of the bytes as a request.
     /// - `fails TEXT`: the request, over a reader and then a writer of 1 byte a call that fails at each call in turn.
@@ -55,6 +58,7 @@ impl Bench {
             "do" => self.command(rt, alloc, text),
             "request" => self.request(rt, alloc, &input),
             "connection" => self.connection(rt, alloc, &input),
+            "turns" => Turns::of(alloc, &self.routes, &mut self.desk, text)?.print(rt, alloc),
             "pieces" => sweep.pieces(rt),
             "beginnings" => sweep.beginnings(rt),
             "fails" => {

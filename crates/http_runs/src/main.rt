@@ -3,11 +3,12 @@
 //! Each line of the input is a step, a remark (`#`) or empty; it is printed as it is, and below it,
 //! set in, what the step came to.
 //!
-//! `do COMMAND`, `request TEXT` and `connection TEXT` change the register. The other steps leave it as it is: each of them has desks of
+//! `do COMMAND`, `request TEXT`, `connection TEXT` and `turns COUNT CLIENT | ..` change the register. The other steps leave it as it is: each of them has desks of
 //! its own, over registers that the commands of `do` so far are done to once more, whatever the requests did.
 #![tactic(auto)]
 
 mod bench;
+mod clients;
 mod desks;
 mod served;
 mod sockets;

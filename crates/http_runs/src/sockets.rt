@@ -1,7 +1,8 @@
 // One request over a connection to a port of this machine, served by the loop over connections.
 use crate::desks::MemoryDesk;
 use crate::served::print_bytes;
-use adm_http::{Routes, serve_on};
+use adm_http::{Port, Routes, serve_on};
+use adm_wire::Watched;
 use std::alloc::Global;
 use std::io::{self, Read, Write};
 use std::net::{Ipv4Addr, TcpListener, TcpStream};
@@ -28,14 +29,15 @@ impl Connection {
         let listener = TcpListener::bind(rt, (Ipv4Addr::LOCALHOST, 0))?;
         let mut client = TcpStream::connect(rt, listener.local_addr()?)?;
         client.write_all(request)?;
-        let mut errors = Vec::new(alloc);
-        let status = serve_on(rt, alloc, routes, desk, &listener, 1, &mut errors);
+        let mut errors = Watched::new(Vec::new(alloc));
+        let mut port = Port::new(alloc, rt, &listener);
+        let status = serve_on(alloc, routes, desk, &mut port, 1, &mut errors);
         let mut answer = Vec::new(alloc);
         client.read_to_end(&mut answer)?;
         Ok(Connection {
             status,
             answer,
-            errors,
+            errors: errors.stream,
         })
     }
 

@@ -81,7 +81,7 @@ impl Runs {
         }
         let mut output = Watched::new(Vec::new(alloc));
         let mut errors = Watched::new(Vec::new(alloc));
-        let mut log = Vec::new(alloc);
+        let mut log = Watched::new(Vec::new(alloc));
         let status = run_arguments(
             rt,
             words.as_slice(),
@@ -96,7 +96,7 @@ impl Runs {
         Ok(Ran {
             output: output.stream,
             errors: errors.stream,
-            log,
+            log: log.stream,
             status,
         })
     }

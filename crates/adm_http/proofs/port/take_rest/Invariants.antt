@@ -1,4 +1,4 @@
-use Rattle.adm_http.proofs.listen.take_rest.Given as goal
+use Rattle.adm_http.proofs.port.take_rest.Given as goal
 
 -- how many bytes more are read
 abbrev pub decreases-loop-left : goal.decreases-loop-left

@@ -1,0 +1,115 @@
+-- A turn of the loop over connections, from the steps that it takes.
+use Rattle.std.proofs.Common.{◌≡◌, ◌⊎◌, ℕ, zero, suc, ◌+◌, ◌||◌, Bool, true, false, List, [], ◌∷◌, ◌++◌, take, Option, None, Some, Result, Ok, Err, inl, inr, refl, sym, ap, ◌∙◌, subst, append_assoc, append-nil, add-zero, add-suc}
+use Rattle.std.specs.Prelude.{codes, is_err, MatchResult}
+use Rattle.std.specs.Io.KnownBytes.{Appends, Keeps}
+use Rattle.std.proofs.KnownBytes.{Appends-trans}
+use Rattle.adm_desk.specs.declared.answer.LineAnswer.{LineAnswer}
+use Rattle.adm_http.specs.Reading.{HasRead, Served, IsUnanswered}
+use Rattle.adm_http.specs.Responses.{Responds}
+use Rattle.adm_http.specs.Connections.{Traffic, IsIdle, Takes, Ends, Exchanges, ServesOpen, Errors, Prints, PrintsAccepts, accept_lines, Moment, ServesTurn, ServesEach, AnswersOne, AnswersUpTo}
+use Rattle.adm_http.specs.declared.routes.Purpose.{Purpose}
+use Rattle.adm_http.specs.declared.routes.Resource.{Resource}
+use Rattle.adm_http.specs.declared.request_handler.Shown.{Shown}
+use Rattle.adm_http.specs.declared.serve.ServeFault.{ServeFault}
+use Rattle.adm_http.specs.declared.serve.ServeFault.TheVariants.{Read, Write, Memory}
+
+-- ---- what is printed
+
+pub prints_more : (a b c : Errors) (x y : List ℕ) → Prints a b x → Prints b c y → Prints a c (x ++ y)
+prints_more a b c x y first second unfailed =
+    let last = second unfailed in
+    let before = first last.0 in
+    (before.0, Appends-trans a.printed b.printed c.printed x y before.1 last.1)
+
+unfailed_before : (a b : Bool) → b ≡ (a || false) → b ≡ false → a ≡ false
+unfailed_before true b now unfailed = cc
+unfailed_before false b now unfailed = refl
+
+failed_now : (a b : Bool) → b ≡ (a || true) → b ≡ false → ⊥
+failed_now true b now unfailed = cc
+failed_now false b now unfailed = cc
+
+pub put_prints : {A B : Type 0} (a b : Errors) (text : List ℕ) (result : Result A B)
+    → MatchResult result (λ _. Appends a.printed b.printed text) (λ _. (n : ℕ) × Appends a.printed b.printed (take n text))
+    → b.has_failed ≡ (a.has_failed || is_err result) → Prints a b text
+put_prints a b text (Ok x) written fails unfailed = (unfailed_before a.has_failed b.has_failed fails unfailed, written)
+put_prints a b text (Err e) written fails unfailed = absurd (failed_now a.has_failed b.has_failed fails unfailed)
+
+-- ---- accepts that failed
+
+accept_lines_sum : (n m : ℕ) → accept_lines n ++ accept_lines m ≡ accept_lines (n + m)
+accept_lines_sum n zero = append-nil (accept_lines n) ∙ ap accept_lines (sym (add-zero n))
+accept_lines_sum n (suc m) =
+    sym (append_assoc (accept_lines n) (accept_lines m) (codes "fault: Accept\n")) ∙ ap (λ l. l ++ codes "fault: Accept\n") (accept_lines_sum n m)
+    ∙ ap accept_lines (sym (add-suc n m))
+
+pub accepts_more : (a b c : Errors) → PrintsAccepts a b → PrintsAccepts b c → PrintsAccepts a c
+accepts_more a b c first second =
+    (first.0 + second.0, subst (Prints a c) (accept_lines_sum first.0 second.0) (prints_more a b c _ _ first.1 second.1))
+
+pub accept_printed : (a b c : Errors) → PrintsAccepts a b → Prints b c (codes "fault: Accept\n") → PrintsAccepts a c
+accept_printed a b c first second = accepts_more a b c first (1, second)
+
+-- ---- connections
+
+pub ends_idle : (old new : Option Traffic) (written : List ℕ) → Ends old new written → IsIdle new
+ends_idle None new written ends = subst IsIdle (sym ends) tt
+ends_idle (Some t) None written ends = absurd ends
+ends_idle (Some t) (Some new) written ends = ends.2
+
+exchanges : (old mid new : Option Traffic) (unread : Option (List ℕ)) (written : List ℕ) → Takes old mid (Some unread) → Ends mid new written
+    → Exchanges old new unread written
+exchanges None mid new unread written takes ends = subst (λ (m : Option Traffic). Ends m new written) takes ends
+exchanges (Some t) None new unread written takes ends = absurd takes
+exchanges (Some t) (Some m) None unread written takes ends = absurd ends
+exchanges (Some t) (Some m) (Some new) unread written takes ends = (
+  takes.0,
+  takes.1,
+  takes.2 ∙ ap (λ l. takes.0 ∷ l) (sym ends.0),
+  ends.1 ∙ ap (λ l. l ++ (written ∷ [])) takes.3,
+  ends.2,
+)
+
+-- ---- a request
+
+module _ {S : Type 0} (runs : Purpose → S → List ℕ → LineAnswer → S → Type 0) (shows : S → Resource → Shown → Type 0) where
+  pub unanswered : (old new : S) (unread left was written : Option (List ℕ)) (fault : ServeFault) → IsUnanswered runs shows old new unread left fault → Keeps was written
+      → Served runs shows old new unread left was written (Err fault)
+  unanswered old new unread left was written Read none kept = (none.0, none.1, none.2, kept)
+  unanswered old new unread left was written Write none kept = absurd none
+  unanswered old new unread left was written Memory none kept = (none.0, none.1, kept, none.2)
+
+  -- a connection that was answered
+  pub answered_turn : (old new : Moment S) (mid : Option Traffic) (unread : Option (List ℕ)) (n : ℕ) → Takes old.traffic mid (Some unread) → PrintsAccepts old.errors new.errors
+      → ServesOpen runs shows old.desk new.desk mid new.traffic unread (Ok n) → ServesTurn runs shows old new
+  answered_turn old new mid unread n takes accepts served = inr
+      (record {
+        unread = unread;
+        left = served.0;
+        written = served.1;
+        result = Ok n;
+        exchanged = exchanges old.traffic mid new.traffic unread served.1 takes served.3;
+        served = served.2;
+        failed = accepts.0;
+        printed = subst (Prints old.errors new.errors) (sym (append-nil (accept_lines accepts.0))) accepts.1;
+      })
+
+  of_served : (old new : S) (unread left was written : Option (List ℕ)) (result : Result ℕ ServeFault) → Served runs shows old new unread left was written result
+      → AnswersOne runs shows old new
+  of_served old new unread left was written (Ok n) served = inr (served.0, served.1, served.3)
+  of_served old new unread left was written (Err Write) served = inr (served.0, served.1, served.3)
+  of_served old new unread left was written (Err Read) served = inl served.2
+  of_served old new unread left was written (Err Memory) served = either served.3
+    where
+      either : (new ≡ old) ⊎ ((output : List ℕ) × HasRead unread left served.0 × Responds runs shows old served.0 output new) → AnswersOne runs shows old new
+      either (inl same) = inl same
+      either (inr made) = inr (served.0, made.0, made.2)
+
+  answers_one : (old new : Moment S) → ServesTurn runs shows old new → AnswersOne runs shows old.desk new.desk
+  answers_one old new (inl none) = inl none.desk
+  answers_one old new (inr one) = of_served old.desk new.desk one.unread one.left (Some []) (Some one.written) one.result one.served
+
+  -- at most as many requests are answered as there are turns
+  pub answers_up_to : (n : ℕ) (old new : Moment S) → ServesEach runs shows n old new → AnswersUpTo runs shows n old.desk new.desk
+  answers_up_to zero old new same = ap (λ m. m.desk) same
+  answers_up_to (suc n) old new served = (served.0.desk, answers_up_to n old served.0 served.1, answers_one served.0 new served.2)

@@ -1,0 +1,34 @@
+// Connections, taken one after the other, through a trait whose contracts see their bytes.
+ghost use Rattle.std.specs.Prelude.{ℕ, [], Option, option_map, take, MatchResult};
+ghost use Rattle.adm_http.specs.Connections.{Traffic, Takes, Ends, IsIdle, IsOpen, PrintsAccepts, errors_of};
+
+use adm_wire::{Input, Output, WriteFailed};
+
+/// Connections, in the order in which they are taken. One that was taken is handed back before the
+/// next one is: no other value is one, and none can be dropped.
+pub trait Connections {
+    /// A connection that was taken. Reads give what its client sends.
+    type Connection: Input;
+
+    // What comes and what was answered, where it is known.
+    ghost traffic: { Self → Option Traffic };
+
+    /// Takes the next connection: none only where none comes any more. At most `most` are accepted
+    /// before one is given out. An accept that fails is no connection: it is printed.
+    fn next<E: Output>(&mut self, most: usize, errors: &mut E) -> Option<Self::Connection>
+        requires { IsIdle (traffic self.old) }
+        ensures taken { Takes (traffic self.old) (traffic self.new) (option_map Self.Connection.remaining result) }
+        ensures printed { PrintsAccepts (errors_of E.Output errors.old) (errors_of E.Output errors.new) };
+
+    /// Writes the response to the connection, and ends it. At a failure a beginning was written.
+    fn respond(&mut self, connection: Self::Connection, output: &[u8]) -> Result<(), WriteFailed>
+        requires { IsOpen (traffic self.old) }
+        ensures { MatchResult result
+            (λ _. Ends (traffic self.old) (traffic self.new) output.now)
+            (λ _. (n : ℕ) × Ends (traffic self.old) (traffic self.new) (take n output.now)) };
+
+    /// Ends the connection without a response.
+    fn close(&mut self, connection: Self::Connection)
+        requires { IsOpen (traffic self.old) }
+        ensures { Ends (traffic self.old) (traffic self.new) [] };
+}

@@ -1,0 +1,95 @@
+// The connections to a port of this machine, and how long each may take.
+ghost use Rattle.std.specs.Prelude.{None};
+
+use crate::arrivals::{Arrivals, SECONDS_OF_REQUEST};
+use crate::connections::Connections;
+use crate::patience::Patient;
+use adm_wire::{Input, Output, Watched, WriteFailed};
+use std::alloc::Global;
+use std::net::TcpListener;
+use std::time::{Clock, Duration};
+
+/// How many seconds a response may take to go out.
+const SECONDS_OF_RESPONSE: u64 = 3;
+
+/// How many seconds are given to what still comes after the response.
+const SECONDS_OF_REST: u64 = 2;
+
+/// How many bytes are read and dropped after the response: 2 MiB.
+const BYTES_OF_REST: usize = 2_097_152;
+
+/// The connections to a port: of those that wait the first on which bytes have come, so that a silent
+/// one holds up no other.
+///
+/// An accept that fails, as where the process has no free descriptor, is no connection and is not
+/// counted: `fault: Accept` and LF is printed, and the next one is tried a second later.
+///
+/// A request that has not come whole within 5 seconds from its accept is the error Read of its
+/// connection, unless it lies there whole when its turn comes. A response that has not gone out
+/// within 3 seconds is Write. Both are by the clock that is handed in. After a response the
+/// connection's sending side is ended, and what still comes is read and dropped, to its end, for 2
+/// seconds and up to 2 MiB at most: a close over bytes that nobody read would reset the connection,
+/// and its client could lose the response. So one client holds the desk for 10 seconds at most, and
+/// only once it has sent a byte. No clause speaks of time, nor of the bytes of a socket.
+#[derive(Drop)]
+pub struct Port<'a, C: Clock> {
+    listener: &'a TcpListener,
+    clock: &'a C,
+    arrivals: Arrivals,
+}
+
+impl<'a, C: Clock> Port<'a, C> {
+    /// The connections that come to a listener.
+    pub fn new(alloc: Global, clock: &'a C, listener: &'a TcpListener) -> Self {
+        Port {
+            listener,
+            clock,
+            arrivals: Arrivals::new(alloc),
+        }
+    }
+}
+
+impl<'a, C: Clock> Connections for Port<'a, C> {
+    type Connection = Watched<Patient<'a, C>>;
+
+    ghost traffic = { λ _. None };
+
+    fn next<E: Output>(&mut self, most: usize, errors: &mut E) -> Option<Self::Connection> {
+        let arrival = self.arrivals.next(self.clock, self.listener, most, errors)?;
+        Some(Watched::new(Patient::new(
+            arrival.stream,
+            self.clock,
+            Duration::from_secs(SECONDS_OF_REQUEST),
+            arrival.since,
+            arrival.is_broken,
+        )))
+    }
+
+    fn respond(&mut self, connection: Self::Connection, output: &[u8]) -> Result<(), WriteFailed> {
+        let time = Duration::from_secs(SECONDS_OF_RESPONSE);
+        let mut writer = Watched::new(connection.stream.another(time));
+        writer.put(output)?;
+        take_rest(writer.stream);
+        Ok(())
+    }
+
+    fn close(&mut self, connection: Self::Connection) {
+        drop(connection);
+    }
+}
+
+// Ends the sending side, and reads and drops what still comes.
+fn take_rest<C: Clock>(response: Patient<'_, C>) {
+    if response.end_sending().is_err() {
+        return;
+    }
+    let mut reader = Watched::new(response.another(Duration::from_secs(SECONDS_OF_REST)));
+    let mut buffer = [0u8; 8192];
+    let mut left = BYTES_OF_REST;
+    while left > 0 {
+        match reader.read_some(&mut buffer) {
+            Ok(count) if count > 0 => left = left.saturating_sub(count),
+            _ => return,
+        }
+    }
+}
