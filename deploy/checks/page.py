@@ -95,7 +95,7 @@ def start(world, page, see):
     facts = page.value("Object.fromEntries([...document.querySelectorAll('.facts div')].map(it => [it.firstChild.innerText, it.lastChild.innerText]))")
     written = facts.pop("Index written", "")
     see("the first view has the season, the register, the days, the draws, and who is signed in", facts, {
-        "Season": "secondary entry 2025", "Register": "reg.db, 4 schools, 8 children", "Signed in": "jane",
+        "Season": "secondary entry 2025", "Register": f"{world.file.parent.name}, 4 schools, 8 children", "Signed in": "jane",
         "Applications close": "31 October 2024", "Offer day": "3 March 2025",
         "Lists close": "31 December 2025", "Draws so far": "1 round, 0 fills, round 1 of 3 March 2025"})
     see("and when the index was written", written.startswith(str(int(world.run("date", "+%d").stdout))), True)

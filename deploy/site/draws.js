@@ -4,15 +4,16 @@ import { button, element, field, say } from "./elements.js";
 import { nextDraw, register, rounds, school } from "./register.js";
 import { day, isolated, today } from "./words.js";
 
-const CLOSE = ["systemctl stop admissions", "cd /var/lib/admissions", "setpriv --reuid=admissions --regid=admissions --clear-groups bash"];
-const OPEN = ["exit", "systemctl start admissions"];
+const close = (name) => [`systemctl stop admissions@${name}`, `cd /var/lib/admissions/${name}`,
+  "setpriv --reuid=admissions --regid=admissions --clear-groups bash"];
+const open = (name) => ["exit", `systemctl start admissions@${name}`];
 
 // Each step: its heading, what it does, and its lines
-export function steps({ draw, on, code, round, file }) {
+export function steps({ draw, on, code, round, name, file }) {
   const pairs = `admissions pairs ${file}${code ? " $school" : ""}`;
   const names = code ? `draw=${draw} school=${code}` : `draw=${draw}`;
   const made = [
-    ["Close the desk", "As root. The page has no answers until the last step.", CLOSE],
+    ["Close the desk", "As root. The page has no answers until the last step.", close(name)],
     ["Back up, and list who needs a lot", "The supervisor draws a lot for each line of the file, and returns them as CSV with a third column.", [
       "umask 077; mkdir -p copies", names, `admissions-backup ${file} copies/before-draw-$draw.db && ${pairs} > draw-$draw.pairs`]],
     [code ? "Fill the vacancy" : "Run the round", `The sheet of the supervisor is draw-${draw}.csv.`, [
@@ -27,7 +28,7 @@ export function steps({ draw, on, code, round, file }) {
       `admissions-audit copies/before-draw-$draw.db ${file} > audit-$round; echo $?; tail -n 1 audit-$round`,
       `admissions round-report ${file} $round > report-$round`]]);
   }
-  made.push(["Open the desk again", "", OPEN]);
+  made.push(["Open the desk again", "", open(name)]);
   return made;
 }
 
@@ -45,7 +46,8 @@ export function drawView([code = ""]) {
   const from = earliest();
   const on = element("input", { type: "date", id: "on", value: today() > from ? today() : from, min: from, max: register.season.last_day });
   const room = element("div", { id: "steps" });
-  const fill = () => room.replaceChildren(...steps({ draw: nextDraw(), on: on.value, code, round: rounds().length + 1, file: register.register })
+  const fill = () => room.replaceChildren(...steps({ draw: nextDraw(), on: on.value, code, round: rounds().length + 1, name: register.name,
+    file: register.register })
     .flatMap(stepNodes));
   on.onchange = fill;
   fill();

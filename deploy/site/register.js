@@ -7,7 +7,7 @@ import { readLetter } from "./reading.js";
 // A browser sends so many requests at once over its connection
 const AT_ONCE = 32;
 
-const empty = () => ({ written: "", register: "", season: null, schools: new Map(), children: new Map(), draws: new Map(), moved: [], drawnSince: false });
+const empty = () => ({ written: "", register: "", name: "", season: null, schools: new Map(), children: new Map(), draws: new Map(), moved: [], drawnSince: false });
 
 export let register = empty();
 export let hasIndex = false;
@@ -66,7 +66,7 @@ export async function readSite() {
 }
 
 function accept(index) {
-  register = { ...empty(), written: index.written, register: index.register, season: index.season, moved: index.moved };
+  register = { ...empty(), written: index.written, register: index.register, name: index.name, season: index.season, moved: index.moved };
   for (const it of index.schools) register.schools.set(it.school, it);
   for (const it of index.children) register.children.set(it.data.child, it);
   for (const it of index.draws) register.draws.set(it.draw, it);

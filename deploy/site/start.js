@@ -14,7 +14,7 @@ function seasonFacts() {
   const roundLinks = made.flatMap((it) => [", ", link(`#round/${it.round}`, `round ${it.round} of ${day(it.day)}`)]);
   return facts([
     ["Season", `${season.phase} entry ${season.year}`],
-    ["Register", `${register.register}, ${plural(register.schools.size, "school", "schools")}, ${plural(register.children.size, "child", "children")}`],
+    ["Register", `${register.name}, ${plural(register.schools.size, "school", "schools")}, ${plural(register.children.size, "child", "children")}`],
     ["Signed in", who || "unknown"],
     ["Applications close", day(season.closing_day)],
     ["Offer day", day(season.offer_day)],
