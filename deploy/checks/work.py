@@ -63,7 +63,7 @@ def check(world, see):
         worklists(world, page, see)
         reminders(world, page, see)
         withdrawals(world, page, see)
-        pile(page, see)
+        pile(world, page, see)
         forms.corrections(world, page, see)
         forms.additions(world, page, see)
         forms.plans(page, see)
@@ -117,6 +117,11 @@ def reminders(world, page, see):
     visit(page, "#list/remind-due")
     see("who is due for a reminder", numbers(page), [1, 5, 6, 7, 8, 9, 10, 11, 12, 13, 14])
     see("without a tick nothing is sent", press(page, "#do-remind"), "Nothing is ticked.")
+    page.value("document.getElementById('tick-all').focus()")
+    for key in ("ArrowDown", "ArrowDown", " ", "ArrowDown", " ", "ArrowUp"):
+        page.press(key)
+    see("the arrow keys go from tick to tick", page.value(f"[{FOCUS}.getAttribute('aria-label'), document.getElementById('ticked').innerText]"),
+        ["Child 5", "2 of 11 ticked"])
     page.value("document.getElementById('tick-all').click()")
     see("all are ticked at once", page.value("document.getElementById('ticked').innerText"), "11 of 11 ticked")
     see("the proposed day is today", page.value("document.getElementById('on').value"), TODAY)
@@ -174,7 +179,7 @@ def withdrawals(world, page, see):
     see("and none is due any more", rows(page)[1:], [])
 
 
-def pile(page, see):
+def pile(world, page, see):
     """Answers by keyboard: digits, Enter, Enter."""
     visit(page, "#answers")
     see("the field has the focus", page.value(f"{FOCUS}.id"), "answer-child")
@@ -185,8 +190,16 @@ def pile(page, see):
         page.wait(f"{FOCUS}.id === 'accept'")
         page.press("Enter")
         page.wait(f"{FOCUS}.id === 'answer-child' && {FOCUS}.value === ''")
+    page.wait(f"{ANSWER}.startsWith('Done, and stored. Child 13,')")
     see("two answers by eight keys", page.posted, [f'{{"cmd":"accept","child":{child},"school":"B"}}' for child in (12, 13)])
     see("what was recorded is listed", rows(page), ["Child|Name|Answer|School|Result", "13|Child of 13|accept|B|done", "12|Child of 12|accept|B|done"])
+    while_sending(world, page, see)
+    page.type("12")
+    page.press("Enter")
+    page.wait(f"{ANSWER}.startsWith('Child 12')")
+    see("a child that has accepted is shown, and the field keeps the focus", (page.value(ANSWER), page.value(f"[{FOCUS}.id, {FOCUS}.value]")),
+        ("Child 12, Child of 12: It has a place at B Bo \"Peep\" School, which was accepted.", ["answer-child", "12"]))
+    page.value(f"{FOCUS}.value = ''")
     page.type("ann abel")
     page.press("Enter")
     page.wait(f"{ANSWER}.includes('match')")
@@ -203,6 +216,40 @@ def pile(page, see):
     page.press("Enter")
     see("a decline is asked about", question(page), f'Decline the place of child 6, Mary "May" O\'Neil, Jr, at A Ysgol Tŷ Gwyn? {IS_FINAL}')
     see("and recorded", confirm(page), 'Done, and stored. Child 6, Mary "May" O\'Neil, Jr, has declined A Ysgol Tŷ Gwyn.')
+    page.type("7-")
+    page.press("Enter")
+    see("a minus after the number asks at once", question(page), f"Decline the place of child 7, Zoë Tŷ-Owen, at A Ysgol Tŷ Gwyn? {IS_FINAL}")
+    page.press("n")
+    page.wait("!document.getElementById('sure').open")
+    see("N is no, and the field has the number", page.value(f"[{FOCUS}.id, {FOCUS}.value]"), ["answer-child", "7-"])
+    page.press("Enter")
+    question(page)
+    page.press("y")
+    page.wait(f"{ANSWER}.startsWith('Done')")
+    see("Y is yes", page.value(ANSWER), "Done, and stored. Child 7, Zoë Tŷ-Owen, has declined A Ysgol Tŷ Gwyn.")
+
+
+def while_sending(world, page, see):
+    """A quick clerk enters the next number while the desk has not yet answered. Then the one before is refused, since somebody else declined it."""
+    page.type("5")
+    page.press("Enter")
+    page.wait(f"{FOCUS}.id === 'accept'")
+    world.ask("/command", "jane", '{"cmd":"decline","child":5,"school":"A"}')
+    world.stop_desk()
+    page.press("Enter")
+    page.type("8")
+    page.press("Enter")
+    see("what is typed meanwhile is the next number", (page.value(f"[{FOCUS}.id, {FOCUS}.value]"), rows(page)[1]), (["answer-child", "8"],
+        "5|שרה כהן|accept|A|is being sent"))
+    world.continue_desk()
+    page.wait(f"{FOCUS}.id === 'accept'")
+    see("it is looked up after the answer", page.value(ANSWER).startswith("Child 8, D’Arcy Bell: It was offered a place at A"), True)
+    see("and the one that was refused stays in sight", page.value("document.getElementById('not-recorded').innerText"),
+        "1 answer was not recorded: see the results.")
+    page.press("Tab", shift=True)
+    page.press("Tab", shift=True)
+    see("back in the field", page.value(f"{FOCUS}.id"), "answer-child")
+    page.value(f"{FOCUS}.value = ''")
 
 
 FILE = """\ufeff{"cmd":"accept","child":14,"school":"B"}\r

@@ -1,4 +1,5 @@
-// A pile of answers: a number or a name, Enter, and Enter again to accept. What was recorded is listed below, as long as the page is open.
+// A pile of answers: a number or a name, Enter, and Enter again to accept; with a - after it, to decline. The field takes the next one while an answer
+// is sent. What was recorded is listed below, as long as the page is open.
 import { Shown } from "./desk.js";
 import { button, childLink, element, field, say, schoolLink } from "./elements.js";
 import { matches } from "./finding.js";
@@ -8,6 +9,10 @@ import { column, table } from "./tables.js";
 import { IS_FINAL, isolated, placeInWords, plural } from "./words.js";
 
 const recorded = [];
+// The answers are sent one after another, and each child is looked up after those before
+let sending = Promise.resolve();
+// Shows what was recorded in the view as it is now
+let showNow = () => {};
 
 // The child that a number or a name means, if it is one alone
 function meant(text) {
@@ -23,54 +28,73 @@ export function answersView() {
   const input = element("input", { id: "answer-child", autocomplete: "off", required: true });
   const room = element("div", { id: "offer" });
   const list = element("div", {});
-  const form = element("form", { id: "answers-form", className: "actions screen-only" }, field("Child’s number or name", input),
-    element("button", {}, "Look up"));
+  const form = element("form", { id: "answers-form", className: "screen-only" },
+    field("Child’s number or name", input, "Enter shows the offer, and Enter again accepts it. To decline, put - after the number: 17-"),
+    element("p", { className: "tools" }, element("button", {}, "Look up")));
+  // A child that is found after a later request is not shown
+  let turn = 0;
   form.onsubmit = async (event) => {
     event.preventDefault();
+    const mine = ++turn;
     room.replaceChildren();
+    const [, text, minus] = /^(.*?)\s*(-?)$/.exec(input.value.trim());
     try {
-      offer(await letterOf(meant(input.value.trim())));
+      const number = meant(text);
+      await sending;
+      const letter = await letterOf(number);
+      if (mine === turn) await offer(letter, Boolean(minus));
     } catch (error) {
       if (!(error instanceof Shown)) throw error;
+      if (mine !== turn) return;
       say(error.message, true);
+      input.focus();
       input.select();
     }
   };
 
-  // The offer of a child: Accept has the focus
-  function offer(letter) {
+  // The offer of a child: Accept has the focus. A place that was accepted before can be declined, but the field keeps the focus
+  function offer(letter, isDecline) {
     const { place, number, name } = letter;
-    room.replaceChildren(element("h3", {}, `Child ${number}, ${isolated(name)}`), element("p", {}, placeInWords(place)));
-    if (!place || place.kind === "plan") {
-      say("This child has no offer to answer.", true);
-      input.select();
-      return;
-    }
+    const who = `Child ${number}, ${isolated(name)}`;
+    room.replaceChildren(element("h3", {}, who), element("p", {}, placeInWords(place)));
+    input.focus();
+    input.select();
+    if (!place || place.kind === "plan") return say(`${who}: there is no offer to answer. ${placeInWords(place)}`, true);
     const accept = button("Accept", () => record(letter, "accept"), { id: "accept" });
     const decline = button("Decline", () => record(letter, "decline"), { id: "decline", className: "final" });
     room.append(element("p", { className: "tools" }, place.kind === "offered" ? accept : null, decline));
-    say(`Child ${number}, ${isolated(name)}: ${placeInWords(place)}`);
-    (place.kind === "offered" ? accept : decline).focus();
+    say(`${who}: ${placeInWords(place)}`);
+    if (isDecline) return record(letter, "decline");
+    if (place.kind === "offered") accept.focus();
+    return null;
   }
 
   async function record({ number, name, place }, cmd) {
     const where = `${place.school} ${isolated(place.name)}`;
     const question = `Decline the place of child ${number}, ${isolated(name)}, at ${where}? ${IS_FINAL}`;
     if (cmd === "decline" && !await isSure(question, "Yes, decline")) return;
-    const reply = await send({ cmd, child: number, school: place.school },
-      `Child ${number}, ${isolated(name)}, has ${cmd === "accept" ? "accepted" : "declined"} ${where}.`);
-    if (!reply) return;
-    recorded.unshift({ number, name, cmd, school: place.school, result: reply.bad ? reply.text : "done" });
+    const entry = { number, name, cmd, school: place.school, result: "is being sent" };
+    recorded.unshift(entry);
+    turn += 1;
     room.replaceChildren();
     showRecorded();
-    say(reply.text, reply.bad);
     input.value = "";
     input.focus();
+    const done = `Child ${number}, ${isolated(name)}, has ${cmd === "accept" ? "accepted" : "declined"} ${where}.`;
+    sending = sending.then(() => send({ cmd, child: number, school: place.school }, done)).then((reply) => {
+      const { text, bad } = reply || { text: "Nothing was sent: another task is in progress.", bad: true };
+      Object.assign(entry, { result: bad ? text : "done", isBad: bad });
+      showNow();
+      if (list.isConnected || bad) say(`${bad ? `Child ${number}, ${isolated(name)}: ` : ""}${text}`, bad);
+    });
+    await sending;
   }
 
   function showRecorded() {
     if (!recorded.length) return;
-    list.replaceChildren(table({
+    const bad = recorded.filter((it) => it.isBad).length;
+    const warning = bad ? element("p", { className: "warning", id: "not-recorded" }, `${plural(bad, "answer was", "answers were")} not recorded: see the results.`) : "";
+    list.replaceChildren(warning, table({
       caption: "Recorded here", file: "answers.csv", rows: recorded,
       columns: [
         column("Child", (it) => it.number, { isFigure: true, cell: (it) => childLink(it.number) }),
@@ -80,6 +104,7 @@ export function answersView() {
     }).node);
   }
 
+  showNow = showRecorded;
   showRecorded();
   return { title: "Answers to offers", nodes: [form, room, list], status: "Enter a number or a name.", focus: input };
 }

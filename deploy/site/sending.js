@@ -15,10 +15,19 @@ export function isSure(question, yes) {
   at("sure-question").textContent = question;
   at("sure-yes").textContent = yes;
   dialog.returnValue = "no";
+  dialog.onkeydown = chooseByKey;
   dialog.showModal();
   at("sure-no").focus();
   // The event of an earlier close may arrive when the dialog is open again: then it is not the answer to this question
   return new Promise((resolve) => { dialog.onclose = () => dialog.open || resolve(dialog.returnValue === "yes"); });
+}
+
+// Y and N, pressed once: a key that is held down does not answer the next question too, and none is typed into the field that has the focus then
+function chooseByKey(event) {
+  const choice = { y: "sure-yes", n: "sure-no" }[event.key.toLowerCase()];
+  if (!choice || event.ctrlKey || event.altKey || event.metaKey) return;
+  event.preventDefault();
+  if (!event.repeat) at(choice).click();
 }
 
 // Sends the text of a command, and returns what became of it

@@ -82,6 +82,14 @@ export function table({ caption, columns, rows, file, key, ticks }) {
       element("table", {}, element("caption", {}, caption), element("thead", {}, element("tr", {}, tickHead, ...heads)), body)),
     rows.length ? null : element("p", {}, "None."),
     element("p", { className: "tools screen-only" }, ticks ? counted : null, " ", button("Download as CSV", save, { className: "csv" })));
+  // The arrow keys go from tick to tick
+  node.onkeydown = (event) => {
+    const step = { ArrowDown: 1, ArrowUp: -1 }[event.key];
+    if (!step || event.target.type !== "checkbox") return;
+    const ends = [...node.querySelectorAll("input[type=checkbox]")];
+    event.preventDefault();
+    ends[ends.indexOf(event.target) + step]?.focus();
+  };
   showCount();
   return { node, ticked: () => made.map((it) => it.row).filter((row) => ticked.has(row)), tickAll };
 }
