@@ -22,10 +22,10 @@ export async function childView([text, part]) {
   if (part === "amend") return amendView(letter);
   return {
     title: `Child ${number}, ${isolated(letter.name)}`, status: `Child ${number}.`, nodes: [
-      element("h3", {}, "Place"), ...place(letter), element("h3", {}, "Waiting"), ...waiting(letter),
-      element("h3", {}, "Application"), ...application(letter),
       element("p", { className: "tools screen-only" }, link(`#child/${number}/letter`, "Letter"), hasIndex
         ? link(`#child/${number}/amend`, "Correct its data") : null),
+      element("h3", {}, "Place"), ...place(letter), element("h3", {}, "Waiting"), ...waiting(letter),
+      element("h3", {}, "Application"), ...application(letter),
     ],
   };
 }

@@ -174,11 +174,9 @@ export function addView() {
     const question = `Add child ${of}, ${isolated(data.name)}: ${inWords(application)}?${late(application)}${alike} An application cannot be changed.`;
     if (await isSure(question, "Yes, add it")) await add(data, application);
   };
-  return {
-    title: "Add a child", status: "A new child with its application.",
-    nodes: [form("add-form", [field("Number", textInput("child", next, { required: true, inputMode: "numeric" }), `the next free one is ${next}`),
-      ...dataFields(blank), ...applicationFields()], submit, "Add the child")],
-  };
+  const made = form("add-form", [field("Number", textInput("child", next, { required: true, inputMode: "numeric" }), `the next free one is ${next}`),
+    ...dataFields(blank), ...applicationFields()], submit, "Add the child");
+  return { title: "Add a child", status: "A new child with its application.", nodes: [made], focus: made.querySelector("#name") };
 }
 
 // The child first, then its application. If only the child is added, its view has the form of the application
