@@ -39,7 +39,7 @@ def corrections(world, page, see):
         write(page, **{name: before})
     write(page, name="D'Arcy Tŷ-Bell")
     press(page, "#amend-form button")
-    see("a question says what changes", question(page), "Correct child 8: name from D’Arcy Bell to D'Arcy Tŷ-Bell? Its priorities may change with it.")
+    see("a question says what changes", question(page), "Correct child 8: name from D’Arcy Bell to D'Arcy Tŷ-Bell? The child’s priorities may change with it.")
     page.posted.clear()
     confirm(page)
     see("every other field is sent as it was", json.loads(page.posted[0]),
@@ -96,7 +96,7 @@ def additions(world, page, see):
     write(page, preference_2="", applied="2026-01-01")
     press(page, "#add-form button")
     see("if the application is refused, both are said", confirm(page),
-        "Child 18 is added, but without its application. Refused, and nothing has changed. The lists are closed: it is after 31 December of the year of entry.")
+        "Child 18 is added, but without the application. Refused, and nothing has changed. The lists are closed: it is after 31 December of the year of entry.")
     write(page, applied="2025-04-01", preference_1="A")
     press(page, "#apply-form button")
     see("and the application is entered at the child", confirm(page), "Done, and stored. Child 18: applied 1 April 2025 for A.")
@@ -106,9 +106,9 @@ def plans(page, see):
     visit(page, "#child/16")
     write(page, plan="E")
     press(page, "#plan-form button")
-    effect = "The child is admitted there, and its application ends. This cannot be undone."
+    effect = "The child is admitted there, and the application ends. This cannot be undone."
     see("a plan is asked about", question(page), f"Record that the EHC plan of child 16, Child of 16, names E \u2068مدرسة الأمل\u2069? {effect}")
-    see("and recorded", confirm(page), "Done, and stored. Child 16 has a place at E \u2068مدرسة الأمل\u2069 by its plan.")
+    see("and recorded", confirm(page), "Done, and stored. Child 16 has a place at E \u2068مدرسة الأمل\u2069 by a plan.")
     visit(page, "#school/E")
     write(page, pan="2")
     see("an admission number is not lowered", press(page, "#raise-form button"), "Nothing was sent. The admission number can only be raised: it is 2.")

@@ -147,13 +147,13 @@ def finding(page, see):
 def children(page, see):
     visit(page, "#child/2")
     text = page.value(RESULT)
-    for part in ("Child 2, Ben Bell", "It was offered a place at B Beta on 3 March 2025. There is no answer yet.", "A reminder is due from 17 March 2025."):
+    for part in ("Child 2, Ben Bell", "The child was offered a place at B Beta on 3 March 2025. There is no answer yet.", "A reminder is due from 17 March 2025."):
         see(f"the page says: {part}", part in text)
     see("where it waits, and why", rows(page), ["School|Name|Position|Priority|Metres|Leave", "A|Alpha|1 of 1|distance alone|200|Leave",
-        "Preference|School|Name|Result", "1|A|Alpha|waits, position 1 of 1", "2|B|Beta|its place"])
-    for number, part in ((3, "It has no place."), (5, "It has a place at A Alpha by its plan."),
-                         (11, "It was offered a place at D Delta, position 9 of 9, class 0, 1 metres on 3 March 2025."), (12,
-                             "Delta, position 9 of 9, class 0, 1 metres\t1 of 1"), (6, "It waits at no school.")):
+        "Preference|School|Name|Result", "1|A|Alpha|waits, position 1 of 1", "2|B|Beta|offered"])
+    for number, part in ((3, "The child has no place."), (5, "The child has a place at A Alpha by a plan."),
+                         (11, "The child was offered a place at D Delta, position 9 of 9, class 0, 1 metres on 3 March 2025."), (12,
+                             "Delta, position 9 of 9, class 0, 1 metres\t1 of 1"), (6, "The child waits at no school.")):
         visit(page, f"#child/{number}")
         see(f"the page says: {part}", part in page.value(RESULT))
     visit(page, "#child/5")
@@ -213,7 +213,7 @@ def by_keyboard(page, see):
     page.wait(f"{ANSWER}.startsWith('Done')")
     see("the answer as a text", page.value(ANSWER), "Done, and stored. Child 3 has left the waiting list of B Beta.")
     see("has the focus", page.value(f"{FOCUS}.id"), "answer")
-    see("and the child is shown as it is now", "It waits at no school." in page.value(RESULT))
+    see("and the child is shown as it is now", "The child waits at no school." in page.value(RESULT))
 
 
 def answers(world, page, see):
@@ -243,14 +243,14 @@ def answers(world, page, see):
     see("with its days in one form", dates(page), [])
     see("and then a withdrawal is offered", page.value("document.querySelector('#day-form button').innerText"), "Withdraw the offer")
     visit(page, "#child/2")
-    see("an offer is accepted", press(page, "#accept"), "Done, and stored. Child 2 has accepted its place at B Beta.")
+    see("an offer is accepted", press(page, "#accept"), "Done, and stored. Child 2 has accepted the place at B Beta.")
     press(page, "#decline")
     see("a place is declined after a question", question(page),
         "Decline the place of child 2, Ben Bell, at B Beta? This cannot be undone: the school is not offered to the child again.")
     world.ask("/command", "jane", '{"cmd":"decline","child":2,"school":"B"}')
     see("what somebody else did meanwhile is refused with a text", confirm(page),
         "Refused, and nothing has changed. The child has no open offer of this school. Perhaps it was answered already.")
-    see("and the child is shown as it is then", "It has no place." in page.value(RESULT))
+    see("and the child is shown as it is then", "The child has no place." in page.value(RESULT))
     see("every refusal has its text", page.value("import('/desk.js').then(it => Object.keys(it.REFUSALS).length)"), 23)
     see("each command was sent once", len(page.posted), len(set(page.posted)))
 

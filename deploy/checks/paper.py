@@ -129,12 +129,12 @@ def child_and_letter(page, world, see):
     page.call("Emulation.setEmulatedMedia", media="")
     see("but has one on the screen", page.value("getComputedStyle(document.activeElement).outlineStyle"), "solid")
     see("a printed child", " ".join(lines(edges(printed(page, world, "child"), see, "a child"))),
-        " ".join(["Child 6, Flo Ford", "Place", "It was offered a place at B Beta on 3 March 2025. There is no answer yet.",
-        "A reminder is due from 17 March 2025.", "Waiting", "Where it waits, in the order of its list", "School Name Position Priority Metres",
+        " ".join(["Child 6, Flo Ford", "Place", "The child was offered a place at B Beta on 3 March 2025. There is no answer yet.",
+        "A reminder is due from 17 March 2025.", "Waiting", "Where the child waits, in order of preference", "School Name Position Priority Metres",
         f"A Alpha 5 of 86 {NONE} 1,001",
         "A school ranks children by its criteria in their order, then by distance. Children who are equal in both share a position.",
         "Application", "Applied 31 October 2024", "Home 0 east, 1001 north", "Looked after no", "Flags none", "Siblings at no school", "Present school none",
-        "Its schools, best first", "Preference School Name Result", "1 A Alpha waits, position 5 of 86", "2 B Beta its place"]))
+        "Schools in order of preference", "Preference School Name Result", "1 A Alpha waits, position 5 of 86", "2 B Beta offered"]))
     press(page, "#day-form button")
     confirm(page)
     letters = {

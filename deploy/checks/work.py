@@ -198,7 +198,7 @@ def pile(world, page, see):
     page.press("Enter")
     page.wait(f"{ANSWER}.startsWith('Child 12')")
     see("a child that has accepted is shown, and the field keeps the focus", (page.value(ANSWER), page.value(f"[{FOCUS}.id, {FOCUS}.value]")),
-        ("Child 12, Child of 12: It has a place at B Bo \"Peep\" School, which was accepted.", ["answer-child", "12"]))
+        ("Child 12, Child of 12: The child has a place at B Bo \"Peep\" School, which was accepted.", ["answer-child", "12"]))
     page.value(f"{FOCUS}.value = ''")
     page.type("ann abel")
     page.press("Enter")
@@ -243,7 +243,7 @@ def while_sending(world, page, see):
         "5|שרה כהן|accept|A|is being sent"))
     world.continue_desk()
     page.wait(f"{FOCUS}.id === 'accept'")
-    see("it is looked up after the answer", page.value(ANSWER).startswith("Child 8, D’Arcy Bell: It was offered a place at A"), True)
+    see("it is looked up after the answer", page.value(ANSWER).startswith("Child 8, D’Arcy Bell: The child was offered a place at A"), True)
     see("and the one that was refused stays in sight", page.value("document.getElementById('not-recorded').innerText"),
         "1 answer was not recorded: see the results.")
     page.press("Tab", shift=True)

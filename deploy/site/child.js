@@ -23,7 +23,7 @@ export async function childView([text, part]) {
   return {
     title: `Child ${number}, ${isolated(letter.name)}`, status: `Child ${number}.`, nodes: [
       element("p", { className: "tools screen-only" }, link(`#child/${number}/letter`, "Letter"), hasIndex
-        ? link(`#child/${number}/amend`, "Correct its data") : null),
+        ? link(`#child/${number}/amend`, "Correct the data") : null),
       element("h3", {}, "Place"), ...place(letter), element("h3", {}, "Waiting"), ...waiting(letter),
       element("h3", {}, "Application"), ...application(letter),
     ],
@@ -45,7 +45,7 @@ function place(letter) {
   const answers = element("div", { className: "actions screen-only" });
   if (held.kind === "offered") {
     answers.append(button("Accept the place", () => act({ cmd: "accept", child: number, school: held.school },
-      `Child ${number} has accepted its place at ${where}.`), { id: "accept" }));
+      `Child ${number} has accepted the place at ${where}.`), { id: "accept" }));
   }
   if (held.kind !== "plan") answers.append(button("Decline the place", () => decline(letter, where), { id: "decline", className: "final" }));
   nodes.push(answers);
@@ -56,7 +56,7 @@ function place(letter) {
 async function decline({ number, name, place: held }, where) {
   const question = `Decline the place of child ${number}, ${isolated(name)}, at ${where}? ${IS_FINAL}`;
   if (await isSure(question, "Yes, decline")) act({ cmd: "decline", child: number, school: held.school },
-    `Child ${number} has declined its place at ${where}.`);
+    `Child ${number} has declined the place at ${where}.`);
 }
 
 // The reminder of an offer, and after it the withdrawal
@@ -80,7 +80,7 @@ function dayForm({ number, name, place: held }, where) {
 
 function waiting(letter) {
   if (!letter.waits.length) {
-    return [element("p", {}, register.draws.size || !hasIndex ? "It waits at no school." : "There are no waiting lists before the first round.")];
+    return [element("p", {}, register.draws.size || !hasIndex ? "The child waits at no school." : "There are no waiting lists before the first round.")];
   }
   const leave = async (wait) => {
     const where = `${wait.school} ${isolated(wait.name)}`;
@@ -90,7 +90,7 @@ function waiting(letter) {
       `Child ${letter.number} has left the waiting list of ${where}.`);
   };
   const made = table({
-    caption: "Where it waits, in the order of its list", file: `child-${letter.number}.csv`, rows: letter.waits,
+    caption: "Where the child waits, in order of preference", file: `child-${letter.number}.csv`, rows: letter.waits,
     columns: [
       column("School", (it) => it.school, { cell: (it) => schoolLink(it.school) }),
         column("Name", (it) => it.name, { cell: (it) => element("bdi", {}, it.name) }),
@@ -111,11 +111,11 @@ function waiting(letter) {
 
 // What became of each school of its list
 function fate(code, index, letter, preferences) {
-  if (letter.place && letter.place.school === code) return "its place";
+  if (letter.place && letter.place.school === code) return letter.place.kind;
   const own = letter.place ? preferences.indexOf(letter.place.school) : -1;
   const wait = letter.waits.find((it) => it.school === code);
   if (wait) return `waits, position ${count(wait.position)} of ${count(wait.of)}`;
-  if (own >= 0 && index > own) return "below its place";
+  if (own >= 0 && index > own) return "below the child’s place";
   return register.draws.size ? "declined, left or withdrawn" : "before the first round";
 }
 
@@ -137,7 +137,7 @@ function application(letter) {
   if (!applied) return [about, applyForm(letter.number, act), plan];
   const rows = preferences.map((code, index) => ({ code, index, fate: fate(code, index, letter, preferences) }));
   const list = table({
-    caption: "Its schools, best first", file: `child-${letter.number}-schools.csv`, rows,
+    caption: "Schools in order of preference", file: `child-${letter.number}-schools.csv`, rows,
     columns: [
       column("Preference", (it) => it.index + 1, { isFigure: true }), column("School", (it) => it.code, { cell: (it) => schoolLink(it.code) }),
       column("Name", (it) => (school(it.code) ? school(it.code).name : ""), { cell: (it) => element("bdi", {}, school(it.code) ? school(it.code).name : "") }),

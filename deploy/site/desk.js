@@ -10,7 +10,7 @@ export const REFUSALS = {
   OutOfRange: "A number is out of its limits.",
   RegisterFull: "The register takes no more of these.",
   BadPreferences: "The list of schools has too few or too many, or one is repeated.",
-  HasPlan: "The child has its place by a plan, which cannot be changed.",
+  HasPlan: "The child has a place by a plan, which cannot be changed.",
   AlreadyApplied: "The child has an application already, which cannot be changed.",
   TooSoon: "The day is too early: a reminder may be recorded from 14 days after the offer, and a withdrawal from 14 days after the reminder.",
   WrongDraw: "The number of the draw is not the next one. If it was sent twice, it was done: look at the report.",

@@ -110,7 +110,7 @@ export function amendView(letter) {
     await update();
     if (!isSame(child(before.child).data, before)) return again({ text: MEANWHILE, bad: true });
     const list = changes.map((key) => `${key.replace("_", " ")} from ${shown(before[key])} to ${shown(after[key])}`).join("; ");
-    if (!await isSure(`Correct child ${before.child}: ${list}? Its priorities may change with it.`, "Yes, correct it")) return null;
+    if (!await isSure(`Correct child ${before.child}: ${list}? The child’s priorities may change with it.`, "Yes, correct it")) return null;
     const reply = await send({ cmd: "amend", ...after }, `Child ${before.child} is corrected: ${list}.`);
     return reply && go(reply.bad ? `#child/${before.child}/amend` : `#child/${before.child}`, reply);
   };
@@ -155,7 +155,7 @@ export function applyForm(of, act) {
       await act({ cmd: "apply", child: of, ...application }, `Child ${of}: ${inWords(application)}.`);
     }
   };
-  return element("details", { open: true, className: "screen-only" }, element("summary", {}, "Record its application"),
+  return element("details", { open: true, className: "screen-only" }, element("summary", {}, "Record the application"),
     form("apply-form", applicationFields(), submit, "Send the application"));
 }
 
@@ -189,7 +189,7 @@ async function add(data, application) {
     return;
   }
   const applied = await send({ cmd: "apply", child: data.child, ...application }, `Child ${data.child} is added: ${inWords(application)}.`);
-  go(`#child/${data.child}`, applied.bad ? { text: `Child ${data.child} is added, but without its application. ${applied.text}`, bad: true } : applied);
+  go(`#child/${data.child}`, applied.bad ? { text: `Child ${data.child} is added, but without the application. ${applied.text}`, bad: true } : applied);
 }
 
 // A plan that names a school
@@ -200,10 +200,10 @@ export function planForm({ number: of, name }, act) {
     const code = select.value;
     if (!code) throw new Wrong("plan", "Choose the school that the plan names.");
     const where = `${code} ${isolated(school(code).name)}`;
-    const effect = "The child is admitted there, and its application ends. This cannot be undone.";
+    const effect = "The child is admitted there, and the application ends. This cannot be undone.";
     const question = `Record that the EHC plan of child ${of}, ${isolated(name)}, names ${where}? ${effect}`;
     if (await isSure(question, "Yes, record the plan")) await act({ cmd: "name_plan", child: of, school: code },
-      `Child ${of} has a place at ${where} by its plan.`);
+      `Child ${of} has a place at ${where} by a plan.`);
   };
   return element("details", { className: "screen-only" }, element("summary", {}, "Record an EHC plan"),
     form("plan-form", [field("School of the plan", select)], submit, "Record the plan"));

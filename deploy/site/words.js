@@ -50,11 +50,11 @@ export function priority(school, number) {
 }
 
 export function placeInWords(place) {
-  if (!place) return "It has no place.";
+  if (!place) return "The child has no place.";
   const school = `${place.school} ${isolated(place.name)}`;
-  if (place.kind === "plan") return `It has a place at ${school} by its plan.`;
-  if (place.kind === "accepted") return `It has a place at ${school}, which was accepted.`;
-  return `It was offered a place at ${school} on ${day(place.offered)}`
+  if (place.kind === "plan") return `The child has a place at ${school} by a plan.`;
+  if (place.kind === "accepted") return `The child has a place at ${school}, which was accepted.`;
+  return `The child was offered a place at ${school} on ${day(place.offered)}`
     + (place.reminded ? `, and reminded on ${day(place.reminded)}.` : ". There is no answer yet.");
 }
 
