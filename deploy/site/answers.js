@@ -93,7 +93,8 @@ export function answersView() {
   function showRecorded() {
     if (!recorded.length) return;
     const bad = recorded.filter((it) => it.isBad).length;
-    const warning = bad ? element("p", { className: "warning", id: "not-recorded" }, `${plural(bad, "answer was", "answers were")} not recorded: see the results.`) : "";
+    const text = `${plural(bad, "answer was", "answers were")} not recorded: see the results.`;
+    const warning = bad ? element("p", { className: "warning", id: "not-recorded" }, text) : "";
     list.replaceChildren(warning, table({
       caption: "Recorded here", file: "answers.csv", rows: recorded,
       columns: [
