@@ -114,7 +114,8 @@ install:
 	install -D -m 644 docs/admissions.1 $(DESTDIR)$(PREFIX)/share/man/man1/admissions.1
 	install -d $(DESTDIR)$(PREFIX)/share/doc/admissions
 	for page in HANDBOOK ERRORS DEPLOYMENT FORMATS; do install -m 644 docs/$$page.md $(DESTDIR)$(PREFIX)/share/doc/admissions || exit 1; done
-	install -m 644 docs/serving.png $(DESTDIR)$(PREFIX)/share/doc/admissions
+	install -d $(DESTDIR)$(PREFIX)/share/doc/admissions/pictures
+	install -m 644 docs/pictures/*.png $(DESTDIR)$(PREFIX)/share/doc/admissions/pictures
 	deploy/manuals $(DESTDIR)$(PREFIX)
 
 # From the proved program as it is there, and the commit that is checked out
