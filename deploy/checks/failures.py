@@ -1,6 +1,7 @@
 """The page when things go wrong: names that are markup, each answer that a desk may give, another site's attempts, a missing index, a desk that is
 killed, and a full disk."""
 
+import json
 import signal
 
 from checks.browser import Browser
@@ -106,8 +107,9 @@ def without_index(world, page, see):
     for text, address in (("3", "#child/3"), ("a", "#school/A")):
         page.value("document.getElementById('find').focus()")
         page.call("Input.insertText", text=text)
+        before = page.value("document.querySelector('h2')?.innerText ?? ''")
         page.press("Enter")
-        page.wait(f"location.hash === '{address}'")
+        page.wait(f"location.hash === '{address}' && (document.querySelector('h2')?.innerText ?? '') !== {json.dumps(before)}")
         page.wait(f"{ANSWER} && !{WAITS}.test({ANSWER})")
     see("and finds numbers and codes", page.value("document.querySelector('h2').innerText"), "A Alpha")
     visit(page, "#child/3/amend")
