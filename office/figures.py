@@ -1,17 +1,18 @@
 """Writes the page that an authority publishes after a round: figures without personal data, in one file that any browser shows.
 
-  admissions-figures AFTER OUT.html [--before LAST_YEAR] [--round N]
+  admissions-figures AFTER OUT.html [--copy COPY] [--before LAST_YEAR] [--round N] [--flags FILE]
 
-AFTER is the register, or better a copy, from right after the round: classes and distances are those of the data in it. The page has, for the last round
-or for round N: how many children have their first, second, .. preference; for each school its admission number, applications by preference, offers by
+AFTER is the register from right after the round: classes and distances are those of the data in it. Later, name the copy from right before the round by
+--copy: schools and children are then taken from it, as the round saw them. The page has, for the last round, for round N or for that of the copy: how many children have their first, second, .. preference; for each school its admission number, applications by preference, offers by
 criterion, and the criterion and the distance of the last child that was offered a place; a map of schools, with homes counted in squares; and charts. With
 --before it is compared with the same round of last year's register.
 
 Counts from 1 to 4 are withheld, and so are others from which they could be worked out; so are squares of the map with fewer than 5 homes, and the distance
-where the last place went to a child that is or was looked after, or by a flag. The page has no name and no child's number. OUT.html must be new.
+where the last place went to a child that is or was looked after, or by a flag. --flags gives flags the office's words, by lines as `7,medical need`. The
+page has no name and no child's number. OUT.html must be new.
 
 example:
-  admissions-figures copies/after-draw-1.db figures-1.html --before ../2024/copies/after-draw-1.db
+  admissions-figures reg.db figures-1.html --copy copies/before-draw-1.db --before ../2024/copies/after-draw-1.db
 
 exit status: 0 written; 1 refused or failed, and nothing was written; 2 wrong arguments.
 """
@@ -22,10 +23,9 @@ from register_files import Refused
 from . import charts, days, figure_counts, pages, ranking, register, sheet
 from .figure_counts import ENDED, LOWER, NONE
 from .run import Progress
-from .withheld import LEAST
+from .withheld import LEAST, MEANING, WITHHELD
 
 NTH = ("first", "second", "third", "fourth", "fifth", "sixth", "seventh", "eighth", "ninth", "tenth")
-WITHHELD = "[c]"
 MOST_BARS = 40
 MAP_TEXT = "A map with a triangle and the code of each school. {cells} squares of {side} metres are coloured, the darker the more homes are in them."
 
@@ -65,25 +65,24 @@ def met_cells(found, key):
     return shown(found, ("met", key), found.met[key]), WITHHELD if rate is None else f"{rate:.1f}%"
 
 
-def last_offered(school):
+def last_offered(school, flags):
     """The criterion and the distance of the last child that was offered a place, in words."""
     if school.last is None:
         return "no offer in this round", ""
     number, metres = school.last
-    private = number == 0 or number <= len(school.criteria) and school.criteria[number - 1].startswith("flag:")
-    return ranking.in_words(school, number), WITHHELD if private else f"{metres:,} m"
+    return ranking.in_words(school, number, flags), WITHHELD if ranking.is_private(school, number) else f"{metres:,} m"
 
 
-def school_row(found, it):
+def school_row(found, it, flags):
     """A school's row of the main table."""
     applied = [shown(found, ("applied", it.code, at), it.applications[at]) for at in range(1, LOWER + 1)]
-    criterion, metres = last_offered(it)
+    criterion, metres = last_offered(it, flags)
     return {
         "code": it.code, "name": it.name, "pan": f"{it.pan:,}", "applied": applied,
         "applications": shown(found, ("applications", it.code), it.applications.total()), "plans": shown(found, ("plans", it.code), it.plans),
         "kept": shown(found, ("kept", it.code), it.kept), "offers": shown(found, ("offers", it.code), it.offers.total()),
         "criterion": criterion, "metres": metres, "turned_away": "some" if it.turned_away else "none",
-        "classes": [(ranking.in_words(it, at), shown(found, ("class", it.code, at), it.offers[at])) for at in range(len(it.criteria) + 2)],
+        "classes": [(ranking.in_words(it, at, flags), shown(found, ("class", it.code, at), it.offers[at])) for at in range(len(it.criteria) + 2)],
     }
 
 
@@ -114,12 +113,12 @@ def chart_of_schools(found):
     return title, charts.bars("schools", title, description, [it.code for it in there], series, "children", WITHHELD)
 
 
-def page(found, last):
-    """The page, from the figures of this year and of last year."""
+def page(found, last, flags):
+    """The page, from the figures of this year and of last year. `flags` are the office's words for flags."""
     progress = Progress("charts", 3)
     met, keys = preferences(found, last)
-    rows = [school_row(found, it) for it in found.schools.values()]
-    then = {it.code: school_row(last, it) for it in last.schools.values()} if last else {}
+    rows = [school_row(found, it, flags) for it in found.schools.values()]
+    then = {it.code: school_row(last, it, flags) for it in last.schools.values()} if last else {}
     points = [(it.code, it.east, it.north) for it in found.schools.values()]
     met_chart = chart_of_preferences(found, last, keys)
     progress.at(1)
@@ -129,7 +128,7 @@ def page(found, last):
     progress.at(3)
     progress.end()
     return pages.render("figures.html", {
-        "found": found, "last": last, "day": days.in_words(found.day), "met": met, "rows": rows, "least": LEAST, "withheld": WITHHELD, "side": f"{side:,}",
+        "found": found, "last": last, "day": days.in_words(found.day), "met": met, "rows": rows, "least": LEAST, "meaning": MEANING, "side": f"{side:,}",
         "kept": shown(found, ("kept",), found.kept), "offers": shown(found, ("offers",), found.offers),
         "compared": [compared(it, then.get(it["code"])) for it in rows] if last else [],
         "schools_title": schools_title, "charts": {"met": met_chart, "schools": schools_chart, "map": map_chart},
@@ -140,6 +139,8 @@ def arguments(reader):
     """The arguments of the command."""
     reader.add_argument("after", metavar="AFTER", help="the register, or a copy, from right after the round")
     reader.add_argument("out", metavar="OUT.html", help="the page, which must be new")
+    reader.add_argument("--copy", metavar="COPY", help="the copy from right before the round, if anything was changed since")
+    reader.add_argument("--flags", metavar="FILE", help=ranking.FLAGS_HELP)
     reader.add_argument("--before", metavar="LAST_YEAR", help="last year's register, to be compared")
     reader.add_argument("--round", metavar="N", type=int, help="the number of the round, the last one by default")
 
@@ -148,13 +149,18 @@ def main(given):
     """Writes the page."""
     if os.path.lexists(given.out):
         raise Refused(f"{given.out} is there already: nothing was written; choose another name")
-    found, last = figure_counts.count(register.read(given.after), given.round), None
+    flags, after, last = ranking.flags_of(given.flags), register.read(given.after), None
+    if given.copy:
+        _, after = ranking.seen_by_round(register.read(given.copy), after)
+        if given.round not in (None, sum(bool(it.round) for it in after.draws)):
+            raise Refused(f"{given.copy} is not from right before round {given.round}")
+    found = figure_counts.count(after, given.round)
     figure_counts.is_published(found)
     if given.before:
         last = figure_counts.count(register.read(given.before), found.round)
         if last.phase != found.phase or last.year >= found.year:
             raise Refused(f"{given.before} is of {last.phase_name} entry in {last.year}, and cannot be compared with {found.phase_name} entry in {found.year}")
         figure_counts.is_published(last)
-    sheet.write_new(given.out, page(found, last).encode())
+    sheet.write_new(given.out, page(found, last, flags).encode())
     print(f"the figures of round {found.round}, {days.in_words(found.day)}, are in {given.out}; {len(found.hidden)} counts are withheld")
     return 0

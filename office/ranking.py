@@ -1,6 +1,14 @@
 """The problem of a round, from the register before it: who takes part, which schools each child wants, the places, and how each child ranks."""
-from . import texts
-from .register import PLAN
+import dataclasses
+
+from register_files import Refused
+
+from . import sheet, texts
+from .register import PLAN, same_season
+
+MOST_FLAG = 15
+# the option by which commands take the office's words for flags
+FLAGS_HELP = "the office's words for flags: lines as 7,social or medical need"
 
 
 def class_of(school, child):
@@ -27,8 +35,27 @@ def meets(school, child, criterion):
     return child.present == value
 
 
-def in_words(school, number):
-    """What a class of a school means, for children in it."""
+def is_private(school, number):
+    """Whether the distance of a child in a class is not published: it is or was looked after, or has a flag."""
+    return number == 0 or number <= len(school.criteria) and school.criteria[number - 1].startswith("flag:")
+
+
+def flags_of(name):
+    """The office's words for flags, from a file with lines as `7,social or medical need`; none where no file is named."""
+    found = {}
+    for row in sheet.read(name).rows if name else []:
+        number, *words = (it.strip() for it in row.cells)
+        text = ", ".join(filter(None, words))
+        if not (number.isascii() and number.isdigit() and len(number) < 3 and int(number) <= MOST_FLAG):
+            raise Refused(f"{name}, row {row.number}: {texts.shown(number)} is no flag from 0 to {MOST_FLAG}; a line is as 7,social or medical need")
+        if int(number) in found or not text or texts.CONTROL.search(text):
+            raise Refused(f"{name}, row {row.number}: flag {number} " + ("is there twice" if int(number) in found else "has no words that can be printed"))
+        found[int(number)] = text
+    return found
+
+
+def in_words(school, number, flags=None):
+    """What a class of a school means, for children in it; `flags` are the office's words for flags by their numbers."""
     if number == 0:
         return "looked after, or previously looked after"
     if number > len(school.criteria):
@@ -39,8 +66,35 @@ def in_words(school, number):
     if kind == "within":
         return f"living within {int(value):,} metres of the school"
     if kind == "flag":
-        return f"with the priority that the office has verified as flag {value}"
+        words = (flags or {}).get(int(value))
+        return f"with a verified priority: {words}" if words else f"with the priority that the office has verified as flag {value}"
     return f"from the feeder school {value}"
+
+
+def seen_by_round(before, after):
+    """The number of the round that is the next draw of BEFORE, and BEFORE with the lots and the outcomes that AFTER has of it: schools and children have the
+    data that the round saw, whatever was changed since."""
+    same_season(before, after)
+    at = len(before.draws) + 1
+    draw = after.draws[at - 1] if len(after.draws) >= at else None
+    if draw is None:
+        raise Refused(f"{after.name} has no draw {at}: {before.name} has {at - 1}, and there is none more")
+    if draw.round == 0:
+        raise Refused(f"draw {at} is a fill at {draw.school}: rounds alone are explained")
+    problem, lots, outcomes = Problem(before), after.lots.get(at, {}), after.outcomes.get(at, {})
+    if problem.pairs() != set(lots) or set(problem.lists) != set(outcomes):
+        raise Refused(f"{before.name} is not from right before draw {at} of {after.name}: the children who take part, or their lots, differ")
+    # (nothing but the admission number of a school can be changed, and that can only rise)
+    for code, it in before.schools.items():
+        now = after.schools.get(code)
+        if now is None or dataclasses.replace(now, pan=it.pan) != it or now.pan < it.pan:
+            raise Refused(f"{before.name} is no copy of {after.name}: the school {code} of the one is not that of the other")
+        if now.pan > it.pan and sum(has == code for has in outcomes.values()) > max(problem.places(code), sum(own == code for own in problem.own.values())):
+            raise Refused(f"{before.name} is not from right before draw {at}: {code} admitted more children than it has places there")
+    found = dataclasses.replace(
+        before, draws=after.draws[:at], lots={**before.lots, at: lots}, outcomes={**before.outcomes, at: outcomes}, fresh={**before.fresh, at: after.fresh.get(at, {})},
+    )
+    return at, found
 
 
 class Problem:

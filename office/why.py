@@ -1,11 +1,15 @@
 """Says in sentences why a child got the place that it has, and none at each school that its family wanted more.
 
-  admissions-why BEFORE AFTER --child N
+  admissions-why BEFORE AFTER --child N [--office] [--flags FILE]
 
-BEFORE is a copy of the register from before a round, AFTER the register, or a copy, from after it. For each school above the child's place it prints how
+BEFORE is a copy of the register from right before a round, AFTER the register, or any later copy: schools and children are taken from BEFORE, as the round
+saw them, and of AFTER only the lots and the outcome, so that admission numbers and children may have changed since. For each school above the child's place it prints how
 many places there were, how many children ranked before this one and by which criterion, and the class, the distance and, where it decided, the lot of
 the last child admitted and of this one. No other child is named. Each sentence is worked out from the two files, and each place is counted: that nobody
 was admitted who ranks after this child is tested here, and where it is not so, the command says so and ends with 1.
+
+What it prints is for the family: [c] is a number that is withheld by the rules of admissions-figures, and so is the distance of a last child that is or
+was looked after, or has a flag. With --office it prints all, for the office alone. --flags gives flags the office's words, by lines as `7,medical need`.
 
 It explains one child. Whether the whole round is right, admissions-audit BEFORE AFTER tells.
 
@@ -16,11 +20,17 @@ exit status: 0 explained; 1 there is no such child or round, or the round is not
 """
 import dataclasses
 
-from . import days, ranking, register, texts
+from . import days, ranking, register, texts, withheld
 from .register import PLAN
 from .run import Refused
 
 CLASS, DISTANCE, LOT = "class", "distance", "lot"
+FOR_OFFICE, FOR_FAMILY = "For the office alone: it has numbers that are not published", "For the family of the child: small numbers are withheld"
+DECIDED = {
+    CLASS: "The criterion decided: the last child admitted is in a class that ranks first.",
+    DISTANCE: "Both are in the same class, and the distance decided: the other child lives nearer to the school.",
+    LOT: "Both are in the same class and live at the same distance, and the lot decided: the smaller one ranks first.",
+}
 ORDINALS = ("first", "second", "third", "fourth", "fifth", "sixth", "seventh", "eighth", "ninth", "tenth")
 
 
@@ -66,24 +76,17 @@ class Why:
     had: str | None
     got: str | None
     schools: list
+    is_amended: bool = False
 
 
 def explain(before, after, number):
     """The explanation, from the registers before and after the round."""
-    at = len(before.draws) + 1
-    draw = after.draws[at - 1] if len(after.draws) >= at else None
-    if draw is None:
-        raise Refused(f"{after.name} has no draw {at}: {before.name} has {at - 1}, and there is none more")
-    if draw.round == 0:
-        raise Refused(f"draw {at} is a fill at {draw.school}: rounds alone are explained")
+    at, seen = ranking.seen_by_round(before, after)
     if number not in before.children:
         raise Refused(f"{before.name} has no child {number}")
-    if before.children[number] != after.children.get(number):
-        raise Refused(f"child {number} was amended after the round: take a copy from right after it as AFTER")
-    problem, lots, outcomes = ranking.Problem(before), after.lots.get(at, {}), after.outcomes.get(at, {})
-    if problem.pairs() != set(lots) or set(problem.lists) != set(outcomes):
-        raise Refused(f"{before.name} is not from right before draw {at} of {after.name}: the children who take part, or their lots, differ")
-    found = Why(number, draw.round, draw.day, number in outcomes, problem.own.get(number), outcomes.get(number), [])
+    problem, draw, lots, outcomes = ranking.Problem(before), seen.draws[-1], seen.lots[at], seen.outcomes[at]
+    is_amended = before.children[number] != after.children.get(number)
+    found = Why(number, draw.round, draw.day, number in outcomes, problem.own.get(number), outcomes.get(number), [], is_amended)
     if found.takes_part:
         listed = problem.lists[number]
         above = listed[: listed.index(found.got)] if found.got else listed
@@ -123,52 +126,88 @@ def nth(preference):
     return f"{ORDINALS[preference - 1]} preference"
 
 
-def sentences_of(found, reg):
+def hidden_of(found):
+    """The counts of a school that are withheld from a family."""
+    total = sum(found.before.values())
+    counts = {("class", at): it for at, it in found.before.items()} | {"before": total, "others": found.wanted - 1}
+    counts |= {it: getattr(found, it) for it in ("plans", "kept", "admitted", "elsewhere", "refused")}
+    sums = [[("before", -1), *((it, 1) for it in counts if it[0] == "class")], [("before", -1), ("elsewhere", 1), ("refused", 1), ("admitted", 1)]]
+    # (the admission number is published, and that the school is full is why the child has no place)
+    if found.admitted == found.pan:
+        del counts["admitted"]
+        sums[1].pop()
+    elif found.plans + found.kept + found.admitted == found.pan:
+        sums.append([("plans", 1), ("kept", 1), ("admitted", 1)])
+    return withheld.withheld(counts, sums)
+
+
+class View:
+    """How numbers of one school are printed: all for the office, and for a family those that may be published."""
+
+    def __init__(self, found, school, is_office, flags):
+        self.school, self.is_office, self.flags = school, is_office, flags
+        self.hidden = set() if is_office else hidden_of(found)
+
+    def count(self, key, value, one, many):
+        """A number with what follows it. Nothing tells whether a number that is withheld is 1."""
+        return f"{withheld.WITHHELD} {many}" if key in self.hidden else f"{value:,} {one if value == 1 else many}"
+
+    def words(self, number):
+        """A class in words."""
+        return ranking.in_words(self.school, number, self.flags)
+
+    def is_private(self, key):
+        """Whether the distance of the last child admitted is withheld."""
+        return not self.is_office and ranking.is_private(self.school, key[0])
+
+
+def sentences_of(found, school, view):
     """The sentences about one school."""
-    school = reg.schools[found.code]
     yield f"{school.name} ({found.code}), {nth(found.preference)}: no place."
     if found.was_left:
         yield "The place there was declined or the offer lapsed, or the family left its waiting list, so the school was not asked again."
         return
-    yield f"The school has {texts.count(found.pan, 'place')}." + "".join(taken_of(found))
-    admitted = f"{found.admitted:,} {'was' if found.admitted == 1 else 'were'} admitted."
-    yield f"{texts.count(found.wanted, 'child', 'children')} wanted a place there in this round, this child among them. {admitted}"
+    yield f"The school has {texts.count(found.pan, 'place')}." + "".join(taken_of(found, view))
+    admitted = view.count("admitted", found.admitted, "was admitted.", "were admitted.")
+    yield f"{view.count('others', found.wanted, 'child', 'children')} wanted a place there in this round, this child among them. {admitted}"
     total = sum(found.before.values())
     if total:
-        yield f"{texts.count(total, 'child ranks', 'children rank')} before this child there:"
+        yield f"{view.count('before', total, 'child ranks', 'children rank')} before this child there:"
         for number, count in sorted(found.before.items()):
-            nearer = ", nearer to the school" if number == found.key[0] and found.key[:2] != found.last[:2] else ""
-            equal = ", nearer or with a smaller lot" if number == found.key[0] and not nearer else ""
-            yield f"- {count:,} {ranking.in_words(school, number)}{nearer or equal}"
+            is_its = number == found.key[0]
+            is_nearer = is_its and found.key[:2] != found.last[:2] and not (found.last and number == found.last[0] and view.is_private(found.last))
+            words = ", nearer to the school" if is_nearer else ", nearer or with a smaller lot" if is_its else ""
+            yield f"- {view.count(('class', number), count, view.words(number), view.words(number))}{words}"
         if found.elsewhere:
-            yield f"{found.elsewhere:,} of them {'has' if found.elsewhere == 1 else 'have'} a school that the family prefers, and took no place here."
+            yield view.count("elsewhere", found.elsewhere, "of them has", "of them have") + " a school that the family prefers, and took no place here."
         if found.refused:
-            yield f"{found.refused:,} of them {'was' if found.refused == 1 else 'were'} refused a place here too."
-    yield from compared(found, school)
+            yield view.count("refused", found.refused, "of them was", "of them were") + " refused a place here too."
+    yield from compared(found, view)
 
 
-def taken_of(found):
+def taken_of(found, view):
     """Sentences on the places that were taken before the round."""
     if found.plans:
-        yield f" {found.plans:,} of them {'is taken by an EHC plan' if found.plans == 1 else 'are taken by EHC plans'}."
+        yield " " + view.count("plans", found.plans, "of them is taken by an EHC plan.", "of them are taken by EHC plans.")
     if found.kept:
-        yield f" {texts.count(found.kept, 'child', 'children')} had a place there before, and {'keeps' if found.kept == 1 else 'keep'} it."
+        yield " " + view.count("kept", found.kept, "child had a place there before, and keeps it.", "children had a place there before, and keep it.")
 
 
-def compared(found, school):
+def compared(found, view):
     """The last child admitted, and this one."""
-    ranked = lambda key: f"class {key[0]} ({ranking.in_words(school, key[0])}), {key[1]:,} metres"  # noqa: E731
+    ranked = lambda key: f"class {key[0]} ({view.words(key[0])}), {key[1]:,} metres"  # noqa: E731
     if not found.last:
         yield f"Nobody was newly admitted. This child: {ranked(found.key)}."
+        return
+    if view.is_private(found.last):
+        yield f"The last child admitted: class {found.last[0]} ({view.words(found.last[0])}); its distance is withheld."
+        yield f"This child: {ranked(found.key)}."
+        yield DECIDED[CLASS] if found.decided == CLASS else "Both are in the same class, and the distance, or between equal distances the lot, decided."
         return
     by_lot = found.decided == LOT
     yield f"The last child admitted: {ranked(found.last)}" + (f", lot {found.last[2]:,}." if by_lot else ".")
     yield f"This child: {ranked(found.key)}" + (f", lot {found.key[2]:,}." if by_lot else ".")
-    yield {
-        CLASS: "The criterion decided: the last child admitted is in a class that ranks first.",
-        DISTANCE: "Both are in the same class, and the distance decided: the other child lives nearer to the school.",
-        LOT: "Both are in the same class and live at the same distance, and the lot decided: the smaller one ranks first.",
-    }[found.decided]
+    yield DECIDED[found.decided]
 
 
 def opening(found, before, after):
@@ -201,14 +240,22 @@ def opening(found, before, after):
         yield "No school was preferred to it."
 
 
-def lines_of(found, before, after):
-    """The whole explanation."""
+def lines_of(found, before, after, is_office=False, flags=None):
+    """The whole explanation, for the office or for the family. `flags` are the office's words for flags."""
+    yield FOR_OFFICE if is_office else FOR_FAMILY
     yield from opening(found, before, after)
+    if found.is_amended:
+        yield "The data of this child were changed after the round: those that the round saw are used here."
+    is_withheld = False
     for it in found.schools:
+        view = View(it, before.schools[it.code], is_office, flags)
+        is_withheld = is_withheld or bool(view.hidden)
         yield ""
-        yield from sentences_of(it, before)
+        yield from sentences_of(it, before.schools[it.code], view)
         for fault in it.faults:
             yield f"THIS IS NOT RIGHT: {fault}. Run admissions-audit."
+    if is_withheld:
+        yield from ("", withheld.MEANING)
 
 
 def arguments(reader):
@@ -216,15 +263,14 @@ def arguments(reader):
     reader.add_argument("before", metavar="BEFORE", help="a copy of the register from before the round")
     reader.add_argument("after", metavar="AFTER", help="the register, or a copy, from after it")
     reader.add_argument("--child", metavar="N", type=int, required=True, help="the number of the child")
+    reader.add_argument("--office", action="store_true", help="print all numbers, for the office alone")
+    reader.add_argument("--flags", metavar="FILE", help=ranking.FLAGS_HELP)
 
 
 def main(given):
     """Explains."""
-    before, after = register.read(given.before), register.read(given.after)
-    register.same_season(before, after)
-    if before.schools != {code: it for code, it in after.schools.items() if code in before.schools}:
-        raise Refused("schools changed after the round: take a copy from right after it as AFTER")
+    flags, before, after = ranking.flags_of(given.flags), register.read(given.before), register.read(given.after)
     found = explain(before, after, given.child)
-    for it in lines_of(found, before, after):
+    for it in lines_of(found, before, after, given.office, flags):
         print(it)
     return 1 if any(it.faults for it in found.schools) else 0

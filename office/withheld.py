@@ -7,6 +7,9 @@ withheld count in it. A count of 0 is published, so whoever knows the page knows
 """
 
 LEAST = 5
+# how a count that is withheld is printed, and what that means
+WITHHELD = "[c]"
+MEANING = f"{WITHHELD} is a number that is withheld, because it is from 1 to {LEAST - 1}, or because such a number could be worked out from it."
 MOST_MOVES, MOST_TRIES = 12, 3000
 
 

@@ -57,6 +57,23 @@ def test_the_page_is_whole_and_escaped(office, season, tmp_path):
     assert '<html lang="en-GB">' in text and page.tags["h1"] == page.tags["main"] == 1
 
 
+def test_later_by_the_copy(office, tmp_path):
+    """An admission number is raised, and a child amended and given a plan, after the round: with the copy from before it the page is as it was. Flags in words."""
+    town = [school("OAK", pan=6, criteria=["flag:7"]), *(child(it, east=100 * it, flags=[7] if it < 8 else []) for it in range(1, 13)), *(apply(it, ["OAK"]) for it in range(1, 13))]
+    make(tmp_path / "reg.db", town)
+    shutil.copy(tmp_path / "reg.db", tmp_path / "before.db")
+    do(tmp_path / "reg.db", [{"cmd": "round", "draw": 1, "day": "2025-03-03", "lots": list(range(12))}])
+    (tmp_path / "flags.csv").write_text("7,social or medical need\n", "utf-8")
+    assert office("figures", "reg.db", "first.html", "--flags", "flags.csv").returncode == 0
+    do(tmp_path / "reg.db", [{"cmd": "raise_pan", "school": "OAK", "pan": 9}, {**child(3), "cmd": "amend"}, {"cmd": "name_plan", "child": 12, "school": "OAK"}])
+    assert office("figures", "reg.db", "later.html", "--flags", "flags.csv").returncode == 0
+    ran = office("figures", "reg.db", "copy.html", "--copy", "before.db", "--flags", "flags.csv")
+    first, later, copied = ((tmp_path / f"{it}.html").read_text("utf-8") for it in ("first", "later", "copy"))
+    assert ran.returncode == 0 and copied == first != later and "with a verified priority: social or medical need" in first, ran
+    ran = office("figures", "reg.db", "no.html", "--copy", "before.db", "--round", "2")
+    assert ran.returncode == 1 and "is not from right before round 2" in ran.stderr and not (tmp_path / "no.html").exists()
+
+
 def test_last_year(office, season, tmp_path):
     """Last year is another register: earlier, of the same phase, with other numbers."""
     shutil.copy(season / "after-1.db", tmp_path / "last.db")

@@ -2,6 +2,7 @@
 import os
 import random
 import re
+import shutil
 import subprocess
 import sys
 
@@ -135,8 +136,9 @@ def test_the_sentences_of_a_family(tmp_path):
     now = {1: ("OAK", "plan"), **{it: (at, "offered") for it, at in has.items()}}
     write(tmp_path / "a.db", {"OAK": oak, "ELM": elm}, children, lists, places=now, draws=[("2025-03-03", has, lots, set(has))])
     before, after = register.read(str(tmp_path / "b.db")), register.read(str(tmp_path / "a.db"))
-    lines = list(why.lines_of(why.explain(before, after, 3), before, after))
+    lines = list(why.lines_of(why.explain(before, after, 3), before, after, is_office=True))
     assert lines == [
+        "For the office alone: it has numbers that are not published",
         "Admission 2025 secondary, round 1 of 3 March 2025", "Child 3 C3", "", "The child was offered Elm School (ELM), its second preference.", "",
         "Oak School (OAK), first preference: no place.", "The school has 3 places. 1 of them is taken by an EHC plan.",
         "4 children wanted a place there in this round, this child among them. 2 were admitted.", "2 children rank before this child there:",
@@ -144,11 +146,67 @@ def test_the_sentences_of_a_family(tmp_path):
         "The last child admitted: class 2 (meeting no criterion of the school), 400 metres, lot 4.", "This child: class 2 (meeting no criterion of the school), 400 metres, lot 9.",
         "Both are in the same class and live at the same distance, and the lot decided: the smaller one ranks first.",
     ]
-    text = "\n".join(why.lines_of(why.explain(before, after, 5), before, after))
+    text = "\n".join(why.lines_of(why.explain(before, after, 5), before, after, is_office=True))
     assert "3 children rank before this child there:\n- 1 with a brother or sister at the school\n- 2 meeting no criterion of the school, nearer to the school\n" in text
     assert "has a school that" not in text and "1 of them was refused a place here too.\n" in text and "This child: class 2 (meeting no criterion of the school), 800 metres.\n" in text
+    lines = list(why.lines_of(why.explain(before, after, 3), before, after))
+    assert lines[0] == "For the family of the child: small numbers are withheld" and lines[-1].startswith("[c] is a number that is withheld")
+    for it in (
+        "The school has 3 places. [c] of them are taken by EHC plans.", "[c] children wanted a place there in this round, this child among them. [c] were admitted.",
+        "[c] children rank before this child there:", "- [c] with a brother or sister at the school", "- [c] meeting no criterion of the school, nearer or with a smaller lot",
+        "This child: class 2 (meeting no criterion of the school), 400 metres, lot 9.",
+    ):
+        assert it in lines, (it, lines)
     assert "by its EHC plan" in "\n".join(why.lines_of(why.explain(before, after, 1), before, after))
     assert list(why.lines_of(why.explain(before, after, 2), before, after))[-1] == "No school was preferred to it."
+
+
+def test_what_a_family_does_not_read(office, tmp_path):
+    """By hand. Oak has 8 places: 7 by flag 7, the farthest of them 700 metres away, and 1 looked after. Of 9 that want it child 20 gets none. Family and office."""
+    flagged = [child(it, east=100 * it, flags=[7]) for it in range(1, 8)]
+    make(tmp_path / "reg.db", [
+        school("OAK", pan=8, criteria=["flag:7", "sibling"]), *flagged, child(9, east=5000, looked_after=True), child(20, east=10), child(21, east=800, flags=[7]),
+        *(apply(it, ["OAK"]) for it in (*range(1, 8), 9, 20, 21)),
+    ])
+    shutil.copy(tmp_path / "reg.db", tmp_path / "before.db")
+    do(tmp_path / "reg.db", [{"cmd": "round", "draw": 1, "day": "2025-03-03", "lots": list(range(10))}])
+    (tmp_path / "flags.csv").write_text("7,social or medical need\n", "utf-8")
+    family = office("why", "before.db", "reg.db", "--child", "20", "--flags", "flags.csv")
+    assert family.returncode == 0 and family.stdout.startswith("For the family of the child: small numbers are withheld\n"), family
+    for it in (
+        "- [c] looked after, or previously looked after\n", "- [c] with a verified priority: social or medical need\n", "[c] children rank before this child there:\n",
+        "The last child admitted: class 1 (with a verified priority: social or medical need); its distance is withheld.\n", "8 were admitted.", "The criterion decided",
+    ):
+        assert it in family.stdout, (it, family.stdout)
+    assert "700 metres" not in family.stdout and "\n- 1 " not in family.stdout
+    near = office("why", "before.db", "reg.db", "--child", "21").stdout
+    assert "700 metres" not in near and "the distance, or between equal distances the lot, decided" in near and "as flag 7" in near and "nearer or with a smaller lot" in near
+    whole = office("why", "before.db", "reg.db", "--child", "20", "--office").stdout
+    assert whole.startswith("For the office alone") and "- 1 looked after" in whole and "700 metres" in whole and "[c]" not in whole
+    for bad, said in (("16,x\n", "no flag from 0 to 15"), ("x,y\n", "row 1"), ("7,a\n7,b\n", "is there twice"), ("7\n", "has no words")):
+        (tmp_path / "bad.csv").write_text(bad, "utf-8")
+        ran = office("why", "before.db", "reg.db", "--child", "20", "--flags", "bad.csv")
+        assert ran.returncode == 1 and said in ran.stderr and "Traceback" not in ran.stderr, (bad, ran)
+
+
+def test_what_was_changed_after_the_round(office, tmp_path):
+    """An admission number that was raised, a child that was amended and a new school leave the explanation as it was; a copy from before a raise is refused."""
+    make(tmp_path / "reg.db", [school("OAK", pan=1), school("ELM", pan=1, east=900), child(1, east=50), child(2, east=10), *(apply(it, ["OAK", "ELM"]) for it in (1, 2))])
+    shutil.copy(tmp_path / "reg.db", tmp_path / "before.db")
+    do(tmp_path / "reg.db", [{"cmd": "round", "draw": 1, "day": "2025-03-03", "lots": [2, 1, 4, 3]}])
+    first = office("why", "before.db", "reg.db", "--child", "1", "--office").stdout
+    amend = {**child(1, east=5000), "cmd": "amend"}
+    do(tmp_path / "reg.db", [{"cmd": "raise_pan", "school": "OAK", "pan": 3}, school("ASH", pan=1)])
+    assert office("why", "before.db", "reg.db", "--child", "1", "--office").stdout == first and "The school has 1 place." in first
+    do(tmp_path / "reg.db", [amend])
+    ran = office("why", "before.db", "reg.db", "--child", "1", "--office")
+    changed = "The data of this child were changed after the round: those that the round saw are used here.\n"
+    assert ran.returncode == 0 and ran.stdout.count(changed) == 1 and ran.stdout.replace(changed, "") == first and "50 metres" in first, ran
+    make(tmp_path / "other.db", [school("OAK", pan=1), *(child(it) for it in (1, 2)), *(apply(it, ["OAK"]) for it in (1, 2))])
+    shutil.copy(tmp_path / "other.db", tmp_path / "early.db")
+    do(tmp_path / "other.db", [{"cmd": "raise_pan", "school": "OAK", "pan": 2}, {"cmd": "round", "draw": 1, "day": "2025-03-03", "lots": [2, 1]}])
+    ran = office("why", "early.db", "other.db", "--child", "1")
+    assert ran.returncode == 1 and "is not from right before draw 1: OAK admitted more children than it has places there" in ran.stderr, ran
 
 
 def test_with_the_program(office, tmp_path):
