@@ -22,15 +22,28 @@ import os
 
 import register_files as files
 
-from .audit_rows import OFFERED, Problem, day_of, days_of, rows_of
+from .audit_rows import OFFERED, PLAN, TABLES, Problem, day_of, days_of, rows_of
 
 KEY = "class {}, {} metres, lot {}".format
 
 
-def differences(gone, come, old, new):
+KINDS = {OFFERED: "is offered", 2: "has accepted", PLAN: "has by a plan"}
+LATER = "If commands followed the draw (answers, amended children, raised numbers), audit with --later, or with a copy from right after it"
+
+
+def in_words(table, row):
+    """A row as it is printed."""
+    if table == "place":
+        child, school, kind, day, reminded = row
+        offer = "" if day is None else f", offered {day_of(day)}" + ("" if reminded is None else f", reminded {day_of(reminded)}")
+        return f"child {child} {KINDS.get(kind, f'has by kind {kind}')} {school}{offer}"
+    return ", ".join(f"{name} {'none' if it is None else it}" for name, it in zip(TABLES[table].split(", "), row))
+
+
+def differences(gone, come, old, new, table):
     """The rows of each list that the other one lacks, with a text that says which."""
     one, other = (set(), set()) if old == new else (set(old), set(new))
-    return [f"{gone}: {it}" for it in sorted(one - other, key=repr)] + [f"{come}: {it}" for it in sorted(other - one, key=repr)]
+    return [f"{gone}: {in_words(table, it)}" for it in sorted(one - other, key=repr)] + [f"{come}: {in_words(table, it)}" for it in sorted(other - one, key=repr)]
 
 
 def what_else_changed(before, after, later):
@@ -39,9 +52,9 @@ def what_else_changed(before, after, later):
     for table in ["draw", "offer", "lot"] + ([] if later else ["school", "child", "application", "left_list", "imported", "present"]):
         # (only those draws, outcomes and lots that are from before this draw)
         new = [it for it in after[table] if it[0] <= count] if table in ("draw", "offer", "lot") else after[table]
-        wrong += differences(f"a row of {table} of BEFORE is not in AFTER", f"a row of {table} of AFTER was not in BEFORE", before[table], new)
+        wrong += differences(f"a row of {table} of BEFORE is not in AFTER", f"a row of {table} of AFTER was not in BEFORE", before[table], new, table)
     seasons = ([it["meta"][0][:3]] for it in (before, after))
-    wrong += differences("the season of BEFORE is not that of AFTER", "the season of AFTER was not that of BEFORE", *seasons)
+    wrong += differences("the season of BEFORE is not that of AFTER", "the season of AFTER was not that of BEFORE", *seasons, "meta")
     if after["meta"][0][3] != len(after["draw"]):
         wrong.append(f"AFTER has {len(after['draw'])} draws, and counts {after['meta'][0][3]}")
     if not later and len(after["draw"]) > count + 1:
@@ -68,7 +81,8 @@ def error_of_day(before, day):
 def errors_of_places(before, after, new, day, what):
     """The differences between the places of AFTER, and those of BEFORE with the new ones. `new` has the schools of children, `what` is the draw's kind."""
     places = [it for it in before["place"] if it[0] not in new] + [(child, school, OFFERED, day, None) for child, school in new.items()]
-    return differences(f"a place that comes of the {what} is not in AFTER", f"a place of AFTER does not come of the {what}", places, after["place"])
+    texts = f"by BEFORE and the {what}, and not in AFTER", f"in AFTER, and not by BEFORE and the {what}"
+    return differences(*texts, places, after["place"], "place")
 
 
 def audit(before, after, later, only):
@@ -154,6 +168,14 @@ def audit_fill(before, after, later, only, wrong):
     return [*lines, "The child is the first by class, distance and lot of all who waited there, and there was a vacancy"], True
 
 
+def audit_is_later(before, after):
+    """Whether the same audit with --later finds nothing wrong."""
+    try:
+        return audit(before, after, True, None)[1]
+    except (KeyError, ValueError, TypeError, IndexError, OverflowError):
+        return False
+
+
 def arguments(reader):
     """The arguments of the command."""
     reader.add_argument("before", metavar="BEFORE", help="a copy of the register from before the round or the fill")
@@ -171,5 +193,7 @@ def main(given):
         lines, right = audit(before, after, given.later, given.school)
     except (KeyError, ValueError, TypeError, IndexError, OverflowError) as error:
         lines, right = [f"the rows of a file do not fit each other, so one of them is no register: {error!r}"], False
+    if not right and not given.later and before["draw"] != after["draw"] and audit_is_later(before, after):
+        lines = [*lines, LATER]
     print("\n".join(lines))
     return 0 if right else 1

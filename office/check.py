@@ -3,8 +3,8 @@
   admissions-check APPLICATIONS [--register REG.db] [--fix OUT.csv]
 
 APPLICATIONS is a CSV or a workbook (.xlsx) with the columns child, name, east, north, looked_after, flags, siblings, day, preferences and, if wanted,
-present, in any order. Each line of the report has the row that the spreadsheet shows, the column, the value, and what is expected. `look at` marks what
-import would take, and what may be wrong all the same: likely duplicates, a year far from the others.
+present, in any order. Each line of the report has the row that the spreadsheet shows, the column, the value, and what is expected. ERROR marks what is
+wrong, and comes first; `look at` marks what import would take, and what may be wrong all the same: likely duplicates, a year far from the others.
 
 With --register the file is also compared with a register: schools that it has not, children that it knows with other data.
 
@@ -23,7 +23,10 @@ from . import across, fields, header, register, sheet, texts
 from .run import Progress, Refused
 
 ERROR, FIXED, LOOK = "error", "fixed", "look at"
+ORDER = (ERROR, LOOK, FIXED)
 MOST_ROWS = 2000
+# a row is a total where it begins with one of these, and has neither a day nor preferences
+TOTALS = ("total", "totals", "grand total", "subtotal", "sum", "count")
 
 
 @dataclasses.dataclass(frozen=True)
@@ -42,11 +45,11 @@ class Finding:
         where = f"row {self.row}" + (f", column {self.column}" if self.column else "")
         value = f", {texts.shown(self.value)}" if self.column else ""
         if self.kind == ERROR and not self.column:
-            return f"{where}: {self.text}"
+            return f"ERROR {where}: {self.text}"
         if self.kind == LOOK:
             return f"look at {where}{value}: {self.text}"
         if self.kind == ERROR:
-            return f"{where}{value}: expected {self.text}"
+            return f"ERROR {where}{value}: expected {self.text}"
         if self.written is None:
             return f"{where}{value}: {self.text}" + ("" if is_fixing else " (by --fix)")
         return f"{where}{value}: {'written as' if is_fixing else '--fix writes'} {texts.shown(self.written)}"
@@ -110,7 +113,7 @@ class Check:
         else:
             self.read_rows(at)
         order = {it: at for at, it in enumerate(fields.COLUMNS)}
-        self.findings.sort(key=lambda it: (it.row, order.get(it.column, -1)))
+        self.findings.sort(key=lambda it: (ORDER.index(it.kind), it.row, order.get(it.column, -1)))
 
     def read_rows(self, at):
         """Reads the header at a place among the rows, and the rows below it."""
@@ -137,6 +140,10 @@ class Check:
         cells = row.cells
         if self.sheet.is_workbook:
             cells = cells + [""] * (self.width - len(cells))
+        if self.is_total(cells):
+            first = next(it for it in cells if it.strip())
+            self.add(row.number, "child", first, "an application (the row looks like a total: delete it)")
+            return
         if len(cells) > self.width and not any(it.strip() for it in cells[self.width:]) and not self.has_split_name(cells):
             self.add(row.number, "", "", "empty fields at the end are left out", FIXED)
             cells = cells[: self.width]
@@ -158,6 +165,11 @@ class Check:
             elif self.sheet.is_decoded and not given.isascii():
                 self.add(row.number, column, given, "read as Windows-1252: are these the right letters?", LOOK)
         self.rows.append(found)
+
+    def is_total(self, cells):
+        """Whether a row is no application but a total of the others."""
+        given = {it: cells[self.columns[it]].strip() for it in ("day", "preferences") if self.columns.get(it, len(cells)) < len(cells)}
+        return next(it for it in cells if it.strip()).strip().lower().rstrip(":") in TOTALS and not any(given.values())
 
     def has_split_name(self, cells):
         """Whether a row has more fields because its name has a separator in it."""

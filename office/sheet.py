@@ -5,6 +5,7 @@ import datetime
 import io
 import os
 import tempfile
+import warnings
 import zipfile
 
 import register_files as files
@@ -122,9 +123,10 @@ def workbook(name, data, wanted, advice):
     except ImportError as error:
         raise Refused("a workbook is read by python3-openpyxl, which is not here: apt-get install python3-openpyxl, or save it as CSV UTF-8") from error
     try:
-        book = openpyxl.load_workbook(io.BytesIO(data), data_only=True)
-    except (zipfile.BadZipFile, KeyError, ValueError, TypeError, OSError, SyntaxError) as error:
-        raise Refused(f"{name} is no workbook that can be read ({error}): save it again as .xlsx, or as CSV UTF-8") from error
+        book = load(openpyxl, data, True)
+    except Exception as error:  # pylint: disable=broad-except
+        # (what openpyxl says names its own classes; it raises whatever comes of a file that no spreadsheet wrote)
+        raise Refused(f"{name} is no workbook that can be read: open it in a spreadsheet and save it again as .xlsx, or as CSV UTF-8") from error
     sheets = [it for it in book.worksheets if any(any(cell is not None for cell in row) for row in it.iter_rows(values_only=True))]
     if wanted is not None:
         sheets = [it for it in sheets if it.title == wanted]
@@ -139,6 +141,13 @@ def workbook(name, data, wanted, advice):
     found.empty, numbers = [], {row.number for row in found.rows}
     found.problems = [it for it in (*merged(sheets[0]), *hidden(sheets[0]), *uncalculated(openpyxl, data, sheets[0])) if it[0] in numbers]
     return found
+
+
+def load(openpyxl, data, has_values):
+    """A workbook, with the values of its formulas or with themselves. openpyxl warns of styles and extensions that it leaves out, and they have no data."""
+    with warnings.catch_warnings():
+        warnings.simplefilter("ignore")
+        return openpyxl.load_workbook(io.BytesIO(data), data_only=has_values)
 
 
 def merged(page):
@@ -160,7 +169,7 @@ def uncalculated(openpyxl, data, page):
     with zipfile.ZipFile(io.BytesIO(data)) as parts:
         if not any(b"<f" in parts.read(it) for it in parts.namelist() if it.startswith("xl/worksheets/")):
             return
-    for row in openpyxl.load_workbook(io.BytesIO(data))[page.title].iter_rows():
+    for row in load(openpyxl, data, False)[page.title].iter_rows():
         for cell in row:
             if cell.data_type == "f" and page[cell.coordinate].value is None:
                 advice = "open the file in a spreadsheet and save it"

@@ -33,8 +33,8 @@ def test_a_fill_by_hand(office, tmp_path):
         (["UPDATE offer SET child = 3 WHERE draw = 2"], "not the first: child 4 is, and child 3 OAK has the place"),
         (["DELETE FROM offer WHERE draw = 2"], "not the first: child 4 is, and nobody has the place"),
         (["UPDATE offer SET fresh = 0 WHERE draw = 2"], "child 4 OAK, marked as kept has the place"),
-        (["UPDATE place SET school = 'ELM' WHERE child = 4"], "a place that comes of the fill is not in AFTER: (4, 'OAK', 1, 20185, None)"),
-        (["INSERT INTO place VALUES (1, 'ELM', 1, 20185, NULL)"], "a place of AFTER does not come of the fill"),
+        (["UPDATE place SET school = 'ELM' WHERE child = 4"], "by BEFORE and the fill, and not in AFTER: child 4 is offered OAK, offered 2025-04-07"),
+        (["INSERT INTO place VALUES (1, 'ELM', 1, 20185, NULL)"], "in AFTER, and not by BEFORE and the fill: child 1 is offered ELM, offered 2025-04-07"),
         (["DELETE FROM lot WHERE draw = 2 AND child = 3"], "child 3 wants OAK and has no lot there"),
         (["INSERT INTO lot VALUES (2, 'OAK', 1, 1)"], "child 1 has a lot at OAK, which it does not want"),
         (["UPDATE draw SET day = 20149 WHERE draw = 2"], "the day 2025-03-02 is before the offer day"),
@@ -51,7 +51,10 @@ def test_a_fill_by_hand(office, tmp_path):
     for code, status in (("ELM", 1), ("OAK", 0)):
         assert office("audit", "before.db", "reg.db", "--school", code).returncode == status
     do(tmp_path / "reg.db", [{"cmd": "accept", "child": 4, "school": "OAK"}])
-    assert office("audit", "before.db", "reg.db").returncode == 1 and office("audit", "before.db", "reg.db", "--later").returncode == 0
+    ran = office("audit", "before.db", "reg.db")
+    assert ran.returncode == 1 and "in AFTER, and not by BEFORE and the fill: child 4 has accepted OAK\n" in ran.stdout and "(" not in ran.stdout.splitlines()[0], ran
+    assert ran.stdout.splitlines()[-1].endswith("audit with --later, or with a copy from right after it")
+    assert office("audit", "before.db", "reg.db", "--later").returncode == 0
 
 
 def test_a_vacancy_that_was_none(office, tmp_path):

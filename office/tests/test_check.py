@@ -5,6 +5,7 @@ import io
 import random
 import re
 import subprocess
+import zipfile
 
 import openpyxl
 import pytest
@@ -89,9 +90,10 @@ def found_in(output):
     """Row, column and kind of each line of a report without --fix."""
     found = set()
     for line in output.splitlines():
-        match = re.match(r"(look at )?row ([0-9]+), column (\w+)", line)
+        match = re.match(r"(look at |ERROR )?row ([0-9]+), column (\w+)", line)
         if match:
-            kind = "look at" if match[1] else "error" if ": expected " in line else "fixed"
+            kind = {"look at ": "look at", "ERROR ": "error", None: "fixed"}[match[1]]
+            assert (kind == "error") == (": expected " in line)
             found.add((int(match[2]), match[3], kind))
     return found
 
@@ -196,8 +198,8 @@ def test_days_with_two_readings_are_asked_for(office, tmp_path):
 def test_rows_of_another_width(office, tmp_path, line, column):
     (tmp_path / "w.csv").write_text(f"{HEADER}\n{line}\n")
     ran = office("check", "w.csv")
-    assert ran.returncode == 1 and ("row 2", column) in [tuple(re.match(r"(row 2), column (\w+)", it).groups()) for it in ran.stdout.splitlines()
-        if it.startswith("row 2")]
+    assert ran.returncode == 1 and ("row 2", column) in [tuple(re.match(r"ERROR (row 2), column (\w+)", it).groups()) for it in ran.stdout.splitlines()
+        if it.startswith("ERROR row 2")]
 
 
 def test_rows_that_are_known(office, town, tmp_path):
@@ -257,7 +259,7 @@ def test_too_many_rows(office, town, tmp_path):
     rows = [[str(it), f"C{it} {it * 7919 % 10007}", str(it * 3), "0", "no", "", "", "2024-10-20", "OAK", ""] for it in range(1001, 3002)]
     (tmp_path / "many.csv").write_bytes(sheet.csv_bytes([COLUMNS, *rows]))
     ran = office("check", "many.csv")
-    assert ran.returncode == 1 and ran.stdout.startswith('row 2002, column child, "3001": expected at most 2,000 rows')
+    assert ran.returncode == 1 and ran.stdout.startswith('ERROR row 2002, column child, "3001": expected at most 2,000 rows')
     (tmp_path / "fewer.csv").write_bytes(sheet.csv_bytes([COLUMNS, *rows[:1999]]))
     assert office("check", "fewer.csv").returncode == 0
     ran = office("check", "fewer.csv", "--register", town)
@@ -341,6 +343,40 @@ def test_files_that_are_none(office, tmp_path, data, text):
     (tmp_path / "x.csv").write_bytes(data)
     ran = office("check", "x.csv")
     assert ran.returncode == 1 and text in ran.stdout + ran.stderr and "Traceback" not in ran.stderr and "error in this command" not in ran.stderr
+
+
+def test_errors_first_and_a_total(office, tmp_path):
+    """Errors are first, then what to look at, then changes; a row that sums up the others is one error, and a child of that name is none."""
+    good_rows = [f"{it},Child {it},{it}00,0,Yes,,,2024-10-20,OAK" for it in range(1, 7)]
+    rows = [HEADER.removesuffix(",present"), *good_rows, "7,Total,700,0,no,,,2024-10-20,OAK", "8,Late,800,0,maybe,,,2020-10-20,OAK", "Total,7,2800,0,,,,,", ",Grand total:,2800,0,,,,,"]
+    (tmp_path / "a.csv").write_text("\n".join(rows) + "\n", "utf-8")
+    lines = office("check", "a.csv").stdout.splitlines()
+    assert lines[:3] == [
+        'ERROR row 9, column looked_after, "maybe": expected yes or no', 'ERROR row 10, column child, "Total": expected an application (the row looks like a total: delete it)',
+        'ERROR row 11, column child, "Grand total:": expected an application (the row looks like a total: delete it)',
+    ]
+    assert lines[3].startswith("look at row 9, column day") and [it[:5] for it in lines[4:-1]] == [f"row {it}" for it in range(2, 8)], lines
+    assert lines[-1] == "8 rows, 3 errors, 6 changes, 1 to look at"
+
+
+def test_a_workbook_that_no_spreadsheet_wrote(office, tmp_path):
+    """What openpyxl says of its own classes is not printed: an error says what to do, and a warning is none of the clerk's."""
+    book = openpyxl.Workbook()
+    book.active.append(HEADER.split(","))
+    book.active.append([1, "Ann", 0, 0, "no", None, None, "2024-10-20", "OAK", None])
+    book.save(tmp_path / "good.xlsx")
+    with zipfile.ZipFile(tmp_path / "good.xlsx") as good_file:
+        parts = {it: good_file.read(it) for it in good_file.namelist()}
+    plain = re.sub(rb"<cellXfs.*?</cellStyles>", b"", parts["xl/styles.xml"], flags=re.DOTALL)
+    unfit = re.sub(rb"<fills.*?</fills>", b"<fills count=\"1\"><fill/></fills>", parts["xl/styles.xml"], flags=re.DOTALL)
+    assert len({plain, unfit, parts["xl/styles.xml"]}) == 3
+    for styles, status in ((plain, 0), (unfit, 1)):
+        with zipfile.ZipFile(tmp_path / "odd.xlsx", "w") as odd:
+            for it, data in parts.items():
+                odd.writestr(it, styles if it == "xl/styles.xml" else data)
+        ran = office("check", "odd.xlsx")
+        assert ran.returncode == status and "openpyxl" not in ran.stdout + ran.stderr and "Warning" not in ran.stderr and "class" not in ran.stderr, ran
+        assert status == 0 or "open it in a spreadsheet and save it again as .xlsx" in ran.stderr
 
 
 def test_arguments(office):
