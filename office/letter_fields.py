@@ -7,17 +7,19 @@ from .register import ACCEPTED, OFFERED, PLAN
 
 ANSWER_DAYS = datetime.timedelta(days=14)
 MOST_WAITS = 10
+# why a child does not wait at a school above its place
+TURNED_DOWN, LEFT, EITHER = "declined, or not answered in time", "you left its list", "declined, not answered in time, or you left its list"
 STATES = {OFFERED: "offered", ACCEPTED: "accepted", PLAN: "plan"}
 COLUMNS = (
     "child", "name", "year", "phase", "state", "school", "school_name", "preference", "offered", "offered_words", "reminded", "reminded_words", "answer_by",
-    "answer_by_words", "criterion", "criterion_code", "metres", "ended_school", "ended_name", "ended_because",
+    "answer_by_words", "criterion", "criterion_code", "metres", "ended_school", "ended_name", "ended_because", "late", "appeal",
 )
 WAIT_COLUMNS = ("school", "name", "position", "of", "criterion", "metres")
 
 
 @dataclasses.dataclass(frozen=True)
 class Listed:
-    """A school that the family prefers to the child's place: how the child ranks there, and its position where it waits (else None)."""
+    """A school that the family prefers to the child's place: how the child ranks there, and its position where it waits, else None and why not."""
 
     code: str
     name: str
@@ -27,6 +29,12 @@ class Listed:
     metres: int
     position: int | None
     of: int | None
+    because: str | None = None
+
+    @property
+    def was_refused(self):
+        """Whether the family may appeal: it was not offered a place there that it declined or let lapse."""
+        return self.because in (None, LEFT)
 
 
 @dataclasses.dataclass(frozen=True)
@@ -53,6 +61,27 @@ class Letter:
     ended_name: str | None
     ended_because: str | None
     listed: tuple
+    closing: datetime.date
+
+    @property
+    def is_late(self):
+        """Whether the application came after the closing date, and so took no part in the first round."""
+        return self.applied is not None and self.applied > self.closing
+
+    @property
+    def late(self):
+        """The same in a cell."""
+        return "yes" if self.is_late else None
+
+    @property
+    def appeals(self):
+        """The schools against whose refusal the family may appeal."""
+        return tuple(it for it in self.listed if it.was_refused)
+
+    @property
+    def appeal(self):
+        """Their names in a cell."""
+        return "; ".join(it.name for it in self.appeals)
 
     @property
     def waits(self):
@@ -79,10 +108,16 @@ class Letter:
 
 
 class Writer:
-    """Makes the letters of a register. `before` is the register before the last round or fill, if places that ended are to be named."""
+    """Makes the letters of a register. `before` is the register from before a round, a fill or withdrawals, if places that ended are to be named, and `flags`
+    are the office's words for flags."""
 
-    def __init__(self, register, before=None):
-        self.register, self.before = register, before
+    def __init__(self, register, before=None, flags=None):
+        self.register, self.before, self.flags = register, before, flags
+        # the schools that each child was offered, the last one at the end
+        self.offered = {}
+        for draw, fresh in sorted(register.fresh.items()):
+            for child in (it for it, is_fresh in fresh.items() if is_fresh):
+                self.offered.setdefault(child, []).append(register.outcomes[draw][child])
         self.wanted = ranking.Problem(register).wanted if register.draws else {}
         self.queues = {}
         for child, schools in self.wanted.items():
@@ -100,7 +135,13 @@ class Writer:
         waits = code in self.wanted.get(child, ())
         position = 1 + sum(it < (number, metres) for it in queue) if waits else None
         school = self.register.schools[code]
-        return Listed(code, school.name, preference, number, ranking.in_words(school, number), metres, position, len(queue) if waits else None)
+        words = ranking.in_words(school, number, self.flags)
+        return Listed(code, school.name, preference, number, words, metres, position, len(queue) if waits else None, None if waits else self.not_waiting(child, code))
+
+    def not_waiting(self, child, code):
+        """Why a child does not wait at a school above its place. One that was offered a place there, and none elsewhere since, declined it or let it lapse."""
+        offered = self.offered.get(child, [])
+        return LEFT if code not in offered else TURNED_DOWN if offered[-1] == code else EITHER
 
     def letter(self, number):
         """The letter of a child."""
@@ -117,10 +158,11 @@ class Writer:
             state=STATES[place.kind] if place else "none", applied=application.day if application else None,
             school=school.code if school else None, school_name=school.name if school else None, preference=len(above) + 1 if is_listed else None,
             offered=place.day if place else None, reminded=place.reminded if place else None, answer_by=started + ANSWER_DAYS if started else None,
-            criterion=ranking.in_words(school, class_number) if is_listed else "named by an EHC plan" if place else None,
+            criterion=ranking.in_words(school, class_number, self.flags) if is_listed else "named by an EHC plan" if place else None,
             criterion_code=self.code_of(school, class_number) if is_listed else "plan" if place else None, metres=metres,
-            criteria=tuple(ranking.in_words(school, it) for it in range(len(school.criteria) + 2)) if school else (),
+            criteria=tuple(ranking.in_words(school, it, self.flags) for it in range(len(school.criteria) + 2)) if school else (),
             **self.ended(number, place), listed=tuple(self.listed(it, number, at) for at, it in enumerate(above, 1)) if register.draws else (),
+            closing=register.days[0],
         )
 
     @staticmethod
@@ -133,8 +175,11 @@ class Writer:
         had = self.before.places.get(number) if self.before else None
         if had is None or place and place.school == had.school:
             return {"ended_school": None, "ended_name": None, "ended_because": None}
-        if place is None:
-            because = "it was declined, or the offer was withdrawn because nobody answered it"
+        if place is None and had.kind == ACCEPTED:
+            because = "you declined it"
+        elif place is None:
+            reminder = f", of which we reminded you on {days.in_words(had.reminded)}," if had.reminded else ""
+            because = f"our offer of {days.in_words(had.day)}{reminder} was declined, or was withdrawn because it was not answered"
         elif place.kind == PLAN:
             because = f"the EHC plan of the child names {self.register.schools[place.school].name}"
         else:

@@ -1,7 +1,7 @@
 """Letters as PDF, by a template that the office edits: one file for each child, and one of all of them for the printer.
 
-Embedding the fonts of one letter takes longer than laying it out. So letters are laid out in batches that share their fonts, by two processes, and the
-pages of each child are then taken from its batch, with what they need and nothing else: no file has anything of another child.
+Embedding the fonts of one letter takes longer than laying it out. So letters are laid out in batches that share their fonts, by a process for each
+processor, and the pages of each child are then taken from its batch, with what they need and nothing else: no file has anything of another child.
 """
 import importlib.util
 import multiprocessing
@@ -9,15 +9,16 @@ import multiprocessing.connection
 import os
 import pickle
 import re
+import sys
+import time
 import urllib.parse
 
 from register_files import Refused
 
 from . import days, sheet
-from .run import Progress
 from .serving import ends_with
 
-BATCH, PROCESSES = 50, 2
+BATCH, STEP = 50, 100
 TEMPLATE = os.path.join(os.path.dirname(os.path.realpath(__file__)), "templates", "letter.html")
 PRINTER = "printer.pdf"
 # the number of the list of pages in each file that WeasyPrint or pydyf makes, and how one object names another
@@ -62,20 +63,32 @@ def html_of(template, name, letter, address, day):
 
 
 def addresses_of(name):
-    """The lines of the address of each child, from a sheet with a column `child`: the other columns in their order."""
+    """The columns of a sheet of addresses but `child`, and their cells by child."""
+    columns, found = None, {}
+    for row, number, cells in by_child(name):
+        if number is None:
+            columns = cells
+        elif number in found:
+            raise Refused(f"{name}, row {row}: child {number} is there twice")
+        elif any(cells[len(columns):]):
+            raise Refused(f"{name}, row {row}: it has more cells than the header")
+        else:
+            found[number] = (cells + [""] * len(columns))[: len(columns)]
+    return columns, found
+
+
+def by_child(name):
+    """The rows of a sheet that has a column `child`: the number of the row, the child (None in the header), and the other cells in their order."""
     rows = sheet.read(name).rows
     header = [it.strip().lower() for it in rows[0].cells] if rows else []
     if "child" not in header:
         raise Refused(f"{name} has no column `child`")
-    at, found = header.index("child"), {}
-    for row in rows[1:]:
+    at = header.index("child")
+    for row in rows:
         number = row.cells[at].strip() if at < len(row.cells) else ""
-        if not re.fullmatch("[1-9][0-9]{0,6}", number, re.ASCII):
+        if row is not rows[0] and not re.fullmatch("[1-9][0-9]{0,6}", number, re.ASCII):
             raise Refused(f"{name}, row {row.number}, column child: {number or 'nothing'} is no child's number")
-        if int(number) in found:
-            raise Refused(f"{name}, row {row.number}: child {number} is there twice")
-        found[int(number)] = [it.strip() for place, it in enumerate(row.cells) if place != at and it.strip()]
-    return found
+        yield row.number, None if row is rows[0] else int(number), [it.strip() for place, it in enumerate(row.cells) if place != at]
 
 
 def fetcher(folder, missing):
@@ -209,15 +222,17 @@ def work(batches, folder, room, parent):
 
 def done_by(processes, room, count):
     """Waits for the processes, with progress by the letters that are there. Refuses what one of them could not do."""
-    progress = Progress("PDF letters", count)
+    start, shown = time.monotonic(), 0
     try:
         while alive := [it.sentinel for it in processes if it.is_alive()]:
             multiprocessing.connection.wait(alive, timeout=0.3)
-            progress.at(sum(it.endswith(".pdf") for it in os.listdir(room)))
+            made = sum(it.endswith(".pdf") for it in os.listdir(room))
+            if made // STEP > shown // STEP or made == count > shown:
+                shown = made
+                print(f"{made} of {count} PDF letters, {time.monotonic() - start:.1f} seconds", file=sys.stderr, flush=True)
             if any(it.exitcode for it in processes):
                 break
     finally:
-        progress.end()
         for it in processes:
             it.terminate()
             it.join()
@@ -234,11 +249,11 @@ def write_letters(letters, template_name, addresses, day, room, is_double):
     if importlib.util.find_spec("weasyprint") is None:
         raise ImportError("weasyprint is not there", name="weasyprint")
     template, folder = template_of(template_name), os.path.realpath(os.path.dirname(template_name) or ".")
-    pages = [html_of(template, template_name, it, addresses.get(it.child, []), day) for it in letters]
+    pages = [html_of(template, template_name, it, [line for line in addresses.get(it.child, []) if line], day) for it in letters]
     numbers = [it.child for it in letters]
     batches = [(at, numbers[at : at + BATCH], pages[at : at + BATCH]) for at in range(0, len(letters), BATCH)]
-    context = multiprocessing.get_context("fork")
-    processes = [context.Process(target=work, args=(batches[at::PROCESSES], folder, room, os.getpid()), daemon=True) for at in range(PROCESSES)]
+    context, count = multiprocessing.get_context("fork"), max(1, min(len(os.sched_getaffinity(0)), len(batches)))
+    processes = [context.Process(target=work, args=(batches[at::count], folder, room, os.getpid()), daemon=True) for at in range(count)]
     for it in processes:
         it.start()
     done_by(processes, room, len(letters))

@@ -1,14 +1,18 @@
 """Writes the letters of all children, or of a worklist: as proved texts, as a file for a mail merge, as PDF.
 
-  admissions-letters FILE [FOLDER] [--csv OUT.csv] [--pdf FOLDER] [--only NAME [--day D]]
+  admissions-letters FILE [FOLDER] [--csv OUT.csv] [--pdf FOLDER] [--only NAME [--day D] | --only SHEET | --child N]
   admissions-letters --copy-template letter.html
 
 FOLDER gets the proved text of each child, letter-0000123.txt. --csv writes one row for each child: its place in words and dates, the criterion of its
 class, and its positions on waiting lists. --pdf writes letter-0000123.pdf for each child, and printer.pdf with all of them, by the template that comes
 with the program or by --template. Folders must be new or empty; no file is overwritten. All is for its owner alone.
 
-With --before COPY, a copy of the register from before the last round or fill, the PDF and the CSV name the place of a child that ended. --addresses is a
-CSV or .xlsx with a column `child`; its other columns are the lines of the address.
+--only takes the name of a worklist of admissions-query, or a file (CSV or .xlsx, its name with a dot or a slash) with a column `child`, such as the list of
+reminders from which rows were deleted. --child N is for one child, and can be repeated.
+
+With --before COPY, a copy of the register from before the last round, fill or withdrawals, the PDF and the CSV name the place of a child that ended.
+--addresses is a CSV or .xlsx with a column `child`; its other columns are the lines of the address, and the last columns of the file for a mail merge.
+--flags gives flags the office's words, by lines as `7,social or medical need`.
 
 The program opens FILE and closes it, so that the file alone is the register, and serves it on a free port of this machine while each letter is requested:
 nobody else should be logged in meanwhile. What the PDF and the CSV say is worked out from the file, and each letter must then be the program's to the
@@ -19,6 +23,7 @@ examples:
   admissions-letters reg.db letters-1
   admissions-letters --copy-template letter.html
   admissions-letters reg.db --pdf letters-1 --template letter.html --before copies/before-draw-1.db --date 2025-03-03
+  admissions-letters reg.db reminders --only remind-2025-03-17.csv
 
 exit status: 0 the letters are there; 1 refused or failed, and nothing was written; 2 wrong arguments; 3 the letters are there, but FILE and its log are
 the register together, as the program did not open it at the end. The program is the one that ADMISSIONS names, or the one beside this command, or in PATH.
@@ -39,7 +44,7 @@ import time
 import register_files as files
 from register_files import Refused
 
-from . import days, letter_fields, letter_pdf, register, sheet, texts
+from . import days, letter_fields, letter_pdf, ranking, register, sheet, texts
 from .serving import letter, serving
 
 STEP = 100
@@ -60,6 +65,21 @@ def children_of(file, name, day):
     if "child" not in (rows.fieldnames or []):
         raise Refused(f"{name} has no column `child`", 2)
     return list(dict.fromkeys(int(it["child"]) for it in rows))
+
+
+def chosen(given, file):
+    """The children whose letters are wanted: of a worklist, of a sheet, or by their numbers."""
+    if given.child:
+        found = [(f"--child {it}", it) for it in given.child]
+    elif os.sep in given.only or "." in given.only:
+        found = [(f"{given.only}, row {row}", it) for row, it, _ in letter_pdf.by_child(given.only) if it is not None]
+    else:
+        return children_of(file, given.only, given.day)
+    known = register.read(file).children
+    for where, it in found:
+        if it not in known:
+            raise Refused(f"{where}: {given.file} has no child {it}")
+    return list(dict.fromkeys(it for _, it in found))
 
 
 def see_room(target):
@@ -83,13 +103,13 @@ def new_folder(target):
 
 
 def proved_letters(program, file, name, children):
-    """The letters that the program prints, by child."""
+    """The texts that the program prints, by child."""
     start, found = time.monotonic(), {}
     with serving(program, file, name) as port:
         for at, child in enumerate(children, 1):
             found[child] = letter(port, child)
             if at % STEP == 0 or at == len(children):
-                print(f"{at} of {len(children)} letters, {time.monotonic() - start:.1f} seconds", file=sys.stderr, flush=True)
+                print(f"{at} of {len(children)} texts, {time.monotonic() - start:.1f} seconds", file=sys.stderr, flush=True)
     return found
 
 
@@ -103,7 +123,7 @@ def worked_out(given, file, children):
         register.same_season(before, now)
     if given.pdf and not now.draws:
         raise Refused(f"{given.file} had no round yet, so there is no place to write of")
-    writer = letter_fields.Writer(now, before)
+    writer = letter_fields.Writer(now, before, ranking.flags_of(given.flags))
     return [writer.letter(it) for it in children]
 
 
@@ -114,10 +134,15 @@ def compare(letters, proved):
             raise Refused(f"the letter of child {it.child} is not what the program prints: no letter is written; report this with a copy of the register")
 
 
-def csv_of(letters):
-    """The file for a mail merge: with a mark by which spreadsheets know UTF-8, and without cells that they would run."""
-    rows = [[texts.for_spreadsheet(it) if isinstance(it, str) else it for it in letter_fields.row_of(one)] for one in letters]
-    return b"\xef\xbb\xbf" + sheet.csv_bytes([letter_fields.header(), *rows])
+def csv_of(letters, columns, addresses):
+    """The file for a mail merge: with a mark by which spreadsheets know UTF-8, and without cells that they would run. The columns of the addresses are last; one
+    that is also a column of the letters has another name."""
+    header, lines = letter_fields.header(), []
+    header += [f"address_{it}" if it in header else it for it in columns]
+    for one in letters:
+        lines.append([*letter_fields.row_of(one), *addresses.get(one.child, [None] * len(columns))])
+    rows = [[texts.for_spreadsheet(it) if isinstance(it, str) else it for it in cells] for cells in (header, *lines)]
+    return b"\xef\xbb\xbf" + sheet.csv_bytes(rows)
 
 
 def write_texts(proved, room):
@@ -152,8 +177,8 @@ def make(given):
     if failure:
         raise Refused(f"{given.file} does not open: {failure}")
     files.warn("letters", given.file, os.stat(file))
-    children = children_of(file, given.only, given.day)
-    addresses = letter_pdf.addresses_of(given.addresses) if given.addresses else {}
+    children = chosen(given, file)
+    columns, addresses = letter_pdf.addresses_of(given.addresses) if given.addresses else ([], {})
     letters = worked_out(given, file, children)
     with contextlib.ExitStack() as stack:
         rooms = [(stack.enter_context(new_folder(it)), it) for it in (given.folder, given.pdf) if it]
@@ -167,12 +192,12 @@ def make(given):
         if given.pdf:
             letter_pdf.write_letters(letters, given.template or letter_pdf.TEMPLATE, addresses, given.date, rooms[-1][0], given.double_sided)
         if given.csv:
-            sheet.write_new(given.csv, csv_of(letters))
+            sheet.write_new(given.csv, csv_of(letters, columns, addresses))
         name_all(rooms)
     # (if nobody reads these lines, the letters are there all the same)
     with contextlib.suppress(OSError):
         for it in filter(None, (given.folder, given.pdf, given.csv)):
-            print(f"{len(children)} letters are in {it}", flush=True)
+            print(f"{texts.count(len(children), 'letter is', 'letters are')} in {it}", flush=True)
     if failure:
         text = f"the letters are there, but {given.file} and its log are the register together, for it does not open: {failure}"
         print(f"admissions-letters: {text}", file=sys.stderr)
@@ -191,14 +216,16 @@ def arguments(reader):
     """The arguments of the command."""
     reader.add_argument("file", metavar="FILE", nargs="?", help="the register")
     reader.add_argument("folder", metavar="FOLDER", nargs="?", help="the folder for the proved texts")
-    reader.add_argument("--only", metavar="NAME", default="children", help="the letters of this worklist of admissions-query")
+    reader.add_argument("--only", metavar="NAME", help="the letters of this worklist of admissions-query, or of the children in this file (CSV, .xlsx)")
+    reader.add_argument("--child", metavar="N", type=int, action="append", help="the letter of this child")
     reader.add_argument("--day", metavar="D", help="the day of the worklist, YYYY-MM-DD")
     reader.add_argument("--csv", metavar="OUT.csv", help="write a file for a mail merge")
     reader.add_argument("--pdf", metavar="FOLDER", help="write PDF files, one for each child and printer.pdf")
     reader.add_argument("--template", metavar="FILE", help="the template of the PDF")
     reader.add_argument("--copy-template", metavar="FILE", help="write the template that comes with the program, to be edited")
     reader.add_argument("--addresses", metavar="FILE", help="the lines of the addresses, by child")
-    reader.add_argument("--before", metavar="COPY", help="a copy from before the last round or fill, to name the places that ended")
+    reader.add_argument("--flags", metavar="FILE", help=ranking.FLAGS_HELP)
+    reader.add_argument("--before", metavar="COPY", help="a copy from before the last round, fill or withdrawals, to name the places that ended")
     reader.add_argument("--date", metavar="D", type=read_day, default=datetime.date.today(), help="the date of the PDF letters, today by default")
     reader.add_argument("--double-sided", action="store_true", help="in printer.pdf each letter begins on a new sheet")
 
@@ -214,8 +241,11 @@ def main(given):
     missing = [name for name, it in (("FILE", given.file), ("FOLDER", given.folder or given.csv or given.pdf)) if not it]
     if missing:
         raise Refused(f"error: the following arguments are required: {', '.join(missing)}", 2)
-    if not given.pdf and (given.template or given.addresses or given.double_sided):
-        raise Refused("--template, --addresses and --double-sided need --pdf", 2)
-    if given.before and not given.pdf and not given.csv:
-        raise Refused("--before needs --pdf or --csv", 2)
+    if not given.pdf and (given.template or given.double_sided):
+        raise Refused("--template and --double-sided need --pdf", 2)
+    if (given.before or given.addresses or given.flags) and not given.pdf and not given.csv:
+        raise Refused("--before, --addresses and --flags need --pdf or --csv", 2)
+    if given.child and (given.only or given.day):
+        raise Refused("--child takes no --only and no --day", 2)
+    given.only = given.only or "children"
     return make(given)

@@ -34,9 +34,9 @@ def rows_of(path):
     return {int(it["child"]): it for it in csv.DictReader(data.decode("utf-8-sig").splitlines())}
 
 
-def text_of(path):
+def text_of(path, order="-layout"):
     """The text of a PDF."""
-    return subprocess.run(["pdftotext", "-layout", path, "-"], capture_output=True, check=True).stdout.decode()
+    return subprocess.run(["pdftotext", order, path, "-"], capture_output=True, check=True).stdout.decode()
 
 
 def test_a_mail_merge_by_hand(office, tmp_path):
@@ -107,6 +107,80 @@ def test_pdf(office, tmp_path):
     assert "Nowhere" not in text_of(tmp_path / "out" / "letter-0000001.pdf")
 
 
+def test_a_mail_merge_with_addresses(office, tmp_path):
+    """The columns of the addresses are the last ones: whole, also where a line is empty or a child has none, and no spreadsheet runs them."""
+    town(tmp_path)
+    (tmp_path / "addresses.csv").write_text("line 1,child,name,line 3\n7 Nowhere Lane,2,Mr Bell,EX1 1AA\n=1+1,3,,\n", "utf-8")
+    ran = office("letters", "reg.db", "--csv", "out.csv", "--addresses", "addresses.csv")
+    rows, columns = rows_of(tmp_path / "out.csv"), ("line 1", "address_name", "line 3")
+    assert ran.returncode == 0 and [rows[2][it] for it in columns] == ["7 Nowhere Lane", "Mr Bell", "EX1 1AA"], ran
+    assert [rows[3][it] for it in columns] == ["'=1+1", "", ""] and [rows[4][it] for it in columns] == ["", "", ""] and rows[2]["name"] == NAMES[2]
+    assert tuple(rows[2])[-3:] == columns
+
+
+def test_some_children(office, tmp_path):
+    """Those of a file, in its order and each once, and those that are named; the progress counts the texts and then the PDF files."""
+    town(tmp_path)
+    (tmp_path / "remind-2025-03-17.csv").write_text("school,child,name\nOAK,4,x\nELM,1,y\nELM,4,x\n", "utf-8")
+    ran = office("letters", "reg.db", "--csv", "some.csv", "--only", "remind-2025-03-17.csv")
+    assert ran.returncode == 0 and ran.stdout == "2 letters are in some.csv\n" and list(rows_of(tmp_path / "some.csv")) == [4, 1], ran
+    ran = office("letters", "reg.db", "--pdf", "one", "--child", "3")
+    assert ran.returncode == 0 and ran.stdout == "1 letter is in one\n" and sorted(it.name for it in (tmp_path / "one").iterdir()) == ["letter-0000003.pdf", "printer.pdf"], ran
+    assert re.fullmatch(r"1 of 1 texts, \S+ seconds\n1 of 1 PDF letters, \S+ seconds\n", ran.stderr), ran
+
+
+def test_declined_lapsed_and_late(office, tmp_path):
+    """By hand: 1 declines Oak, 2 lets it lapse, 3 leaves its list, 6 is late. No appeal against Oak is offered to 1 and 2; the lapse names its offer."""
+    reg = tmp_path / "reg.db"
+    make(reg, [
+        school("OAK", pan=2, criteria=["flag:7"]), school("ELM", pan=1, east=1000), *(child(it, east=250 * it, flags=[7] if it < 3 else []) for it in (1, 2, 3, 4, 6)),
+        *(apply(it, ["OAK", "ELM"] if it == 3 else ["ELM", "OAK"]) for it in (1, 2, 3)), apply(4, ["ELM"]), apply(6, ["OAK"], "2024-11-05"),
+    ])
+    pairs = subprocess.run([PROGRAM, "pairs", reg], capture_output=True, text=True, check=True).stdout.splitlines()
+    do(reg, [{"cmd": "round", "draw": 1, "day": "2025-03-03", "lots": list(range(len(pairs)))}])
+    had = {it: subprocess.run([PROGRAM, "letter", reg, str(it)], capture_output=True, text=True, check=True).stdout for it in (1, 2, 3)}
+    assert "Place: OAK" in had[1] and "Place: OAK" in had[2] and "Place: none" in had[3], had
+    do(reg, [{"cmd": "decline", "child": 1, "school": "OAK"}, {"cmd": "leave_list", "child": 3, "school": "OAK"}])
+    do(reg, [{"cmd": "remind", "child": 2, "school": "OAK", "day": "2025-03-17"}])
+    shutil.copy(reg, tmp_path / "copy.db")
+    do(reg, [{"cmd": "lapse", "child": 2, "school": "OAK", "day": "2025-03-31"}])
+    (tmp_path / "flags.csv").write_text("7,social or medical need\n", "utf-8")
+    words = ["--before", "copy.db", "--flags", "flags.csv"]
+    assert office("letters", "reg.db", "--csv", "out.csv", "--pdf", "out", *words).returncode == 0
+    rows = rows_of(tmp_path / "out.csv")
+    text = {it: " ".join(text_of(tmp_path / "out" / f"letter-000000{it}.pdf", "-raw").split()) for it in rows}
+    assert {it: row["late"] for it, row in rows.items()} == {1: "", 2: "", 3: "", 4: "", 6: "yes"}
+    assert {it: row["appeal"] for it, row in rows.items()} == {1: "ELM School", 2: "ELM School", 3: "OAK School; ELM School", 4: "", 6: "OAK School"}
+    assert "5 November 2024 came after the closing date, 31 October 2024, and took no part in the first round" in text[6] and "closing date" not in text[1]
+    lapsed = "our offer of 3 March 2025, of which we reminded you on 17 March 2025, was declined, or was withdrawn because it was not answered"
+    assert rows[2]["ended_school"] == "OAK" and rows[2]["ended_because"] == lapsed and lapsed in text[2]
+    assert all("against the refusal of a place at ELM School, whether" in text[it] for it in (1, 2)) and "of a place at each of these schools, whether" in text[3]
+    assert "a verified priority: social or medical need" in text[1] and "flag 7" not in text[1]
+    for it in (1, 2):
+        assert "not waiting: declined, or not answered in time" in text[it]
+    assert "not waiting: you left its list" in text[3] and "not waiting:" not in text[6] and "of a place at this school, whether" in text[6]
+
+
+def test_the_end_is_not_alone(office, tmp_path):
+    """Letters of one to ten schools with long names: where there is a second page, it has the last paragraph and not the signature alone."""
+    codes = [f"S{it}" for it in range(10)]
+    names = {it: f"{it} Community Primary and Nursery School of the Blessed and Venerable {it}" for it in codes}
+    make(tmp_path / "reg.db", [
+        *(school(it, pan=1, criteria=["sibling", "within:900", "flag:2", "flag:3"][: at % 5], name=names[it]) for at, it in enumerate(codes)), child(99, east=1),
+        *(child(it, east=100 + it) for it in range(1, 11)), *(apply(it, codes[:it]) for it in range(1, 11)),
+    ])
+    pairs = subprocess.run([PROGRAM, "pairs", tmp_path / "reg.db"], capture_output=True, text=True, check=True).stdout.splitlines()
+    do(tmp_path / "reg.db", [{"cmd": "round", "draw": 1, "day": "2025-03-03", "lots": list(range(len(pairs)))}])
+    assert office("letters", "reg.db", "--pdf", "out").returncode == 0
+    seconds = 0
+    for it in range(1, 11):
+        first, *others = text_of(tmp_path / "out" / f"letter-{it:07}.pdf").split("\f")[:-1]
+        seconds += bool(others)
+        assert not others or "right to appeal" in others[-1] or "If you accept it" in others[-1] and "Yours faithfully" in others[-1], (it, others)
+        assert "Yours faithfully" in (others or [first])[-1]
+    assert seconds > 1
+
+
 def test_the_template_is_the_offices(office, tmp_path):
     """It is copied by one option, edited, and an error in it is one line."""
     town(tmp_path)
@@ -172,10 +246,15 @@ def test_what_is_refused(office, tmp_path):
     (tmp_path / "full").mkdir()
     (tmp_path / "full" / "mine").write_text("mine", "utf-8")
     (tmp_path / "bad.csv").write_text("child,a\n1,x\n1,y\n", "utf-8")
+    (tmp_path / "far.csv").write_text("a,child\nx,1\nx,99\n", "utf-8")
+    (tmp_path / "flags.csv").write_text("7,social or medical need\n", "utf-8")
     for words, status, said in (
         (["before.db", "--pdf", "out"], 1, "had no round yet"), (["reg.db", "--csv", "mine.csv"], 1, "is there already"),
         (["reg.db", "--pdf", "full"], 1, "not empty"), (["reg.db", "--pdf", "out", "--addresses", "bad.csv"], 1, "row 3: child 1 is there twice"),
-        (["reg.db", "out", "--template", "x"], 2, "need --pdf"), (["reg.db", "out", "--before", "before.db"], 2, "--before needs"),
+        (["reg.db", "out", "--template", "x"], 2, "need --pdf"), (["reg.db", "out", "--before", "before.db"], 2, "need --pdf or --csv"),
+        (["reg.db", "out", "--child", "9"], 1, "has no child 9"), (["reg.db", "out", "--child", "1", "--only", "no-answer"], 2, "takes no --only"),
+        (["reg.db", "out", "--only", "none.csv"], 1, "none.csv cannot be read"), (["reg.db", "out", "--only", "far.csv"], 1, "far.csv, row 3: reg.db has no child 99"),
+        (["reg.db", "out", "--only", "flags.csv"], 1, "no column `child`"), (["reg.db", "--csv", "out", "--flags", "bad.csv"], 1, "no flag from 0 to 15"),
         (["reg.db"], 2, "required: FOLDER"), ([], 2, "required: FILE, FOLDER"), (["reg.db", "--pdf", "out", "--date", "3.3.2025"], 2, "no day"),
         (["reg.db", "--copy-template", "x"], 2, "takes no FILE"),
     ):
