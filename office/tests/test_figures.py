@@ -2,6 +2,8 @@
 import re
 import shutil
 import sqlite3
+import subprocess
+import sys
 
 import model_season
 import pytest
@@ -72,6 +74,16 @@ def test_later_by_the_copy(office, tmp_path):
     assert ran.returncode == 0 and copied == first != later and "with a verified priority: social or medical need" in first, ran
     ran = office("figures", "reg.db", "no.html", "--copy", "before.db", "--round", "2")
     assert ran.returncode == 1 and "is not from right before round 2" in ran.stderr and not (tmp_path / "no.html").exists()
+
+
+def test_the_first_page_of_a_print(office, season, tmp_path):
+    """The chart of the preferences is on the first page, beside its table; on a narrow screen a chart keeps a width at which it can be read."""
+    assert office("figures", season / "after-1.db", "out.html").returncode == 0
+    code = "import sys, weasyprint; weasyprint.HTML(sys.argv[1]).write_pdf(sys.argv[2])"
+    subprocess.run([sys.executable, "-c", code, tmp_path / "out.html", tmp_path / "out.pdf"], check=True, capture_output=True)
+    first = subprocess.run(["pdftotext", "-l", "1", tmp_path / "out.pdf", "-"], check=True, capture_output=True, text=True).stdout
+    assert "percent of the children" in first and "Children by the preference" in first
+    assert "@media screen { figure { overflow-x: auto; } figure svg { min-width: 40rem; } }" in (tmp_path / "out.html").read_text("utf-8")
 
 
 def test_last_year(office, season, tmp_path):
