@@ -29,23 +29,32 @@ class Line:
         return self.command["cmd"] if not commands.wrong_field(self.command) else None
 
 
+def season_risk(line, day, register, first):
+    """What is wrong with a day in the season of the register, or "". `first` is the line of its first round, or None."""
+    closing, offer, end = register.days
+    if line.kind != "apply" and not offer <= day <= end:
+        return f"outside the season: offers are made on {offer}, and lists close on {end}"
+    if line is first and day != offer:
+        return f"not right for a first round: the offer day is {offer}"
+    if line.kind == "apply" and (closing - day).days > FAR_FROM_OTHERS["apply"]:
+        return f"more than a year before the closing date, {closing}"
+    if line.kind == "apply" and day > closing and not register.draws:
+        return f"after the closing date, {closing}: the child takes no part in the first round"
+    return ""
+
+
 def day_risks(lines, register, today):
-    """Days outside the season, far from today, or far from the other days of the file."""
+    """Days outside the season, a first round on another day than the offer day, and days after today, long before it, or far from the others of the file."""
     given = [(it, days.read(it.command["day"])) for it in lines if it.kind in (*DATED, "apply")]
+    first = None if register and register.draws else next((it for it, _ in given if it.kind == "round"), None)
     for line, day in given:
         name = f"{line.kind} with the day {day}"
         others = [other.toordinal() for it, other in given if it.kind == line.kind and it is not line]
-        if register:
-            closing, offer, end = register.days
-            if line.kind != "apply" and not offer <= day <= end:
-                yield line, f"{name}, which is outside the season: offers are made on {offer}, and lists close on {end}"
-            elif line.kind == "apply" and (closing - day).days > FAR_FROM_OTHERS["apply"]:
-                yield line, f"{name}, more than a year before the closing date, {closing}"
-            elif line.kind == "apply" and day > closing and not register.draws:
-                yield line, f"{name}, after the closing date, {closing}: the child takes no part in the first round"
-        if line.kind != "apply" and abs((day - today).days) > FAR_FROM_TODAY:
-            yield line, f"{name}, which is {abs((day - today).days):,} days {'after' if day > today else 'before'} today"
-        elif len(others) > 1 and abs(day.toordinal() - statistics.median_low(others)) > FAR_FROM_OTHERS.get(line.kind, FAR_BY_DEFAULT):
+        if register and (said := season_risk(line, day, register, first)):
+            yield line, f"{name}, which is {said}"
+        if line.kind != "apply" and (day > today or (today - day).days > FAR_FROM_TODAY):
+            yield line, f"{name}, which is {texts.count(abs((day - today).days), 'day')} {'after' if day > today else 'before'} today"
+        if len(others) > 1 and abs(day.toordinal() - statistics.median_low(others)) > FAR_FROM_OTHERS.get(line.kind, FAR_BY_DEFAULT):
             yield line, f"{name}, which is far from the days of the other lines"
 
 

@@ -10,9 +10,9 @@ lines that were not done to FILE.left.jsonl; no file is overwritten. Empty lines
 REPLIES.csv (or .xlsx) has rows as decline,23,ELM,Bo Bell, or columns reply, child, school and, if wanted, name. It is first written as REPLIES.jsonl. With
 --as each row of a sheet with the columns child and school is such a command, as of the lists remind-due and lapse-due of admissions-query.
 
-Before anything is sent it asks about what cannot be undone and looks wrong: a day outside the season, far from today or from the other days; an answer to
-which the sheet has another name; a round or a fill without a copy of this very register in copies/ or beside it; an amend without the present school; a
-file that was sent before. Where nobody can be asked nothing is sent, unless --yes is given.
+Before anything is sent it asks about what cannot be undone and looks wrong: a day outside the season, after today, long before it or far from the other days;
+a first round on another day than the offer day; an answer to which the sheet has another name; a round or a fill without a copy of this very register in
+copies/ or beside it; an amend without the present school; a file that was sent before. Where nobody can be asked nothing is sent, unless --yes is given.
 
 If it is killed, FILE.answers.part-.. has the answers so far. Sent again, the file is continued after them by --continue, or begun anew by --again.
 

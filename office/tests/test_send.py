@@ -158,6 +158,11 @@ RISKS = [
     ([child(9), apply(9, ["OAK"], "2024-12-01")], "takes no part in the first round", ()),
     ([{"cmd": "remind", "child": it, "school": "OAK", "day": "2025-03-17" if it < 5 else "2025-05-08"} for it in range(1, 6)],
     "far from the days of the other lines", ()),
+    ([{**ROUND, "day": "2025-03-04"}], "not right for a first round: the offer day is 2025-03-03", ()),
+    ([{**ROUND, "day": "2025-03-11"}], "round with the day 2025-03-11, which is 1 day after today", ()),
+    ([{"cmd": "fill", "draw": 1, "school": "OAK", "day": "2025-03-11", "lots": []}], "fill with the day 2025-03-11, which is 1 day after today", ()),
+    ([{"cmd": "remind", "child": 1, "school": "OAK", "day": "2025-04-08"}], "remind with the day 2025-04-08, which is 29 days after today", ()),
+    ([{"cmd": "lapse", "child": 1, "school": "OAK", "day": "2025-03-31"}], "lapse with the day 2025-03-31, which is 21 days after today", ()),
 ]
 
 
