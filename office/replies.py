@@ -1,7 +1,8 @@
 """A sheet of families' answers, or a worklist, as a file of commands: a line for each row."""
 import json
+import os
 
-from . import fields, sheet, texts
+from . import commands, fields, sheet, texts
 from .run import Refused
 
 # what a row may say of itself, and what --as may say of all rows
@@ -57,20 +58,43 @@ def commands_of(name, kind, day):
         raise Refused(f"nothing was sent: correct {texts.count(len(wrong), 'error')} in {name} first")
     names = [fields.trimmed(it).lower() for it in rows[0].cells]
     has_names = "name" in names if has_header else not kind and any(len(row.cells) > 3 and row.cells[3].strip() for row in rows)
-    lines = (json.dumps(it, separators=(",", ":")) + "\n" for it, _ in found)
-    return "".join(lines).encode(), has_names
+    return b"".join(line_of(it) for it, _ in found), has_names
+
+
+def line_of(command):
+    """A command as it is written."""
+    return (json.dumps(command, separators=(",", ":")) + "\n").encode()
+
+
+def is_made(data):
+    """Whether each line of a file is one that a sheet makes, so that another kind of file of the same name is kept."""
+    found = [commands.read(it) for it in data.splitlines()]
+    return all(isinstance(it, dict) and it.get("cmd") in KINDS and not commands.wrong_field(it) for it in found) and data == b"".join(map(line_of, found))
+
+
+def was_sent(stem):
+    """Whether anything of a file was sent: there are answers of it, or of an interrupted run."""
+    ends = (".answers", ".interrupted.answers", ".answers.part-")
+    start = os.path.basename(stem)
+    return any(it.startswith(tuple(start + end for end in ends)) for it in os.listdir(os.path.dirname(stem) or "."))
 
 
 def convert(name, kind, day):
-    """Writes the commands of a sheet beside it. The name of their file, and whether the sheet has names."""
+    """Writes the commands of a sheet beside it, in place of those of an earlier text of it of which nothing was sent. The name of their file, and whether the
+    sheet has names."""
     data, has_names = commands_of(name, kind, day)
-    made = name.rpartition(".")[0] + ".jsonl"
+    stem = name.rpartition(".")[0]
+    made = stem + ".jsonl"
     try:
         with open(made, "rb") as file:
-            if file.read() != data:
+            had = file.read()
+        if had != data:
+            if was_sent(stem) or not is_made(had):
                 raise Refused(f"nothing was sent: {made} is there already, with other commands: rename it, or give {name} another name")
+            os.unlink(made)
+            sheet.write_new(made, data)
     except FileNotFoundError:
         sheet.write_new(made, data)
     except OSError as error:
-        raise Refused(f"{made} cannot be read: {error.strerror}") from error
+        raise Refused(f"{made} cannot be replaced: {error.strerror}") from error
     return made, has_names

@@ -5,7 +5,7 @@
   admissions-send WORKLIST.csv --as remind|lapse --day YYYY-MM-DD
 
 The register is reg.db in this folder, or REG.db, or the one that is served at URL. The answers are written to FILE.answers, a line for each line, and the
-lines that were not done to FILE.left.jsonl; no file is overwritten. Empty lines and a byte order mark are passed over.
+lines that were not done to FILE.left.jsonl; no file is overwritten but that of a sheet of which nothing was sent. Empty lines and a byte order mark are passed over.
 
 REPLIES.csv (or .xlsx) has rows as decline,23,ELM,Bo Bell, or columns reply, child, school and, if wanted, name. It is first written as REPLIES.jsonl. With
 --as each row of a sheet with the columns child and school is such a command, as of the lists remind-due and lapse-due of admissions-query.

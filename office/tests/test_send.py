@@ -301,6 +301,26 @@ def test_the_names_of_a_sheet_are_compared(office, reg, tmp_path):
     assert "line 2" not in ran.stdout
 
 
+def test_a_sheet_that_was_stopped_is_corrected(office, reg, tmp_path):
+    """After nothing was sent the sheet is corrected, or only its day, and sent. A file that no sheet made is kept."""
+    do(reg, [ROUND])
+    (tmp_path / "r.csv").write_text("accept,1,OAK,Bo Bell\n")
+    assert "nothing was sent" in office("send", "r.csv", *TODAY).stderr
+    (tmp_path / "r.csv").write_text("accept,1,OAK,Ann Abel\ndecline,2,ELM,Bo Bell\n")
+    ran = office("send", "r.csv", *TODAY)
+    assert (ran.returncode, ran.stderr) == (0, "") and "2 of 2 lines done" in ran.stdout, ran
+    (tmp_path / "r.csv").write_text("accept,2,OAK,Bo Bell\n")
+    assert "with other commands" in office("send", "r.csv", *TODAY).stderr
+    (tmp_path / "d.csv").write_text("child,school\n1,OAK\n")
+    assert "after today" in office("send", "d.csv", *TODAY, "--as", "remind", "--day", "2025-03-20").stdout
+    ran = office("send", "d.csv", *TODAY, "--as", "remind", "--day", "2025-03-10")
+    assert "2025-03-10" in (tmp_path / "d.jsonl").read_text() and "already" not in ran.stderr, ran
+    (tmp_path / "own.jsonl").write_text(text([child(9)]))
+    (tmp_path / "own.csv").write_text("accept,1,OAK\n")
+    ran = office("send", "own.csv", *TODAY)
+    assert "own.jsonl is there already" in ran.stderr and (tmp_path / "own.jsonl").read_text() == text([child(9)])
+
+
 def test_every_row_that_is_no_command_is_reported(office, reg, tmp_path):
     (tmp_path / "r.csv").write_text("accept,1,OAK\nmaybe,1x,Oak School\naccept,,ELM\n\ndecline,2\n")
     was = reg.read_bytes()
