@@ -158,10 +158,21 @@ def is_agreed(found, given):
     sys.stdout.flush()
     if not sys.stdin.isatty():
         raise Refused(f"nothing was sent: {texts.count(len(found), 'thing looks', 'things look')} wrong; correct the file, or give --yes to send it as it is")
-    try:
-        return input("Send all the same? Type yes: ").strip().lower() == "yes"
-    except EOFError:
-        return False
+    return is_yes("Send all the same? Type yes or no: ")
+
+
+def is_yes(question):
+    """The answer of the person who is asked; an empty line is no. Another line, as a command that was pasted behind this one, is no answer."""
+    while True:
+        try:
+            said = input(question).strip()
+        except EOFError:
+            return False
+        except UnicodeDecodeError:
+            said = "?"
+        if said.lower() in ("yes", "no", ""):
+            return said.lower() == "yes"
+        print(f"This line is no answer, and was not run: {texts.visible(said)}")
 
 
 def handle(given, sender, journal, lines):

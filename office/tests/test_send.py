@@ -196,8 +196,11 @@ def test_what_is_right_is_not_asked(office, reg, tmp_path):
     assert "child 1, which had accepted it" in office("send", "d.jsonl", *TODAY).stdout
 
 
-@pytest.mark.parametrize("said, done", [("yes\n", True), ("y\n", False), ("\n", False)])
-def test_asked_on_a_terminal(tools, reg, tmp_path, said, done):
+@pytest.mark.parametrize("said, done, lost", [
+    ("yes\n", True, 0), ("y\nno\n", False, 1), ("\n", False, 0), ("NO\n", False, 0), ("admissions-send b.jsonl\n./run \u00e9\nyes\n", True, 2),
+])
+def test_asked_on_a_terminal(tools, reg, tmp_path, said, done, lost):
+    """A line that is no answer is named, and it is asked again."""
     (tmp_path / "a.jsonl").write_text(text([ROUND]))
     ours, theirs = pty.openpty()
     run = subprocess.Popen([tools / "admissions-send", "a.jsonl", *TODAY], cwd=tmp_path, stdin=theirs, stdout=subprocess.PIPE, stderr=subprocess.STDOUT,
@@ -206,7 +209,9 @@ def test_asked_on_a_terminal(tools, reg, tmp_path, said, done):
     os.write(ours, said.encode())
     out = run.communicate(timeout=300)[0]
     os.close(ours)
-    assert b"Send all the same? Type yes: " in out and (run.returncode == 0) == done == (count(reg, "draw") == 1)
+    assert out.count(b"Send all the same? Type yes or no: ") == 1 + lost and (run.returncode == 0) == done == (count(reg, "draw") == 1), out
+    for line in said.encode().splitlines()[:lost]:
+        assert b"This line is no answer, and was not run: " + line.strip() + b"\n" in out
 
 
 @pytest.fixture(name="desk")
