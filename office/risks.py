@@ -124,6 +124,15 @@ def draw_risks(lines, register, path, backups):
             yield line, f"{line.kind} with draw {line.command['draw']}: the register has {texts.count(len(register.draws), 'draw')}"
 
 
+def sent_again(lines):
+    """What may happen where lines are sent for the second time."""
+    kinds = {it.kind for it in lines}
+    said = [text for kind, text in (("amend", "an old amend restores old data"), ("accept", "an old accept may take a later offer")) if kind in kinds]
+    if kinds & {"round", "fill"}:
+        said.append("a round or a fill is held once, and again only after the copy from before it was restored")
+    return ", ".join(said) or "what is done already is refused or changes nothing"
+
+
 def is_copy(name, path):
     """Whether a file is a copy of the register, byte for byte."""
     try:

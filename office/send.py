@@ -136,7 +136,7 @@ def questions(lines, reg, sender, given, journal):
     """What is asked before anything is sent."""
     found = []
     if journal.was_sent and not given.again:
-        found.append(f"{given.file} was sent before ({journal.stem}.answers): an old amend restores old data, an old accept may take a later offer")
+        found.append(f"{given.file} was sent before ({journal.stem}.answers): {risks.sent_again(lines)}; --again sends it again")
     known = (lambda number: reg.children[number].name if number in reg.children else None) if reg else sender.name_of
     all_risks = [*risks.day_risks(lines, reg, given.today), *risks.change_risks(lines, reg)]
     if given.names:
@@ -189,7 +189,7 @@ def handle(given, sender, journal, lines):
             journal.add(sender.send(line.text))
             progress.at(line.number)
             if isinstance(answer := commands.read(journal.answers[-1]), dict) and answer.get("failed"):
-                stopped = senders.Ended("the store failed")
+                stopped = senders.Ended("the store failed", False)
                 break
     except senders.Ended as error:
         stopped = error
@@ -207,7 +207,7 @@ def handle(given, sender, journal, lines):
 
 def report(lines, journal, stopped, doubt):
     """Prints the result of each draw, and each line that was not done. The lines that were not done."""
-    left = []
+    left, rest = [], []
     for line in lines:
         answer = commands.read(journal.answers[line.number - 1]) if line.number <= len(journal.answers) else None
         if commands.is_done(answer) or not line.text.strip():
@@ -215,14 +215,15 @@ def report(lines, journal, stopped, doubt):
                 print(f"line {line.number}: {result}")
             continue
         left.append(line)
-        if answer is None and line.number > len(journal.answers):
-            if line.number == len(journal.answers) + 1 and stopped and stopped.is_open:
-                print(f"line {line.number}: no answer; it may be done: look at the child, list or report first")
-            elif line.number == len(journal.answers) + 1:
-                print(f"line {line.number} and those after it were not sent")
+        if line.number > len(journal.answers):
+            rest.append(line.number)
             continue
         print(f"line {line.number}: {commands.in_words(answer, line.command)}" + ("; the interrupted run may have done it" if line.number == doubt else ""))
         print(f"    {texts.visible(line.text.decode('utf-8', 'backslashreplace').rstrip()[:2000])}")
+    if rest and stopped and stopped.is_open:
+        print(f"line {rest.pop(0)}: no answer; it may be done: look at the child, list or report first")
+    if rest:
+        print(f"{'line' if len(rest) == 1 else 'lines'} {risks.spans(rest)}: not tried")
     return left
 
 

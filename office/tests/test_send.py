@@ -123,6 +123,31 @@ def test_ended_in_the_middle(office, tools, reg, tmp_path, number):
         assert office("send", "a.left.jsonl").returncode == 0 and count(reg) == 2 + size
 
 
+AGAIN = [
+    ([child(3)], "what is done already is refused or changes nothing"), ([ROUND], "a round or a fill is held once, and again only after the copy from before it was restored"),
+    ([{**child(1, present="PRIM7"), "cmd": "amend"}], "an old amend restores old data"), ([{"cmd": "accept", "child": 1, "school": "OAK"}], "an old accept may take a later offer"),
+]
+
+
+@pytest.mark.parametrize("lines, said", AGAIN)
+def test_what_is_asked_of_a_file_that_was_sent_fits_its_commands(office, reg, tmp_path, lines, said):
+    (tmp_path / "a.jsonl").write_text(text(lines))
+    (tmp_path / "a.answers").write_text("")
+    assert f"  a.jsonl was sent before (a.answers): {said}; --again sends it again\n" in office("send", "a.jsonl", *TODAY).stdout
+
+
+def test_a_write_that_fails(office, reg, tmp_path):
+    """The line that failed may be stored; those after it were not tried."""
+    fake = tmp_path / "fake"
+    fake.write_text(f"#!/bin/bash\n[ \"$1\" = do ] && IFS= read -r it && echo '{{\"failed\":true}}' && exit 0\nexec {PROGRAM} \"$@\"\n")
+    fake.chmod(0o755)
+    (tmp_path / "a.jsonl").write_text(text(child(it) for it in range(11, 15)))
+    ran = office("send", "a.jsonl", program=fake)
+    assert ran.returncode == 1 and "stopped: the store failed" in ran.stderr and count(reg) == 2
+    assert [it.split(":")[0] for it in ran.stdout.splitlines() if it.startswith("line")] == ["line 1", "lines 2 to 4"], ran
+    assert "line 1: the write failed" in ran.stdout and "lines 2 to 4: not tried\n" in ran.stdout and "may be done" not in ran.stdout
+
+
 def wait_for(task, is_good):
     """The result of a task, repeated until it is good; at most five minutes."""
     deadline = time.monotonic() + 300
@@ -142,7 +167,8 @@ def test_the_program_dies(office, reg, tmp_path):
     assert ran.returncode == 1 and "call it as" in ran.stderr
     os.symlink(ROOT / "office" / "command", tmp_path / "admissions-send")
     ran = subprocess.run([tmp_path / "admissions-send", "a.jsonl"], cwd=tmp_path, capture_output=True, text=True, check=False, env=environment, timeout=300)
-    assert ran.returncode == 1 and "line 4: no answer; it may be done" in ran.stdout and "stopped: " in ran.stderr
+    assert ran.returncode == 1 and "line 4: no answer; it may be done: look at the child, list or report first\nlines 5 to 9: not tried\n" in ran.stdout
+    assert "stopped: " in ran.stderr
     assert (tmp_path / "a.left.jsonl").read_text() == text(child(it) for it in range(14, 20)) and count(reg) == 5
 
 
@@ -243,7 +269,7 @@ def test_over_http(office, desk, tmp_path):
     desk[1].terminate()
     desk[1].wait()
     ran = office("send", "b.jsonl", *TODAY, "--url", desk[0])
-    assert ran.returncode == 1 and "no connection" in ran.stderr and "line 1 and those after it were not sent" in ran.stdout
+    assert ran.returncode == 1 and "no connection" in ran.stderr and "lines 1, 2: not tried\n" in ran.stdout and "may be done" not in ran.stdout
     assert (tmp_path / "b.left.jsonl").read_bytes() == (tmp_path / "b.jsonl").read_bytes()
 
 
