@@ -111,6 +111,28 @@ REFUSALS = {
 }
 
 
+MOST_PAN, MOST_METRES, MOST_WITHIN, MOST_FLAG, MOST_CRITERIA, MOST_SIBLINGS = 500, 1_500_000, 2_200_000, 15, 8, 6
+
+
+def outside(command):
+    """What is out of range in a command whose fields are of the right kind, each as a sentence."""
+    found = []
+    numbers = [('"pan"', command.get("pan"), 1, MOST_PAN), *((f'"{it}"', command.get(it), 0, MOST_METRES) for it in ("east", "north"))]
+    for text in command.get("criteria", []):
+        kind, _, number = text.partition(":")
+        if kind in ("within", "flag"):
+            numbers.append((f'the number of "{kind}:"', int(number), *((1, MOST_WITHIN) if kind == "within" else (0, MOST_FLAG))))
+    found += [f"{name} is {value}, and must be from {least:,} to {most:,}" for name, value, least, most in numbers if value is not None and not least <= value <= most]
+    for name, most in (("criteria", MOST_CRITERIA), ("siblings", MOST_SIBLINGS)):
+        if len(command.get(name, [])) > most:
+            found.append(f'"{name}" has {len(command[name])} items, and may have {most}')
+    siblings = command.get("siblings", [])
+    found += [f'"siblings" has {it} twice' for it in dict.fromkeys(siblings) if siblings.count(it) > 1]
+    if command.get("cmd") == "raise_pan" and not found:
+        found.append(f'"pan" is {command.get("pan")}, and must not be less than the present admission number of {command.get("school")}, which can only rise')
+    return found
+
+
 class Blank(dict):
     """Values of a message; what a line has not is a question mark."""
 
@@ -143,7 +165,8 @@ def in_words(answer, command):
         values = Blank(command if isinstance(command, dict) else {})
         schools = [values.get("school"), *values.get("siblings", []), *values.get("preferences", [])] if name == "UnknownSchool" else []
         values["schools"] = ", ".join(dict.fromkeys(it for it in schools if isinstance(it, str)))
-        return f"{REFUSALS.get(name, 'refused').format_map(values)} ({name})"
+        named = outside(values) if name == "OutOfRange" and not wrong_field(command) else []
+        return f"{'; '.join(named) or REFUSALS.get(name, 'refused').format_map(values)} ({name})"
     if "fault" in answer:
         if name == "NotJson":
             return "the line is no JSON in UTF-8: a bracket, a quote or a comma is missing, or two commands are on one line (NotJson)"

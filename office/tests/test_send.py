@@ -71,6 +71,23 @@ def test_each_line_that_was_not_done_is_named(office, reg, tmp_path):
     assert os.stat(tmp_path / "a.left.jsonl").st_mode & 0o77 == 0 == os.stat(tmp_path / "a.answers").st_mode & 0o77
 
 
+OUTSIDE = [
+    ({"cmd": "raise_pan", "school": "OAK", "pan": 600}, '"pan" is 600, and must be from 1 to 500'),
+    ({"cmd": "raise_pan", "school": "ELM", "pan": 1}, '"pan" is 1, and must not be less than the present admission number of ELM, which can only rise'),
+    (school("ASH", pan=0), '"pan" is 0, and must be from 1 to 500'), (school("ASH", east=1_500_001), '"east" is 1500001, and must be from 0 to 1,500,000'),
+    (school("ASH", criteria=["within:2200001", "flag:16"]), 'the number of "within:" is 2200001, and must be from 1 to 2,200,000; the number of "flag:" is 16, and must be from 0 to 15'),
+    (school("ASH", criteria=["sibling"] * 9), '"criteria" has 9 items, and may have 8'),
+    (child(3, siblings=["OAK", "ELM", "OAK"]), '"siblings" has OAK twice'), ({**child(3), "north": 1_500_001}, '"north" is 1500001, and must be from 0 to 1,500,000'),
+]
+
+
+def test_what_is_out_of_range_is_named(office, reg, tmp_path):
+    """Each line is refused by the program for what is named."""
+    (tmp_path / "a.jsonl").write_text(text(it for it, _ in OUTSIDE))
+    ran = office("send", "a.jsonl", *TODAY)
+    assert [it for it in ran.stdout.splitlines() if it.startswith("line")] == [f"line {at}: {said} (OutOfRange)" for at, (_, said) in enumerate(OUTSIDE, 1)]
+
+
 def test_a_line_that_would_act_on_a_terminal_is_shown_escaped(office, reg, tmp_path):
     (tmp_path / "a.jsonl").write_text('{"cmd":"add_child","name":"\x1b[2J\u202eAnn"}\n')
     ran = office("send", "a.jsonl")
