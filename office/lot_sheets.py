@@ -5,10 +5,13 @@ import os
 import re
 import sys
 
+import register_files as files
+
 from . import book, sheet, texts
 from .run import Refused
 
 MOST_LOT = 4_294_967_295
+MOST_SHOWN = 100
 NOT_TEXT = "is no text in UTF-8: save it as CSV in UTF-8"
 # the columns of a header, by the names that are understood
 COLUMNS = {"school": "school", "code": "school", "child": "child", "number": "child", "name": "name", "lot": "lot"}
@@ -113,32 +116,55 @@ def is_header(fields):
     return not any(re.search(r"[0-9]", it) for it in fields[1:3])
 
 
-def lots_of(name, pairs):
-    """The lot of each pair."""
-    known, lots, rows, drawn = set(pairs), {}, {}, {}
-    for at, fields in rows_of(name):
-        where = f"row {at} of {named(name)}"
-        if len(fields) == 2:
-            raise Refused(f"{where} has no lot: {' '.join(fields)}")
-        if len(fields) != 3:
-            raise Refused(f"{where} has not the three fields code, number and lot: {' '.join(fields)}")
-        code, number, lot = fields
+def wrong_lot(lot):
+    """What is wrong with a lot by itself, or "" """
+    if not re.fullmatch(r"[0-9]+", lot):
+        return "that is no number"
+    return f"above {MOST_LOT}" if len(lot.lstrip("0")) > 10 or int(lot) > MOST_LOT else ""
+
+
+class Filled:
+    """The lots of a filled sheet as its rows are read: the row of each pair, and of each lot."""
+
+    def __init__(self, name, pairs):
+        self.name, self.known, self.lots, self.rows, self.drawn = named(name), set(pairs), {}, {}, {}
+
+    def add(self, at, fields):
+        """Reads a row, and says what is wrong with it, or "" """
+        if len(fields) not in (2, 3):
+            return f"has not the three fields code, number and lot: {' '.join(fields)}"
+        code, number, lot = [*fields, ""][:3]
         pair = (code, int(number)) if re.fullmatch(r"[0-9]{1,9}", number) else None
-        if pair not in known:
-            raise Refused(f"{where} is none of the pairs: {code} {number}")
-        if pair in lots:
-            raise Refused(f"{where} has a pair that row {rows[pair]} has: {code} {number}")
-        if not re.fullmatch(r"[0-9]+", lot):
-            raise Refused(f"{where} has a lot that is no number: {lot}")
-        if len(lot.lstrip("0")) > 10 or int(lot) > MOST_LOT:
-            raise Refused(f"{where} has a lot above {MOST_LOT}: {lot}")
-        if (code, int(lot)) in drawn:
-            raise Refused(f"{where} has a lot that row {drawn[code, int(lot)]} has at {code}: {lot}")
-        lots[pair], rows[pair], drawn[code, int(lot)] = int(lot), at, at
-    for at, (code, number) in enumerate(pairs, 1):
-        if (code, number) not in lots:
-            raise Refused(f"{named(name)} has no row for line {at} of the pairs: {code} {number}")
-    return lots
+        if pair in self.rows:
+            return f"has a pair that row {self.rows[pair]} has: {code} {number}"
+        if pair in self.known:
+            self.rows[pair] = at
+        if len(fields) == 2:
+            return f"has no lot: {code} {number}"
+        if pair not in self.known:
+            return f"is none of the pairs: {code} {number}"
+        if said := wrong_lot(lot):
+            return f"has a lot {said}: {lot}"
+        if (code, int(lot)) in self.drawn:
+            return f"has a lot that row {self.drawn[code, int(lot)]} has at {code}: {lot}"
+        self.lots[pair] = int(lot)
+        self.drawn[code, int(lot)] = at
+        return ""
+
+
+def lots_of(name, pairs):
+    """The lot of each pair. All that is wrong is reported at once."""
+    filled = Filled(name, pairs)
+    wrong = [f"row {at} of {filled.name} {said}" for at, fields in rows_of(name) if (said := filled.add(at, fields))]
+    wrong += [f"{filled.name} has no row for line {at} of the pairs: {code} {number}" for at, (code, number) in enumerate(pairs, 1) if (code, number) not in filled.rows]
+    if len(wrong) == 1:
+        raise Refused(wrong[0])
+    for it in wrong[:MOST_SHOWN]:
+        files.say(2, f"admissions-lots: {it}")
+    if wrong:
+        more = f", of which the first {MOST_SHOWN} are above" if len(wrong) > MOST_SHOWN else ""
+        raise Refused(f"correct {texts.count(len(wrong), 'error')} in {filled.name} first{more}")
+    return filled.lots
 
 
 def write(name, pairs, children=None):

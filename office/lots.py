@@ -19,7 +19,7 @@ example:
   admissions-lots draw-1.pairs --sheet draw-1.xlsx --register reg.db --names
   admissions-lots draw-1.pairs draw-1.xlsx --number 1 --day 2025-03-03 --register reg.db > draw-1.jsonl
 
-exit status: 0 printed or written; 1 refused, nothing is printed, and one line on the standard error says why; 2 wrong arguments.
+exit status: 0 printed or written; 1 refused, nothing is printed, and the standard error says why; 2 wrong arguments.
 """
 import datetime
 import hashlib

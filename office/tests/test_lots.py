@@ -98,6 +98,21 @@ def test_a_workbook_that_is_filled_wrongly(office, town, tmp_path, lot, said):
     assert ran.returncode == 1 and said in ran.stderr and ran.stderr.count("\n") == 1 and not ran.stdout
 
 
+def test_all_that_is_wrong_with_a_sheet_is_reported_at_once(office, town, tmp_path):
+    pairs = fill_pairs(town.season, "A")
+    assert len(pairs) > 5
+    lots = ["7", "x", "7", "", *map(str, range(20, 16 + len(pairs)))]
+    rows = [f"A,{number},{lot}" for (_, number), lot in zip(pairs, lots)]
+    (tmp_path / "f.csv").write_text("\n".join([*rows[:-1], rows[0], "A,999999,1"]) + "\n")
+    ran = office("lots", "fill.pairs", "f.csv", "--number", "2", *DAY, "--school", "A")
+    numbers = [number for _, number in pairs]
+    wanted = [
+        "row 2 of f.csv has a lot that is no number: x", "row 3 of f.csv has a lot that row 1 has at A: 7", f"row 4 of f.csv has no lot: A {numbers[3]}",
+        f"row {len(pairs)} of f.csv has a pair that row 1 has: A {numbers[0]}", f"row {len(pairs) + 1} of f.csv is none of the pairs: A 999999",
+        f"f.csv has no row for line {len(pairs)} of the pairs: A {numbers[-1]}", "correct 6 errors in f.csv first"]
+    assert (ran.returncode, ran.stdout, ran.stderr.splitlines()) == (1, "", [f"admissions-lots: {it}" for it in wanted])
+
+
 @pytest.mark.skipif(not PROGRAM or PROGRAM == "/bin/false", reason="no program")
 def test_the_pairs_are_those_of_the_program(tmp_path, office):
     """On the copies of random seasons, before and after a first round, with plans, places, children who left lists, and late applications."""
