@@ -6,7 +6,7 @@ from . import commands, fields, sheet, texts
 from .run import Refused
 
 # what a row may say of itself, and what --as may say of all rows
-ANSWERS = {"accept": "accept", "decline": "decline", "leave_list": "leave_list", "leave": "leave_list"}
+ANSWERS = {"accept": "accept", "decline": "decline", "leave_list": "leave_list", "leave": "leave_list", "name_plan": "name_plan", "plan": "name_plan"}
 KINDS = ("accept", "decline", "leave_list", "remind", "lapse")
 DATED = ("remind", "lapse")
 WHAT = ("reply", "answer", "cmd", "command", "what")
@@ -33,7 +33,7 @@ def command_of(row, places, kind, day):
     found = kind or ANSWERS.get(what.lower())
     wrong = []
     if not found:
-        wrong.append(f"row {row.number}, {texts.shown(what)}: expected accept, decline or leave_list")
+        wrong.append(f"row {row.number}, {texts.shown(what)}: expected accept, decline, leave_list or name_plan")
     number, code = fields.child(child, None), school.upper()
     if number.expected:
         wrong.append(f"row {row.number}, {texts.shown(child)}: expected {number.expected}")
@@ -45,7 +45,7 @@ def command_of(row, places, kind, day):
 
 
 def commands_of(name, kind, day):
-    """The commands of a sheet, as bytes, and whether it has names. All rows that cannot be read are reported at once."""
+    """The commands of a sheet, as bytes, and the name that each row has, or None. All rows that cannot be read are reported at once."""
     rows = sheet.read(name).rows
     if not rows:
         raise Refused(f"{name} has no row")
@@ -56,9 +56,10 @@ def commands_of(name, kind, day):
         print(it)
     if wrong:
         raise Refused(f"nothing was sent: correct {texts.count(len(wrong), 'error')} in {name} first")
-    names = [fields.trimmed(it).lower() for it in rows[0].cells]
-    has_names = "name" in names if has_header else not kind and any(len(row.cells) > 3 and row.cells[3].strip() for row in rows)
-    return b"".join(line_of(it) for it, _ in found), has_names
+    header = [fields.trimmed(it).lower() for it in rows[0].cells]
+    at = (header.index("name") if "name" in header else None) if has_header else None if kind else 3
+    names = [row.cells[at].strip() if at is not None and at < len(row.cells) else "" for row in rows[has_header:]]
+    return b"".join(line_of(it) for it, _ in found), names if any(names) else None
 
 
 def line_of(command):
@@ -69,7 +70,7 @@ def line_of(command):
 def is_made(data):
     """Whether each line of a file is one that a sheet makes, so that another kind of file of the same name is kept."""
     found = [commands.read(it) for it in data.splitlines()]
-    return all(isinstance(it, dict) and it.get("cmd") in KINDS and not commands.wrong_field(it) for it in found) and data == b"".join(map(line_of, found))
+    return all(isinstance(it, dict) and it.get("cmd") in (*KINDS, "name_plan") and not commands.wrong_field(it) for it in found) and data == b"".join(map(line_of, found))
 
 
 def was_sent(stem):
@@ -80,9 +81,9 @@ def was_sent(stem):
 
 
 def convert(name, kind, day):
-    """Writes the commands of a sheet beside it, in place of those of an earlier text of it of which nothing was sent. The name of their file, and whether the
-    sheet has names."""
-    data, has_names = commands_of(name, kind, day)
+    """Writes the commands of a sheet beside it, in place of those of an earlier text of it of which nothing was sent. The name of their file, and the name
+    that each row has, or None."""
+    data, names = commands_of(name, kind, day)
     stem = name.rpartition(".")[0]
     made = stem + ".jsonl"
     try:
@@ -97,4 +98,4 @@ def convert(name, kind, day):
         sheet.write_new(made, data)
     except OSError as error:
         raise Refused(f"{made} cannot be replaced: {error.strerror}") from error
-    return made, has_names
+    return made, names

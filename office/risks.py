@@ -73,20 +73,31 @@ def names_of(name):
     return found
 
 
-def name_risks(lines, known, names):
-    """Answers whose child has another name in the register than in the sheet."""
+def name_risks(lines, known, names_for):
+    """Answers whose child has another name in the register than the sheet has for their lines."""
     for line in lines:
         if line.kind not in ANSWERED:
             continue
         number = line.command["child"]
-        given, has = names.get(number), known(number)
+        given, has = names_for(line), known(number)
         if has is None:
             continue
-        if given is None and line.kind in FINAL:
+        if not given and line.kind in FINAL:
             yield line, f"{line.kind} of child {number}, {texts.shown(has)}, which the names do not have"
         for it in sorted(given or ()):
             if texts.folded(it) != texts.folded(has):
                 yield line, f"{line.kind} of child {number}: the name given is {texts.shown(it)}, and the register has {texts.shown(has)}"
+
+
+def plans(lines, known):
+    """The plans of a file that nobody gave a name for, with the names of their children: a plan cannot be changed."""
+    added = {it.command["child"]: it.command["name"] for it in lines if it.kind == "add_child"}
+    for line in lines:
+        if line.kind != "name_plan":
+            continue
+        number = line.command["child"]
+        if name := known(number) or added.get(number):
+            yield line, f"name_plan of child {number}, {texts.shown(name)}, at {line.command['school']}: a plan cannot be changed"
 
 
 def change_risks(lines, register):

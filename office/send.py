@@ -7,7 +7,7 @@
 The register is reg.db in this folder, or REG.db, or the one that is served at URL. The answers are written to FILE.answers, a line for each line, and the
 lines that were not done to FILE.left.jsonl; no file is overwritten but that of a sheet of which nothing was sent. Empty lines and a byte order mark are passed over.
 
-REPLIES.csv (or .xlsx) has rows as decline,23,ELM,Bo Bell, or columns reply, child, school and, if wanted, name. It is first written as REPLIES.jsonl. With
+REPLIES.csv (or .xlsx) has rows as decline,23,ELM,Bo Bell, or columns reply, child, school and, if wanted, name. A reply is accept, decline, leave or plan. It is first written as REPLIES.jsonl. With
 --as each row of a sheet with the columns child and school is such a command, as of the lists remind-due and lapse-due of admissions-query.
 
 Before anything is sent it asks about what cannot be undone and looks wrong: a day outside the season, after today, long before it or far from the other days;
@@ -133,27 +133,31 @@ def lines_of(data):
 
 
 def questions(lines, reg, sender, given, journal):
-    """What is asked before anything is sent."""
+    """What is asked before anything is sent, and what is shown where there is somebody to see it."""
     found = []
     if journal.was_sent and not given.again:
         found.append(f"{given.file} was sent before ({journal.stem}.answers): {risks.sent_again(lines)}; --again sends it again")
     known = (lambda number: reg.children[number].name if number in reg.children else None) if reg else sender.name_of
     all_risks = [*risks.day_risks(lines, reg, given.today), *risks.change_risks(lines, reg)]
     if given.names:
-        all_risks += risks.name_risks(lines, known, risks.names_of(given.names))
+        names = risks.names_of(given.names)
+        all_risks += risks.name_risks(lines, known, lambda it: names.get(it.command["child"]))
+    elif given.row_names:
+        all_risks += risks.name_risks(lines, known, lambda it: {given.row_names[it.number - 1]} - {""})
     path = None if given.url else given.register
     all_risks += risks.draw_risks(lines, reg, path, risks.backups_near(path) if path else [])
-    return found + risks.grouped(all_risks)
+    shown = [] if given.names or given.row_names else risks.grouped(risks.plans(lines, known))
+    return found + risks.grouped(all_risks), shown
 
 
-def is_agreed(found, given):
-    """Whether everything that looks wrong is right, as the person says that sends it."""
-    if not found:
+def is_agreed(found, shown, given):
+    """Whether everything that looks wrong is right, as the person says that sends it. What is only shown stops nothing where nobody can be asked."""
+    if not found and not shown:
         return True
     print("Before anything is sent:")
-    for it in found:
+    for it in (*found, *shown):
         print(f"  {it}")
-    if given.yes:
+    if given.yes or not (found or sys.stdin.isatty()):
         return True
     sys.stdout.flush()
     if not sys.stdin.isatty():
@@ -240,10 +244,10 @@ def see_arguments(given):
 def main(given):
     """Reads, asks, sends and reports."""
     see_arguments(given)
+    given.row_names = None
     if replies.is_sheet(given.file):
         name = given.file
-        given.file, has_names = replies.convert(name, given.kind, str(given.day))
-        given.names = given.names or (name if has_names else None)
+        given.file, given.row_names = replies.convert(name, given.kind, str(given.day))
     given.register = given.register or (None if given.url else "reg.db")
     try:
         with open(given.file, "rb") as file:
@@ -258,7 +262,7 @@ def main(given):
         if said := files.merge_log(program, path):
             raise Refused(f"nothing was sent: {given.register} does not open: {said}")
         reg = register.read(given.register)
-    if not is_agreed(questions(lines, reg, None if reg else sender, given, journal), given):
+    if not is_agreed(*questions(lines, reg, None if reg else sender, given, journal), given):
         print("nothing was sent")
         return 1
     journal.open(given.again)

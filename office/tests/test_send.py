@@ -239,12 +239,15 @@ def test_what_is_right_is_not_asked(office, reg, tmp_path):
     assert "child 1, which had accepted it" in office("send", "d.jsonl", *TODAY).stdout
 
 
-@pytest.mark.parametrize("said, done, lost", [
-    ("yes\n", True, 0), ("y\nno\n", False, 1), ("\n", False, 0), ("NO\n", False, 0), ("admissions-send b.jsonl\n./run \u00e9\nyes\n", True, 2),
-])
-def test_asked_on_a_terminal(tools, reg, tmp_path, said, done, lost):
-    """A line that is no answer is named, and it is asked again."""
-    (tmp_path / "a.jsonl").write_text(text([ROUND]))
+@pytest.mark.parametrize("said, done", [("yes\n", 1), ("no\n", 0)])
+def test_a_plan_is_asked_about_on_a_terminal(tools, reg, tmp_path, said, done):
+    (tmp_path / "a.jsonl").write_text(text([{"cmd": "name_plan", "child": 2, "school": "OAK"}]))
+    out = asked(tools, tmp_path, said)[1]
+    assert b'name_plan of child 2, "Bo Bell", at OAK' in out and b"Type yes or no: " in out and count(reg, "place") == done, out
+
+
+def asked(tools, tmp_path, said):
+    """Sends a.jsonl on a terminal where this is typed: its status and output."""
     ours, theirs = pty.openpty()
     run = subprocess.Popen([tools / "admissions-send", "a.jsonl", *TODAY], cwd=tmp_path, stdin=theirs, stdout=subprocess.PIPE, stderr=subprocess.STDOUT,
                            env={**os.environ, "ADMISSIONS": str(tools / "admissions")})
@@ -252,7 +255,17 @@ def test_asked_on_a_terminal(tools, reg, tmp_path, said, done, lost):
     os.write(ours, said.encode())
     out = run.communicate(timeout=300)[0]
     os.close(ours)
-    assert out.count(b"Send all the same? Type yes or no: ") == 1 + lost and (run.returncode == 0) == done == (count(reg, "draw") == 1), out
+    return run.returncode, out
+
+
+@pytest.mark.parametrize("said, done, lost", [
+    ("yes\n", True, 0), ("y\nno\n", False, 1), ("\n", False, 0), ("NO\n", False, 0), ("admissions-send b.jsonl\n./run \u00e9\nyes\n", True, 2),
+])
+def test_asked_on_a_terminal(tools, reg, tmp_path, said, done, lost):
+    """A line that is no answer is named, and it is asked again."""
+    (tmp_path / "a.jsonl").write_text(text([ROUND]))
+    status, out = asked(tools, tmp_path, said)
+    assert out.count(b"Send all the same? Type yes or no: ") == 1 + lost and (status == 0) == done == (count(reg, "draw") == 1), out
     for line in said.encode().splitlines()[:lost]:
         assert b"This line is no answer, and was not run: " + line.strip() + b"\n" in out
 
@@ -347,6 +360,25 @@ def test_the_names_of_a_sheet_are_compared(office, reg, tmp_path):
     ran = office("send", "r.csv", *TODAY)
     assert ran.returncode == 1 and 'line 1: decline of child 1: the name given is "Bell, Bo", and the register has "Ann Abel"' in ran.stdout
     assert "line 2" not in ran.stdout
+
+
+def test_only_the_row_with_another_name_is_named(office, reg, tmp_path):
+    (tmp_path / "r.csv").write_text("accept,1,OAK,Ann Abel\nleave,1,ELM,Bo Bell\ndecline,1,ELM\nplan,2,ELM,Ann Abel\n")
+    ran = office("send", "r.csv", *TODAY)
+    assert ran.stdout.splitlines()[1:] == [
+        '  line 2: leave_list of child 1: the name given is "Bo Bell", and the register has "Ann Abel"', '  line 3: decline of child 1, "Ann Abel", which the names do not have',
+        '  line 4: name_plan of child 2: the name given is "Ann Abel", and the register has "Bo Bell"'], ran
+
+
+def test_a_plan_is_shown_with_the_name_of_its_child(office, reg, tmp_path):
+    """Where nobody can be asked it is only shown; a name that is given is compared."""
+    (tmp_path / "p.jsonl").write_text(text([child(3, name="Cy Cole"), *({"cmd": "name_plan", "child": it, "school": "OAK"} for it in (2, 3))]))
+    (tmp_path / "names.csv").write_text("child,name\n2,Bea Bell\n3,Cy Cole\n")
+    ran = office("send", "p.jsonl", *TODAY, "--names", "names.csv")
+    assert ran.returncode == 1 and 'line 2: name_plan of child 2: the name given is "Bea Bell", and the register has "Bo Bell"' in ran.stdout
+    ran = office("send", "p.jsonl", *TODAY)
+    assert ran.returncode == 0 and ran.stdout.splitlines()[1:3] == [
+        '  line 2: name_plan of child 2, "Bo Bell", at OAK: a plan cannot be changed', '  line 3: name_plan of child 3, "Cy Cole", at OAK: a plan cannot be changed'], ran
 
 
 def test_a_sheet_that_was_stopped_is_corrected(office, reg, tmp_path):
