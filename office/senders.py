@@ -2,6 +2,7 @@
 import base64
 import http.client
 import os
+import signal
 import subprocess
 import tempfile
 import urllib.parse
@@ -10,6 +11,23 @@ from . import commands
 from .run import Refused
 
 ANSWER_SECONDS = 120
+
+
+ENDS = {
+    signal.SIGKILL: "it was killed, often because memory ran out", signal.SIGXFSZ: "a file may not become larger (ulimit -f)",
+    signal.SIGXCPU: "it may not run longer (ulimit -t)",
+}
+
+
+def ending(status):
+    """What ended a program, by its status: a negative one is that of a signal."""
+    if status >= 0:
+        return f"the program ended with status {status}"
+    try:
+        number = signal.Signals(-status)
+    except ValueError:
+        return f"the program was ended by the signal {-status}"
+    return f"the program ended early: {ENDS[number]}" if number in ENDS else f"the program was ended by the signal {number.name}"
 
 
 class Ended(Exception):
@@ -53,7 +71,7 @@ class Do:
         status = self.run.wait()
         self.errors.seek(0)
         said = ", ".join(it for it in os.fsdecode(self.errors.read()).split("\n") if it)
-        return said or f"the program ended with status {status}" if status in (1, 2) or status < 0 else ""
+        return said or ending(status) if status in (1, 2) or status < 0 else ""
 
 
 class Http:

@@ -165,6 +165,18 @@ def test_a_write_that_fails(office, reg, tmp_path):
     assert "line 1: the write failed" in ran.stdout and "lines 2 to 4: not tried\n" in ran.stdout and "may be done" not in ran.stdout
 
 
+@pytest.mark.parametrize("number, said", [
+    ("XFSZ", "a file may not become larger (ulimit -f)"), ("KILL", "it was killed, often because memory ran out"), ("TERM", "ended by the signal SIGTERM"),
+])
+def test_a_program_that_a_signal_ends(office, reg, tmp_path, number, said):
+    fake = tmp_path / "fake"
+    fake.write_text(f"#!/bin/bash\n[ \"$1\" = do ] && IFS= read -r it && kill -{number} $$\nexec {PROGRAM} \"$@\"\n")
+    fake.chmod(0o755)
+    (tmp_path / "a.jsonl").write_text(text([child(11)]))
+    ran = office("send", "a.jsonl", program=fake)
+    assert ran.returncode == 1 and said in ran.stderr and "status -" not in ran.stderr and "line 1: no answer; it may be done" in ran.stdout, ran
+
+
 def wait_for(task, is_good):
     """The result of a task, repeated until it is good; at most five minutes."""
     deadline = time.monotonic() + 300
