@@ -156,7 +156,7 @@ def lots_of(name, pairs):
     """The lot of each pair. All that is wrong is reported at once."""
     filled = Filled(name, pairs)
     wrong = [f"row {at} of {filled.name} {said}" for at, fields in rows_of(name) if (said := filled.add(at, fields))]
-    wrong += [f"{filled.name} has no row for line {at} of the pairs: {code} {number}" for at, (code, number) in enumerate(pairs, 1) if (code, number) not in filled.rows]
+    wrong += [f"{filled.name} has no row for line {at} of the pairs: {it[0]} {it[1]}" for at, it in enumerate(pairs, 1) if it not in filled.rows]
     if len(wrong) == 1:
         raise Refused(wrong[0])
     for it in wrong[:MOST_SHOWN]:

@@ -5,14 +5,16 @@
   admissions-send WORKLIST.csv --as remind|lapse --day YYYY-MM-DD
 
 The register is reg.db in this folder, or REG.db, or the one that is served at URL. The answers are written to FILE.answers, a line for each line, and the
-lines that were not done to FILE.left.jsonl; no file is overwritten but that of a sheet of which nothing was sent. Empty lines and a byte order mark are passed over.
+lines that were not done to FILE.left.jsonl; no file is overwritten. Empty lines and a byte order mark are passed over.
 
-REPLIES.csv (or .xlsx) has rows as decline,23,ELM,Bo Bell, or columns reply, child, school and, if wanted, name. A reply is accept, decline, leave or plan. It is first written as REPLIES.jsonl. With
---as each row of a sheet with the columns child and school is such a command, as of the lists remind-due and lapse-due of admissions-query.
+REPLIES.csv (or .xlsx) has rows as decline,23,ELM,Bo Bell, or columns reply, child, school and, if wanted, name. A reply is accept, decline, leave or plan.
+It is first written as REPLIES.jsonl, in place of an earlier one of which nothing was sent. With --as each row of a sheet with the columns child and school
+is such a command, as of the lists remind-due and lapse-due of admissions-query.
 
 Before anything is sent it asks about what cannot be undone and looks wrong: a day outside the season, after today, long before it or far from the other days;
 a first round on another day than the offer day; an answer to which the sheet has another name; a round or a fill without a copy of this very register in
-copies/ or beside it; an amend without the present school; a file that was sent before. Where nobody can be asked nothing is sent, unless --yes is given.
+copies/ or beside it; an amend without the present school; a file that was sent before. Where nobody can be asked nothing is sent, unless --yes is given. On
+a terminal it also asks about each plan that has no name in a sheet, and shows the name of its child.
 
 If it is killed, FILE.answers.part-.. has the answers so far. Sent again, the file is continued after them by --continue, or begun anew by --again.
 
@@ -152,12 +154,12 @@ def questions(lines, reg, sender, given, journal):
 
 def is_agreed(found, shown, given):
     """Whether everything that looks wrong is right, as the person says that sends it. What is only shown stops nothing where nobody can be asked."""
-    if not found and not shown:
+    if not found and (not shown or given.yes or not sys.stdin.isatty()):
         return True
     print("Before anything is sent:")
     for it in (*found, *shown):
         print(f"  {it}")
-    if given.yes or not (found or sys.stdin.isatty()):
+    if given.yes:
         return True
     sys.stdout.flush()
     if not sys.stdin.isatty():

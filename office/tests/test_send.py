@@ -383,14 +383,15 @@ def test_only_the_row_with_another_name_is_named(office, reg, tmp_path):
 
 
 def test_a_plan_is_shown_with_the_name_of_its_child(office, reg, tmp_path):
-    """Where nobody can be asked it is only shown; a name that is given is compared."""
+    """With whatever looks wrong; by itself it stops nothing where nobody can be asked. A name that is given is compared."""
     (tmp_path / "p.jsonl").write_text(text([child(3, name="Cy Cole"), *({"cmd": "name_plan", "child": it, "school": "OAK"} for it in (2, 3))]))
     (tmp_path / "names.csv").write_text("child,name\n2,Bea Bell\n3,Cy Cole\n")
     ran = office("send", "p.jsonl", *TODAY, "--names", "names.csv")
     assert ran.returncode == 1 and 'line 2: name_plan of child 2: the name given is "Bea Bell", and the register has "Bo Bell"' in ran.stdout
     ran = office("send", "p.jsonl", *TODAY)
-    assert ran.returncode == 0 and ran.stdout.splitlines()[1:3] == [
-        '  line 2: name_plan of child 2, "Bo Bell", at OAK: a plan cannot be changed', '  line 3: name_plan of child 3, "Cy Cole", at OAK: a plan cannot be changed'], ran
+    assert (ran.returncode, ran.stdout) == (0, "3 of 3 lines done; the answers are in p.answers\n"), ran
+    assert office("send", "p.jsonl", *TODAY).stdout.splitlines()[2:] == [
+        '  line 2: name_plan of child 2, "Bo Bell", at OAK: a plan cannot be changed', '  line 3: name_plan of child 3, "Cy Cole", at OAK: a plan cannot be changed']
 
 
 def test_a_sheet_that_was_stopped_is_corrected(office, reg, tmp_path):
