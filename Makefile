@@ -14,7 +14,7 @@
 #   make office   the tests of the office's commands (office/tests), with the built program; needs python3-pytest, poppler-utils, and what cases need
 #   make races    a restore beside which a program starts at 300 random moments; restore and backup with a program started before each operation, killed, failing; some minutes
 #   make costs    the CPU seconds of each crate's proof in the build here, beside a unit of this hour, and the longest chain of crates
-#   make bench    the aims for the costs, beside the measured costs, as one page, which it writes to bench/RESULTS.md; some ten minutes once the program is built
+#   make bench    the aims for the costs, beside the measured costs, as one page, which it writes to bench/RESULTS.md; some minutes once the program is built
 #   make bench-more  the costs of commands in more tables, beside a baseline in the same run
 #   make deploy-check  the deployment (site, desk in its own network, page), on this machine alone; needs nginx, openssl, curl, chromium, sqlite3 and poppler-utils; not in test
 #   make install  the proved program that is at bin/admissions (it builds nothing), the office's tools, their manual pages and completions, and the office's
