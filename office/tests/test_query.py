@@ -237,10 +237,10 @@ def test_two_thousand_children_take_seconds(office, tmp_path):
 
 
 @pytest.mark.parametrize("words, said", [
-    (["moved"], "moved requires --round or --draw"), (["moved", "--round", "1", "--draw", "1"], "moved requires --round or --draw"), (["find"], "find wants TEXT"),
-    (["amend"], "amend wants --child"),
+    (["moved"], "moved requires --round or --draw"), (["moved", "--round", "1", "--draw", "1"], "moved requires --round or --draw"), (["find"], "find requires TEXT"),
+    (["amend"], "amend requires --child"),
     (["amend", "--child", "1", "--excel"], "amend prints a command"), (["season", "x"], "season takes no TEXT"),
-    (["round-report"], "round-report wants --round"),
+    (["round-report"], "round-report requires --round"),
     (["round-report", "--round", "0"], "--round is out of range"), (["list", "--round", "1"], "list takes no --round"),
     (["season", "--workbook", "x.xlsx"], "--workbook takes no NAME"),
 ])
