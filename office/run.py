@@ -45,7 +45,8 @@ def run(name, command):
         signal.signal(it, stopped)
     reader = parser_of(name, command.__doc__)
     command.arguments(reader)
-    given = reader.parse_args()
+    # (so that options may stand between the names)
+    given = reader.parse_intermixed_args()
     try:
         status = command.main(given)
         sys.stdout.flush()

@@ -1,6 +1,7 @@
 """Tries what a change of an admission number or of criteria would have done to a round: who would have gained, and who would have lost.
 
-  admissions-trial BEFORE [AFTER] --pan OAK=70 .. --criteria 'OAK=sibling;within:800' .. [--html OUT.html] [--csv OUT.csv]
+  admissions-trial BEFORE [AFTER] --pan OAK=70 .. --criteria 'OAK=sibling;within:800' .. [--html OUT.html]
+                         [--csv OUT.csv] [--flags FILE]
 
 BEFORE is a copy of the register from before the round, AFTER the register, or a copy, from after it. The program itself makes two new registers in a
 folder that is deleted at the end, one as it was and one with the change, and holds the round in both by the lots that AFTER has; the one as it was must
@@ -10,7 +11,7 @@ It prints a table by school, and one by school and criterion. A child gains if i
 wants less, or none; by the same lists, for nobody knows what families would have listed. --html writes the tables and a chart as a page, --csv a row for each
 child that would have another school. Both must be new. The numbers are small and not for publication.
 
-Criteria are given whole, in their order, with semicolons; 'OAK=' is none. A later round can be tried with raised admission numbers alone.
+Criteria are given whole, in their order, with semicolons; 'OAK=' is none. --flags gives flags the office's words, by lines as `7,medical need`. A later round can be tried with raised admission numbers alone.
 
 example:
   admissions-trial copies/before-draw-1.db reg.db --pan OAK=70 --criteria 'ELM=sibling;within:800' --html trial.html
@@ -63,7 +64,8 @@ def round_of(before, after):
 class Trial:
     """A round as it was and as it would have been."""
 
-    def __init__(self, before, after, schools):
+    def __init__(self, before, after, schools, flags):
+        self.flags = flags
         program, self.number, progress = files.program(), len(before.draws) + 1, Progress("rounds", 2)
         self.day, given = round_of(before, after)
         with tempfile.TemporaryDirectory(prefix="admissions-trial-") as room:
@@ -86,7 +88,7 @@ class Trial:
 
     def last(self, reg, code, key):
         """The last child that was offered a place, in words."""
-        return f"{ranking.in_words(reg.schools[code], key[0])}, {key[1]:,} metres" if key else "no offer"
+        return f"{ranking.in_words(reg.schools[code], key[0], self.flags)}, {key[1]:,} metres" if key else "no offer"
 
     def school_rows(self):
         """The table by school: those where anything would be different."""
@@ -102,7 +104,7 @@ class Trial:
             counts: dict = {}
             for at, (reg, them) in enumerate(((self.changed, it.gains), (self.plain, it.losses))):
                 for number, count in them.items():
-                    counts.setdefault((number, ranking.in_words(reg.schools[it.code], number)), [0, 0])[at] += count
+                    counts.setdefault((number, ranking.in_words(reg.schools[it.code], number, self.flags)), [0, 0])[at] += count
             for (_, words), (gains, losses) in sorted(counts.items()):
                 yield [it.code, words, gains, losses]
 
@@ -119,7 +121,7 @@ class Trial:
     def child_rows(self):
         """A row for each child that would have another school."""
         for it in self.effects:
-            words = lambda reg, code, number: ranking.in_words(reg.schools[code], number) if code else None  # noqa: E731
+            words = lambda reg, code, number: ranking.in_words(reg.schools[code], number, self.flags) if code else None  # noqa: E731
             name = texts.for_spreadsheet(self.plain.children[it.child].name)
             had, would = words(self.plain, it.had, it.had_class), words(self.changed, it.would, it.would_class)
             yield [it.child, name, "gains" if it.gains else "loses", it.had, had, it.would, would]
@@ -190,6 +192,7 @@ def arguments(reader):
     reader.add_argument("--criteria", metavar="CODE=C;C", type=criteria_change, help="other criteria of a school; may be repeated", **changes)
     reader.add_argument("--html", metavar="OUT.html", help="write the tables and a chart as a page")
     reader.add_argument("--csv", metavar="OUT.csv", help="write a row for each child that would have another school")
+    reader.add_argument("--flags", metavar="FILE", help=ranking.FLAGS_HELP)
 
 
 def main(given):
@@ -199,9 +202,9 @@ def main(given):
     for it in filter(None, (given.html, given.csv)):
         if os.path.lexists(it):
             raise Refused(f"{it} is there already: nothing was tried; choose another name")
-    before, after = register.read(given.before), register.read(given.after) if given.after else None
+    flags, before, after = ranking.flags_of(given.flags), register.read(given.before), register.read(given.after) if given.after else None
     schools, words = changed_schools(before, given.changes)
-    trial = Trial(before, after, schools)
+    trial = Trial(before, after, schools, flags)
     if given.html:
         sheet.write_new(given.html, page(trial, words, after is None).encode())
     if given.csv:

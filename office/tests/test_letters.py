@@ -129,6 +129,17 @@ def test_some_children(office, tmp_path):
     assert re.fullmatch(r"1 of 1 texts, \S+ seconds\n1 of 1 PDF letters, \S+ seconds\n", ran.stderr), ran
 
 
+def test_options_between_names_and_before_a_round(office, tmp_path):
+    """An option may stand between FILE and FOLDER. Before the first round the texts are made, and a line says that they are no decisions."""
+    town(tmp_path)
+    (tmp_path / "some.csv").write_text("child\n4\n", "utf-8")
+    ran = office("letters", "reg.db", "--only", "some.csv", "texts")
+    assert ran.returncode == 0 and [it.name for it in (tmp_path / "texts").iterdir()] == ["letter-0000004.txt"] and "no round yet" not in ran.stderr, ran
+    ran = office("letters", "--child", "4", "before.db", "early")
+    assert ran.returncode == 0 and "before.db had no round yet, so each text says `Place: none`: do not send it as a decision\n" in ran.stderr, ran
+    assert "Place: none" in (tmp_path / "early" / "letter-0000004.txt").read_text("utf-8")
+
+
 def test_declined_lapsed_and_late(office, tmp_path):
     """By hand: 1 declines Oak, 2 lets it lapse, 3 leaves its list, 6 is late. No appeal against Oak is offered to 1 and 2; the lapse names its offer."""
     reg = tmp_path / "reg.db"

@@ -105,6 +105,20 @@ def test_without_the_round(office, season, tmp_path):
     assert (tmp_path / "o.csv").read_text("utf-8-sig").splitlines()[1] == f"{loser},Child {loser},gains,,,OAK,ranked by distance alone"
 
 
+def test_flags_in_the_words_of_the_office(office, tmp_path):
+    """A flag has its number, or the words of --flags, in the tables, the page and the rows."""
+    make(tmp_path / "b.db", [school("OAK", pan=1), child(1, flags=[3]), child(2), *(apply(it, ["OAK"]) for it in (1, 2))])
+    (tmp_path / "flags.csv").write_text("3,medical need\n", "utf-8")
+    words = ["b.db", "--pan", "OAK=2", "--criteria", "OAK=flag:3"]
+    for at, (given, text) in enumerate((([], "with the priority that the office has verified as flag 3"), (["--flags", "flags.csv"], "with a verified priority: medical need"))):
+        ran = office("trial", *words, *given, "--html", f"{at}.html", "--csv", f"{at}.csv")
+        assert ran.returncode == 0, ran
+        seen = ran.stdout + (tmp_path / f"{at}.html").read_text("utf-8") + (tmp_path / f"{at}.csv").read_text("utf-8-sig")
+        assert text in ran.stdout and ("flag 3" in seen) == (not given), ran
+    ran = office("trial", *words, "--flags", "none.csv")
+    assert ran.returncode == 1 and "none.csv" in ran.stderr and ran.stderr.count("\n") == 1, ran
+
+
 def test_what_is_refused(office, season, tmp_path):
     """Wrong arguments, files that do not belong together, changes that are none."""
     make(tmp_path / "b.db", [school("OAK", pan=1), child(1), apply(1, ["OAK"])])
