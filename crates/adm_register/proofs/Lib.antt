@@ -7,6 +7,7 @@ pub mod Fits
 pub mod ListsKept
 pub mod WaitLemmas
 pub mod AmongListing
+pub mod TallyLemmas
 pub mod RowLemmas
 pub mod EachRow
 pub mod SameRows

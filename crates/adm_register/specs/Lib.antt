@@ -8,6 +8,7 @@ pub mod Plans
 pub mod Change
 pub mod Wanted
 pub mod Waits
+pub mod Tallies
 pub mod Extends
 pub mod Rows
 pub mod Difference

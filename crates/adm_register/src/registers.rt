@@ -137,9 +137,8 @@ impl Register {
 
     /// The position of the child at each school that it wants and waits at, the most wanted first,
     /// beside the school's code: its entry on the waiting list there, and how many wait. It takes
-    /// memory for a pointer to each application that lists one of these schools, and for each child
-    /// that waits there. What it costs grows with the applications, which are gone through once for
-    /// all schools, and with those that list one of them.
+    /// memory for each of these schools. What it costs grows with the applications, which are gone
+    /// through once for all schools, and with those of them that list one.
     pub fn standings(
         &self,
         alloc: Global,

@@ -1,5 +1,5 @@
 // Who waits at which school.
-ghost use Rattle.std.specs.Prelude.{◌≡◌, ◌++◌, IfOk, OnOk, filter, not, bytes_eq};
+ghost use Rattle.std.specs.Prelude.{◌≡◌, ◌++◌, IfOk, OnOk, filter, not, bytes_eq, option_copied};
 ghost use Rattle.std.specs.FinMap as rows;
 ghost use Rattle.std.specs.List.{filter_map, take_while};
 ghost use Rattle.std.specs.Map.{values_of};
@@ -10,27 +10,31 @@ ghost use Rattle.adm_register.specs.Waits.{waits, is_waiting, lists_some, waitin
 use crate::tables::Tables;
 use adm_table::Shared;
 use adm_types::limits::is_listed;
-use adm_types::{Application, Child, ChildNo, SchoolCode};
+use adm_types::{Application, Child, ChildNo, PlaceRow, SchoolCode};
 use std::alloc::{AllocError, Global};
 use std::collections::BTreeMap;
 
 impl Tables {
-    /// Whether the school is one of the list above the child's place.
-    fn is_above(&self, child: ChildNo, list: &[SchoolCode], school: SchoolCode) -> bool
-        ensures { result ≡ is_listed (above (rows.get self.now.places child) list.now) school }
+    /// Whether the child of an application, which has this place, wants the school.
+    pub(crate) fn wants_above(
+        &self,
+        application: &Application,
+        place: Option<&PlaceRow>,
+        school: SchoolCode,
+    ) -> bool
+        requires { option_copied place ≡ rows.get self.now.places application.now.child }
+        ensures { result ≡ is_listed (wanted_of self.now application.now) school }
     {
-        match self.place_row(child) {
-            None => is_listed(list, &school),
-            Some(row) => is_before(list, row.place.school, school),
-        }
+        is_above(place, application.list.as_slice(), school)
+            && !self.has_left(application.child, school)
     }
 
     /// Whether the child of an application wants the school.
     fn wants(&self, application: &Application, school: SchoolCode) -> bool
         ensures { result ≡ is_listed (wanted_of self.now application.now) school }
     {
-        let child = application.child;
-        self.is_above(child, application.list.as_slice(), school) && !self.has_left(child, school)
+        let place = self.place_row(application.child);
+        self.wants_above(application, place, school)
     }
 
     /// Whether the child of an application waits at the school. It takes no memory. Most do not
@@ -118,6 +122,16 @@ impl Tables {
     {
         let applications = self.listing(alloc, &[school])?;
         self.waiting_of(alloc, school, &applications)
+    }
+}
+
+/// Whether the school is one of the list above a place: one of the whole list where there is none.
+fn is_above(place: Option<&PlaceRow>, list: &[SchoolCode], school: SchoolCode) -> bool
+    ensures { result ≡ is_listed (above (option_copied place.entry) list.now) school }
+{
+    match place {
+        None => is_listed(list, &school),
+        Some(row) => is_before(list, row.place.school, school),
     }
 }
 

@@ -104,6 +104,13 @@ impl Tables {
         self.base.children.get(&number)
     }
 
+    /// The school of a code, as a row that can be shared.
+    pub(crate) fn shared_school(&self, code: SchoolCode) -> Option<&Shared<School>>
+        ensures { option_copied result ≡ rows.get self.now.schools code }
+    {
+        self.base.schools.get(&code)
+    }
+
     /// The applications, by their children's numbers.
     pub fn all_applications(&self, alloc: Global) -> Result<Vec<Shared<Application>>, AllocError>
         ensures { IfOk result (λ found. found.items ≡ rows.values self.now.applications) }

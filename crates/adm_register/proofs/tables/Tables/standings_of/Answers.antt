@@ -1,45 +1,31 @@
-use Rattle.std.proofs.Common.{◌∙◌, ap, sym, subst, arith, ℕ, ◌<◌, List, length, ◌++◌, ◌∷◌, []}
-use Rattle.std.specs.Prelude.{filter, option_map}
-use Rattle.std.specs.List.{filter_map, Contains}
+use Rattle.std.proofs.Common.{◌≡◌, ◌∙◌, ap, sym, arith, length}
+use Rattle.std.specs.List.{filter_map, list_all}
 use Rattle.std.specs.FinMap.{values}
-use Rattle.std.proofs.lemmas.List.Elements.{Contains-get_or}
-use Rattle.adm_lists.proofs.Members.{from_contains}
-use Rattle.adm_lists.proofs.Walks.{next_added, next_left_out}
-use Rattle.adm_register.specs.declared.standings.Standing.{Standing}
-use Rattle.adm_register.specs.Waits.{lists_some, waiting_child, standing_at}
-use Rattle.adm_register.proofs.RoundLemmas.{in_listed}
-use Rattle.adm_register.proofs.AmongListing.{found_among, nobody_stands}
+use Rattle.std.proofs.lemmas.List.{with_items_is}
+use Rattle.std.proofs.lemmas.Result.{MatchResult-weaker}
+use Rattle.adm_register.specs.Wanted.{wanted}
+use Rattle.adm_register.specs.Waits.{standing_at}
+use Rattle.adm_register.specs.Tallies.{has_school_in_range, with_applications}
+use Rattle.adm_register.proofs.AmongListing.{nobody_stands}
+use Rattle.adm_register.proofs.TallyLemmas.{in_range_at, all_standings}
 use Rattle.adm_register.proofs.tables.Tables.standings_of.Goals as goal
-use Rattle.adm_register.proofs.tables.Tables.standings_of.Goals.{in-Some+in_ok-push, in_default}
 
 pub returns-then-not-has_first_round : goal.returns-then-not-has_first_round
 returns-then-not-has_first_round c = c.new.ensures.items ∙ nobody_stands c.args.self.now c.args.child (sym c.if-not-has_first_round.ensures)
 
-pub standing_among-requires-clause-all : goal.standing_among-requires-clause-all
-standing_among-requires-clause-all c =
+pub count_all-requires-clause-in_range : goal.count_all-requires-clause-in_range
+count_all-requires-clause-in_range c =
     let s = c.args.self.now in
-    let schools = c.in_ok-schools.schools.items in
-    let school = c.index-school.result.now in
-    let within : c.loop-index.index < length schools = omega (arith, c.loop-index-test.true) in
-    let here = subst (λ code. Contains schools code) (sym c.index-school.ensures) (Contains-get_or schools c.loop-index.index school within) in
-    let among = in_listed schools school (from_contains schools school here) in
-    let applications = c.deref-in-loop-index.ensures.value ∙ c.in_ok-applications.ensures ∙ ap (λ codes. filter (lists_some codes) (values s.applications)) c.deref.ensures.value in
-    ap (filter_map (waiting_child s school)) applications ∙ found_among s schools school among (values s.applications)
+    let codes = c.deref.result.now in
+    ap (list_all has_school_in_range) (c.deref_mut.ensures.value ∙ c.in_ok-tallies.ensures) ∙ in_range_at s c.requires c.args.child codes
 
-pub loop-index-preserved : goal.loop-index-preserved
-loop-index-preserved c =
-    let stands = standing_at c.args.self.now c.args.child in
-    let schools = c.in_ok-schools.schools.items in
-    let school = c.index-school.result.now in
-    let index = c.loop-index.index in
-    let within : index < length schools = omega (arith, c.loop-index-test.true) in
-    elim c.match-standing.branch [
-      | in-Some+in_ok-push w ↦
-          let both : List ℕ × Standing = (school, w.in-Some.standing) in
-          let gives = ap (option_map (λ standing. (school, standing))) (sym c.in_ok-standing.ensures ∙ w.in-Some.is) in
-          ap (λ found. found.items) w.found-is ∙ w.in_ok-push.ensures.items ∙ ap (λ found. found ++ both ∷ []) c.loop-index.invariant
-          ∙ sym (next_added stands schools index school both c.index-school.ensures within gives)
-      | in_default w ↦
-          let gives = ap (option_map (λ standing. (school, standing))) (sym c.in_ok-standing.ensures ∙ w.in_default.is) in
-          ap (λ found. found.items) w.found-is ∙ c.loop-index.invariant ∙ sym (next_left_out stands schools index school c.index-school.ensures within gives)
-    ]
+pub returns : goal.returns
+returns c =
+    let s = c.args.self.now in
+    let codes = c.deref.result.now in
+    let wanted' : codes ≡ wanted s c.args.child = c.deref.ensures.value ∙ c.in_ok-schools.ensures in
+    let before = c.deref_mut.ensures.value ∙ c.in_ok-tallies.ensures in
+    let counted = c.count_all.ensures.value ∙ ap (λ tallies. with_applications s tallies (values s.applications)) before in
+    let tallies = c.deref-2.ensures.value ∙ with_items_is c.in_ok-tallies.tallies c.count_all.new.tallies (omega (arith, ap length c.deref_mut.ensures.value, c.in_ok-tallies.tallies.ok)) ∙ counted in
+    MatchResult-weaker c.standings_in.result c.standings_in.ensures
+    (λ found says. says ∙ all_standings s c.requires c.args.child c.count_all.ensures.room codes c.deref-2.result.now tallies ∙ ap (filter_map (standing_at s c.args.child)) wanted') (λ e _. tt)

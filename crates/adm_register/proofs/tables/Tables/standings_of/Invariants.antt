@@ -1,8 +1,0 @@
-use Rattle.std.proofs.Common.{◌≡◌, take}
-use Rattle.std.specs.List.{filter_map}
-use Rattle.adm_register.specs.Waits.{standing_at}
-use Rattle.adm_register.proofs.tables.Tables.standings_of.Given as goal
-
--- those so far are those at as many schools
-abbrev pub invariant-loop-index : goal.invariant-loop-index
-invariant-loop-index l = l.found.items ≡ filter_map (standing_at l.self l.child) (take l.index l.schools.items)
