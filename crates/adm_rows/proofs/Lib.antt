@@ -11,6 +11,7 @@ pub mod MapRows
 pub mod KnownRows
 pub mod DrawFits
 pub mod RegisterRows
+pub mod ReadBack
 pub mod RowsFit
 pub mod SeasonRows
 pub mod SchoolRows

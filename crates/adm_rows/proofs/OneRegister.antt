@@ -24,7 +24,8 @@ use Rattle.adm_types.specs.Lots.{repeats_lot}
 use Rattle.adm_types.specs.declared.draws.Draw.{Draw}
 use Rattle.std.specs.List.{list_all}
 use Rattle.std.proofs.lemmas.Bool.{and_parts}
-use Rattle.adm_rows.proofs.RegisterRows.{rows_held, read_back, season_back}
+use Rattle.adm_rows.proofs.ReadBack.{read_back, season_back}
+use Rattle.adm_rows.proofs.RegisterRows.{rows_held}
 use Rattle.adm_rows.proofs.RowsFit.{left_total, left_same}
 
 -- maps whose rows are at their own keys, and which have the same rows, are the same

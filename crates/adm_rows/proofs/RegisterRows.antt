@@ -3,7 +3,7 @@ use Rattle.std.proofs.Common.{refl, ◌≡◌, ℕ, Bool, true, false, Option, S
 use Rattle.std.specs.Prelude.{flat_map}
 use Rattle.std.specs.List.{list_all, AllByRecursion}
 use Rattle.std.proofs.lemmas.Bool.{and_parts}
-use Rattle.std.proofs.lemmas.List.{nil_from_length, length-map}
+use Rattle.std.proofs.lemmas.List.{nil_from_length}
 use Rattle.std.proofs.lemmas.Simd.{map-map}
 use Rattle.sqlite_rules.proofs.ListLemmas.{test_from, test_has, has_contained, contains_had}
 use Rattle.adm_types.specs.Children.{bare_child, bare_import, present_row, present_of_child, present_of_import, presents_of}
@@ -11,9 +11,9 @@ use Rattle.adm_types.specs.declared.rows.ImportRow.{ImportRow}
 use Rattle.adm_types.specs.declared.rows.PresentRow.{PresentRow}
 use Rattle.std.specs.List.Sorted.{IsPermutation}
 use Rattle.std.specs.FinMap.{values}
-use Rattle.adm_lists.proofs.Each.{each_append, each_weaker}
+use Rattle.adm_lists.proofs.Each.{each_append}
 use Rattle.adm_types.specs.Limits.{is_child_number, is_code_or_none}
-use Rattle.adm_types.specs.Seasons.{SeasonFacts, IsSeason, lists_end}
+use Rattle.adm_types.specs.Seasons.{lists_end}
 use Rattle.adm_types.specs.declared.rows.Child.{Child}
 use Rattle.adm_types.specs.declared.rows.School.{School}
 use Rattle.adm_register.specs.State.{State as Register}
@@ -21,12 +21,11 @@ use Rattle.adm_register.specs.WellFormed.{WellFormed}
 use Rattle.adm_schema.specs.declared.version.Version.{Version}
 use Rattle.adm_schema.specs.declared.version.Version.TheVariants.{First, Second}
 use Rattle.adm_schema.specs.Schema.{meta, school, child, application, place, left_list, draw, offer, lot, present, later_tables, schema_of, imported as imported_table}
-use Rattle.adm_schema.proofs.Listed.{meta_in, school_in, child_in, application_in, place_in, left_list_in, draw_in, offer_in, lot_in, imported_in, has_present}
+use Rattle.adm_schema.proofs.Listed.{school_in, child_in, application_in, place_in, left_list_in, draw_in, offer_in, lot_in, imported_in, has_present}
 use Rattle.sqlite.specs.Table.{Table}
 use Rattle.sqlite_rules.specs.Lists.{Has}
 use Rattle.sqlite.specs.Order.{Row}
 use Rattle.sqlite.specs.Tree.{Trees}
-use Rattle.sqlite.proofs.Callers.{one_permutation}
 use Rattle.std.proofs.lemmas.List.Sorted.{Contains-permutation, IsPermutation-refl, IsPermutation-sym, IsPermutation-map, IsPermutation-trans, length_permutation}
 use Rattle.adm_draws.specs.Draws.{row_of}
 use Rattle.adm_rows.specs.Forms.{season_row, school_row, child_row, application_row, place_row, left_row, imported_row}
@@ -35,11 +34,10 @@ use Rattle.adm_rows.proofs.DrawRows.{draw_from, draw_back, offer_from, offer_bac
 use Rattle.adm_rows.proofs.DrawFits.{draws_fit, offers_fit, lots_fit}
 use Rattle.adm_rows.specs.Represents.{HasRows, HoldsRows, HoldsRegister, IsSaidIn, fits_first_version, written_in, written_tables}
 use Rattle.adm_rows.specs.Present.{present_columns}
-use Rattle.adm_rows.specs.Reads.{HoldsFirst, HoldsPresent, HoldsSeason, AreReadBack}
+use Rattle.adm_rows.specs.Reads.{HoldsFirst, HoldsPresent, AreReadBack}
 use Rattle.adm_register.specs.declared.register_rows.Rows.{Rows}
 use Rattle.adm_register.specs.Rows.{AreRowsOf, rows_in_order}
 use Rattle.adm_rows.specs.Faults.{IsSchool, IsReadAgain, IsChild, IsApplication, IsImportRow, IsImportReadAgain, IsPlaceRow, IsPresentRow, IsLeftRow, AreReadAgain}
-use Rattle.adm_rows.proofs.SeasonRows.{same_season, same_version, same_count}
 use Rattle.adm_rows.proofs.RowLemmas.{values_back, values_shown, recursion_had}
 use Rattle.adm_rows.proofs.PresentReads.{columns_moved, presents_moved, presents_read}
 use Rattle.adm_rows.proofs.SchoolRows.{school_from, from_row, reads_again}
@@ -284,31 +282,3 @@ rows_held v db r rows file held again season = let people = same_people v db r r
   };
   imported = people.1;
 }
-
-first_row : (a b : Row) → a ∷ [] ≡ b ∷ [] → a ≡ b
-first_row a b e = cc
-
-one_row : (a b : Row) → IsPermutation (a ∷ []) (b ∷ []) → a ≡ b
-one_row a b same = first_row a b (sym (one_permutation a (b ∷ []) same))
-
--- each row of a register is read back
-pub read_back : (r : Register) → WellFormed r → AreReadBack (rows_in_order r)
-read_back r formed = record {
-  schools = each_weaker IsSchool IsReadAgain reads_again _ (schools_fit r formed);
-  children = each_weaker IsChild (λ x. AreReadAgain x.siblings) (λ x fits. codes_again x.siblings fits.codes) _ (children_fit r formed);
-  applications = each_weaker (IsApplication (lists_end r.season)) (λ x. AreReadAgain x.list) (λ x fits. codes_again x.list fits.codes) _ (applications_fit r (lists_end r.season) formed refl);
-  imported = each_weaker (IsImportRow (lists_end r.season)) IsImportReadAgain (import_again (lists_end r.season)) _ (imported_fit r (lists_end r.season) formed refl);
-}
-
--- the season that was read is that of the register, and so is the count of draws
-pub season_back : (v w : Version) (db : Trees) (r : Register) (season : SeasonFacts) (count : ℕ) → HoldsSeason w season count db → IsSeason season → HoldsRegister v db r → r.season ≡ season
-season_back v w db r season count one formed held =
-    same_season v w r.season season _ count held.formed.base.season_is formed (one_row _ _ (IsPermutation-trans _ _ _ (held.rows.each meta (meta_in v)) (IsPermutation-sym _ _ one)))
-
-pub count_back : (v w : Version) (db : Trees) (r : Register) (season : SeasonFacts) (count : ℕ) → HoldsSeason w season count db → HoldsRegister v db r → length (values r.draws) ≡ count
-count_back v w db r season count one held =
-    sym (length-map (values r.draws) row_of) ∙ same_count v w r.season season _ count (one_row _ _ (IsPermutation-trans _ _ _ (held.rows.each meta (meta_in v)) (IsPermutation-sym _ _ one)))
-
--- and so is the version that its row names
-pub version_back : (v w : Version) (db : Trees) (r : Register) (season : SeasonFacts) (count : ℕ) → HoldsSeason w season count db → HoldsRegister v db r → v ≡ w
-version_back v w db r season count one held = same_version v w r.season season _ count (one_row _ _ (IsPermutation-trans _ _ _ (held.rows.each meta (meta_in v)) (IsPermutation-sym _ _ one)))

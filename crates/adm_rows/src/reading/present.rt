@@ -64,7 +64,8 @@ fn read_present<S: Alter>(
 ) -> Result<Vec<PresentRow>, OpenFault>
     ensures same_reference { tx.new.conn.ghost_name ≡ tx.old.conn.ghost_name }
     ensures ok { IfOk result (λ all. ReadsIn Second (Holds present present_columns all.items) (state S.Store tx.old.conn.now) (state S.Store tx.new.conn.now)) }
-    ensures bad { IfErr result (λ e. IsNoRegister e → (all : List Facts) → AllByRecursion IsPresentRow all → ReadsIn Second (λ db. ¬ Holds present present_columns all db) (state S.Store tx.old.conn.now) (state S.Store tx.new.conn.now)) }
+    ensures bad { IfErr result (λ e. IsNoRegister e → (all : List Facts) → AllByRecursion IsPresentRow all →
+        ReadsIn Second (λ db. ¬ Holds present present_columns all db) (state S.Store tx.old.conn.now) (state S.Store tx.new.conn.now)) }
     ensures first { HasCleanDisk (state S.Store tx.new.conn.now) → IfErr result (λ e. IsNoRegister e → e ≡ OpenFault.BadRow) }
     ensures disk { IfErr result (λ e. e ≡ OpenFault.Disk → DiskFailedIn Second (state S.Store tx.old.conn.now) (state S.Store tx.new.conn.now)) }
     ensures survives { Survives (state S.Store tx.old.conn.now) (state S.Store tx.new.conn.now) (λ _. ⊥) }
@@ -82,7 +83,8 @@ pub(super) fn presents_in<S: Alter>(
 ) -> Result<Vec<PresentRow>, OpenFault>
     ensures same_reference { tx.new.conn.ghost_name ≡ tx.old.conn.ghost_name }
     ensures ok { IfOk result (λ all. ReadsIn version (HoldsPresent version all.items) (state S.Store tx.old.conn.now) (state S.Store tx.new.conn.now)) }
-    ensures bad { IfErr result (λ e. IsNoRegister e → (all : List Facts) → AllByRecursion IsPresentRow all → ReadsIn version (λ db. ¬ HoldsPresent version all db) (state S.Store tx.old.conn.now) (state S.Store tx.new.conn.now)) }
+    ensures bad { IfErr result (λ e. IsNoRegister e → (all : List Facts) → AllByRecursion IsPresentRow all →
+        ReadsIn version (λ db. ¬ HoldsPresent version all db) (state S.Store tx.old.conn.now) (state S.Store tx.new.conn.now)) }
     ensures first { HasCleanDisk (state S.Store tx.new.conn.now) → IfErr result (λ e. IsNoRegister e → e ≡ OpenFault.BadRow) }
     ensures disk { IfErr result (λ e. e ≡ OpenFault.Disk → DiskFailedIn version (state S.Store tx.old.conn.now) (state S.Store tx.new.conn.now)) }
     ensures survives { Survives (state S.Store tx.old.conn.now) (state S.Store tx.new.conn.now) (λ _. ⊥) }

@@ -234,7 +234,8 @@ pub(super) fn read_season<S: Alter>(
     ensures ok { IfOk result (λ it. Finds (HoldsSeason it.version it.season it.draws) (state S.Store tx.old.conn.now) (state S.Store tx.new.conn.now)) }
     ensures season { IfOk result (λ it. IsSeason it.season) }
     ensures same { OnOk result (SeesTheSame (state S.Store tx.old.conn.now) (state S.Store tx.new.conn.now)) }
-    ensures bad { IfErr result (λ e. IsNoRegister e → (v : FileVersion) (s : SeasonFacts) (n : ℕ) → IsSeason s → n < 2 ^ 32 → Finds (λ db. ¬ HoldsSeason v s n db) (state S.Store tx.old.conn.now) (state S.Store tx.new.conn.now)) }
+    ensures bad { IfErr result (λ e. IsNoRegister e → (v : FileVersion) (s : SeasonFacts) (n : ℕ) → IsSeason s → n < 2 ^ 32 →
+        Finds (λ db. ¬ HoldsSeason v s n db) (state S.Store tx.old.conn.now) (state S.Store tx.new.conn.now)) }
     ensures version { HasCleanDisk (state S.Store tx.new.conn.now) → OnOk result (IsFirstFault (state S.Store tx.old.conn.now).now OpenFault.BadRow) }
     ensures first { HasCleanDisk (state S.Store tx.new.conn.now) → IfErr result (λ e. IsNoRegister e → IsFirstFault (state S.Store tx.old.conn.now).now e) }
     ensures disk { IfErr result (λ e. e ≡ OpenFault.Disk → DiskFailed (state S.Store tx.old.conn.now) (state S.Store tx.new.conn.now)) }

@@ -10,7 +10,8 @@ use Rattle.adm_rows.specs.FirstFault.{IsFirstFault}
 use Rattle.adm_rows.proofs.FaultLemmas.{one_version}
 use Rattle.adm_rows.proofs.CauseLemmas.{bad_rows, rows_never_disk, failed_in, cause_here, cause_of_season}
 use Rattle.adm_rows.proofs.ReadingLemmas.{still, seen_before, seen_after}
-use Rattle.adm_rows.proofs.RegisterRows.{holds_register, rows_held, season_back, version_back, count_back}
+use Rattle.adm_rows.proofs.ReadBack.{season_back, version_back, count_back}
+use Rattle.adm_rows.proofs.RegisterRows.{holds_register, rows_held}
 use Rattle.adm_rows.proofs.RowsFit.{few_enough}
 use Rattle.adm_rows.proofs.reading.register_in.Goals as goal
 
