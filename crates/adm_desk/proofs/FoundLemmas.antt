@@ -21,7 +21,7 @@ use Rattle.adm_rows.specs.declared.fault.OpenFault.{OpenFault}
 use Rattle.adm_store.proofs.MigrationLemmas.{represents_register}
 use Rattle.adm_desk.specs.declared.answer.Answer.{Answer}
 use Rattle.adm_desk.specs.Acknowledged.{acknowledged, in_flight, FindsAgain, LeavesAcknowledged, KeepsAcknowledged}
-use Rattle.adm_desk.specs.Crashes.{IsFoundAfter, KeepsEachDatabase, KeepsEveryImage, IsRestartOf}
+use Rattle.adm_desk.specs.Crashes.{IsFoundAfter, KeepsEachDatabase, KeepsEveryImage, IsRestartOf, IsCleanStart}
 use Rattle.adm_desk.specs.DeskState.{DeskState}
 use Rattle.adm_desk.specs.Restart.{FindsOne, FindsNone, LeavesSame}
 use Rattle.adm_desk.specs.Rounds.{RoundsAreRecorded, RoundsStay}
@@ -102,3 +102,10 @@ module _ {D : Type 0} {g : Ghosts D} (r : Register) (answered : List (Command ×
         λ bad. never_without r answered (recovers store) (databases it.0) (never clean bad),
         kept_same r answered (recovers store) (databases it.0) (recovers last) it.1,
       )
+
+-- where the disk is clean after the start, it was so at the crash
+pub was_clean : {D : Type 0} {g : Ghosts D} (store : FileStore D g) (opened : Result (DeskState (Held (FileStore D g))) (OpenFault × FileStore D g))
+    → IfOk opened (λ desk. HasCleanDisk (file_state desk.conn) → IsClean (view store) × FindsOne (recovers store) desk.register)
+    → IfErr opened (λ e. IsClean (view e.1) → IsClean (view store) × LeavesSame (recovers store) (recovers e.1)) → IsCleanStart opened → IsClean (view store)
+was_clean store (Ok desk) finds left clean = (finds clean).0
+was_clean store (Err (fault, last)) finds left clean = (left clean).0

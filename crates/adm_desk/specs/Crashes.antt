@@ -1,6 +1,7 @@
 -- Two disks that hold a register, and what a run of commands leaves on them, whatever a crash makes of them.
-use Rattle.std.specs.Prelude.{◌⊎◌, List, Option, Result, Ok, Err}
+use Rattle.std.specs.Prelude.{◌≡◌, ◌⊎◌, List, [], false, Option, Result, Ok, Err}
 use Rattle.sqlite_disk.specs.declared.Disk.{Ghosts}
+use Rattle.sqlite_disk.specs.declared.Files.{Files}
 use Rattle.sqlite_wal.specs.Recovery.{Image}
 use Rattle.sqlite_wal.specs.Files.{outcomes}
 use Rattle.sqlite_pool.specs.Stored.{StandsAs}
@@ -10,7 +11,7 @@ use Rattle.sqlite_store.specs.FileStore.{state, view, recovers}
 use Rattle.sqlite_store.specs.Unopened.{state_of}
 use Rattle.sqlite.specs.declared.file.Leftover.{Leftover}
 use Rattle.sqlite.specs.declared.file.Leftover.TheVariants as left
-use Rattle.sqlite.specs.Files.{HoldsDatabase, file_state}
+use Rattle.sqlite.specs.Files.{HoldsDatabase, file_state, image_of, IsCleanLeft}
 use Rattle.sqlite.specs.State.{HasCleanDisk}
 use Rattle.sqlite.specs.Held.{Held}
 use Rattle.sqlite.specs.Tree.{Trees}
@@ -18,10 +19,12 @@ use Rattle.adm_types.specs.declared.commands.Command.{Command}
 use Rattle.adm_register.specs.State.{State as Register}
 use Rattle.adm_commands.specs.History.{DrawsStay}
 use Rattle.adm_commands.specs.Imports.{Reaches}
-use Rattle.adm_rows.specs.Represents.{Represents}
+use Rattle.adm_rows.specs.Represents.{Represents, LeavesOnly}
 use Rattle.adm_rows.specs.Faults.{IsNoRegister}
 use Rattle.adm_rows.specs.declared.fault.OpenFault.{OpenFault}
 use Rattle.adm_desk.specs.declared.answer.Answer.{Answer}
+use Rattle.adm_desk.specs.declared.crashes.NotHandled.{NotHandled}
+use Rattle.adm_desk.specs.declared.crashes.NotHandled.TheVariants as unhandled
 use Rattle.adm_desk.specs.Acknowledged.{acknowledged, in_flight, FindsAgain}
 use Rattle.adm_desk.specs.DeskState.{DeskState, Handles}
 use Rattle.adm_desk.specs.Rounds.{EachRoundRecorded, RoundRecordedOrNot}
@@ -53,14 +56,19 @@ pub record IsFoundAfter (r : Register) (answered : List (Command × Answer)) (fo
   pub round : RoundRecordedOrNot kept (in_flight answered) found
   pub draws : DrawsStay r found
 
+-- The answers are those of the desk that was opened to the commands, one after another. That desk had not failed; opened from the files of a register, on a clean
+-- disk, it had that register.
+pub record IsAnsweredFrom {D : Type 0} (g : Ghosts D) (files : Files D) (clean : Type 0) (commands : List Command) (answers : List Answer) : Type 0 where
+  pub desk : DeskState (Held (FileStore D g))
+  pub alive : (desk.failed ≡ false) × LeavesOnly desk.register (file_state desk.conn)
+  pub register : (r : Register) → IsFileOf r (image_of g files) → clean → desk.register ≡ r
+  pub last : DeskState (Held (FileStore D g))
+  pub run : IsRun (Handles file_state) desk commands answers last
+
 module _ {D : Type 0} {g : Ghosts D} where
   -- whatever two files a crash may leave of the store are files of a register that may be found after the commands
   abbrev pub KeepsEveryImage : Register → List (Command × Answer) → FileStore D g → Type 0
   KeepsEveryImage r answered store = (image : Image) → (state store).may_leave image → ∥ ((found : Register) × IsFileOf found image × IsFoundAfter r answered found) ∥₁
-
-  -- the answers are those of the desk to the commands, one after another
-  abbrev pub IsAnswered : DeskState (Held (FileStore D g)) → List Command → List Answer → Type 0
-  IsAnswered desk commands answers = (last : DeskState (Held (FileStore D g))) × IsRun (Handles file_state) desk commands answers last
 
   -- After a start that failed: each thing that a crash may leave still represents the register. Of files that
   -- were not opened it is a file of the register, or has the pages of one.
@@ -69,6 +77,12 @@ module _ {D : Type 0} {g : Ghosts D} where
   StillRepresents r (left.Unopened now) =
       (image : Image) → (state_of now).may_leave image → IsFileOf r image ⊎ ((before : Image) × IsFileOf r before × StandsAs (state_of now).page_size before image)
   StillRepresents r (left.Store now) = (db : Trees) → recovers now db → ∥ Represents db r ∥₁
+
+-- No command was handled, on clean disks of the register. Where the register was not opened, the error is not NotOurs, Version or BadRow, and what a crash may
+-- leave represents the register still, if it did before. Without room for the answers a crash leaves files as after no command.
+abbrev pub IsUnhandled : {D : Type 0} {g : Ghosts D} → Register → Files D → NotHandled D g → Type 0
+IsUnhandled {D} {g} r files (unhandled.NotOpened fault rest) = IsCleanLeft rest → (¬ IsNoRegister fault) × (AreDisksOf g r files.log files.db → StillRepresents r rest)
+IsUnhandled r files (unhandled.NoRoom store) = IsClean (view store) → KeepsEveryImage r [] store
 
 -- ---- a start after the crash
 
@@ -82,3 +96,8 @@ module _ {D : Type 0} {g : Ghosts D} where
   abbrev pub IsRestartOf : Register → List (Command × Answer) → Result (DeskState (Held (FileStore D g))) (OpenFault × FileStore D g) → Type 0
   IsRestartOf r answered (Ok desk) = HasCleanDisk (file_state desk.conn) → IsFoundAfter r answered desk.register
   IsRestartOf r answered (Err (fault, store)) = IsClean (view store) → (¬ IsNoRegister fault) × KeepsEachDatabase r answered (recovers store)
+
+  -- the disk is clean at the end of that start
+  abbrev pub IsCleanStart : Result (DeskState (Held (FileStore D g))) (OpenFault × FileStore D g) → Type 0
+  IsCleanStart (Ok desk) = HasCleanDisk (file_state desk.conn)
+  IsCleanStart (Err (fault, store)) = IsClean (view store)

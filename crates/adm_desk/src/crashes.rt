@@ -1,17 +1,19 @@
-// A run of commands over two disks, a crash, and the start after it.
-ghost use Rattle.std.specs.Prelude.{◌≡◌, [], false, IsTrue, IfOk, IfErr, zip};
+// A run of commands over the two files of a register, a crash, and the start after it.
+ghost use Rattle.std.specs.Prelude.{◌≡◌, false, IsTrue, IfOk, IfErr, zip};
 ghost use Rattle.sqlite_trees.specs.View.{IsClean};
 ghost use Rattle.sqlite_store.specs.FileStore.{view, recovers};
-ghost use Rattle.sqlite.specs.Files.{file_state};
+ghost use Rattle.sqlite.specs.Files.{file_state, image_of};
 ghost use Rattle.adm_commands.specs.History.{DrawsInOrder};
+ghost use Rattle.adm_register.specs.State.{State as Register};
 ghost use Rattle.adm_rows.specs.Represents.{LeavesOnly};
-ghost use Rattle.adm_desk.specs.Crashes.{IsAnswered, IsRestartOf, KeepsEachDatabase, KeepsEveryImage};
+ghost use Rattle.adm_desk.specs.Crashes.{IsAnsweredFrom, IsCleanStart, IsFileOf, IsRestartOf, IsUnhandled, KeepsEachDatabase, KeepsEveryImage};
 
 use crate::restart::restart;
 use crate::{Answer, Desk, Restarted, rounds_are_recorded, rounds_stay};
 use adm_commands::{draws_kept, round_is_recorded};
+use adm_rows::OpenFault;
 use adm_types::Command;
-use sqlite::{Alter, FileStore};
+use sqlite::{Alter, FileStore, Files, Leftover};
 use sqlite_disk::{Crash, Disk};
 use std::alloc::Global;
 
@@ -21,6 +23,15 @@ use std::alloc::Global;
 pub struct CommandRun<D: Disk> {
     pub answers: Vec<Answer>,
     pub store: FileStore<D>,
+}
+
+/// Why no command was handled, and what remains of the two files.
+#[derive(Drop)]
+pub enum NotHandled<D: Disk> {
+    /// The register was not opened.
+    NotOpened(OpenFault, Leftover<D>),
+    /// There was no room for the answers.
+    NoRoom(FileStore<D>),
 }
 
 /// States that the draws of the desk's register are in order. It does nothing.
@@ -36,29 +47,35 @@ fn has_draws_in_order<S: Alter + Drop>(desk: &Desk<S>)
     }
 }
 
-/// Answers the commands and gives back the answers and the store, as it is on its two disks then. It is
-/// so over any disks, so also over two that each pass so many calls and then fail (`Fuse`): how many,
-/// the caller alone says.
+/// Opens the register in two files, answers the commands, and gives back the answers and the store, as
+/// it is on the two disks then. It is so over any disks, so also over two that each pass so many calls
+/// and then fail (`Fuse`): how many, the caller alone says.
 ///
-/// Where there was no room for the answers, no command was handled, and it gives back the store. What it
-/// costs grows with what the commands change.
+/// It takes memory for the register and for an answer to each command. What it costs grows with the
+/// rows of the register and with what the commands change.
 pub fn run_commands<D: Disk + Drop>(
-    mut desk: Desk<FileStore<D>>,
+    alloc: Global,
+    files: Files<D>,
     commands: &[Command],
-) -> Result<CommandRun<D>, FileStore<D>>
-    // On clean disks: whatever two files a crash may leave are those of a register that may be found after the commands.
-    ensures keeps { desk.failed ≡ false → IfOk result (λ run. IsClean (view run.store) → KeepsEveryImage desk.register (zip commands.now run.answers.items) run.store) }
-    ensures answers { IfOk result (λ run. IsAnswered desk commands.now run.answers.items) }
-    // Without room for the answers they are files as after no command.
-    ensures unhandled { desk.failed ≡ false → IfErr result (λ store. IsClean (view store) → KeepsEveryImage desk.register [] store) }
+) -> Result<CommandRun<D>, NotHandled<D>>
+    requires log { IsTrue (D.Disk.is_usable files.log) }
+    requires db { IsTrue (D.Disk.is_usable files.db) }
+    // On clean disks of a register: whatever two files a crash may leave are those of a register that may be found after the commands.
+    ensures keeps { (r : Register) → IsFileOf r (image_of D.Disk files)
+        → IfOk result (λ run. IsClean (view run.store) → KeepsEveryImage r (zip commands.now run.answers.items) run.store) }
+    ensures answers { IfOk result (λ run. IsAnsweredFrom D.Disk files (IsClean (view run.store)) commands.now run.answers.items) }
+    ensures unhandled { (r : Register) → IsFileOf r (image_of D.Disk files) → IfErr result (λ e. IsUnhandled r files e) }
     // For a start that takes the store over: the same of each database that it may find.
-    ensures databases { desk.failed ≡ false → IfOk result (λ run. IsClean (view run.store) → KeepsEachDatabase desk.register (zip commands.now run.answers.items) (recovers run.store)) }
+    ensures databases { (r : Register) → IsFileOf r (image_of D.Disk files)
+        → IfOk result (λ run. IsClean (view run.store) → KeepsEachDatabase r (zip commands.now run.answers.items) (recovers run.store)) }
     ensures numbered { IfOk result (λ run. IsClean (view run.store) → IsTrue (view run.store).is_numbered) }
 {
-    // that a crash leaves its register, and that its draws are in order, calls say
-    let _register = desk.register();
+    let mut desk = match Desk::open_files(alloc, files) {
+        Ok(desk) => desk,
+        Err((fault, left)) => return Err(NotHandled::NotOpened(fault, left)),
+    };
+    // that its draws are in order, and what rounds leave, calls say
     has_draws_in_order(&desk);
-    // what rounds leave, calls of the laws say
     rounds_are_recorded();
     rounds_stay();
     round_is_recorded();
@@ -68,7 +85,7 @@ pub fn run_commands<D: Disk + Drop>(
             let store = desk.into_connection().into_store();
             Ok(CommandRun { answers, store })
         }
-        Err(_) => Err(desk.into_connection().into_store()),
+        Err(_) => Err(NotHandled::NoRoom(desk.into_connection().into_store())),
     }
 }
 
@@ -76,20 +93,22 @@ pub fn run_commands<D: Disk + Drop>(
 /// started and opened once more. Where no command was handled, there is no crash.
 pub fn run_until_crash<D: Crash + Drop>(
     alloc: Global,
-    desk: Desk<FileStore<D>>,
+    files: Files<D>,
     commands: &[Command],
-) -> Result<Restarted<FileStore<D>>, FileStore<D>>
-    // The register that is found is one that may be found after the commands. No start reports NotOurs, Version or BadRow.
-    ensures restarts { desk.failed ≡ false → IfOk result (λ it. IsRestartOf desk.register (zip commands.now it.answers.items) it.opened) }
-    ensures answers { IfOk result (λ it. IsAnswered desk commands.now it.answers.items) }
+) -> Result<Restarted<FileStore<D>>, NotHandled<D>>
+    requires log { IsTrue (D.Disk.is_usable files.log) }
+    requires db { IsTrue (D.Disk.is_usable files.db) }
+    // Over files of a register: the one that is found may be found after the commands. No start reports NotOurs, Version or BadRow.
+    ensures restarts { (r : Register) → IsFileOf r (image_of D.Disk files) → IfOk result (λ it. IsRestartOf r (zip commands.now it.answers.items) it.opened) }
+    ensures answers { IfOk result (λ it. IsAnsweredFrom D.Disk files (IsCleanStart it.opened) commands.now it.answers.items) }
     ensures alive { IfOk result (λ it. IfOk it.opened (λ new. (new.failed ≡ false) × LeavesOnly new.register (file_state new.conn))) }
-    ensures unhandled { desk.failed ≡ false → IfErr result (λ store. IsClean (view store) → KeepsEveryImage desk.register [] store) }
+    ensures unhandled { (r : Register) → IsFileOf r (image_of D.Disk files) → IfErr result (λ e. IsUnhandled r files e) }
 {
-    match run_commands(desk, commands) {
+    match run_commands(alloc, files, commands) {
         Ok(CommandRun { answers, store }) => {
             let opened = restart(alloc, store);
             Ok(Restarted { answers, opened })
         }
-        Err(store) => Err(store),
+        Err(unhandled) => Err(unhandled),
     }
 }

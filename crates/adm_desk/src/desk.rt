@@ -131,7 +131,9 @@ impl<S: Alter> Desk<S> {
     /// What it costs grows with the tables that the command changes, of which the pointers to their
     /// rows are copied; what is compared and written grows with the rows that it changes.
     pub fn handle(&mut self, command: &Command) -> Answer
-        ensures { Handles (state S.Store) self.old command.now result self.new }
+        ensures handles { Handles (state S.Store) self.old command.now result self.new }
+        // A wrong answer of the disk is not forgotten.
+        ensures clean { HasCleanDisk (state S.Store self.new.conn) → HasCleanDisk (state S.Store self.old.conn) }
     {
         if self.failed {
             return Answer::Failed;
@@ -155,7 +157,8 @@ impl<S: Alter> Desk<S> {
         requires alive { self.old.failed ≡ false }
         requires differs { IsDifference self.old.register new change }
         requires extends { Extends self.old.register new × WellFormed new }
-        ensures { Keeps (state S.Store) self.old new reply result self.new }
+        ensures keeps { Keeps (state S.Store) self.old new reply result self.new }
+        ensures clean { HasCleanDisk (state S.Store self.new.conn) → HasCleanDisk (state S.Store self.old.conn) }
     {
         match changes(self.alloc, &self.register, change) {
             Err(_) => Answer::Memory,
@@ -168,7 +171,8 @@ impl<S: Alter> Desk<S> {
         requires alive { self.old.failed ≡ false }
         requires changes { IsChanges self.old.register new changes.now }
         requires extends { Extends self.old.register new × WellFormed new }
-        ensures { Keeps (state S.Store) self.old new reply result self.new }
+        ensures keeps { Keeps (state S.Store) self.old new reply result self.new }
+        ensures clean { HasCleanDisk (state S.Store self.new.conn) → HasCleanDisk (state S.Store self.old.conn) }
     {
         match self.store.commit(changes) {
             Ok(()) => {
@@ -189,6 +193,7 @@ impl<S: Alter> Desk<S> {
         ensures run { IfOk result (λ answers. IsRun (Handles (state S.Store)) self.old commands.now answers.items self.new) }
         ensures kept { IfOk result (λ answers. self.old.failed ≡ false → KeepsAcknowledged (state S.Store) self.old self.new (zip commands.now answers.items)) }
         ensures err { OnErr result (self.new ≡ self.old) }
+        ensures clean { HasCleanDisk (state S.Store self.new.conn) → HasCleanDisk (state S.Store self.old.conn) }
     {
         handler::handle_all(self.alloc, self, commands)
     }
@@ -250,13 +255,13 @@ impl<S: Alter> LineHandler for Desk<S> {
 
 impl<S: Alter> Handler for Desk<S> {
     ghost use Rattle.sqlite.specs.Held.{Held, state};
-    ghost use Rattle.adm_desk.specs.DeskState.{Handles, DeskState};
+    ghost use Rattle.adm_desk.specs.DeskState.{HandlesOnDisk, DeskState};
 
     ghost View = { DeskState (Held S) };
 
     ghost view = { λ d. d };
 
-    ghost step = { Handles (state S.Store) };
+    ghost step = { HandlesOnDisk (state S.Store) };
 
     fn handle(&mut self, command: &Command) -> Answer {
         Desk::handle(self, command)

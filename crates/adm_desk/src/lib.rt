@@ -13,7 +13,7 @@ mod restart;
 mod run;
 
 pub use answer::{Answer, LineAnswer, WhatIfAnswer};
-pub use crashes::{CommandRun, run_commands, run_until_crash};
+pub use crashes::{CommandRun, NotHandled, run_commands, run_until_crash};
 pub use desk::Desk;
 pub use files::close_files;
 pub use laws::{one_after, rounds_are_recorded, rounds_stay};

@@ -193,6 +193,8 @@ impl<S: Alter> Store<S> {
     pub fn commit(&mut self, changes: &Changes) -> Result<(), Failed>
         ensures ok { OnOk result (Commits changes.now (state S.Store self.old) (state S.Store self.new)) }
         ensures err { OnErr result (CommitsOrNot changes.now (state S.Store self.old) (state S.Store self.new)) }
+        // A wrong answer of the disk is not forgotten.
+        ensures clean { AtNext changes.now (state S.Store self.old) (λ _. HasCleanDisk (state S.Store self.new) → HasCleanDisk (state S.Store self.old)) }
     {
         if changes.put() == 0 && changes.cut() == 0 && changes.replaced.len() == 0 {
             return Ok(());

@@ -1,13 +1,13 @@
 // A run of commands over disks that stop, a crash of both, and what the start after it finds.
 
-use adm_desk::{Answer, Desk, Restarted, run_until_crash};
+use adm_desk::{Answer, NotHandled, Restarted, run_until_crash};
 use adm_register::{Register, Rows};
 use adm_rows::OpenFault;
 use adm_types::Command;
 use adm_wire::read_command;
 use run_disks::{Disks, calls_until};
 use run_steps::{Which, print_register};
-use sqlite::{FileStore, Files, Leftover};
+use sqlite::{FileStore, Files};
 use sqlite_disk::{Fuse, Memory};
 use std::alloc::Global;
 use std::{io, str};
@@ -28,7 +28,7 @@ fn commands_of(alloc: Global, input: &[u8]) -> io::Result<Option<Vec<Command>>> 
 }
 
 /// The answers, and what the start after the crash finds; or why no command was handled, and what is left.
-type Ran = Result<Restarted<FileStore<Fuse<Memory>>>, (OpenFault, Leftover<Fuse<Memory>>)>;
+type Ran = Result<Restarted<FileStore<Fuse<Memory>>>, NotHandled<Fuse<Memory>>>;
 
 /// Runs the commands over files that hold what the disks hold, and stop after so many calls. `None`: such files cannot be used.
 fn run(
@@ -42,15 +42,10 @@ fn run(
         log: Fuse::new(log, log_calls),
         db: Fuse::new(db, db_calls),
     };
-    if !files.may_be_used() {
-        return None;
-    }
-    match Desk::open_files(alloc, files) {
-        Ok(desk) => match run_until_crash(alloc, desk, commands) {
-            Ok(restarted) => Some(Ok(restarted)),
-            Err(store) => Some(Err((OpenFault::Memory, Leftover::Store(store)))),
-        },
-        Err(refused) => Some(Err(refused)),
+    if files.may_be_used() {
+        Some(run_until_crash(alloc, files, commands))
+    } else {
+        None
     }
 }
 
@@ -75,7 +70,7 @@ fn print_found(rt: &impl Print, alloc: Global, rows: Option<Rows>) -> io::Result
     }
 }
 
-/// Prints why the first start failed, and the register that the files represent still, as a loss of power leaves them.
+/// Prints why no command was handled, and the register that the files represent still, as a loss of power leaves them.
 fn print_left(
     rt: &impl Print,
     alloc: Global,
@@ -121,6 +116,11 @@ pub(crate) fn crash(
     ) {
         None => println!(rt; "  PROBLEM: the disks cannot be used"),
         Some(Ok(restarted)) => print_came(rt, alloc, &restarted),
-        Some(Err((fault, left))) => print_left(rt, alloc, fault, left.into_files()),
+        Some(Err(NotHandled::NotOpened(fault, left))) => {
+            print_left(rt, alloc, fault, left.into_files())
+        }
+        Some(Err(NotHandled::NoRoom(store))) => {
+            print_left(rt, alloc, OpenFault::Memory, store.close())
+        }
     }
 }

@@ -1,5 +1,6 @@
 use Rattle.std.proofs.Common.{arith, sym, subst}
 use Rattle.sqlite.specs.Held.{state}
+use Rattle.sqlite.specs.State.{HasCleanDisk}
 use Rattle.adm_schema.specs.declared.version.Version.TheVariants.{Second}
 use Rattle.adm_rows.specs.Represents.{RepresentsIn, LeavesOnly}
 use Rattle.adm_store.proofs.CommitLemmas.{count_is, no_change, either}
@@ -28,3 +29,15 @@ returns-then-len-eq0-clause-ok g c old new step before clean db may =
       c.len.ensures,
       c.if-len-eq0.true,
     )) db (before clean db may)
+
+pub returns-clause-clean : goal.returns-clause-clean
+returns-clause-clean g c old new step before clean =
+    let early = subst (λ h. LeavesOnly old (state g.S.Store h)) (sym c.self.view_is) before in
+    let still : HasCleanDisk (state g.S.Store c.self.inside.conn) = omega (arith, (c.write.ensures.survives old new step early).clean, clean) in
+    subst (λ h. HasCleanDisk (state g.S.Store h)) c.self.view_is still
+
+pub returns-in_default-clause-clean : goal.returns-in_default-clause-clean
+returns-in_default-clause-clean g c old new step before clean =
+    let early = subst (λ h. LeavesOnly old (state g.S.Store h)) (sym c.self.view_is) before in
+    let still : HasCleanDisk (state g.S.Store c.self.inside.conn) = omega (arith, (c.write.ensures.survives old new step early).clean, clean) in
+    subst (λ h. HasCleanDisk (state g.S.Store h)) c.self.view_is still
