@@ -1,3 +1,6 @@
 pub mod Doing
+pub mod Keeping
+pub mod Remaining
+pub mod RunLemmas
 pub mod Served
 pub mod Wording

@@ -1,3 +1,4 @@
 pub mod Served
 pub mod Does
 pub mod Arguments
+pub mod SuccessiveRuns

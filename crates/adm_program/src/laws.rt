@@ -1,0 +1,22 @@
+// The law of runs of the program, one after another.
+ghost use Rattle.adm_program.specs.SuccessiveRuns.{InitMakesFile, OneMoreRun, AllRuns, OpensAfterRuns, NeverNoRegister};
+
+use adm_rows::one_register;
+use sqlite_disk::Disk;
+
+/// Any number of runs of the program but `serve` over the same two files, each of which ended, or was
+/// crashed once it had opened the files: they hold the register to which the acknowledged commands
+/// of all runs lead, in order, with at most the one in flight of each run. This follows from what
+/// `run_arguments` states of each run, on disks of any kind, so also on ones that fail from some call
+/// on, which are the model of a crash. `run` adds one run, so that each may be over disks of a kind
+/// of its own, and `runs` any number. An `init` among them is one that saw a table. It does nothing.
+pub fn runs_in_order<D: Disk + Drop>()
+    ensures init { InitMakesFile D.Disk }
+    ensures run { OneMoreRun D.Disk }
+    ensures runs { AllRuns D.Disk }
+    ensures opened { OpensAfterRuns D.Disk }
+    ensures never { NeverNoRegister D.Disk }
+{
+    // that a file represents one register, a call of the law says
+    one_register();
+}
