@@ -6,7 +6,7 @@ ghost use Rattle.adm_types.specs.Criteria.{is_criterion};
 ghost use Rattle.adm_types.specs.Flags.{has_flag};
 ghost use Rattle.adm_rank.specs.Class.{meets, class_of};
 
-use crate::distances::distance;
+use crate::distances::is_nearer;
 use adm_types::limits::is_listed;
 use adm_types::{Child, Criterion, School};
 
@@ -27,7 +27,7 @@ fn meets(school: &School, child: &Child, criterion: Criterion) -> bool
 {
     match criterion {
         Criterion::Sibling => is_listed(child.siblings.as_slice(), &school.code),
-        Criterion::Within(metres) => distance(school.at, child.home) <= metres,
+        Criterion::Within(metres) => is_nearer(school.at, child.home, metres + 1),
         Criterion::Flag(flag) => has_flag(child.flags, flag),
         Criterion::Feeder(feeder) => child.present == Some(feeder),
     }

@@ -1,5 +1,5 @@
 // Distances on the map, in whole metres.
-ghost use Rattle.std.specs.Prelude.{◌≡◌, ◌≤◌, ◌+◌, ◌*◌, IsTrue};
+ghost use Rattle.std.specs.Prelude.{◌≡◌, ◌≤◌, ◌+◌, ◌*◌, IsTrue, nat_lt};
 ghost use Rattle.adm_types.specs.Limits.{is_on_map};
 ghost use Rattle.adm_rank.specs.Distance.{IsDistance, distance_of, squares_between, gap};
 
@@ -35,4 +35,15 @@ pub fn distance(a: Point, b: Point) -> u32
     ensures upper { result ≤ 2121320 }
 {
     squares_between(a, b).isqrt() as u32
+}
+
+/// Whether two points of the map are less than so many metres apart. It compares squares, and takes
+/// no root and no memory.
+pub fn is_nearer(a: Point, b: Point, metres: u32) -> bool
+    requires a { IsTrue (is_on_map a) }
+    requires b { IsTrue (is_on_map b) }
+    ensures { result ≡ nat_lt (distance_of a b) metres }
+{
+    let metres = u64::from(metres);
+    squares_between(a, b) < metres * metres
 }

@@ -7,6 +7,6 @@ mod keys;
 mod laws;
 
 pub use classes::class;
-pub use distances::distance;
+pub use distances::{distance, is_nearer};
 pub use keys::{RankKey, key};
 pub use laws::{keys_compare_by_rank, order_is_total};

@@ -3,7 +3,7 @@ ghost use Rattle.std.specs.Prelude.{◌≡◌, IsTrue};
 ghost use Rattle.adm_types.specs.Limits.{is_school_in_range, is_child_in_range};
 ghost use Rattle.adm_waiting.specs.Tallies.{is_ahead_of, tally_of, with_child};
 
-use adm_rank::{class, distance};
+use adm_rank::{class, distance, is_nearer};
 use adm_table::Shared;
 use adm_types::{Child, ChildNo, School};
 
@@ -50,7 +50,7 @@ impl Tally {
     {
         let school = self.school.as_ref();
         let class = class(school, other);
-        class < self.class || (class == self.class && distance(school.at, other.home) < self.metres)
+        class < self.class || (class == self.class && is_nearer(school.at, other.home, self.metres))
     }
 
     /// Counts one of those that wait at the school. Neither number passes the greatest of its type.
