@@ -1,5 +1,6 @@
 pub mod Doing
 pub mod Keeping
+pub mod Logging
 pub mod Remaining
 pub mod RunLemmas
 pub mod Served

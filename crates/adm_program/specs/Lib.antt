@@ -1,4 +1,5 @@
 pub mod Served
 pub mod Does
+pub mod Logged
 pub mod Arguments
 pub mod SuccessiveRuns

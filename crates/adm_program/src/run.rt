@@ -3,7 +3,9 @@ ghost use Rattle.std.specs.Prelude.{◌≡◌, codes, IsTrue, IfOk, IfErr, OnErr
 ghost use Rattle.sqlite_wal.specs.Files.{image_at};
 ghost use Rattle.adm_files.specs.Exits.{has_many_holidays, IsCauseIn, IsOpenFault, RunsArguments, IsDisk};
 ghost use Rattle.adm_files.specs.declared.fault.Fault.TheVariants.{TooManyHolidays};
+ghost use Rattle.adm_http.specs.Connections.{errors_of};
 ghost use Rattle.adm_program.specs.Does.{Does};
+ghost use Rattle.adm_program.specs.Logged.{Logs, LogsBy, PrintsConnections};
 ghost use Rattle.adm_files.specs.Imports.{ImportsInto};
 ghost use Rattle.adm_wire.specs.Streams.{reader, writer};
 ghost use Rattle.adm_files.specs.Opened.{files};
@@ -40,6 +42,7 @@ pub fn run_arguments<S: Start, F: Rows, I: Input, O: Output, E: Output, L: Outpu
     ensures does { ActsOn ⟦<FileFrom<S> as Disk>⟧ S.Start arguments.entry.now (files F.Rows rows.old rows.new)
         (reader I.Input input.old input.new) (writer O.Output output.old output.new) (writer E.Output errors.old errors.new) result }
     ensures status { RunsArguments (texts arguments.entry.now) result }
+    ensures log { Logs (texts arguments.entry.now) (errors_of L.Output log.old) (errors_of L.Output log.new) }
 {
     match action(rt.alloc(), arguments) {
         Ok(action) => {
@@ -68,6 +71,7 @@ fn run_action<S: Start, F: Rows, I: Input, O: Output, L: Output>(
     ensures err { IfErr result (IsCauseIn action.entry) }
     ensures many { IsTrue (has_many_holidays action.entry) → result ≡ Err TooManyHolidays }
     ensures untouched { OnErr result ((I.remaining input.new ≡ I.remaining input.old) × (O.contents output.new ≡ O.contents output.old)) }
+    ensures log { LogsBy (Ok action.entry) (errors_of L.Output log.old) (errors_of L.Output log.new) }
 {
     match action {
         Action::Init {
@@ -113,6 +117,7 @@ fn serve<S: Start, O: Output, L: Output>(
     ensures err { IfErr result IsOpenFault }
     ensures memory { file.now ≡ codes ":memory:" → IsErrAnd result IsDisk }
     ensures untouched { OnErr result (O.contents output.new ≡ O.contents output.old) }
+    ensures log { PrintsConnections (errors_of L.Output log.old) (errors_of L.Output log.new) }
 {
     match open_desk(rt, file, start)? {
         Ok(desk) => Ok(serve_connections(rt, desk, port, count, output, log)),

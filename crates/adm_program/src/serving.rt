@@ -1,6 +1,8 @@
 // Connections to a port, served over a desk.
 ghost use Rattle.std.specs.Prelude.{◌≡◌, IfOk, IfErr, string_bytes};
 ghost use Rattle.adm_wire.specs.Streams.{writer};
+ghost use Rattle.adm_http.specs.Connections.{errors_of};
+ghost use Rattle.adm_program.specs.Logged.{PrintsConnections};
 ghost use Rattle.adm_program.specs.Served.{IsListenFault, Serves, serving_text};
 ghost use Rattle.adm_files.specs.Texts.{Puts};
 
@@ -55,9 +57,10 @@ pub fn serve_connections<D: Disk + Drop, O: Output, L: Output>(
     output: &mut O,
     log: &mut L,
 ) -> Ended<D>
-    ensures { Serves desk port count
+    ensures serves { Serves desk port count
         (writer O.Output output.old output.new)
         result.exit result.closed }
+    ensures log { PrintsConnections (errors_of L.Output log.old) (errors_of L.Output log.new) }
 {
     match listen(rt, port) {
         Ok((routes, listener)) => match put_serving(rt.alloc(), port, output) {

@@ -30,3 +30,11 @@ pub returns-in-Err-clause-status : goal.returns-in-Err-clause-status
 returns-in-Err-clause-status g c =
     let reported = c.code-in-Err.ensures ∙ ap exit_code c.refuse_arguments.ensures.exit in
     (Err c.in-Err.fault, c.in-Err.ensures.reads, subst (λ (status : ℕ). ExitsBy (Err c.in-Err.fault) status) (sym reported) (refused c.in-Err.fault))
+
+-- ---- what was printed of connections
+
+pub returns-in-Ok-clause-log : goal.returns-in-Ok-clause-log
+returns-in-Ok-clause-log g c = (Ok c.in-Ok.action, c.in-Ok.ensures.reads, c.run_action-ended.ensures.log)
+
+pub returns-in-Err-clause-log : goal.returns-in-Err-clause-log
+returns-in-Err-clause-log g c = (Err c.in-Err.fault, c.in-Err.ensures.reads, refl)

@@ -3,12 +3,13 @@ use Rattle.adm_wire.specs.Streams.{Stream}
 use Rattle.adm_program.specs.Served.{ServesAs}
 use Rattle.adm_files.specs.declared.exit.Exit.{Exit}
 use Rattle.adm_files.specs.declared.fault.Fault.{Fault}
+use Rattle.adm_program.proofs.Logging.{each_turn, prints_nothing}
 use Rattle.adm_program.proofs.Served.{exit_served, not_printed, not_ready}
 use Rattle.adm_program.proofs.serving.serve_connections.Goals as goal
 
 -- connections were served
-pub returns-in-Ok-put_serving : goal.returns-in-Ok-put_serving
-returns-in-Ok-put_serving g c =
+pub returns-in-Ok-put_serving-clause-serves : goal.returns-in-Ok-put_serving-clause-serves
+returns-in-Ok-put_serving-clause-serves g c =
     let output : Stream = record { old = g.O.Output.contents c.args.output.now; new = g.O.Output.contents c.put_serving.new.output; has_failed = g.O.Output.has_failed c.put_serving.new.output } in
     let exit = exit_served c.serve_on-status.new.desk.failed c.serve_on-status.result c.of_served.result c.serve_on-status.ensures.status c.of_served.ensures in
     let ends : ServesAs c.args.desk c.serve_on-status.new.desk c.args.port c.args.count output (Ok c.of_served.result) =
@@ -20,8 +21,8 @@ returns-in-Ok-put_serving g c =
     }
 
 -- the line was not printed
-pub returns-in-Ok : goal.returns-in-Ok
-returns-in-Ok g c =
+pub returns-in-Ok-clause-serves : goal.returns-in-Ok-clause-serves
+returns-in-Ok-clause-serves g c =
     let output : Stream = record { old = g.O.Output.contents c.args.output.now; new = g.O.Output.contents c.put_serving.new.output; has_failed = g.O.Output.has_failed c.put_serving.new.output } in
     let ends = not_printed (Unit {0}) c.args.desk c.args.port c.args.count output c.in-Err-put_serving.fault c.in-Err-put_serving.ensures in
     record {
@@ -31,8 +32,8 @@ returns-in-Ok g c =
     }
 
 -- no connection could be waited for
-pub returns : goal.returns
-returns g c =
+pub returns-clause-serves : goal.returns-clause-serves
+returns-clause-serves g c =
     let output : Stream = record { old = g.O.Output.contents c.args.output.now; new = g.O.Output.contents c.args.output.now; has_failed = g.O.Output.has_failed c.args.output.now } in
     let ends = not_ready c.args.desk c.args.port c.args.count output c.in-Err.fault c.in-Err.ensures refl in
     record {
@@ -40,3 +41,14 @@ returns g c =
       ends = subst (λ (e : Result Exit Fault). ServesAs c.args.desk c.args.desk c.args.port c.args.count output e) (sym c.close-in-Err.ensures.exit) ends;
       closes = c.close-in-Err.ensures.closes;
     }
+
+-- ---- what was printed of connections
+
+pub returns-in-Ok-put_serving-clause-log : goal.returns-in-Ok-put_serving-clause-log
+returns-in-Ok-put_serving-clause-log g c = each_turn _ _ _ _ _ c.serve_on-status.ensures.serves
+
+pub returns-in-Ok-clause-log : goal.returns-in-Ok-clause-log
+returns-in-Ok-clause-log g c = prints_nothing _
+
+pub returns-clause-log : goal.returns-clause-log
+returns-clause-log g c = prints_nothing _
