@@ -134,23 +134,40 @@ def opened(name, tool=None):
 def read(name):
     """The register of a file."""
     with opened(name) as conn:
-        rows = {it: conn.execute(f"SELECT * FROM {it}").fetchall() for it, in conn.execute("SELECT name FROM sqlite_master WHERE type = 'table'")}
-        if rows.get("meta", [(1, 0)])[0][1] not in (1, 2):
-            raise Refused(f"{name} is no register of version 1 or 2")
-        (_, _, phase, year, holidays, _), = rows["meta"]
-        present = {(child, imported): school for child, imported, school in rows.get("present", [])}
-        return Register(
-            name=name, phase=phase, year=year, holidays=frozenset(days.of_number(int(it)) for it in split(holidays)),
-            schools={it[0]: School(*it[:5], split(it[5])) for it in sorted(rows["school"])},
-            children={it[0]: child_of(it, present.get((it[0], 0), "")) for it in sorted(rows["child"])},
-            applications={it[0]: Application(days.of_number(it[1]), split(it[2])) for it in rows["application"]},
-            places={it[0]: Place(*it[1:3], *(None if day is None else days.of_number(day) for day in it[3:])) for it in rows["place"]}, left=set(rows["left_list"]),
-            draws=[Draw(*it[:3], days.of_number(it[3])) for it in sorted(rows["draw"])],
-            outcomes=grouped((draw, child, school) for draw, child, school, _ in rows["offer"]),
-            fresh=grouped((draw, child, bool(fresh)) for draw, child, _, fresh in rows["offer"]),
-            lots=grouped((draw, (school, child), lot) for draw, school, child, lot in rows["lot"]),
-            imported={it[0]: (child_of(it[:7], present.get((it[0], 1), "")), Application(days.of_number(it[7]), split(it[8]))) for it in rows["imported"]},
-        )
+        return of_connection(name, conn)
+
+
+def read_held(name):
+    """The register of a file that a program has open which this command started: nobody else can change it, and that program waits for a line."""
+    path = os.path.realpath(name)
+    if files.has_content(path + "-wal"):
+        raise Refused(f"{name} has changed since it was compared: see what was changed, and send the line again")
+    with contextlib.closing(sqlite3.connect(f"file:{urllib.parse.quote(path)}?mode=ro&immutable=1", uri=True)) as conn:
+        try:
+            return of_connection(name, conn)
+        except (sqlite3.Error, TypeError, ValueError) as error:
+            raise Refused(f"{name} is no register, or it is damaged: {error}") from error
+
+
+def of_connection(name, conn):
+    """The register of a connection."""
+    rows = {it: conn.execute(f"SELECT * FROM {it}").fetchall() for it, in conn.execute("SELECT name FROM sqlite_master WHERE type = 'table'")}
+    if rows.get("meta", [(1, 0)])[0][1] not in (1, 2):
+        raise Refused(f"{name} is no register of version 1 or 2")
+    (_, _, phase, year, holidays, _), = rows["meta"]
+    present = {(child, imported): school for child, imported, school in rows.get("present", [])}
+    return Register(
+        name=name, phase=phase, year=year, holidays=frozenset(days.of_number(int(it)) for it in split(holidays)),
+        schools={it[0]: School(*it[:5], split(it[5])) for it in sorted(rows["school"])},
+        children={it[0]: child_of(it, present.get((it[0], 0), "")) for it in sorted(rows["child"])},
+        applications={it[0]: Application(days.of_number(it[1]), split(it[2])) for it in rows["application"]},
+        places={it[0]: Place(*it[1:3], *(None if day is None else days.of_number(day) for day in it[3:])) for it in rows["place"]}, left=set(rows["left_list"]),
+        draws=[Draw(*it[:3], days.of_number(it[3])) for it in sorted(rows["draw"])],
+        outcomes=grouped((draw, child, school) for draw, child, school, _ in rows["offer"]),
+        fresh=grouped((draw, child, bool(fresh)) for draw, child, _, fresh in rows["offer"]),
+        lots=grouped((draw, (school, child), lot) for draw, school, child, lot in rows["lot"]),
+        imported={it[0]: (child_of(it[:7], present.get((it[0], 1), "")), Application(days.of_number(it[7]), split(it[8]))) for it in rows["imported"]},
+    )
 
 
 def grouped(triples):

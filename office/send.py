@@ -11,6 +11,9 @@ REPLIES.csv (or .xlsx) has rows as decline,23,ELM,Bo Bell, or columns reply, chi
 It is first written as REPLIES.jsonl, in place of an earlier one of which nothing was sent. With --as each row of a sheet with the columns child and school
 is such a command, as of the lists remind-due and lapse-due of admissions-query.
 
+A round or a fill is sent only if the register is still as it was when it was read, before the question: if it has changed, that line and what follows it are
+not sent.
+
 Before anything is sent it asks about what cannot be undone and looks wrong: a day outside the season, after today, long before it or far from the other days;
 a first round on another day than the offer day; an answer to which the sheet has another name; a round or a fill without a copy of this very register in
 copies/ or beside it; an amend without the present school; a file that was sent before. Where nobody can be asked nothing is sent, unless --yes is given. On
@@ -35,7 +38,7 @@ import sys
 
 import register_files as files
 
-from . import commands, days, register, replies, risks, senders, sheet, texts
+from . import commands, days, register, replies, risks, senders, sheet, snapshot, texts
 from .run import Progress, Refused, Stop
 
 
@@ -118,6 +121,11 @@ class Journal:
         self.answers.append(answer)
         self.file.write(answer + b"\n")
 
+    def drop(self):
+        """Removes it where it has no answer, because nothing was sent."""
+        self.file.close()
+        os.unlink(self.part)
+
     def end(self):
         """Gives the answers their name."""
         self.file.close()
@@ -181,8 +189,22 @@ def is_yes(question):
         print(f"This line is no answer, and was not run: {texts.visible(said)}")
 
 
-def handle(given, sender, journal, lines):
-    """Sends the lines that have no answer yet, and says why it stopped where it did."""
+def see_unchanged(was, sender, lines):
+    """The first round or fill of a file with why it must not be sent, where the register is no longer as it was compared; else None."""
+    first = next((it for it in lines if it.kind in ("round", "fill")), None)
+    if not was or not first:
+        return None
+    try:
+        # (an answer, here to a line that is no command, shows that the program has the file open, so that nobody else can change it)
+        sender.send(b"{}")
+    except senders.Ended as error:
+        return next(it for it in lines if it.text.strip()), str(error)
+    said = was.change(first.command)
+    return (first, said) if said else None
+
+
+def handle(given, sender, journal, lines, changed):
+    """Sends the lines that have no answer yet, and says why it stopped where it did. `changed` is the line before which it stops, and why."""
     progress, stop, stopped = Progress("lines", len(lines)), Stop(), None
     try:
         for line in lines[len(journal.answers):]:
@@ -192,6 +214,9 @@ def handle(given, sender, journal, lines):
             if not line.text.strip():
                 journal.add(b"")
                 continue
+            if changed and line is changed[0]:
+                stopped = senders.Ended(changed[1], False)
+                break
             journal.add(sender.send(line.text))
             progress.at(line.number)
             if isinstance(answer := commands.read(journal.answers[-1]), dict) and answer.get("failed"):
@@ -256,7 +281,7 @@ def main(given):
             data = file.read()
     except OSError as error:
         raise Refused(f"{given.file} cannot be read: {error.strerror}") from error
-    lines, journal, reg = lines_of(data), Journal(given.file, data, given), None
+    lines, journal, reg, was = lines_of(data), Journal(given.file, data, given), None, None
     if given.url:
         sender = senders.Http(given.url, given.user, getpass.getpass() if given.user else None)
     else:
@@ -264,12 +289,19 @@ def main(given):
         if said := files.merge_log(program, path):
             raise Refused(f"nothing was sent: {given.register} does not open: {said}")
         reg = register.read(given.register)
+        was = snapshot.Snapshot(reg, given.register, risks.backups_near(given.register)) if any(it.kind in ("round", "fill") for it in lines) else None
     if not is_agreed(*questions(lines, reg, None if reg else sender, given, journal), given):
         print("nothing was sent")
         return 1
     journal.open(given.again)
     doubt = len(journal.answers) + 1 if journal.is_old else None
-    stopped = handle(given, senders.Do(program, path) if reg else sender, journal, lines)
+    sender = senders.Do(program, path) if reg else sender
+    changed = see_unchanged(was, sender, lines[len(journal.answers):])
+    if changed and not any(it.text.strip() for it in lines[:changed[0].number - 1]):
+        sender.close()
+        journal.drop()
+        raise Refused(f"nothing was sent: {changed[1]}")
+    stopped = handle(given, sender, journal, lines, changed)
     return finish(given, lines, journal, stopped, doubt)
 
 
