@@ -54,8 +54,8 @@ def odd_days(rows, register):
                 yield row, f"a day up to {end}, when the lists close", True
             elif day > closing:
                 yield row, f"after the closing date, {closing}: it takes no part in the first round", False
-            elif (closing - day).days > FAR_DAYS:
-                yield row, f"more than a year before the closing date, {closing}: is the year right?", False
+            elif (closing - day).days > days.EARLIEST_DAYS:
+                yield row, f"{days.EARLIEST} before the closing date, {closing}: is the year right?", False
     elif len(given) >= 5:
         middle = statistics.median_low(day.toordinal() for _, day in given)
         for row, day in given:

@@ -5,6 +5,8 @@ import re
 EPOCH = datetime.date(1970, 1, 1)
 FIRST, LAST = datetime.date(1990, 1, 1), datetime.date(2110, 12, 31)
 PRIMARY, SECONDARY = 1, 2
+# before the closing date; primary applications are made from 1 September on, and it closes on 15 January
+EARLIEST_DAYS, EARLIEST = 136, "more than four months"
 MONTHS = ("january", "february", "march", "april", "may", "june", "july", "august", "september", "october", "november", "december")
 
 

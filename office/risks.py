@@ -4,7 +4,7 @@ import filecmp
 import os
 import statistics
 
-from . import commands, days, fields, sheet, texts
+from . import across, commands, days, fields, sheet, texts
 from .register import ACCEPTED
 from .run import Refused
 
@@ -13,6 +13,11 @@ ANSWERED = ("accept", "decline", "leave_list", "name_plan")
 FINAL = ("decline", "leave_list", "name_plan")
 FAR_FROM_TODAY, FAR_FROM_OTHERS = 60, {"apply": 370}
 FAR_BY_DEFAULT = 45
+FAR_MOVE_METRES = 20_000
+# so many children who give something up are listed
+MOST_GIVEN_UP = 20
+# an admission number that rises by more than both looks like a slip: a tenth of it, and so many places
+FAR_PAN_PART, FAR_PAN_PLACES = 10, 5
 
 
 @dataclasses.dataclass
@@ -36,8 +41,10 @@ def season_risk(line, day, register, first):
         return f"outside the season: offers are made on {offer}, and lists close on {end}"
     if line is first and day != offer:
         return f"not right for a first round: the offer day is {offer}"
-    if line.kind == "apply" and (closing - day).days > FAR_FROM_OTHERS["apply"]:
-        return f"more than a year before the closing date, {closing}"
+    if line.kind == "apply" and day > end:
+        return f"after the last day of the lists, {end}: the register refuses it"
+    if line.kind == "apply" and (closing - day).days > days.EARLIEST_DAYS:
+        return f"{days.EARLIEST} before the closing date, {closing}: with a wrong year a late application is in time"
     if line.kind == "apply" and day > closing and not register.draws:
         return f"after the closing date, {closing}: the child takes no part in the first round"
     return ""
@@ -100,8 +107,23 @@ def plans(lines, known):
             yield line, f"name_plan of child {number}, {texts.shown(name)}, at {line.command['school']}: a plan cannot be changed"
 
 
+def given_up(lines, known):
+    """The children of a file that nobody gave a name for and that give up a place or leave a list, with their names in the register, as one text."""
+    found = [it for it in lines if it.kind in ("decline", "leave_list")]
+    if not found:
+        return
+    rows = []
+    for line in found[:MOST_GIVEN_UP]:
+        number = line.command["child"]
+        name = known(number)
+        rows.append(f"\n    line {line.number}: {line.kind} of {line.command['school']} by child {number}, {texts.shown(name) if name else 'which the register does not have'}")
+    more = f"\n    and {len(found) - MOST_GIVEN_UP:,} more" if len(found) > MOST_GIVEN_UP else ""
+    number = texts.count(len(found), "line gives", "lines give")
+    yield f"{number} up a place or a list for good, by the child's number alone: are these the children who are meant?{''.join(rows)}{more}"
+
+
 def change_risks(lines, register):
-    """Answers that contradict one another or what was accepted, and amendments that remove the present school."""
+    """Answers that contradict one another or what was accepted."""
     accepted = {(it.command["child"], it.command["school"]) for it in lines if it.kind == "accept"}
     for line in lines:
         command = line.command
@@ -113,9 +135,58 @@ def change_risks(lines, register):
         place = register.places.get(child) if isinstance(child, int) else None
         if line.kind == "decline" and place and (place.school, place.kind) == (command["school"], ACCEPTED):
             yield line, f"decline of {place.school} by child {child}, which had accepted it"
-        if line.kind == "amend" and "present" not in command and child in register.children and register.children[child].present:
-            had = register.children[child].present
-            yield line, f'amend of child {child} without "present": its present school {had} would be removed, and with it perhaps a priority'
+
+
+def amend_risks(lines, register):
+    """Amendments that name another child, move its home far away, or change what may be a priority."""
+    for line in lines:
+        command = line.command
+        if line.kind != "amend" or not register or command["child"] not in register.children:
+            continue
+        had, name = register.children[command["child"]], f"amend of child {command['child']}"
+        if command["name"] != had.name:
+            yield line, f"{name}: the register has the name {texts.shown(had.name)}, and the line {texts.shown(command['name'])}; is it this child?"
+        far = texts.metres(command["east"] - had.east, command["north"] - had.north)
+        if far > FAR_MOVE_METRES:
+            here, there = f"{had.east}, {had.north}", f"{command['east']}, {command['north']}"
+            yield line, f"{name}: its home moves by {far // 1000:,} km, from {here} to {there}; are east and north right?"
+        if command["looked_after"] != had.looked_after:
+            one, other = ("is looked after", "is not") if had.looked_after else ("is not looked after", "is")
+            yield line, f"{name}: by the register it {one}, and by the line it {other}; such a child is first in every list"
+        if had.present and not command.get("present"):
+            how = 'with "present":""' if "present" in command else 'without "present"'
+            yield line, f"{name} {how}: its present school {had.present} would be removed, and with it perhaps a priority"
+
+
+def pan_risks(lines, register):
+    """Admission numbers that rise so much that a digit may be wrong: they can never be lowered."""
+    for line in lines:
+        if line.kind != "raise_pan" or not register or line.command["school"] not in register.schools:
+            continue
+        had, pan = register.schools[line.command["school"]].pan, line.command["pan"]
+        if pan - had > max(had / FAR_PAN_PART, FAR_PAN_PLACES):
+            yield line, f"raise_pan of {line.command['school']} from {had} to {pan}: an admission number cannot be lowered again"
+
+
+@dataclasses.dataclass
+class Added:
+    """A child that a line adds, as it is compared with the children of a register and of other lines."""
+
+    line: Line
+
+    def __post_init__(self):
+        command = self.line.command
+        self.number, self.where = self.line.number, f"line {self.line.number}"
+        self.home, self.has_person = (command["east"], command["north"]), True
+        self.fields = {"child": str(command["child"]), "name": command["name"]}
+
+
+def child_risks(lines, register):
+    """Children that are added with the name and the home of another."""
+    rows = [Added(it) for it in lines if it.kind == "add_child"]
+    for row, other in across.alike(rows, register):
+        where = f"child {other.fields['child']}" + (" of the register" if other.number is None else f" of {other.where}")
+        yield row.line, f"add_child of child {row.fields['child']}, {texts.shown(row.fields['name'])}: is it the same child as {where}, {texts.shown(other.fields['name'])}?"
 
 
 def draw_risks(lines, register, path, backups):

@@ -15,9 +15,11 @@ A round or a fill is sent only if the register is still as it was when it was re
 not sent.
 
 Before anything is sent it asks about what cannot be undone and looks wrong: a day outside the season, after today, long before it or far from the other days;
-a first round on another day than the offer day; an answer to which the sheet has another name; a round or a fill without a copy of this very register in
-copies/ or beside it; an amend without the present school; a file that was sent before. Where nobody can be asked nothing is sent, unless --yes is given. On
-a terminal it also asks about each plan that has no name in a sheet, and shows the name of its child.
+an application from over four months before the closing date or after it; a first round on another day than the offer day; an answer to which the sheet has
+another name; a round or a fill without a copy of this very register in copies/ or beside it; an amend with another name, with a home over 20 km away, with
+another looked_after, or without the present school; an admission number that rises by over a tenth and over 5 places; a new child with name and home of
+another; a file that was sent before. Where nobody can be asked nothing is sent, unless --yes is given. On a terminal it also asks about each plan, decline
+and leave_list that has no name in a sheet, and shows the name of its child.
 
 If it is killed, FILE.answers.part-.. has the answers so far. Sent again, the file is continued after them by --continue, or begun anew by --again.
 
@@ -148,7 +150,8 @@ def questions(lines, reg, sender, given, journal):
     if journal.was_sent and not given.again:
         found.append(f"{given.file} was sent before ({journal.stem}.answers): {risks.sent_again(lines)}; --again sends it again")
     known = (lambda number: reg.children[number].name if number in reg.children else None) if reg else sender.name_of
-    all_risks = [*risks.day_risks(lines, reg, given.today), *risks.change_risks(lines, reg)]
+    all_risks = [*risks.day_risks(lines, reg, given.today), *risks.change_risks(lines, reg), *risks.amend_risks(lines, reg), *risks.pan_risks(lines, reg)]
+    all_risks += risks.child_risks(lines, reg)
     if given.names:
         names = risks.names_of(given.names)
         all_risks += risks.name_risks(lines, known, lambda it: names.get(it.command["child"]))
@@ -156,7 +159,7 @@ def questions(lines, reg, sender, given, journal):
         all_risks += risks.name_risks(lines, known, lambda it: {given.row_names[it.number - 1]} - {""})
     path = None if given.url else given.register
     all_risks += risks.draw_risks(lines, reg, path, risks.backups_near(path) if path else [])
-    shown = [] if given.names or given.row_names else risks.grouped(risks.plans(lines, known))
+    shown = [] if given.names or given.row_names else [*risks.grouped(risks.plans(lines, known)), *risks.given_up(lines, known)]
     return found + risks.grouped(all_risks), shown
 
 

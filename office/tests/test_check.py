@@ -76,7 +76,7 @@ def planted():
     odd = [
         ({"child": "199"}, []), ({"child": "199"}, [("child", "error")]), ({"child": "7"}, [("child", "error")]),
         ({"name": "Zander, Zoë", "east": "77", "north": "88"}, [("name", "look at")]), ({"day": "2024-11-01"}, [("day", "look at")]),
-        ({"day": "2022-10-01"}, [("day", "look at")]), ({"east": "900000"}, [("east", "look at")]),
+        ({"day": "2024-01-10"}, [("day", "look at")]), ({"east": "900000"}, [("east", "look at")]),
     ]
     more = [["Pip", "Quinn", "Rhys", "Sol", "Tess", "Uma", "Vic"][at] + " Yates" for at in range(len(odd))]
     for at, (changed, found) in enumerate(odd):

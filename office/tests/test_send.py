@@ -205,11 +205,21 @@ RISKS = [
     ([{**ROUND, "day": "2035-03-05"}], "outside the season", ()), ([{**ROUND, "day": "2025-09-01"}], "175 days after today", ()),
     ([{**ROUND}], "without a copy of this very register", ()), ([child(9), {**ROUND}], "after other commands of the same file", ("copy",)),
     ([{**ROUND, "draw": 2}], "the register has 0 draws", ("copy",)),
-    ([{"cmd": "amend", **{k: v for k, v in child(1).items() if k != "cmd"}}], "PRIM7 would be removed", ()),
+    ([{**child(1, name="Ann Abel"), "cmd": "amend"}], 'without "present": its present school PRIM7 would be removed', ()),
+    ([{**child(1, name="Ann Abel", present=""), "cmd": "amend"}], 'with "present":"": its present school PRIM7 would be removed', ()),
+    ([{**child(1, name="Bo Bell", present="PRIM7"), "cmd": "amend"}],
+    'line 1: amend of child 1: the register has the name "Ann Abel", and the line "Bo Bell"; is it this child?', ()),
+    ([{**child(2, east=20101, name="Bo Bell"), "cmd": "amend"}], "line 1: amend of child 2: its home moves by 20 km, from 100, 0 to 20101, 0; are east and north right?", ()),
+    ([{**child(2, name="Bo Bell"), "looked_after": True, "cmd": "amend"}],
+    "line 1: amend of child 2: by the register it is not looked after, and by the line it is; such a child is first in every list", ()),
+    ([{"cmd": "raise_pan", "school": "ELM", "pan": 8}], "line 1: raise_pan of ELM from 2 to 8: an admission number cannot be lowered again", ()),
+    ([child(9, east=150, name="abel, Ann")], 'line 1: add_child of child 9, "abel, Ann": is it the same child as child 1 of the register, "Ann Abel"?', ()),
+    ([child(8, name="Di Dow"), child(9, name="Di Dow")], 'line 2: add_child of child 9, "Di Dow": is it the same child as child 8 of line 1, "Di Dow"?', ()),
     ([{"cmd": "leave_list", "child": 2, "school": "OAK"}], 'the name given is "Bea Bell", and the register has "Bo Bell"', ("names",)),
     ([{"cmd": "decline", "child": 1, "school": "OAK"}], 'child 1, "Ann Abel", which the names do not have', ("names",)),
     ([{"cmd": "accept", "child": 1, "school": "OAK"}, {"cmd": "decline", "child": 1, "school": "OAK"}], "which another line accepts", ()),
-    ([child(9), apply(9, ["OAK"], "2023-10-01")], "more than a year before the closing date", ()),
+    ([child(9), apply(9, ["OAK"], "2024-01-10")], "more than four months before the closing date, 2024-10-31: with a wrong year a late application is in time", ()),
+    ([child(9), apply(9, ["OAK"], "2026-01-10")], "line 2: apply with the day 2026-01-10, which is after the last day of the lists, 2025-12-31: the register refuses it", ()),
     ([child(9), apply(9, ["OAK"], "2024-12-01")], "takes no part in the first round", ()),
     ([{"cmd": "remind", "child": it, "school": "OAK", "day": "2025-03-17" if it < 5 else "2025-05-08"} for it in range(1, 6)],
     "far from the days of the other lines", ()),
@@ -245,8 +255,10 @@ def test_what_is_right_is_not_asked(office, reg, tmp_path):
     assert ran.returncode == 0 and "Before" not in ran.stdout, ran
     (tmp_path / "replies.csv").write_text("accept,1,OAK,ABEL Ann\ndecline,2,ELM,bo bell\n")
     (tmp_path / "a.jsonl").write_text(text([{"cmd": "accept", "child": 1, "school": "OAK"},
-        {"cmd": "amend", **{k: v for k, v in child(1, present="PRIM7").items() if k != "cmd"}}]))
-    assert office("send", "a.jsonl", *TODAY, "--names", "replies.csv").returncode == 0
+        {**child(1, name="Ann Abel", east=20100, present="PRIM8"), "cmd": "amend"}, {"cmd": "raise_pan", "school": "ELM", "pan": 7}, child(9, east=301, name="Ann Abel"),
+        apply(9, ["OAK"], "2024-07-01")]))
+    ran = office("send", "a.jsonl", *TODAY, "--names", "replies.csv")
+    assert ran.returncode == 0 and "Before" not in ran.stdout, ran
     (tmp_path / "d.jsonl").write_text(text([{"cmd": "decline", "child": 1, "school": "OAK"}]))
     assert "child 1, which had accepted it" in office("send", "d.jsonl", *TODAY).stdout
 
@@ -256,6 +268,26 @@ def test_a_plan_is_asked_about_on_a_terminal(tools, reg, tmp_path, said, done):
     (tmp_path / "a.jsonl").write_text(text([{"cmd": "name_plan", "child": 2, "school": "OAK"}]))
     out = asked(tools, tmp_path, said)[1]
     assert b'name_plan of child 2, "Bo Bell", at OAK' in out and b"Type yes or no: " in out and count(reg, "place") == done, out
+
+
+def test_who_gives_something_up_is_shown_on_a_terminal(office, tools, reg, tmp_path):
+    """One question for the file, with the names of the register; with names in a sheet, or where nobody can be asked, there is none."""
+    lines = [{"cmd": "decline", "child": 1, "school": "OAK"}, {"cmd": "leave_list", "child": 2, "school": "ELM"}, {"cmd": "decline", "child": 7, "school": "OAK"}]
+    (tmp_path / "a.jsonl").write_text(text(lines))
+    status, out = asked(tools, tmp_path, "no\n")
+    assert status == 1 and out.decode().splitlines()[:5] == [
+        "Before anything is sent:", "  3 lines give up a place or a list for good, by the child's number alone: are these the children who are meant?",
+        '    line 1: decline of OAK by child 1, "Ann Abel"', '    line 2: leave_list of ELM by child 2, "Bo Bell"',
+        "    line 3: decline of OAK by child 7, which the register does not have"], out
+    (tmp_path / "a.jsonl").write_text(text(lines[:2] * 13))
+    out = asked(tools, tmp_path, "no\n")[1].decode()
+    assert out.count(" by child ") == 20 and "\n    and 6 more\n" in out, out
+    (tmp_path / "names.csv").write_text("child,name\n1,Ann Abel\n2,Bo Bell\n7,Cy\n")
+    (tmp_path / "a.jsonl").write_text(text(lines))
+    ran = office("send", "a.jsonl", *TODAY, "--names", "names.csv")
+    assert "Before" not in ran.stdout and "of 3 lines done" in ran.stdout, ran
+    (tmp_path / "b.jsonl").write_text(text(lines[1:2]))
+    assert "Before" not in office("send", "b.jsonl", *TODAY).stdout
 
 
 def asked(tools, tmp_path, said):
