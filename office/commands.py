@@ -156,8 +156,8 @@ def result(answer):
     return f"child {answer['child']} was offered the place" if "child" in answer else ""
 
 
-def in_words(answer, command):
-    """What an answer that is not `done` means, with the field where a line could not be read."""
+def in_words(answer, command, plans=None):
+    """What an answer that is not `done` means, with the field where a line could not be read. `plans` are the schools that children have by a plan."""
     if not isinstance(answer, dict):
         return "the answer cannot be read"
     name = answer.get("name", "")
@@ -166,6 +166,8 @@ def in_words(answer, command):
         schools = [values.get("school"), *values.get("siblings", []), *values.get("preferences", [])] if name == "UnknownSchool" else []
         values["schools"] = ", ".join(dict.fromkeys(it for it in schools if isinstance(it, str)))
         named = outside(values) if name == "OutOfRange" and not wrong_field(command) else []
+        if name == "NotOffered" and not wrong_field(command) and (school := (plans or {}).get(command["child"])):
+            named = [f"child {command['child']} has its place at {school} by a plan, which no command ends"]
         return f"{'; '.join(named) or REFUSALS.get(name, 'refused').format_map(values)} ({name})"
     if "fault" in answer:
         if name == "NotJson":

@@ -239,12 +239,15 @@ def handle(given, sender, journal, lines, changed):
     return stopped
 
 
-def report(lines, journal, stopped, doubt):
+def report(lines, journal, stopped, doubt, reg):
     """Prints the result of each draw, and each line that was not done. The lines that were not done."""
     left, rest = [], []
+    plans = {child: it.school for child, it in reg.places.items() if it.kind == register.PLAN} if reg else {}
     for line in lines:
         answer = commands.read(journal.answers[line.number - 1]) if line.number <= len(journal.answers) else None
         if commands.is_done(answer) or not line.text.strip():
+            if line.kind == "name_plan":
+                plans[line.command["child"]] = line.command["school"]
             if result := commands.result(answer):
                 print(f"line {line.number}: {result}")
             continue
@@ -252,7 +255,7 @@ def report(lines, journal, stopped, doubt):
         if line.number > len(journal.answers):
             rest.append(line.number)
             continue
-        print(f"line {line.number}: {commands.in_words(answer, line.command)}" + ("; the interrupted run may have done it" if line.number == doubt else ""))
+        print(f"line {line.number}: {commands.in_words(answer, line.command, plans)}" + ("; the interrupted run may have done it" if line.number == doubt else ""))
         print(f"    {texts.visible(line.text.decode('utf-8', 'backslashreplace').rstrip()[:2000])}")
     if rest and stopped and stopped.is_open:
         print(f"line {rest.pop(0)}: no answer; it may be done: look at the child, list or report first")
@@ -305,12 +308,12 @@ def main(given):
         journal.drop()
         raise Refused(f"nothing was sent: {changed[1]}")
     stopped = handle(given, sender, journal, lines, changed)
-    return finish(given, lines, journal, stopped, doubt)
+    return finish(given, lines, journal, stopped, report(lines, journal, stopped, doubt, reg))
 
 
-def finish(given, lines, journal, stopped, doubt):
-    """The last lines, and the exit status."""
-    left, name = report(lines, journal, stopped, doubt), None
+def finish(given, lines, journal, stopped, left):
+    """The last lines, and the exit status. `left` are the lines that were not done."""
+    name = None
     if left:
         name = free(journal.stem, ".left.jsonl")
         sheet.write_new(name, b"".join(it.text + b"\n" for it in left))

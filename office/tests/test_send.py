@@ -457,6 +457,18 @@ def test_every_row_that_is_no_command_is_reported(office, reg, tmp_path):
         assert office("send", *how).returncode == 2, how
 
 
+def test_a_place_by_a_plan_is_named_as_such(office, reg, tmp_path):
+    """A plan of the register, and one of the same file; the offer of child 1 is no plan."""
+    do(reg, [child(3), {"cmd": "name_plan", "child": 3, "school": "ELM"}])
+    lines = [{"cmd": "name_plan", "child": 2, "school": "OAK"}] + [{"cmd": "decline", "child": it, "school": code} for it, code in ((2, "OAK"), (3, "OAK"), (1, "OAK"))]
+    (tmp_path / "a.jsonl").write_text(text(lines))
+    ran = office("send", "a.jsonl", *TODAY)
+    assert [it for it in ran.stdout.splitlines() if it.startswith("line")] == [
+        "line 2: child 2 has its place at OAK by a plan, which no command ends (NotOffered)",
+        "line 3: child 3 has its place at ELM by a plan, which no command ends (NotOffered)",
+        "line 4: child 1 has no open offer at OAK: another school, answered before, lapsed, or moved by a later round; look at its letter (NotOffered)"], ran
+
+
 def test_what_a_draw_did_is_printed(office, reg, tmp_path):
     """Child 1 and 2 want both schools; OAK has one place and ELM two. Child 1 declines, and a fill offers its place to child 2."""
     for at, lines in enumerate([[ROUND], [{"cmd": "decline", "child": 1, "school": "OAK"}],
