@@ -2,14 +2,16 @@
 import json
 import os
 
-from . import commands, fields, sheet, texts
+from . import commands, fields, kinds, sheet, texts
 from .run import Refused
 
+# where so many rows, or more, have so small a part that is nearly right, the whole file is another
+MANY_ROWS, FEW_PART = 10, 10
 # what a row may say of itself, and what --as may say of all rows
 ANSWERS = {"accept": "accept", "decline": "decline", "leave_list": "leave_list", "leave": "leave_list", "name_plan": "name_plan", "plan": "name_plan"}
 KINDS = ("accept", "decline", "leave_list", "remind", "lapse")
+NAMED_KINDS = ("accept", "decline", "leave", "leave_list", "remind", "lapse")
 DATED = ("remind", "lapse")
-WHAT = ("reply", "answer", "cmd", "command", "what")
 
 
 def is_sheet(name):
@@ -21,7 +23,7 @@ def places_of(header, kind):
     """Where the columns are: by a header, or in the order answer, child, school, name. Whether there is a header."""
     names = [fields.trimmed(it).lower() for it in header]
     if {"child", "school"} <= set(names):
-        what = next((names.index(it) for it in WHAT if it in names), None)
+        what = next((names.index(it) for it in kinds.REPLY_COLUMNS if it in names), None)
         return (what, names.index("child"), names.index("school")), True
     return ((None, 0, 1) if kind else (0, 1, 2)), False
 
@@ -33,7 +35,7 @@ def command_of(row, places, kind, day):
     found = kind or ANSWERS.get(what.lower())
     wrong = []
     if not found:
-        wrong.append(f"row {row.number}, {texts.shown(what)}: expected accept, decline, leave_list or name_plan")
+        wrong.append(f"row {row.number}, {texts.shown(what)}: expected accept, decline, leave or plan")
     number, code = fields.child(child, None), school.upper()
     if number.expected:
         wrong.append(f"row {row.number}, {texts.shown(child)}: expected {number.expected}")
@@ -44,12 +46,33 @@ def command_of(row, places, kind, day):
     return {"cmd": found, "child": int(number.text), "school": code, **({"day": day} if found in DATED else {})}, []
 
 
+def is_near(row, places, kind):
+    """Whether a row has a reply, or what else a command needs, so that it may be meant as one."""
+    cell = lambda at: fields.trimmed(row.cells[at]) if at is not None and at < len(row.cells) else ""  # noqa: E731
+    what, child, school = (cell(it) for it in places)
+    return not kind and what.lower() in ANSWERS or not fields.child(child, None).expected and texts.is_code(school.upper())
+
+
+def see_replies(name, rows, places, has_header, kind):
+    """Refuses as a whole what is no sheet of replies and no worklist, or has no child."""
+    if said := kinds.of_columns(rows[0].cells, kind):
+        raise Refused(f"nothing was sent: {name} is {said}")
+    below = rows[has_header:]
+    if not below:
+        raise Refused(f"nothing was sent: {name} has no child, and so there is nothing to send")
+    near = sum(is_near(it, places, kind) for it in below)
+    if near == 0 and len(below) > 1 or len(below) >= MANY_ROWS and near * FEW_PART < len(below):
+        form = "a child's number and a school's code, as 23,ELM" if kind else "a reply, a child's number and a school's code, as decline,23,ELM,Bo Bell"
+        raise Refused(f"nothing was sent: {name} seems to be another file: {near or 'none'} of its {len(below):,} rows {'have' if near > 1 else 'has'} {form}")
+
+
 def commands_of(name, kind, day):
     """The commands of a sheet, as bytes, and the name that each row has, or None. All rows that cannot be read are reported at once."""
     rows = sheet.read(name).rows
     if not rows:
-        raise Refused(f"{name} has no row")
+        raise Refused(f"nothing was sent: {name} has no row, and so no child")
     places, has_header = places_of(rows[0].cells, kind)
+    see_replies(name, rows, places, has_header, kind)
     found = [command_of(row, places, kind, day) for row in rows[has_header:]]
     wrong = [it for _, them in found for it in them]
     for it in wrong:

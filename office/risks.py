@@ -164,7 +164,7 @@ def pan_risks(lines, register):
         if line.kind != "raise_pan" or not register or line.command["school"] not in register.schools:
             continue
         had, pan = register.schools[line.command["school"]].pan, line.command["pan"]
-        if pan - had > max(had / FAR_PAN_PART, FAR_PAN_PLACES):
+        if max(had / FAR_PAN_PART, FAR_PAN_PLACES) < pan - had <= commands.MOST_PAN - had:
             yield line, f"raise_pan of {line.command['school']} from {had} to {pan}: an admission number cannot be lowered again"
 
 

@@ -40,7 +40,7 @@ import sys
 
 import register_files as files
 
-from . import commands, days, register, replies, risks, senders, sheet, snapshot, texts
+from . import commands, days, kinds, register, replies, risks, senders, sheet, snapshot, texts
 from .run import Progress, Refused, Stop
 
 
@@ -55,7 +55,7 @@ def read_day(text):
 def arguments(reader):
     """The arguments of the command."""
     reader.add_argument("file", metavar="FILE", help="commands, one a line (.jsonl), or a sheet (.csv, .xlsx)")
-    reader.add_argument("--as", dest="kind", choices=replies.KINDS, help="what each row of a sheet is")
+    reader.add_argument("--as", dest="kind", choices=replies.NAMED_KINDS, help="what each row of a sheet is")
     reader.add_argument("--day", metavar="YYYY-MM-DD", type=read_day, help="the day of each remind or lapse")
     where = reader.add_mutually_exclusive_group()
     where.add_argument("--register", metavar="REG.db", help="the register; reg.db by default")
@@ -159,7 +159,10 @@ def questions(lines, reg, sender, given, journal):
         all_risks += risks.name_risks(lines, known, lambda it: {given.row_names[it.number - 1]} - {""})
     path = None if given.url else given.register
     all_risks += risks.draw_risks(lines, reg, path, risks.backups_near(path) if path else [])
-    shown = [] if given.names or given.row_names else [*risks.grouped(risks.plans(lines, known)), *risks.given_up(lines, known)]
+    shown = [] if given.names or given.row_names else risks.grouped(risks.plans(lines, known))
+    # (over HTTP each name is a request)
+    if not (given.names or given.row_names) and (reg or sys.stdin.isatty()):
+        shown += risks.given_up(lines, known)
     return found + risks.grouped(all_risks), shown
 
 
@@ -276,6 +279,7 @@ def see_arguments(given):
 
 def main(given):
     """Reads, asks, sends and reports."""
+    given.kind = replies.ANSWERS.get(given.kind, given.kind)
     see_arguments(given)
     given.row_names = None
     if replies.is_sheet(given.file):
@@ -287,6 +291,8 @@ def main(given):
             data = file.read()
     except OSError as error:
         raise Refused(f"{given.file} cannot be read: {error.strerror}") from error
+    if said := kinds.without_commands(data):
+        raise Refused(f"nothing was sent: {given.file} is {said}; commands are lines of JSON, and a sheet has a name that ends with .csv or .xlsx")
     lines, journal, reg, was = lines_of(data), Journal(given.file, data, given), None, None
     if given.url:
         sender = senders.Http(given.url, given.user, getpass.getpass() if given.user else None)

@@ -11,6 +11,8 @@ import zipfile
 import register_files as files
 from register_files import Refused
 
+from . import kinds
+
 SEPARATORS = {",": "commas", ";": "semicolons", "\t": "tabs"}
 
 
@@ -47,8 +49,8 @@ def read(name, sheet=None, advice="leave one that is not empty"):
         return workbook(name, data, sheet, advice)
     if data.startswith(b"\xd0\xcf\x11\xe0"):
         raise Refused(f"{name} is a workbook of the older kind (.xls) or has a password: save it as .xlsx or as CSV UTF-8")
-    if data.startswith(b"%PDF"):
-        raise Refused(f"{name} is a PDF: a CSV or an .xlsx is needed")
+    if not data.startswith((b"\xff\xfe", b"\xfe\xff")) and (said := kinds.of_bytes(data)):
+        raise Refused(f"{name} is {said}: a CSV or an .xlsx is needed")
     if sheet is not None:
         raise Refused(f"{name} is no workbook, so --sheet has no meaning", 2)
     return text_sheet(name, data)

@@ -337,7 +337,7 @@ def test_names_of_one_person(one, other, is_alike):
     (b"", "expected a header"), (b"PK\x03\x04junk", "no workbook"), (b"\xd0\xcf\x11\xe0junk", "older kind"), (b"%PDF-1.4", "PDF"),
     (b"child,child,name\n", "each column once"),
     (b"a,b,c\n1,2,3\n", "expected a header"), (b"17,Ann Abel,0,0,no,,,2024-10-20,OAK\n", "expected a header"),
-    (b"child,name\n1,Ann\n", "a column of this name"), (b"child\x81\n\x81", "neither in UTF-8"), (b"\x00\x00\x00", "expected"),
+    (b"child,name\n1,Ann\n", "a column of this name"), (b"child\x81\n\x81", "neither in UTF-8"), (b"\x00\x00\x00", "no text"), (b"<html>", "web page"),
 ])
 def test_files_that_are_none(office, tmp_path, data, text):
     (tmp_path / "x.csv").write_bytes(data)
