@@ -9,7 +9,7 @@ SIGNATURES = (
     (b"\xd0\xcf\x11\xe0", "a workbook of the older kind (.xls), or one with a password"), (b"\xff\xfe", "a text in UTF-16"), (b"\xfe\xff", "a text in UTF-16"),
 )
 TAGS = re.compile(rb"(\xef\xbb\xbf)?\s*<(!--|(!doctype|\?xml|html|head|body|table|svg)\b)", re.IGNORECASE)
-FIRST_BYTES = 4096
+FIRST_BYTES, NO_TEXT = 4096, "no text"
 # the names of the column that says what a row is
 REPLY_COLUMNS = ("reply", "answer", "cmd", "command", "what")
 
@@ -19,7 +19,7 @@ def of_bytes(data):
     if TAGS.match(data[:FIRST_BYTES]):
         return "a web page (HTML), or another text with tags"
     found = next((kind for start, kind in SIGNATURES if data.startswith(start)), "")
-    return found or ("no text" if b"\0" in data[:FIRST_BYTES] else "")
+    return found or (NO_TEXT if b"\0" in data[:FIRST_BYTES] else "")
 
 
 def without_commands(data):

@@ -7,11 +7,13 @@ import sys
 
 import register_files as files
 
-from . import book, sheet, texts
+from . import book, kinds, sheet, texts
 from .run import Refused
 
 MOST_LOT = 4_294_967_295
 MOST_SHOWN = 100
+# where so small a part of at least so many rows or pairs is in the other file, the sheet is of other pairs
+MANY, FEW_PART = 10, 10
 NOT_TEXT = "is no text in UTF-8: save it as CSV in UTF-8"
 # the columns of a header, by the names that are understood
 COLUMNS = {"school": "school", "code": "school", "child": "child", "number": "child", "name": "name", "lot": "lot"}
@@ -35,6 +37,8 @@ def bytes_of(name):
 
 def decoded(name, data):
     """A text in UTF-8, without the byte order mark that spreadsheets write before it."""
+    if (said := kinds.of_bytes(data)) and said != kinds.NO_TEXT:
+        raise Refused(f"{named(name)} is {said}: save it as CSV in UTF-8")
     try:
         text = data.decode("utf-8-sig")
     except UnicodeDecodeError as error:
@@ -154,8 +158,12 @@ class Filled:
 
 def lots_of(name, pairs):
     """The lot of each pair. All that is wrong is reported at once."""
-    filled = Filled(name, pairs)
-    wrong = [f"row {at} of {filled.name} {said}" for at, fields in rows_of(name) if (said := filled.add(at, fields))]
+    filled, rows = Filled(name, pairs), rows_of(name)
+    wrong = [f"row {at} of {filled.name} {said}" for at, fields in rows if (said := filled.add(at, fields))]
+    most = max(len(rows), len(pairs))
+    if rows and most >= MANY and len(filled.rows) * FEW_PART < most:
+        count = f"{len(filled.rows) or 'none'} of its {texts.count(len(rows), 'row')} {'are' if len(filled.rows) > 1 else 'is'} of the {texts.count(len(pairs), 'pair')}"
+        raise Refused(f"{filled.name} is a sheet of other pairs: {count}. Give the file of pairs of which the sheet was made")
     wrong += [f"{filled.name} has no row for line {at} of the pairs: {it[0]} {it[1]}" for at, it in enumerate(pairs, 1) if it not in filled.rows]
     if len(wrong) == 1:
         raise Refused(wrong[0])

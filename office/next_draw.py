@@ -32,9 +32,19 @@ def differences(register, pairs, wanted):
     return f"{register.name} has changed since the pairs were printed: {'; '.join(parts)}. Print the pairs again; the lots must be drawn again"
 
 
+def see_not_drawn(register, pairs):
+    """Refuses pairs of a draw that the register has already, with whose lots nothing is to be done."""
+    found = next((it.number for it in reversed(register.draws) if set(register.lots.get(it.number, {})) == pairs), None)
+    if found:
+        next_one = f"The next draw is {len(register.draws) + 1}: print its pairs by admissions pairs, if it is meant"
+        raise Refused(f"these are pairs of draw {found}, which {register.name} has already, with its lots. {next_one}")
+
+
 def see(register, pairs, school, number):
     """Refuses pairs and a number that are not those of the round, or of the fill at a school, that comes next. What is to be said where they can be of both."""
     last = len(register.draws)
+    if number > last + 1:
+        see_not_drawn(register, set(pairs))
     if number != last + 1:
         doubt = ". Was this draw sent already? See its report" if number <= last else ""
         raise Refused(f"{register.name} has {texts.count(last, 'draw')}: the next number is {last + 1}, not {number}{doubt}")
@@ -50,6 +60,7 @@ def see(register, pairs, school, number):
         raise Refused(f"the pairs are those of a fill at {code}, not of a round: give --school {code}. The lots remain valid")
     if school is not None and pairs == round_pairs(problem):
         raise Refused(f"the pairs are those of a round, not of a fill at {school}: leave --school out. The lots remain valid")
+    see_not_drawn(register, pairs)
     raise Refused(differences(register, pairs, wanted))
 
 

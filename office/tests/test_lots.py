@@ -159,6 +159,38 @@ def test_what_is_wrong_with_the_pairs_is_named(office, town, tmp_path):
         assert f"reg.db has changed since the pairs were printed: no lot is needed any more for A {gone}; a lot is needed for A {new}. Print the pairs again" in ran.stderr
 
 
+def test_pairs_of_a_draw_that_the_register_has(office, town, tmp_path):
+    """They are named as such, and not as lots that must be drawn again: for the next number, and for one beyond it."""
+    season = town.season
+    write_pairs(tmp_path / "old.pairs", town.before[0].pairs())
+    (tmp_path / "old.csv").write_text("".join(f"{code},{number},{at}\n" for at, (code, number) in enumerate(town.before[0].pairs())))
+    said = "admissions-lots: these are pairs of draw 1, which reg.db has already, with its lots. The next draw is 2: print its pairs by admissions pairs, if it is meant\n"
+    assert season.pairs() != town.before[0].pairs()
+    for number in (2, 4):
+        ran = command(office, "old.pairs", "old.csv", number)
+        assert (ran.returncode, ran.stdout, ran.stderr) == (1, "", said), ran
+
+
+def test_a_sheet_of_other_pairs_is_named_as_a_whole(office, tmp_path):
+    """Where next to no row fits: one line, and not one for each row. Where one row in ten fits, each error is named."""
+    write_pairs(tmp_path / "p", [("A", it) for it in range(1, 41)])
+    draw = ("--number", "1", *DAY)
+    sheets = [
+        (range(101, 141), "none of its 40 rows is of the 40 pairs"), (range(40, 80), "1 of its 40 rows is of the 40 pairs"),
+        (range(39, 79), "2 of its 40 rows are of the 40 pairs"), (range(1, 4), "3 of its 3 rows are of the 40 pairs"),
+    ]
+    for numbers, said in sheets:
+        (tmp_path / "s.csv").write_text("".join(f"A,{it},{it}\n" for it in numbers))
+        ran = office("lots", "p", "s.csv", *draw)
+        assert (ran.returncode, ran.stdout) == (1, "")
+        assert ran.stderr == f"admissions-lots: s.csv is a sheet of other pairs: {said}. Give the file of pairs of which the sheet was made\n"
+    (tmp_path / "s.csv").write_text("".join(f"A,{it},{it}\n" for it in range(37, 77)))
+    assert office("lots", "p", "s.csv", *draw).stderr.splitlines()[-1] == "admissions-lots: correct 72 errors in s.csv first"
+    for data, kind in ((b"%PDF-1.7\n", "a PDF"), (b"<html><body>", "a web page (HTML), or another text with tags")):
+        (tmp_path / "s.csv").write_bytes(data)
+        assert office("lots", "p", "s.csv", *draw).stderr == f"admissions-lots: s.csv is {kind}: save it as CSV in UTF-8\n"
+
+
 def test_a_round_where_one_school_alone_is_wanted(office, tmp_path):
     """Its pairs are those of a fill too: each command is printed as it was asked for."""
     town = Town(2)
