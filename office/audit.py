@@ -89,6 +89,9 @@ def audit(before, after, later, only):
     """The lines to print, and whether all is right."""
     number, drawn = len(before["draw"]) + 1, {it[0]: it for it in after["draw"]}
     wrong = what_else_changed(before, after, later)
+    if len(before["draw"]) > len(after["draw"]):
+        counts = f"BEFORE has {len(before['draw'])} and AFTER {len(after['draw'])}"
+        wrong.insert(0, f"BEFORE has more draws than AFTER ({counts}): give the copy from before the draw first; are the two files exchanged?")
     if number not in drawn:
         return wrong + [f"AFTER has no draw {number}: BEFORE has {number - 1}, and AFTER none more"], False
     _, at, school, day = drawn[number]

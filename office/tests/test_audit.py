@@ -95,6 +95,14 @@ def test_the_fills_of_the_example(office, season, tmp_path):
     assert count == 2
 
 
+def test_files_that_are_exchanged(office, season):
+    """The first line says so, before what differs."""
+    ran = office("audit", season / "after-1.db", season / "before-1.db")
+    first, *more = ran.stdout.splitlines()
+    assert ran.returncode == 1 and more
+    assert first == "BEFORE has more draws than AFTER (BEFORE has 1 and AFTER 0): give the copy from before the draw first; are the two files exchanged?"
+
+
 def test_errors_are_one_line(office, tmp_path):
     """A full disk, no file, wrong arguments."""
     make(tmp_path / "reg.db", [school("OAK")])
