@@ -27,6 +27,8 @@ import io
 from . import answers, book, days, queries, sheet, texts
 from .run import Progress, Refused, put
 
+# those whose day is one after a round
+DUE = ("remind-due", "lapse-due")
 # what the workbook does not have: these are of one child or one draw
 SINGLE = {"amend", "child", "find", "lots", "moved", "round-report"}
 
@@ -122,6 +124,15 @@ def write_workbook(conn, given):
     return f"{given.workbook} has {texts.count(len(pages), 'worklist')}\n"
 
 
+def see_day(conn, given):
+    """Refuses a day on which nobody can be due, because no offer was made by then: its year may be wrong."""
+    if given.name not in DUE:
+        return
+    first, = conn.execute("SELECT min(day) FROM draw").fetchone()
+    if first is not None and given.day < first:
+        raise Refused(f"nobody had an offer on {days.of_number(given.day)}: the first round was on {days.of_number(first)}; give a later day by --day")
+
+
 def main(given):
     """Prints, or writes."""
     see_arguments(given)
@@ -137,6 +148,7 @@ def main(given):
             text = write_workbook(conn, given)
         else:
             queries.see_named(conn, given.file, vars(given))
+            see_day(conn, given)
             found = result(conn, given.name, vars(given))
             text = found if isinstance(found, str) else csv_text(found, given.excel)
     put(text)

@@ -256,3 +256,19 @@ def test_what_is_not_there(office, tmp_path):
                         (["amend", "--child", "999"], "has no child 999"), (["moved", "--round", "1", "--before", "reg.db"], "is no copy from before draw 1")):
         ran = office("query", "reg.db", *words)
         assert ran.returncode == 1 and said in ran.stderr and ran.stderr.count("\n") == 1 and not ran.stdout
+
+
+def test_a_day_before_the_first_round_is_refused(office, tmp_path):
+    """Nobody can be due then, so its year may be wrong. On the day of the round, and before any round, a list is empty; the workbook has it so, too."""
+    town = Town(3)
+    file_of(town.season, tmp_path / "reg.db")
+    assert office("query", "reg.db", "remind-due", "--day", "2024-03-17").stdout == "child,school,offered,due,name\n"
+    town.round("2025-03-03")
+    file_of(town.season, tmp_path / "reg.db")
+    for name in ("remind-due", "lapse-due"):
+        ran = office("query", "reg.db", name, "--day", "2025-03-02")
+        said = "admissions-query: nobody had an offer on 2025-03-02: the first round was on 2025-03-03; give a later day by --day\n"
+        assert (ran.returncode, ran.stdout, ran.stderr) == (1, "", said)
+        ran = office("query", "reg.db", name, "--day", "2025-03-03")
+        assert ran.returncode == 0 and ran.stdout.count("\n") == 1
+    assert office("query", "reg.db", "--workbook", "all.xlsx", "--day", "2025-03-02").returncode == 0
