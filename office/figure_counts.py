@@ -5,8 +5,8 @@ import datetime
 
 from register_files import Refused
 
-from . import days, ranking
-from .register import PLAN
+from . import days, ranking, texts
+from .register import OFFERED, PLAN
 from .withheld import LEAST, withheld
 
 # preferences from this one on are counted together for each school
@@ -16,7 +16,8 @@ ENDED, NONE = "ended", "none"
 
 @dataclasses.dataclass
 class School:
-    """The figures of one school: applications by preference (1 to LOWER), and of the round its offers by class, and the class and metres of the last one."""
+    """The figures of one school: applications by preference (1 to LOWER), and of the round its offers by class, and the class and metres of the last one and
+    of the first that was turned away."""
 
     code: str
     name: str
@@ -30,6 +31,7 @@ class School:
     offers: collections.Counter = dataclasses.field(default_factory=collections.Counter)
     turned_away: int = 0
     last: tuple | None = None
+    first_away: tuple | None = None
 
 
 @dataclasses.dataclass
@@ -54,12 +56,17 @@ class Figures:
         return "primary" if self.phase == days.PRIMARY else "secondary"
 
 
+def draw_of(register, number=None):
+    """The draw of a round: of the last one where no number is given."""
+    found = next((it for it in reversed(register.draws) if it.round and number in (None, it.round)), None)
+    if found is None:
+        raise Refused(f"{register.name} has no round {number}" if number else f"{register.name} had no round yet")
+    return found
+
+
 def count(register, number=None):
     """The figures of a round of a register: of the last one where no number is given."""
-    rounds = [it for it in register.draws if it.round]
-    draw = next((it for it in reversed(rounds) if number in (None, it.round)), None)
-    if draw is None:
-        raise Refused(f"{register.name} has no round {number}" if number else f"{register.name} had no round yet")
+    draw = draw_of(register, number)
     outcomes, fresh, lots = register.outcomes.get(draw.number, {}), register.fresh.get(draw.number, {}), register.lots.get(draw.number, {})
     schools = {code: School(code, it.name, it.pan, it.criteria, it.east, it.north) for code, it in register.schools.items()}
     found = Figures(
@@ -78,20 +85,22 @@ def count(register, number=None):
     for code, child in lots:
         count_wish(register, schools[code], child, outcomes.get(child), lots[code, child])
     for it in schools.values():
-        it.last = it.last and it.last[:2]
+        it.last, it.first_away = it.last and it.last[:2], it.first_away and it.first_away[:2]
     found.hidden = withheld(*published(found))
     return found
 
 
 def count_wish(register, school, child, got, lot):
     """Counts one child that wanted a school in the round: it was offered the place, turned away, or has a school that it prefers."""
+    key = (ranking.class_of(school, register.children[child]), ranking.distance(school, register.children[child]), lot)
     if got == school.code:
-        key = (ranking.class_of(school, register.children[child]), ranking.distance(school, register.children[child]), lot)
         school.offers[key[0]] += 1
         school.last = max(school.last or key, key)
     elif child in register.applications:
         wishes = register.applications[child].preferences
-        school.turned_away += got not in wishes or wishes.index(got) > wishes.index(school.code)
+        if got not in wishes or wishes.index(got) > wishes.index(school.code):
+            school.turned_away += 1
+            school.first_away = min(school.first_away or key, key)
 
 
 def published(found):
@@ -112,6 +121,30 @@ def published(found):
     # (each child that takes part has one first preference)
     sums.append([(("applied", code, 1), 1) for code in found.schools])
     return counts, sums
+
+
+def see_unchanged(register, number, option):
+    """Refuses a register that had a draw or a change after the round: admission numbers, children and plans of today are not those that the round saw. (What
+    leaves no trace, such as a number that was raised where nobody was turned away, cannot be told from the register.)"""
+    draw = draw_of(register, number)
+    advice = f"name the copy from right before round {draw.round} by {option}"
+    if draw != register.draws[-1]:
+        raise Refused(f"{register.name} had {texts.count(len(register.draws) - draw.number, 'draw')} after round {draw.round}: {advice}")
+    outcomes, fresh = register.outcomes.get(draw.number, {}), register.fresh.get(draw.number, {})
+    if not all(is_as_left(register, draw, child, outcomes[child], fresh[child]) for child in outcomes):
+        raise Refused(f"{register.name} has answers, reminders, withdrawals or plans of after round {draw.round}: {advice}")
+    for it in count(register, number).schools.values():
+        # (who was turned away ranks after the last that was admitted, and the school is full)
+        if it.turned_away and (it.plans + it.kept + it.offers.total() < it.pan or it.first_away < (it.last or it.first_away)):
+            raise Refused(f"{register.name} has data of {it.code} or of its children that were changed after round {draw.round}: {advice}")
+
+
+def is_as_left(register, draw, child, school, is_fresh):
+    """Whether a child has what a round left it: an offer of its day, the place that it had, or none."""
+    place = register.places.get(child)
+    if school is None or place is None:
+        return school is None and place is None and child in register.applications
+    return place.school == school and place.kind != PLAN and (not is_fresh or (place.kind, place.day, place.reminded) == (OFFERED, draw.day, None))
 
 
 def is_published(found):

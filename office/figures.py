@@ -1,11 +1,12 @@
 """Writes the page that an authority publishes after a round: figures without personal data, in one file that any browser shows.
 
-  admissions-figures AFTER OUT.html [--copy COPY] [--before LAST_YEAR] [--round N] [--flags FILE]
+  admissions-figures AFTER OUT.html [--copy COPY] [--before LAST_YEAR [--before-copy COPY]] [--round N] [--flags FILE]
 
 AFTER is the register from right after the round: classes and distances are those of the data in it. Later, name the copy from right before the round by
---copy: schools and children are then taken from it, as the round saw them. The page has, for the last round, for round N or for that of the copy: how many children have their first, second, .. preference; for each school its admission number, applications by preference, offers by
+--copy: schools and children are then taken from it, as the round saw them. Without it a register is refused that had a draw, an answer or another change
+after the round. The page has, for the last round, for round N or for that of the copy: how many children have their first, second, .. preference; for each school its admission number, applications by preference, offers by
 criterion, and the criterion and the distance of the last child that was offered a place; a map of schools, with homes counted in squares; and charts. With
---before it is compared with the same round of last year's register.
+--before it is compared with the same round of last year's register; --before-copy is for that register what --copy is for AFTER.
 
 Counts from 1 to 4 are withheld, and so are others from which they could be worked out; so are squares of the map with fewer than 5 homes, and the distance
 where the last place went to a child that is or was looked after, or by a flag. --flags gives flags the office's words, by lines as `7,medical need`. The
@@ -135,6 +136,20 @@ def page(found, last, flags):
     })
 
 
+def figures_of(name, copy, number, option):
+    """The figures of a register's round, as the round saw its schools and children. `option` is the one that names the copy."""
+    after = register.read(name)
+    if copy:
+        _, after = ranking.seen_by_round(register.read(copy), after)
+        if number not in (None, sum(bool(it.round) for it in after.draws)):
+            raise Refused(f"{copy} is not from right before round {number}")
+    else:
+        figure_counts.see_unchanged(after, number, option)
+    found = figure_counts.count(after, number)
+    figure_counts.is_published(found)
+    return found
+
+
 def arguments(reader):
     """The arguments of the command."""
     reader.add_argument("after", metavar="AFTER", help="the register, or a copy, from right after the round")
@@ -142,25 +157,22 @@ def arguments(reader):
     reader.add_argument("--copy", metavar="COPY", help="the copy from right before the round, if anything was changed since")
     reader.add_argument("--flags", metavar="FILE", help=ranking.FLAGS_HELP)
     reader.add_argument("--before", metavar="LAST_YEAR", help="last year's register, to be compared")
+    reader.add_argument("--before-copy", metavar="COPY", help="last year's copy from right before the same round, if anything was changed since")
     reader.add_argument("--round", metavar="N", type=int, help="the number of the round, the last one by default")
 
 
 def main(given):
     """Writes the page."""
+    if given.before_copy and not given.before:
+        raise Refused("--before-copy needs --before", 2)
     if os.path.lexists(given.out):
         raise Refused(f"{given.out} is there already: nothing was written; choose another name")
-    flags, after, last = ranking.flags_of(given.flags), register.read(given.after), None
-    if given.copy:
-        _, after = ranking.seen_by_round(register.read(given.copy), after)
-        if given.round not in (None, sum(bool(it.round) for it in after.draws)):
-            raise Refused(f"{given.copy} is not from right before round {given.round}")
-    found = figure_counts.count(after, given.round)
-    figure_counts.is_published(found)
+    flags, last = ranking.flags_of(given.flags), None
+    found = figures_of(given.after, given.copy, given.round, "--copy")
     if given.before:
-        last = figure_counts.count(register.read(given.before), found.round)
+        last = figures_of(given.before, given.before_copy, found.round, "--before-copy")
         if last.phase != found.phase or last.year >= found.year:
             raise Refused(f"{given.before} is of {last.phase_name} entry in {last.year}, and cannot be compared with {found.phase_name} entry in {found.year}")
-        figure_counts.is_published(last)
     sheet.write_new(given.out, page(found, last, flags).encode())
     print(f"the figures of round {found.round}, {days.in_words(found.day)}, are in {given.out}; {len(found.hidden)} counts are withheld")
     return 0

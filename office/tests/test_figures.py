@@ -59,21 +59,65 @@ def test_the_page_is_whole_and_escaped(office, season, tmp_path):
     assert '<html lang="en-GB">' in text and page.tags["h1"] == page.tags["main"] == 1
 
 
-def test_later_by_the_copy(office, tmp_path):
-    """An admission number is raised, and a child amended and given a plan, after the round: with the copy from before it the page is as it was. Flags in words."""
+def one_school(tmp_path):
+    """Oak has 6 places; 12 children want it and live 100, 200, .. metres away, the first 7 with flag 7. After round 1 children 1 to 6 have it."""
     town = [school("OAK", pan=6, criteria=["flag:7"]), *(child(it, east=100 * it, flags=[7] if it < 8 else []) for it in range(1, 13)), *(apply(it, ["OAK"]) for it in range(1, 13))]
     make(tmp_path / "reg.db", town)
     shutil.copy(tmp_path / "reg.db", tmp_path / "before.db")
     do(tmp_path / "reg.db", [{"cmd": "round", "draw": 1, "day": "2025-03-03", "lots": list(range(12))}])
+
+
+def test_later_by_the_copy(office, tmp_path):
+    """An admission number is raised, and a child amended and given a plan, after the round: with the copy from before it the page is as it was. Flags in words."""
+    one_school(tmp_path)
     (tmp_path / "flags.csv").write_text("7,social or medical need\n", "utf-8")
     assert office("figures", "reg.db", "first.html", "--flags", "flags.csv").returncode == 0
     do(tmp_path / "reg.db", [{"cmd": "raise_pan", "school": "OAK", "pan": 9}, {**child(3), "cmd": "amend"}, {"cmd": "name_plan", "child": 12, "school": "OAK"}])
-    assert office("figures", "reg.db", "later.html", "--flags", "flags.csv").returncode == 0
     ran = office("figures", "reg.db", "copy.html", "--copy", "before.db", "--flags", "flags.csv")
-    first, later, copied = ((tmp_path / f"{it}.html").read_text("utf-8") for it in ("first", "later", "copy"))
-    assert ran.returncode == 0 and copied == first != later and "with a verified priority: social or medical need" in first, ran
+    first, copied = ((tmp_path / f"{it}.html").read_text("utf-8") for it in ("first", "copy"))
+    assert ran.returncode == 0 and copied == first and "with a verified priority: social or medical need" in first, ran
     ran = office("figures", "reg.db", "no.html", "--copy", "before.db", "--round", "2")
     assert ran.returncode == 1 and "is not from right before round 2" in ran.stderr and not (tmp_path / "no.html").exists()
+
+
+ACCEPT, DECLINE = ({"cmd": it, "child": 2, "school": "OAK"} for it in ("accept", "decline"))
+SINCE = "has answers, reminders, withdrawals or plans of after round 1"
+CHANGES = (
+    ([ACCEPT], SINCE), ([DECLINE], SINCE), ([{"cmd": "remind", "child": 2, "school": "OAK", "day": "2025-03-17"}], SINCE), ([{"cmd": "name_plan", "child": 12, "school": "OAK"}], SINCE),
+    ([{"cmd": "raise_pan", "school": "OAK", "pan": 9}], "has data of OAK or of its children that were changed after round 1"),
+    # (child 3 loses its flag, and now ranks after child 7, which was turned away)
+    ([{**child(3, east=300), "cmd": "amend"}], "has data of OAK or of its children that were changed after round 1"),
+    ([DECLINE, {"cmd": "fill", "draw": 2, "school": "OAK", "day": "2025-04-07", "lots": list(range(6))}], "had 1 draw after round 1"),
+)
+
+
+@pytest.mark.parametrize("commands, said", CHANGES)
+def test_what_was_changed_since_needs_the_copy(office, tmp_path, commands, said):
+    """Each change alone: without the copy no page is written, neither of this year nor beside it, and the line names the option; with it the page is as it was."""
+    one_school(tmp_path)
+    assert office("figures", "reg.db", "first.html").returncode == 0
+    do(tmp_path / "reg.db", commands)
+    for words, option in (([], "--copy"), (["--round", "1"], "--copy")):
+        ran = office("figures", "reg.db", "no.html", *words)
+        assert ran.returncode == 1 and f"reg.db {said}: name the copy from right before round 1 by {option}\n" in ran.stderr and not (tmp_path / "no.html").exists(), ran
+    assert office("figures", "reg.db", "copy.html", "--copy", "before.db").returncode == 0
+    assert (tmp_path / "copy.html").read_bytes() == (tmp_path / "first.html").read_bytes()
+
+
+def test_last_year_needs_the_copy_too(office, season, tmp_path):
+    """Last year's register from the end of its season: it is refused by itself, and compared with its copy from before the round."""
+    shutil.copy(season / "after-1.db", tmp_path / "now.db")
+    conn = sqlite3.connect(tmp_path / "now.db")
+    conn.execute("UPDATE meta SET year = 2026")
+    conn.commit()
+    conn.close()
+    ran = office("figures", "now.db", "no.html", "--before", season / "reg.db")
+    assert ran.returncode == 1 and "name the copy from right before round 1 by --before-copy\n" in ran.stderr and not (tmp_path / "no.html").exists(), ran
+    assert office("figures", "now.db", "out.html", "--before", season / "reg.db", "--before-copy", season / "before-1.db").returncode == 0
+    assert office("figures", "now.db", "same.html", "--before", season / "after-1.db").returncode == 0
+    assert (tmp_path / "out.html").read_bytes() == (tmp_path / "same.html").read_bytes()
+    ran = office("figures", "now.db", "no.html", "--before-copy", season / "before-1.db")
+    assert ran.returncode == 2 and "--before-copy needs --before" in ran.stderr
 
 
 def test_the_first_page_of_a_print(office, season, tmp_path):
@@ -87,17 +131,17 @@ def test_the_first_page_of_a_print(office, season, tmp_path):
 
 
 def test_last_year(office, season, tmp_path):
-    """Last year is another register: earlier, of the same phase, with other numbers."""
+    """Last year is another register: earlier, of the same phase, with another number of a school that turned nobody away."""
     shutil.copy(season / "after-1.db", tmp_path / "last.db")
     conn = sqlite3.connect(tmp_path / "last.db")
     conn.execute("UPDATE meta SET year = 2024")
-    conn.execute("UPDATE school SET pan = 400 WHERE code = 'ASHA'")
+    conn.execute("UPDATE school SET pan = 400 WHERE code = 'GLEA'")
     conn.commit()
     conn.close()
     ran = office("figures", season / "after-1.db", "out.html", "--before", "last.db")
     assert ran.returncode == 0, ran
     rows = table(Page((tmp_path / "out.html").read_text("utf-8")), "Each school in round 1 of 2025 and of 2024")
-    assert next(it[1:3] for it in rows if it[0].endswith("(ASHA)")) == ["27", "400"] and len(rows) == 22
+    assert next(it[1:3] for it in rows if it[0].endswith("(GLEA)")) == ["27", "400"] and len(rows) == 22
     ran = office("figures", season / "after-1.db", "other.html", "--before", season / "after-1.db")
     assert ran.returncode == 1 and "cannot be compared" in ran.stderr and not (tmp_path / "other.html").exists()
 
