@@ -104,19 +104,21 @@ def count_wish(register, school, child, got, lot):
 
 
 def published(found):
-    """The counts that the page has by their keys, and the sums by which they hang together."""
-    counts = {("met", it): number for it, number in found.met.items()} | {("kept",): found.kept, ("offers",): found.offers, ("met", NONE): found.met[NONE]}
-    sums = [[(it, 1) for it in counts if it[0] == "met"], [(("met", NONE), 1), (("kept",), 1), (("offers",), 1)]]
+    """The counts that the page has by their keys, and the sums by which they hang together. In the first round nobody kept a place, and the page has none."""
+    places = ("offers", "kept") if found.round > 1 else ("offers",)
+    counts = {("met", it): number for it, number in found.met.items()} | {("met", NONE): found.met[NONE]} | {(it,): getattr(found, it) for it in places}
+    sums = [[(it, 1) for it in counts if it[0] == "met"], [(("met", NONE), 1), *(((it,), 1) for it in places)]]
     for code, it in found.schools.items():
         counts |= {("applied", code, at): it.applications[at] for at in range(1, LOWER + 1)}
         counts |= {("class", code, at): it.offers[at] for at in range(len(it.criteria) + 2)}
-        counts |= {("applications", code): it.applications.total(), ("plans", code): it.plans, ("kept", code): it.kept, ("offers", code): it.offers.total()}
+        own = {("plans", code): it.plans, ("offers", code): it.offers.total()} | ({("kept", code): it.kept} if "kept" in places else {})
+        counts |= own | {("applications", code): it.applications.total()}
         sums.append([(("applications", code), -1), *((("applied", code, at), 1) for at in range(1, LOWER + 1))])
         sums.append([(("offers", code), -1), *((("class", code, at), 1) for at in range(len(it.criteria) + 2))])
-        if it.plans + it.kept + it.offers.total() == it.pan:
+        if sum(own.values()) == it.pan:
             # (the admission number is published, and that the school is full can be seen)
-            sums.append([((what, code), 1) for what in ("plans", "kept", "offers")])
-    for what in ("kept", "offers"):
+            sums.append([(key, 1) for key in own])
+    for what in places:
         sums.append([((what,), -1), *(((what, code), 1) for code in found.schools)])
     # (each child that takes part has one first preference)
     sums.append([(("applied", code, 1), 1) for code in found.schools])

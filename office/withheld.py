@@ -3,7 +3,8 @@
 A count that is published as a sum, or the number of places of a school, ties the counts beside it together: if one of them alone is withheld, it can be
 worked out as the difference. So counts are withheld until for each count from 1 to 4 there is another table that has the same published numbers and
 another number there. Such a table is searched by moves: one count rises or falls by 1, and each sum that is wrong by that is put right by another
-withheld count in it. A count of 0 is published, so whoever knows the page knows that a withheld count is at least 1.
+withheld count in it. A count of 0 is published, so whoever knows the page knows that a withheld count is at least 1. In the end a count that was withheld,
+but is not small and follows from published ones all the same, is published.
 """
 
 LEAST = 5
@@ -33,7 +34,15 @@ def withheld(counts, sums):
             # (all is withheld that hangs together with these)
             break
         hidden |= more
-    return hidden
+    return hidden - superfluous(counts, lines_of, hidden)
+
+
+def superfluous(counts, lines_of, hidden):
+    """The withheld counts that are not small and follow from published ones all the same: they can be published, as no other table has another number there."""
+    found = {key for key in hidden if not is_small(counts[key]) and not Search(counts, lines_of, hidden).has_another(key)}
+    # (a search may have ended at its limits, so what stays withheld is searched once more)
+    small = [key for key in hidden if is_small(counts[key]) and Search(counts, lines_of, hidden).has_another(key)]
+    return found if all(Search(counts, lines_of, hidden - found).has_another(key) for key in small) else set()
 
 
 class Search:

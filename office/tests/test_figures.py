@@ -1,4 +1,5 @@
 """admissions-figures beside the model of the example season, which shares no code with it, and as a page that a screen reader reads."""
+import collections
 import re
 import shutil
 import sqlite3
@@ -12,6 +13,7 @@ from figures_page import Page, beside_model, table
 from files import write
 
 from office import charts, figure_counts, register
+from office.withheld import withheld
 
 
 @pytest.mark.parametrize("name, played, at", [("after-1.db", model_season.after_first, 1), ("reg.db", model_season.after_second, 2)])
@@ -165,6 +167,34 @@ def test_homes_are_counted_in_squares():
     homes = [(10, 10)] * 5 + [(999, 10)] * 4 + [(1000, 10)] * 6 + [(1500, 999)]
     assert charts.homes_by_cell(homes, 1000, 5) == {(0, 0): 9, (1000, 0): 7}
     assert charts.homes_by_cell(homes, 500, 5) == {(0, 0): 5, (1000, 0): 6}
+
+
+def test_what_follows_is_not_withheld():
+    """By hand. Late: 150 took part, 17 have no place and 123 kept theirs, so 10 were offered one; Elm's 5 offers follow from its criteria, and so Oak's 5 too.
+    Oak's 2 plans then cannot be told where its kept places are withheld, with those of Elm. In the first round Elm's 18 follow from its criteria: 0, 18 and 0."""
+    schools = {"OAK": (67, [0, 5, 0], 60, 2), "ELM": (80, [0, 5, 0], 63, 0)}
+    late = figures(3, 150, {1: 123, 2: 10, figure_counts.NONE: 17}, schools)
+    assert withheld(*figure_counts.published(late)) == {("plans", "OAK"), ("kept", "OAK"), ("kept", "ELM")}
+    schools = {"OAK": (20, [0, 18, 0], 0, 2), "ELM": (30, [0, 18, 0], 0, 0)}
+    first = figures(1, 39, {1: 30, 2: 6, figure_counts.NONE: 3}, schools)
+    hidden = withheld(*figure_counts.published(first))
+    assert {("plans", "OAK"), ("offers", "OAK"), ("class", "OAK", 1), ("offers",), ("met", figure_counts.NONE)} <= hidden, hidden
+    assert not {("offers", "ELM"), ("class", "ELM", 1)} & hidden, hidden
+    # (nobody kept a place in a first round, and whoever reads the page knows that)
+    assert not any(it[0] == "kept" for it in hidden)
+
+
+def figures(number, children, met, schools):
+    """Figures of schools, as (admission number, offers by class, kept, plans). Each is the first preference of about as many children, and of no other."""
+    town, left = {}, children
+    for code, (pan, offers, kept, plans) in schools.items():
+        first = left if code == list(schools)[-1] else children // 2
+        left -= first
+        one = figure_counts.School(code, code, pan, tuple("sibling" for _ in offers[2:]), 0, 0, collections.Counter({1: first}), plans, kept)
+        one.offers.update({at: it for at, it in enumerate(offers) if it})
+        town[code] = one
+    total = lambda what: sum(what(it) for it in town.values())
+    return figure_counts.Figures(2025, 2, number, None, children, collections.Counter(met), total(lambda it: it.kept), total(lambda it: it.offers.total()), town, [])
 
 
 def test_a_full_school_does_not_show_its_plans(tmp_path):
