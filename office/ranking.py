@@ -80,7 +80,7 @@ def seen_by_round(before, after):
     if draw is None:
         raise Refused(f"{after.name} has no draw {at}: {before.name} has {at - 1}, and there is none more")
     if draw.round == 0:
-        raise Refused(f"draw {at} is a fill at {draw.school}: rounds alone are explained")
+        raise Refused(f"draw {at} is a fill at {draw.school}, and this command takes rounds alone; admissions-audit {before.name} {after.name} explains a fill")
     problem, lots, outcomes = Problem(before), after.lots.get(at, {}), after.outcomes.get(at, {})
     if problem.pairs() != set(lots) or set(problem.lists) != set(outcomes):
         raise Refused(f"{before.name} is not from right before draw {at} of {after.name}: the children who take part, or their lots, differ")

@@ -11,7 +11,7 @@ was admitted who ranks after this child is tested here, and where it is not so, 
 What it prints is for the family: [c] is a number that is withheld by the rules of admissions-figures, and so is the distance of a last child that is or
 was looked after, or has a flag. With --office it prints all, for the office alone. --flags gives flags the office's words, by lines as `7,medical need`.
 
-It explains one child. Whether the whole round is right, admissions-audit BEFORE AFTER tells.
+It explains one child in a round. admissions-audit BEFORE AFTER explains a fill, and checks whether a whole round is right.
 
 example:
   admissions-why copies/before-draw-1.db reg.db --child 23
@@ -31,6 +31,9 @@ DECIDED = {
     DISTANCE: "Both are in the same class, and the distance decided: the other child lives nearer to the school.",
     LOT: "Both are in the same class and live at the same distance, and the lot decided: the smaller one ranks first.",
 }
+# why a child takes no part at a school of its list
+TURNED_DOWN, LEFT = "its family had declined the place there, or not answered its offer in time", "its family had left the waiting list there"
+EITHER = "its family had declined the place there, not answered its offer in time, or left the waiting list"
 ORDINALS = ("first", "second", "third", "fourth", "fifth", "sixth", "seventh", "eighth", "ninth", "tenth")
 
 
@@ -40,7 +43,8 @@ class School:
 
     code: str
     preference: int
-    was_left: bool
+    # why the child took no part there, if it did not
+    because: str | None
     pan: int = 0
     plans: int = 0
     kept: int = 0
@@ -91,8 +95,16 @@ def explain(before, after, number):
         listed = problem.lists[number]
         above = listed[: listed.index(found.got)] if found.got else listed
         for place, code in enumerate(above, 1):
-            found.schools.append(school_of(problem, lots, outcomes, number, School(code, place, (number, code) in before.left)))
+            found.schools.append(school_of(problem, lots, outcomes, number, School(code, place, why_left(before, number, code))))
     return found
+
+
+def why_left(before, number, code):
+    """Why a child takes no part at a school of its list, or None where it does: the last place that it was offered was that one, an earlier one, or none."""
+    if (number, code) not in before.left:
+        return None
+    offered = [before.outcomes[draw][number] for draw, fresh in sorted(before.fresh.items()) if fresh.get(number)]
+    return LEFT if code not in offered else TURNED_DOWN if offered[-1] == code else EITHER
 
 
 def school_of(problem, lots, outcomes, number, found):
@@ -100,7 +112,7 @@ def school_of(problem, lots, outcomes, number, found):
     code = found.code
     found.pan, found.plans = problem.register.schools[code].pan, problem.plans[code]
     found.kept = sum(problem.own.get(it) == code == has for it, has in outcomes.items())
-    if found.was_left:
+    if found.because:
         return found
     keys = {child: problem.key(code, child, lots) for school, child in lots if school == code}
     found.wanted, found.key = len(keys), keys[number]
@@ -146,10 +158,12 @@ class View:
 
     def __init__(self, found, school, is_office, flags):
         self.school, self.is_office, self.flags = school, is_office, flags
-        self.hidden = set() if is_office else hidden_of(found)
+        self.hidden = set() if is_office or found.because else hidden_of(found)
+        self.has_withheld = False
 
     def count(self, key, value, one, many):
         """A number with what follows it. Nothing tells whether a number that is withheld is 1."""
+        self.has_withheld = self.has_withheld or key in self.hidden
         return f"{withheld.WITHHELD} {many}" if key in self.hidden else f"{value:,} {one if value == 1 else many}"
 
     def words(self, number):
@@ -164,8 +178,8 @@ class View:
 def sentences_of(found, school, view):
     """The sentences about one school."""
     yield f"{school.name} ({found.code}), {nth(found.preference)}: no place."
-    if found.was_left:
-        yield "The place there was declined or the offer lapsed, or the family left its waiting list, so the school was not asked again."
+    if found.because:
+        yield f"The child took no part there, as {found.because}."
         return
     yield f"The school has {texts.count(found.pan, 'place')}." + "".join(taken_of(found, view))
     admitted = view.count("admitted", found.admitted, "was admitted.", "were admitted.")
@@ -210,6 +224,15 @@ def compared(found, view):
     yield DECIDED[found.decided]
 
 
+def nowhere(found):
+    """The sentence about a child that got no place. A school that its family left may have admitted children who rank after it."""
+    there = sum(not it.because for it in found.schools)
+    if not there:
+        return "The child got no place: it took part at no school on its list."
+    which = "each school on its list" if there == len(found.schools) else "each school on its list at which it took part"
+    return f"The child got no place: {which} was filled by children who rank before it there."
+
+
 def opening(found, before, after):
     """The first sentences: what the child got."""
     name = lambda code: f"{after.schools[code].name} ({code})"  # noqa: E731  # pylint: disable=unnecessary-lambda-assignment
@@ -229,7 +252,7 @@ def opening(found, before, after):
         return
     listed = before.applications[found.child].preferences
     if found.got is None:
-        yield "The child got no place: each school on its list was filled by children who rank before it there."
+        yield nowhere(found)
     elif found.got == found.had:
         yield f"The child keeps its place at {name(found.got)}, its {nth(listed.index(found.got) + 1)}."
     else:
@@ -249,9 +272,9 @@ def lines_of(found, before, after, is_office=False, flags=None):
     is_withheld = False
     for it in found.schools:
         view = View(it, before.schools[it.code], is_office, flags)
-        is_withheld = is_withheld or bool(view.hidden)
         yield ""
         yield from sentences_of(it, before.schools[it.code], view)
+        is_withheld = is_withheld or view.has_withheld
         for fault in it.faults:
             yield f"THIS IS NOT RIGHT: {fault}. Run admissions-audit."
     if is_withheld:

@@ -84,11 +84,11 @@ def beside(questions, town, lot, has, number, found, counts):
     own = {it: town.places.get(it, (None,))[0] for it in has}
     plans = sum(1 for where, kind in town.places.values() if where == code and kind == "plan")
     kept = [it for it in has if has[it] == code == own[it]]
-    assert (found.pan, found.plans, found.kept, found.was_left) == (town.schools[code]["pan"], plans, len(kept), (number, code) in town.left)
+    assert (found.pan, found.plans, found.kept, bool(found.because)) == (town.schools[code]["pan"], plans, len(kept), (number, code) in town.left)
     counts["kept"] += bool(kept)
     counts["plans"] += bool(plans)
     counts["full"] += found.places == 0
-    if found.was_left:
+    if found.because:
         counts["left"] += 1
         return
     keys = {one: (*questions["standing"](town.schools[code], town.children[one]), lot[code, one]) for where, one in lot if where == code}
@@ -207,6 +207,38 @@ def test_what_was_changed_after_the_round(office, tmp_path):
     do(tmp_path / "other.db", [{"cmd": "raise_pan", "school": "OAK", "pan": 2}, {"cmd": "round", "draw": 1, "day": "2025-03-03", "lots": [2, 1]}])
     ran = office("why", "early.db", "other.db", "--child", "1")
     assert ran.returncode == 1 and "is not from right before draw 1: OAK admitted more children than it has places there" in ran.stderr, ran
+
+
+def test_schools_that_were_left(office, tmp_path):
+    """By hand. Oak and Elm have 1 place each, that of Elm by a plan. Child 1 lives nearest: it declines Oak and leaves the list of Elm, and in round 2 child 2 has Oak,
+    which ranks after it. Child 5 leaves Elm and is refused at Oak. No sentence says that a school that was left was filled by children who rank before."""
+    make(tmp_path / "reg.db", [
+        *(school(it, pan=1) for it in ("OAK", "ELM")), *(child(it, east=100 * it) for it in (1, 2, 5, 9)), apply(1, ["ELM", "OAK"]), apply(2, ["OAK"]),
+        apply(5, ["ELM", "OAK"]), {"cmd": "name_plan", "child": 9, "school": "ELM"},
+    ])
+    do(tmp_path / "reg.db", [{"cmd": "round", "draw": 1, "day": "2025-03-03", "lots": [1, 2, 1, 2, 3]}])
+    answers = (("decline", 1, "OAK"), ("leave_list", 1, "ELM"), ("leave_list", 5, "ELM"))
+    do(tmp_path / "reg.db", [{"cmd": it, "child": number, "school": code} for it, number, code in answers])
+    shutil.copy(tmp_path / "reg.db", tmp_path / "before.db")
+    do(tmp_path / "reg.db", [{"cmd": "round", "draw": 2, "day": "2025-04-07", "lots": [1, 2]}])
+    # (that Elm has a place by a plan is not printed, so no line explains [c])
+    left = ["ELM School (ELM), first preference: no place.", "The child took no part there, as its family had left the waiting list there.", ""]
+    assert office("why", "before.db", "reg.db", "--child", "1").stdout.splitlines() == [
+        "For the family of the child: small numbers are withheld", "Admission 2025 secondary, round 2 of 7 April 2025", "Child 1 Child 1", "",
+        "The child got no place: it took part at no school on its list.", "", *left, "OAK School (OAK), second preference: no place.",
+        "The child took no part there, as its family had declined the place there, or not answered its offer in time.",
+    ]
+    other = office("why", "before.db", "reg.db", "--child", "5").stdout.splitlines()
+    assert other[4] == "The child got no place: each school on its list at which it took part was filled by children who rank before it there."
+    assert other[6:9] == left and other[9] == "OAK School (OAK), second preference: no place." and "[c] children rank before this child there:" in other
+    assert other[-1].startswith("[c] is a number that is withheld")
+    do(tmp_path / "reg.db", [{"cmd": "decline", "child": 2, "school": "OAK"}])
+    shutil.copy(tmp_path / "reg.db", tmp_path / "copy.db")
+    do(tmp_path / "reg.db", [{"cmd": "fill", "draw": 3, "school": "OAK", "day": "2025-04-14", "lots": [1]}])
+    ran = office("why", "copy.db", "reg.db", "--child", "5")
+    said = "draw 3 is a fill at OAK, and this command takes rounds alone; admissions-audit copy.db reg.db explains a fill\n"
+    assert ran.returncode == 1 and ran.stderr.endswith(said), ran
+    assert "child 5" in office("audit", "copy.db", "reg.db").stdout
 
 
 def test_with_the_program(office, tmp_path):
