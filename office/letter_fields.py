@@ -9,6 +9,7 @@ ANSWER_DAYS = datetime.timedelta(days=14)
 MOST_WAITS = 10
 # why a child does not wait at a school above its place
 TURNED_DOWN, LEFT, EITHER = "declined, or not answered in time", "you left its list", "declined, not answered in time, or you left its list"
+DECLINED = "declined"
 STATES = {OFFERED: "offered", ACCEPTED: "accepted", PLAN: "plan"}
 COLUMNS = (
     "child", "name", "year", "phase", "state", "school", "school_name", "preference", "offered", "offered_words", "reminded", "reminded_words", "answer_by",
@@ -108,16 +109,16 @@ class Letter:
 
 
 class Writer:
-    """Makes the letters of a register. `before` is the register from before a round, a fill or withdrawals, if places that ended are to be named, and `flags`
-    are the office's words for flags."""
+    """Makes the letters of a register. `before` is the register from before a round, a fill or withdrawals, if places that ended are to be named, `flags` are
+    the office's words for flags, and `day` is the date of the letters."""
 
-    def __init__(self, register, before=None, flags=None):
-        self.register, self.before, self.flags = register, before, flags
-        # the schools that each child was offered, the last one at the end
-        self.offered = {}
+    def __init__(self, register, before=None, flags=None, day=datetime.date.max):
+        self.register, self.before, self.flags, self.day = register, before, flags, day
+        # the schools that each child was offered and the days of the offers, the last one at the end
+        self.offered, draws = {}, {it.number: it.day for it in register.draws}
         for draw, fresh in sorted(register.fresh.items()):
             for child in (it for it, is_fresh in fresh.items() if is_fresh):
-                self.offered.setdefault(child, []).append(register.outcomes[draw][child])
+                self.offered.setdefault(child, []).append((register.outcomes[draw][child], draws[draw]))
         self.wanted = ranking.Problem(register).wanted if register.draws else {}
         self.queues = {}
         for child, schools in self.wanted.items():
@@ -141,7 +142,14 @@ class Writer:
     def not_waiting(self, child, code):
         """Why a child does not wait at a school above its place. One that was offered a place there, and none elsewhere since, declined it or let it lapse."""
         offered = self.offered.get(child, [])
-        return LEFT if code not in offered else TURNED_DOWN if offered[-1] == code else EITHER
+        if code not in (it for it, _ in offered):
+            return LEFT
+        last, day = offered[-1]
+        return EITHER if last != code else TURNED_DOWN if self.may_have_lapsed(day) else DECLINED
+
+    def may_have_lapsed(self, offered, reminded=None):
+        """Whether an offer can have been withdrawn by the date of the letter: 14 days after the reminder, which is sent 14 days after the offer or later."""
+        return self.day - (reminded or offered + ANSWER_DAYS) >= ANSWER_DAYS
 
     def letter(self, number):
         """The letter of a child."""
@@ -175,7 +183,7 @@ class Writer:
         had = self.before.places.get(number) if self.before else None
         if had is None or place and place.school == had.school:
             return {"ended_school": None, "ended_name": None, "ended_because": None}
-        if place is None and had.kind == ACCEPTED:
+        if place is None and (had.kind == ACCEPTED or not self.may_have_lapsed(had.day, had.reminded)):
             because = "you declined it"
         elif place is None:
             reminder = f", of which we reminded you on {days.in_words(had.reminded)}," if had.reminded else ""

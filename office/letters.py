@@ -10,7 +10,8 @@ with the program or by --template. Folders must be new or empty; no file is over
 --only takes the name of a worklist of admissions-query, or a file (CSV or .xlsx, its name with a dot or a slash) with a column `child`, such as the list of
 reminders from which rows were deleted. --child N is for one child, and can be repeated.
 
-With --before COPY, a copy of the register from before the last round, fill or withdrawals, the PDF and the CSV name the place of a child that ended.
+With --before COPY, a copy of the register from before the last round, fill or withdrawals, the PDF and the CSV name the place of a child that ended. They
+say that the family declined it where, by the date of the letters, no offer of that day can have been withdrawn.
 --addresses is a CSV or .xlsx with a column `child`; its other columns are the lines of the address, and the last columns of the file for a mail merge.
 --flags gives flags the office's words, by lines as `7,social or medical need`.
 
@@ -123,7 +124,7 @@ def worked_out(given, file, children):
         register.same_season(before, now)
     if given.pdf and not now.draws:
         raise Refused(f"{given.file} had no round yet, so there is no place to write of")
-    writer = letter_fields.Writer(now, before, ranking.flags_of(given.flags))
+    writer = letter_fields.Writer(now, before, ranking.flags_of(given.flags), given.date)
     return [writer.letter(it) for it in children]
 
 
@@ -228,7 +229,7 @@ def arguments(reader):
     reader.add_argument("--addresses", metavar="FILE", help="the lines of the addresses, by child")
     reader.add_argument("--flags", metavar="FILE", help=ranking.FLAGS_HELP)
     reader.add_argument("--before", metavar="COPY", help="a copy from before the last round, fill or withdrawals, to name the places that ended")
-    reader.add_argument("--date", metavar="D", type=read_day, default=datetime.date.today(), help="the date of the PDF letters, today by default")
+    reader.add_argument("--date", metavar="D", type=read_day, default=datetime.date.today(), help="the date of the letters, today by default")
     reader.add_argument("--double-sided", action="store_true", help="in printer.pdf each letter begins on a new sheet")
 
 

@@ -172,6 +172,37 @@ def test_declined_lapsed_and_late(office, tmp_path):
     assert "not waiting: you left its list" in text[3] and "not waiting:" not in text[6] and "of a place at this school, whether" in text[6]
 
 
+def test_a_place_that_cannot_have_lapsed(office, tmp_path):
+    """By hand. Offers of 3 March can be withdrawn from 31 March on, 14 days after a reminder of 17 March. Child 2 declines Oak unreminded, child 3 after its reminder of
+    20 March, so that its offer could be withdrawn from 3 April on. A letter of an earlier day says that the family declined it; a later one cannot tell."""
+    reg = tmp_path / "reg.db"
+    make(reg, [school("OAK", pan=2), school("ELM", pan=2, east=1000), *(child(it, east=10 * it) for it in (2, 3, 4)), *(apply(it, ["OAK", "ELM"]) for it in (2, 3, 4))])
+    do(reg, [{"cmd": "round", "draw": 1, "day": "2025-03-03", "lots": [1, 2, 3, 1, 2, 3]}, {"cmd": "remind", "child": 3, "school": "OAK", "day": "2025-03-20"}])
+    shutil.copy(reg, tmp_path / "copy.db")
+    do(reg, [{"cmd": "decline", "child": it, "school": "OAK"} for it in (2, 3)])
+    either, reminded = "was declined, or was withdrawn because it was not answered", "our offer of 3 March 2025, of which we reminded you on 20 March 2025,"
+    for day, wanted in (
+        ("2025-03-30", {2: "you declined it", 3: "you declined it"}), ("2025-03-31", {2: f"our offer of 3 March 2025 {either}", 3: "you declined it"}),
+        ("2025-04-02", {2: f"our offer of 3 March 2025 {either}", 3: "you declined it"}), ("2025-04-03", {2: f"our offer of 3 March 2025 {either}", 3: f"{reminded} {either}"}),
+    ):
+        assert office("letters", "reg.db", "--csv", f"{day}.csv", "--before", "copy.db", "--date", day).returncode == 0
+        rows = rows_of(tmp_path / f"{day}.csv")
+        assert {it: row["ended_because"] for it, row in rows.items() if row["ended_because"]} == wanted, day
+    assert office("letters", "reg.db", "--pdf", "early", "--date", "2025-03-30").returncode == 0 and office("letters", "reg.db", "--pdf", "late", "--date", "2025-03-31").returncode == 0
+    text = {it: " ".join(text_of(tmp_path / it / "letter-0000002.pdf", "-raw").split()) for it in ("early", "late")}
+    assert "not waiting: declined or" not in text["early"] and "not waiting: declined, or not answered in time" in text["late"] and "answered in time" not in text["early"]
+    assert "not waiting: declined" in text["early"] and all("refusal of a place at ELM School, whether" in it for it in text.values())
+
+
+def test_waiting_lists_are_named_where_the_child_waits(office, tmp_path):
+    """By hand: in the town 2 has its first preference, 1, 3 and 4 wait for Oak. The letter of 2 says nothing of waiting lists that it would remain on."""
+    town(tmp_path)
+    assert office("letters", "reg.db", "--pdf", "out", "--date", "2025-03-03").returncode == 0
+    text = {it: " ".join(text_of(tmp_path / "out" / f"letter-000000{it}.pdf", "-raw").split()) for it in (1, 2, 4)}
+    assert all("whether you accept or decline this place" in it for it in text.values())
+    assert "waiting list" not in text[2] and all("If you accept it you remain on the waiting list named below." in text[it] for it in (1, 4))
+
+
 def test_the_end_is_not_alone(office, tmp_path):
     """Letters of one to ten schools with long names: where there is a second page, it has the last paragraph and not the signature alone."""
     codes = [f"S{it}" for it in range(10)]
