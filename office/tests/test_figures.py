@@ -132,6 +132,22 @@ def test_the_first_page_of_a_print(office, season, tmp_path):
     assert "@media screen { figure { overflow-x: auto; } figure svg { min-width: 40rem; } }" in (tmp_path / "out.html").read_text("utf-8")
 
 
+def test_the_tables_fit_a_small_screen(office, season, tmp_path):
+    """A window of 1,100 pixels has 1,053 for tables, beside its scroll bar and the margins. With each word on a line of its own the widest table needs 1,010 at
+    most, so that it fits also where a browser's letters are somewhat wider. (On a page of 390 pixels a table is as narrow as its words allow.)"""
+    assert office("figures", season / "reg.db", "out.html").returncode == 0
+    code = """
+import sys, weasyprint
+from weasyprint.formatting_structure.boxes import TableBox
+small = weasyprint.CSS(string="@page { size: 390px 9000px; margin: 0 } figure { display: none }")
+screen = weasyprint.HTML(sys.argv[1], media_type="screen").render(stylesheets=[small])
+print(*{round(it.width) for page in screen.pages for it in page._page_box.descendants() if isinstance(it, TableBox)})
+"""
+    ran = subprocess.run([sys.executable, "-c", code, tmp_path / "out.html"], check=True, capture_output=True, text=True)
+    widths = list(map(int, ran.stdout.split()))
+    assert len(widths) == 3 and 900 < max(widths) <= 1010, widths
+
+
 def test_last_year(office, season, tmp_path):
     """Last year is another register: earlier, of the same phase, with another number of a school that turned nobody away."""
     shutil.copy(season / "after-1.db", tmp_path / "last.db")
