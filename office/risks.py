@@ -116,7 +116,8 @@ def given_up(lines, known):
     for line in found[:MOST_GIVEN_UP]:
         number = line.command["child"]
         name = known(number)
-        rows.append(f"\n    line {line.number}: {line.kind} of {line.command['school']} by child {number}, {texts.shown(name) if name else 'which the register does not have'}")
+        who = texts.shown(name) if name else "which the register does not have"
+        rows.append(f"\n    line {line.number}: {line.kind} of {line.command['school']} by child {number}, {who}")
     more = f"\n    and {len(found) - MOST_GIVEN_UP:,} more" if len(found) > MOST_GIVEN_UP else ""
     number = texts.count(len(found), "line gives", "lines give")
     yield f"{number} up a place or a list for good, by the child's number alone: are these the children who are meant?{''.join(rows)}{more}"
@@ -186,7 +187,8 @@ def child_risks(lines, register):
     rows = [Added(it) for it in lines if it.kind == "add_child"]
     for row, other in across.alike(rows, register):
         where = f"child {other.fields['child']}" + (" of the register" if other.number is None else f" of {other.where}")
-        yield row.line, f"add_child of child {row.fields['child']}, {texts.shown(row.fields['name'])}: is it the same child as {where}, {texts.shown(other.fields['name'])}?"
+        new = f"add_child of child {row.fields['child']}, {texts.shown(row.fields['name'])}"
+        yield row.line, f"{new}: is it the same child as {where}, {texts.shown(other.fields['name'])}?"
 
 
 def draw_risks(lines, register, path, backups):

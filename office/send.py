@@ -277,15 +277,12 @@ def see_arguments(given):
         raise Refused("--as remind and --as lapse need --day, and the others take none", 2)
 
 
-def main(given):
-    """Reads, asks, sends and reports."""
-    given.kind = replies.ANSWERS.get(given.kind, given.kind)
-    see_arguments(given)
+def data_of(given):
+    """The commands of the file, as bytes; those of a sheet are first written as a file beside it."""
     given.row_names = None
     if replies.is_sheet(given.file):
         name = given.file
         given.file, given.row_names = replies.convert(name, given.kind, str(given.day))
-    given.register = given.register or (None if given.url else "reg.db")
     try:
         with open(given.file, "rb") as file:
             data = file.read()
@@ -293,6 +290,15 @@ def main(given):
         raise Refused(f"{given.file} cannot be read: {error.strerror}") from error
     if said := kinds.without_commands(data):
         raise Refused(f"nothing was sent: {given.file} is {said}; commands are lines of JSON, and a sheet has a name that ends with .csv or .xlsx")
+    return data
+
+
+def main(given):
+    """Reads, asks, sends and reports."""
+    given.kind = replies.ANSWERS.get(given.kind, given.kind)
+    see_arguments(given)
+    data = data_of(given)
+    given.register = given.register or (None if given.url else "reg.db")
     lines, journal, reg, was = lines_of(data), Journal(given.file, data, given), None, None
     if given.url:
         sender = senders.Http(given.url, given.user, getpass.getpass() if given.user else None)

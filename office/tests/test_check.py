@@ -9,7 +9,7 @@ import zipfile
 
 import openpyxl
 import pytest
-from conftest import HEADER, PROGRAM, child, make, school
+from conftest import HEADER, PROGRAM, child, do, make, school
 
 from office import check, register, sheet, texts
 
@@ -331,6 +331,15 @@ def test_what_only_a_workbook_has(office, tmp_path):
 ])
 def test_names_of_one_person(one, other, is_alike):
     assert texts.is_alike(one, other) == texts.is_alike(other, one) == is_alike
+
+
+def test_no_application_of_a_usual_day_is_looked_at(office, tmp_path):
+    """Primary: from 1 September on, for the closing date 15 January; the day before is looked at, and so is a late one with a year too few."""
+    subprocess.run([PROGRAM, "init", tmp_path / "p.db", "primary", "2025"], check=True)
+    rows = "".join(f"{at},Child {at},{at}000,0,no,,,{day},OAK\n" for at, day in enumerate(("2024-09-01", "2025-01-15", "2024-08-31", "2024-01-20"), 1))
+    do(tmp_path / "p.db", [school("OAK")])
+    (tmp_path / "p.csv").write_text(HEADER.removesuffix(",present") + "\n" + rows)
+    assert found_in(office("check", "p.csv", "--register", "p.db").stdout) == {(4, "day", "look at"), (5, "day", "look at")}
 
 
 @pytest.mark.parametrize("data, text", [
