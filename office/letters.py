@@ -178,9 +178,9 @@ def make(given):
     if failure:
         raise Refused(f"{given.file} does not open: {failure}")
     files.warn("letters", given.file, os.stat(file))
-    if given.folder and not register.read(file).draws:
-        print(f"admissions-letters: {given.file} had no round yet, so each text says `Place: none`: do not send it as a decision", file=sys.stderr)
     children = chosen(given, file)
+    if given.folder and children and not register.read(file).draws:
+        print(f"admissions-letters: {given.file} had no round yet, so each text says `Place: none`: do not send it as a decision", file=sys.stderr)
     columns, addresses = letter_pdf.addresses_of(given.addresses) if given.addresses else ([], {})
     letters = worked_out(given, file, children)
     with contextlib.ExitStack() as stack:
