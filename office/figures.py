@@ -4,9 +4,10 @@
 
 AFTER is the register from right after the round: classes and distances are those of the data in it. Later, name the copy from right before the round by
 --copy: schools and children are then taken from it, as the round saw them. Without it a register is refused that had a draw, an answer or another change
-after the round. The page has, for the last round, for round N or for that of the copy: how many children have their first, second, .. preference; for each school its admission number, applications by preference, offers by
-criterion, and the criterion and the distance of the last child that was offered a place; a map of schools, with homes counted in squares; and charts. With
---before it is compared with the same round of last year's register; --before-copy is for that register what --copy is for AFTER.
+after the round. The page has, for the last round, for round N or for that of the copy: how many children have their first, second, .. preference; for each
+school its admission number, applications by preference, offers by criterion, and the criterion and the distance of the last child that was offered a
+place; a map of schools, with homes counted in squares; and charts. With --before it is compared with the same round of last year's register; --before-copy
+is for that register what --copy is for AFTER.
 
 Counts from 1 to 4 are withheld, and so are others from which they could be worked out; so are squares of the map with fewer than 5 homes, and the distance
 where the last place went to a child that is or was looked after, or by a flag. --flags gives flags the office's words, by lines as `7,medical need`. The
