@@ -13,7 +13,7 @@ A query is a file of SQL (queries/, installed as PREFIX/share/admissions/queries
 example:
   admissions-query reg.db find abel
   admissions-query reg.db remind-due --day 2025-03-17 --excel > remind.csv
-  admissions-query reg.db amend --child 23 > corrections.jsonl
+  admissions-query reg.db amend --child 23 > corrections-2024-11-04.jsonl
   admissions-query reg.db moved --round 2 --before copies/before-draw-5.db
   admissions-query reg.db --workbook worklists.xlsx
 
