@@ -11,7 +11,8 @@ It prints a table by school, and one by school and criterion. A child gains if i
 wants less, or none; by the same lists, for nobody knows what families would have listed. --html writes the tables and a chart as a page, --csv a row for each
 child that would have another school. Both must be new. The numbers are small and not for publication.
 
-Criteria are given whole, in their order, with semicolons; 'OAK=' is none. --flags gives flags the office's words, by lines as `7,medical need`. A later round can be tried with raised admission numbers alone.
+Criteria are given whole, in their order, with semicolons; 'OAK=' is none. --flags gives flags the office's words, by lines as `7,medical need`. A later round
+can be tried with raised admission numbers alone.
 
 example:
   admissions-trial copies/before-draw-1.db reg.db --pan OAK=70 --criteria 'ELM=sibling;within:800' --html trial.html

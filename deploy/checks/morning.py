@@ -7,7 +7,7 @@ import sqlite3
 import time
 
 from checks.browser import Browser
-from checks.page import ANSWER, FOCUS, opened, question, rows
+from checks.page import ANSWER, FOCUS, opened, rows
 
 TODAY = "2025-04-02"
 CHILDREN = 300
