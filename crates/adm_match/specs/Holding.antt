@@ -1,5 +1,5 @@
 -- Whom a school tentatively holds, and how it considers one more proposal (Gale and Shapley 1962; tenants are this profile's).
-use Rattle.std.specs.Prelude.{◌≡◌, ℕ, ◌+◌, ◌<◌, ◌≤◌, Bool, false, if◌then◌else◌, List, [], ◌∷◌, ◌++◌, length, Option, None, Some, All, ◌⊎◌, IsPermutation, not, ◌&&◌, option_map, count_by}
+use Rattle.std.specs.Prelude.{◌≡◌, ℕ, ◌+◌, ◌<◌, ◌≤◌, Bool, false, if◌then◌else◌, List, [], ◌∷◌, ◌++◌, length, Option, None, Some, All, ◌⊎◌, IsPermutation, not, ◌&&◌, option_map, count_by, slice_get, slice_set}
 use Rattle.std.specs.Ordering.{nat_cmp, ordering_then}
 use Rattle.std.specs.Option.{option_to_list}
 use Rattle.std.specs.declared.cmp.Ordering.{Ordering}
@@ -71,6 +71,11 @@ pub record Considers (old new : Holding) (proposal : Proposal) (out : Option ℕ
   pub quota : new.quota ≡ old.quota
   pub tenants : new.tenants ≡ tenants_with old proposal
   pub guests : GuestsAfter old new proposal out
+
+-- one school of several considers a proposal, and the others are as they were
+abbrev pub ConsidersAt : List Holding → List Holding → ℕ → Proposal → Option ℕ → Type 0
+ConsidersAt schools after at proposal out =
+    (old : Holding) → slice_get schools at ≡ Some old → (new : Holding) × (after ≡ slice_set schools at new) × Considers old new proposal out
 
 -- the entry of the entrant at an index, at a school that holds it and of which it is no tenant, or nothing
 abbrev pub guest_entry : ℕ → Candidate → Progress → Code → List Guest

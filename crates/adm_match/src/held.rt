@@ -1,7 +1,7 @@
 // Whom a school holds, tentatively, while entrants propose: its tenants, and the others in a heap.
-ghost use Rattle.std.specs.Prelude.{◌≡◌, ◌<◌, Some, length, slice_get, slice_set, [], IfOk, OnErr, IfSome, IfNone};
+ghost use Rattle.std.specs.Prelude.{◌≡◌, ◌<◌, length, [], IfOk, OnErr, IfSome, IfNone};
 ghost use Rattle.std.specs.BinaryHeap.{heap_items, IsHeap};
-ghost use Rattle.adm_match.specs.Holding.{Holding, Considers, RanksLast, guest_cmp};
+ghost use Rattle.adm_match.specs.Holding.{Holding, Considers, ConsidersAt, RanksLast, guest_cmp};
 
 use adm_rank::RankKey;
 use adm_types::ChildNo;
@@ -144,7 +144,7 @@ pub(crate) fn consider_at(
     tenant: bool,
 ) -> Result<Option<usize>, AllocError>
     requires { at < length schools.old }
-    ensures ok { IfOk result (λ out. (old : Holding) → slice_get schools.old at ≡ Some old → (new : Holding) × (schools.new ≡ slice_set schools.old at new) × Considers old new (record { child = child; key = key; tenant = tenant }) out) }
+    ensures ok { IfOk result (ConsidersAt schools.old schools.new at (record { child = child; key = key; tenant = tenant })) }
     ensures err { OnErr result (schools.new ≡ schools.old) }
 {
     let held = &mut schools[at];

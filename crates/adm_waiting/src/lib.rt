@@ -8,6 +8,6 @@ mod tallies;
 mod vacancies;
 
 pub use laws::one_is_first;
-pub use lists::{Waiting, entry, waiting_list};
+pub use lists::{Waiting, waiting_list};
 pub use tallies::Tally;
 pub use vacancies::first_by_lot;

@@ -1,12 +1,12 @@
-// Waiting lists, and a child's position on one.
+// Waiting lists.
 ghost use Rattle.std.specs.Prelude.{◌≡◌, ◌≤◌, ◌+◌, IfOk, IsTrue, true, List, map, length, All, Contains, count_by, IsSorted};
 ghost use Rattle.std.specs.List.Sorted.{IsStrictlySortedBy};
 ghost use Rattle.std.specs.Ordering.{nat_cmp};
 ghost use Rattle.adm_types.specs.Limits.{is_school_in_range, is_child_in_range};
-ghost use Rattle.adm_waiting.specs.Waiting.{number_of_child, position, entry_of, waiting_list, IsEntryFor};
+ghost use Rattle.adm_waiting.specs.Waiting.{number_of_child, waiting_list, IsEntryFor};
 ghost use Rattle.adm_waiting.specs.Ranks.{is_rank_ahead, rank_cmp, entry_among};
 
-use crate::ranks::{Rank, is_rank_ahead, rank_of, ranks_of};
+use crate::ranks::{Rank, is_rank_ahead, ranks_of};
 use adm_table::Shared;
 use adm_types::{Child, ChildNo, School};
 use std::alloc::{AllocError, Global};
@@ -68,41 +68,4 @@ pub fn waiting_list(
     let mut ranks = ranks_of(alloc, school, children)?;
     ranks.sort_unstable();
     entries_of(alloc, &ranks)
-}
-
-/// The child's entry on the waiting list of the school where these children wait, as that list has
-/// it. The child need not be one of them. It takes no memory, and time for each child.
-pub fn entry(school: &School, children: &[Shared<Child>], child: &Child) -> Waiting
-    requires school { IsTrue (is_school_in_range school.now) }
-    requires children { All (λ child. is_child_in_range child ≡ true) children.now }
-    requires child { IsTrue (is_child_in_range child.now) }
-    ensures { result ≡ entry_of school.now children.now child.now }
-{
-    let rank = rank_of(school, child);
-    Waiting {
-        position: position(school, children, child),
-        child: rank.child,
-        class: rank.class,
-        metres: rank.metres,
-    }
-}
-
-/// The position of the child on the waiting list of the school where these children wait: 1 plus
-/// the number of those with a smaller class, or with the same class and a smaller distance.
-fn position(school: &School, children: &[Shared<Child>], child: &Child) -> usize
-    requires school { IsTrue (is_school_in_range school.now) }
-    requires children { All (λ child. is_child_in_range child ≡ true) children.now }
-    requires child { IsTrue (is_child_in_range child.now) }
-    ensures value { result ≡ position school.now children.now child.now }
-    ensures upper { result ≤ 1 + length children.now }
-{
-    let one = rank_of(school, child);
-    let mut ahead = 0;
-    for index in 0..children.len() {
-        let other = rank_of(school, children[index].as_ref());
-        if is_rank_ahead(&other, &one) {
-            ahead += 1;
-        }
-    }
-    1 + ahead
 }
