@@ -34,3 +34,14 @@ module _ {X : Type 0} (one two three four : X → Value) where
   given_offers xs long =
       let it = eight_of xs long in
       subst (λ ys. value_rows (flat_map row_of_four ys) 5 (length text.offers_terms / 5) text.offers_terms ≡ map (λ x. Null ∷ row_of_four x) ys) (sym it.8) refl
+
+-- rows of five values, of which the first is the rowid
+module _ {X : Type 0} (one two three four five : X → Value) where
+  abbrev row_of_five : X → Row
+  row_of_five x = one x ∷ two x ∷ three x ∷ four x ∷ five x ∷ []
+
+  pub given_places : (xs : List X) → length xs ≡ 8
+      → value_rows (flat_map row_of_five xs) 6 (length text.places_terms / 6) text.places_terms ≡ map (λ x. one x ∷ Null ∷ two x ∷ three x ∷ four x ∷ five x ∷ []) xs
+  given_places xs long =
+      let it = eight_of xs long in
+      subst (λ ys. value_rows (flat_map row_of_five ys) 6 (length text.places_terms / 6) text.places_terms ≡ map (λ x. one x ∷ Null ∷ two x ∷ three x ∷ four x ∷ five x ∷ []) ys) (sym it.8) refl

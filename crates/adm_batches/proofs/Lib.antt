@@ -3,3 +3,4 @@ pub mod Added
 pub mod Updates
 pub mod Found
 pub mod Eights
+pub mod Fresh
