@@ -15,7 +15,7 @@ use Rattle.sqlite.specs.State.{State, HasCleanDisk, Survives}
 use Rattle.sqlite_trees.specs.View.{doubt}
 use Rattle.sqlite_rules.specs.Lists.{Has}
 use Rattle.adm_schema.specs.Rows.{columns_of, rows_of}
-use Rattle.adm_schema.specs.Effects.{Sees, SeesDatabase, StaysOpen, WritesOnly, AddsRow, PutsRow, DeletesRow, DropsRow, SetsDraws, with_draws}
+use Rattle.adm_schema.specs.Effects.{Sees, SeesDatabase, StaysOpen, WritesOnly, AddsRow, PutsRow, DeletesRow, DropsRow, SetsDraws, Turns, put_each, with_draws}
 use Rattle.adm_batches.specs.Effects.{AddsRows}
 use Rattle.adm_schema.specs.Schema.{meta, register_schema}
 use Rattle.adm_schema.proofs.Listed.{has_meta}
@@ -134,6 +134,10 @@ one_write w old new here has only own = record {
         × IsTrue (are_keyed t (rows_of t new.now.trees))) (sym is)
         (subst (IsPermutation (rows_of t old.now.trees)) same (IsPermutation-refl _), subst (λ rows. IsTrue (are_keyed t rows)) same keyed)
 
+keyed_both : (xs ys : List Row) → have_rowids xs ≡ true → have_rowids ys ≡ true → have_rowids (xs ++ ys) ≡ true
+keyed_both [] ys one two = two
+keyed_both (x ∷ xs) ys one two = let parts = and_parts (is_int (rowid x)) (have_rowids xs) one in λ k. parts.0 k && keyed_both xs ys parts.1 two k
+
 -- what writes of one table leave
 pub own_writes : (table : Table) (writes : List Write) (old new : State) → Has register_schema.tables table → old.now.schema ≡ register_schema → WritesOnly table old new
     → ((t : Table) (rows : List Row) → (t.tree == table.tree) ≡ false → after_writes t writes rows ≡ rows)
@@ -161,10 +165,10 @@ own_writes table writes old new here has only apart own = record {
         )
 
 module _ (table : Table) (listed : Has register_schema.tables table) (old new : State) (monotone : doubt old.is_clean ≤ doubt new.is_clean) where
-  -- a row that is written
-  pub put_one : is_some table.key ≡ true → (row : Row) → (HasCleanDisk new → Sees register_schema old → PutsRow table row old new)
-      → Writes (record { kind = Puts; table = table; rows = row ∷ [] } ∷ []) old new
-  put_one has_key row puts clean sees sound =
+  -- rows that are written, each at its key
+  pub put_many : is_some table.key ≡ true → (news : List Row) → (HasCleanDisk new → Sees register_schema old → Turns table (λ rows. put_each rows news) old new)
+      → Writes (record { kind = Puts; table = table; rows = news } ∷ []) old new
+  put_many has_key news puts clean sees sound =
       let p = puts clean sees in
       let early : HasCleanDisk old = omega (arith, monotone, clean) in (
         λ _. p.only.is_open,
@@ -172,6 +176,11 @@ module _ (table : Table) (listed : Has register_schema.tables table) (old new : 
             let own : IsTrue (have_rowids (rows_of table old.now.trees)) = subst (λ b. IsTrue (if b then have_rowids (rows_of table old.now.trees) else true)) has_key keyed in
             (p.rows own, subst (λ b. IsTrue (if b then have_rowids (rows_of table new.now.trees) else true)) (sym has_key) (p.keyed own))),
       )
+
+  -- a row that is written
+  pub put_one : is_some table.key ≡ true → (row : Row) → (HasCleanDisk new → Sees register_schema old → PutsRow table row old new)
+      → Writes (record { kind = Puts; table = table; rows = row ∷ [] } ∷ []) old new
+  put_one has_key row puts = put_many has_key (row ∷ []) puts
 
   -- a key that is deleted
   pub cut_one : is_some table.key ≡ true → (key : ℕ) → (HasCleanDisk new → Sees register_schema old → DeletesRow table (pos key) old new)
@@ -234,6 +243,20 @@ module _ (table : Table) (listed : Has register_schema.tables table) (old new : 
             let both : have_rowids (row ∷ rows_of table old.now.trees) ≡ true = λ k. int k && own k in (
               IsPermutation-trans _ _ _ (IsPermutation-append_comm (rows_of table old.now.trees) (row ∷ [])) p.adds,
               subst (λ b. IsTrue (if b then have_rowids (rows_of table new.now.trees) else true)) (sym has_key) (keyed_moved _ _ p.adds both),
+            )),
+      )
+
+  -- rows that are added to a table with such a key
+  pub add_many_keyed : is_some table.key ≡ true → (news : List Row) → have_rowids news ≡ true → (HasCleanDisk new → Sees register_schema old → AddsRows table news old new)
+      → Writes (record { kind = Adds; table = table; rows = news } ∷ []) old new
+  add_many_keyed has_key news ints adds clean sees sound =
+      let p = adds clean sees in
+      let early : HasCleanDisk old = omega (arith, monotone, clean) in (
+        λ _. p.only.is_open,
+        λ _. one_write _ old new listed (sees early p.only.was_open) p.only (λ keyed.
+            let own : have_rowids (rows_of table old.now.trees) ≡ true = subst (λ b. IsTrue (if b then have_rowids (rows_of table old.now.trees) else true)) has_key keyed in (
+              IsPermutation-trans _ _ _ (IsPermutation-append_comm (rows_of table old.now.trees) news) p.adds,
+              subst (λ b. IsTrue (if b then have_rowids (rows_of table new.now.trees) else true)) (sym has_key) (keyed_moved _ _ p.adds (keyed_both news _ ints own)),
             )),
       )
 

@@ -1,14 +1,26 @@
 -- What the statements do on the tables whose rows are written by their keys.
-use Rattle.std.proofs.Common.{◌≡◌, ℕ, suc, length, pos, Bool, true, false, List, ◌∷◌, [], Ok, refl, ap, ◌∙◌, ◌≤◌, arith}
-use Rattle.std.specs.Prelude.{Option, Some, None, if◌then◌else◌}
+use Rattle.std.proofs.Common.{◌≡◌, ℕ, suc, length, map, slice_get, pos, Bool, true, false, List, ◌∷◌, [], Ok, refl, sym, ap, subst, ◌∙◌, ◌≤◌, ◌/◌, arith}
+use Rattle.std.specs.Prelude.{Option, Some, None, is_some, if◌then◌else◌}
+use Rattle.std.specs.List.{flat_map}
 use Rattle.sqlite.specs.declared.types.Value.TheVariants.{Null, Int, Text}
 use Rattle.sqlite.specs.Cast.{cast_row}
-use Rattle.sqlite.specs.Order.{Row}
+use Rattle.sqlite.specs.Order.{Row, column}
+use Rattle.sqlite.specs.Table.{Table}
+use Rattle.sqlite.specs.Term.{Term}
+use Rattle.sqlite.specs.Tree.{rowid}
+use Rattle.sqlite.specs.Command.TheVariants.{Insert}
+use Rattle.sqlite.specs.Source.TheVariants.{Values}
+use Rattle.sqlite.specs.Listing.{understood}
+use Rattle.sqlite.proofs.Callers.{IsPlain, command_of}
+use Rattle.sqlite_schema.specs.declared.schema.Keys.TheVariants.{Enforced}
+use Rattle.sqlite_rules.specs.Action.{works}
+use Rattle.sqlite_rules.specs.Lists.{Has}
 use Rattle.sqlite.specs.Rows.{mended}
 use Rattle.sqlite.specs.Edit.{next_rowid, with_rowid}
 use Rattle.sqlite.specs.Rowids.TheVariants.{Chosen}
 use Rattle.sqlite.specs.Values.{bound_value, or_null}
 use Rattle.sqlite.specs.Effect.{value_rows}
+use Rattle.sqlite.specs.Ops.{is_null}
 use Rattle.sqlite_schema.specs.declared.command.Conflict.TheVariants.{Replace}
 use Rattle.adm_schema.specs.Columns.{child_columns, application_columns, imported_columns, given_terms}
 use Rattle.adm_schema.specs.Rows.{columns_of}
@@ -33,7 +45,13 @@ use Rattle.adm_store.specs.declared.rows.ImportedRow.{ImportedRow}
 use Rattle.adm_store.specs.Changes.{written_child, written_application, written_imported}
 use Rattle.adm_rows.specs.Forms.{place_row, left_row, state_columns, truth_code}
 use Rattle.adm_store.specs.Writes.{RunsText, Adds, Puts, Cuts, Writes, write_of, key_row}
-use Rattle.adm_store.proofs.LogLemmas.{add_one, add_keyed, put_one, cut_one}
+use Rattle.adm_batches.specs.Texts as batch
+use Rattle.adm_batches.proofs.Added.{inserted_all, adds_all}
+use Rattle.adm_batches.proofs.Fresh.{puts_all}
+use Rattle.adm_batches.proofs.Eights.{eight_of, given_places}
+use Rattle.adm_batches.proofs.RowTexts.{inserts_child, inserts_children, inserts_application, inserts_applications, inserts_places, inserts_imported_rows}
+use Rattle.adm_store.proofs.MapLemmas.{rows_keyed}
+use Rattle.adm_store.proofs.LogLemmas.{add_one, add_keyed, add_many_keyed, put_one, put_many, cut_one}
 
 -- a truth value as SQL has it
 pub truth_is : (b : Bool) → Int (if b then pos 1 else pos 0) ≡ Int (pos (truth_code b))
@@ -50,6 +68,21 @@ abbrev stored : Row → Row
 stored [] = []
 stored (key ∷ row) = key ∷ Null ∷ row
 
+-- rows that a plain INSERT wrote are each at its key
+module _ {X : Type 0} (table : Table) (listed : Has register_schema.tables table) (at : ℕ) (found : slice_get register_schema.tables at ≡ Some table) (uncounted : table.is_counted ≡ false)
+    (unstamped : table.stamps.terms ≡ []) (alone : (olds news : List Row) → works register_schema Enforced 0 table.tree olds news ≡ []) (has_key : is_some table.key ≡ true)
+    (own : (r : Row) → rowid (columns_of table r) ≡ rowid r) (row_of : X → Row) (keyed : (x : X) → is_null (rowid (stored (row_of x))) ≡ false)
+    (casts : (x : X) → cast_row table (stored (row_of x)) ≡ stored (row_of x)) (shows : (x : X) → columns_of table (stored (row_of x)) ≡ row_of x) where
+  puts_rows : (terms : List Term) (width : ℕ) (sql : List ℕ) (params : Row) (rows : List X) → command_of (understood register_schema sql) ≡ Insert at (Values terms width)
+      → IsPlain (understood register_schema sql) → value_rows params width (length terms / width) terms ≡ map (λ x. stored (row_of x)) rows → (old new : State)
+      → doubt old.is_clean ≤ doubt new.is_clean → RunsText sql params old new → Writes (write_of Puts table row_of rows ∷ []) old new
+  puts_rows terms width sql params rows is plain given old new later ran = put_many table listed old new later has_key (map row_of rows) (λ clean sees.
+      let early : HasCleanDisk old = omega (arith, later, clean) in
+      let h = (ran clean).1 in
+      puts_all table own (λ x. stored (row_of x)) row_of keyed casts shows register_schema rows old new
+      (inserted_all register_schema table at found uncounted unstamped alone terms width sql params (map (λ x. stored (row_of x)) rows) old new (ran clean).0 is plain given
+      (sees early h.1.was_open) h))
+
 stored_child : (it : ChildRow) → cast_row child (stored (written_child it)) ≡ stored (written_child it)
 stored_child it = simp (cast_null, cast_int) refl
 
@@ -62,6 +95,28 @@ writes_child old new it later ran = put_one child has_child old new later refl (
     (stored (written_child it)) (written_child it) (pos it.columns.0) old new (ran clean).0 (λ _ _. refl)
     puts_child.0 puts_child.1 refl (stored_child it) (stored_child it) refl refl (sees early h.1.was_open) h)
 
+-- children none of whom was there
+child_rows : (terms : List Term) (width : ℕ) (sql : List ℕ) (params : Row) (rows : List ChildRow) → command_of (understood register_schema sql) ≡ Insert 2 (Values terms width)
+    → IsPlain (understood register_schema sql) → value_rows params width (length terms / width) terms ≡ map (λ x. stored (written_child x)) rows → (old new : State)
+    → doubt old.is_clean ≤ doubt new.is_clean → RunsText sql params old new → Writes (write_of Puts child written_child rows ∷ []) old new
+child_rows = puts_rows child has_child 2 refl refl refl (λ _ _. refl) refl (λ _. refl) written_child (λ _. refl) stored_child (λ _. refl)
+
+pub adds_child : (old new : State) (it : ChildRow) → doubt old.is_clean ≤ doubt new.is_clean → RunsText batch.insert_child (written_child it) old new
+    → Writes (write_of Puts child written_child (it ∷ []) ∷ []) old new
+adds_child old new it =
+    child_rows (given_terms child_columns) (suc (length child_columns)) batch.insert_child (written_child it) (it ∷ []) inserts_child.0 inserts_child.1 refl old new
+
+eight_children : (rows : List ChildRow) → length rows ≡ 8
+    → value_rows (flat_map written_child rows) (suc (length child_columns)) (length batch.children_terms / (suc (length child_columns))) batch.children_terms ≡ map (λ it. stored (written_child it)) rows
+eight_children rows long =
+    let it = eight_of rows long in
+    subst (λ xs. value_rows (flat_map written_child xs) (suc (length child_columns)) (length batch.children_terms / (suc (length child_columns))) batch.children_terms ≡ map (λ it. stored (written_child it)) xs) (sym it.8) refl
+
+pub adds_children : (old new : State) (rows : List ChildRow) → length rows ≡ 8 → doubt old.is_clean ≤ doubt new.is_clean → RunsText batch.insert_children (flat_map written_child rows) old new
+    → Writes (write_of Puts child written_child rows ∷ []) old new
+adds_children old new rows long =
+    child_rows batch.children_terms (suc (length child_columns)) batch.insert_children (flat_map written_child rows) rows inserts_children.0 inserts_children.1 (eight_children rows long) old new
+
 stored_application : (it : ApplicationRow) → cast_row application (stored (written_application it)) ≡ stored (written_application it)
 stored_application it = simp (cast_null, cast_int) refl
 
@@ -73,6 +128,30 @@ writes_application old new it later ran = put_one application has_application ol
     puts_row register_schema application 3 refl refl refl (λ _ _. refl) (λ _. refl) (given_terms application_columns)
     (suc (length application_columns)) text.put_application (written_application it) (stored (written_application it)) (written_application it) (pos it.columns.0) old new (ran clean).0 (λ _ _. refl)
     puts_application.0 puts_application.1 refl (stored_application it) (stored_application it) refl refl (sees early h.1.was_open) h)
+
+-- applications of children that had none
+application_rows : (terms : List Term) (width : ℕ) (sql : List ℕ) (params : Row) (rows : List ApplicationRow) → command_of (understood register_schema sql) ≡ Insert 3 (Values terms width)
+    → IsPlain (understood register_schema sql) → value_rows params width (length terms / width) terms ≡ map (λ x. stored (written_application x)) rows → (old new : State)
+    → doubt old.is_clean ≤ doubt new.is_clean → RunsText sql params old new → Writes (write_of Puts application written_application rows ∷ []) old new
+application_rows = puts_rows application has_application 3 refl refl refl (λ _ _. refl) refl (λ _. refl) written_application (λ _. refl) stored_application (λ _. refl)
+
+pub adds_application : (old new : State) (it : ApplicationRow) → doubt old.is_clean ≤ doubt new.is_clean → RunsText batch.insert_application (written_application it) old new
+    → Writes (write_of Puts application written_application (it ∷ []) ∷ []) old new
+adds_application old new it =
+    application_rows (given_terms application_columns) (suc (length application_columns)) batch.insert_application (written_application it) (it ∷ [])
+    inserts_application.0 inserts_application.1 refl old new
+
+eight_applications : (rows : List ApplicationRow) → length rows ≡ 8
+    → value_rows (flat_map written_application rows) (suc (length application_columns)) (length batch.applications_terms / (suc (length application_columns))) batch.applications_terms ≡ map (λ it. stored (written_application it)) rows
+eight_applications rows long =
+    let it = eight_of rows long in
+    subst (λ xs. value_rows (flat_map written_application xs) (suc (length application_columns)) (length batch.applications_terms / (suc (length application_columns))) batch.applications_terms ≡ map (λ it. stored (written_application it)) xs) (sym it.8) refl
+
+pub adds_applications : (old new : State) (rows : List ApplicationRow) → length rows ≡ 8 → doubt old.is_clean ≤ doubt new.is_clean
+    → RunsText batch.insert_applications (flat_map written_application rows) old new → Writes (write_of Puts application written_application rows ∷ []) old new
+adds_applications old new rows long =
+    application_rows batch.applications_terms (suc (length application_columns)) batch.insert_applications (flat_map written_application rows) rows
+    inserts_applications.0 inserts_applications.1 (eight_applications rows long) old new
 
 pub cuts_application_out : (old new : State) (count : ℕ) (number : ℕ) → doubt old.is_clean ≤ doubt new.is_clean
     → (HasCleanDisk new → ExecutesInside 0 text.delete_application (key_row number) old new (Ok count)) → Writes (write_of Cuts application key_row (number ∷ []) ∷ []) old new
@@ -128,6 +207,36 @@ writes_place old new count it later ran = put_one place has_place old new later 
     (pos it.child) old new count (λ _ _. refl)
     puts_place.0 puts_place.1 (given_place it) (ap (cast_row place) (mended_place it) ∙ stored_place it) (stored_place it) refl (shown_place it) (sees early h.1.was_open) h)
 
+-- a place as five values
+abbrev place_values : PlaceRow → Row
+place_values it =
+    Int (pos it.child) ∷ Text it.place.school ∷ column (place_row it) 2 ∷ column (place_row it) 3 ∷ column (place_row it) 4 ∷ []
+
+place_is : (it : PlaceRow) → place_values it ≡ place_row it
+place_is it = go it.place.state
+  where
+    go : (state : PlaceState) → Int (pos it.child) ∷ Text it.place.school ∷ column (Int (pos it.child) ∷ Text it.place.school ∷ state_columns state) 2
+        ∷ column (Int (pos it.child) ∷ Text it.place.school ∷ state_columns state) 3 ∷ column (Int (pos it.child) ∷ Text it.place.school ∷ state_columns state) 4 ∷ []
+        ≡ Int (pos it.child) ∷ Text it.place.school ∷ state_columns state
+    go (Offered day None) = refl
+    go (Offered day (Some reminded)) = refl
+    go Accepted = refl
+    go Plan = refl
+
+eight_places : (rows : List PlaceRow) → length rows ≡ 8
+    → value_rows (flat_map place_row rows) 6 (length batch.places_terms / 6) batch.places_terms ≡ map (λ it. stored (place_row it)) rows
+eight_places rows long =
+    subst (λ (f : PlaceRow → Row). value_rows (flat_map f rows) 6 (length batch.places_terms / 6) batch.places_terms ≡ map (λ it. stored (f it)) rows) (λ i it. place_is it i)
+    (given_places (λ (it : PlaceRow). Int (pos it.child)) (λ it. Text it.place.school) (λ it. column (place_row it) 2) (λ it. column (place_row it) 3)
+    (λ it. column (place_row it) 4) rows long)
+
+-- eight places of children that had none
+pub adds_places : (old new : State) (rows : List PlaceRow) → length rows ≡ 8 → doubt old.is_clean ≤ doubt new.is_clean → RunsText batch.insert_places (flat_map place_row rows) old new
+    → Writes (write_of Puts place place_row rows ∷ []) old new
+adds_places old new rows long =
+    puts_rows place has_place 4 refl refl refl (λ _ _. refl) refl (λ _. refl) place_row (λ _. refl) stored_place shown_place batch.places_terms 6 batch.insert_places (flat_map place_row rows) rows
+    inserts_places.0 inserts_places.1 (eight_places rows long) old new
+
 pub cuts_place_out : (old new : State) (count : ℕ) (number : ℕ) → doubt old.is_clean ≤ doubt new.is_clean
     → (HasCleanDisk new → ExecutesInside 0 text.delete_place (key_row number) old new (Ok count)) → Writes (write_of Cuts place key_row (number ∷ []) ∷ []) old new
 cuts_place_out old new count number later ran = cut_one place has_place old new later refl number (λ clean sees.
@@ -158,3 +267,20 @@ adds_imported old new it later ran = add_keyed imported has_imported old new lat
     adds register_schema imported 9 refl refl refl (λ _ _. refl) old new (stored (written_imported it)) (written_imported it) (λ rows. ap (columns_of imported) (given_imported it rows))
     (inserted register_schema imported 9 refl refl refl (λ _ _. refl) (given_terms imported_columns) (suc (length imported_columns)) insert_imported (written_imported it)
     (stored (written_imported it)) old new (ran clean).0 inserts_imported.0 inserts_imported.1 refl (sees early h.1.was_open) h))
+
+eight_imported : (rows : List ImportedRow) → length rows ≡ 8
+    → value_rows (flat_map written_imported rows) (suc (length imported_columns)) (length batch.imported_terms / (suc (length imported_columns))) batch.imported_terms ≡ map (λ it. stored (written_imported it)) rows
+eight_imported rows long =
+    let it = eight_of rows long in
+    subst (λ xs. value_rows (flat_map written_imported xs) (suc (length imported_columns)) (length batch.imported_terms / (suc (length imported_columns))) batch.imported_terms ≡ map (λ it. stored (written_imported it)) xs) (sym it.8) refl
+
+-- eight of them
+pub adds_imported_rows : (old new : State) (rows : List ImportedRow) → length rows ≡ 8 → doubt old.is_clean ≤ doubt new.is_clean
+    → RunsText batch.insert_imported_rows (flat_map written_imported rows) old new → Writes (write_of Adds imported written_imported rows ∷ []) old new
+adds_imported_rows old new rows long later ran = add_many_keyed imported has_imported old new later refl (map written_imported rows)
+    (rows_keyed (λ (it : ImportedRow). it.columns.0) written_imported (λ _. refl) rows) (λ clean sees.
+    let early : HasCleanDisk old = omega (arith, later, clean) in
+    let h = (ran clean).1 in
+    adds_all register_schema imported 9 refl refl refl (λ _ _. refl) (λ it. stored (written_imported it)) written_imported rows old new (λ it rows. ap (columns_of imported) (given_imported it rows))
+    (inserted_all register_schema imported 9 refl refl refl (λ _ _. refl) batch.imported_terms (suc (length imported_columns)) batch.insert_imported_rows (flat_map written_imported rows)
+    (map (λ it. stored (written_imported it)) rows) old new (ran clean).0 inserts_imported_rows.0 inserts_imported_rows.1 (eight_imported rows long) (sees early h.1.was_open) h))

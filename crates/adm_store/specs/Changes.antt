@@ -1,7 +1,11 @@
 -- The rows by which one register differs from another, as they are written.
-use Rattle.std.specs.Prelude.{◌≡◌, ℕ, ◌+◌, ◌-◌, pos, Bool, List, [], ◌∷◌, length, drop, map}
-use Rattle.std.specs.List.{flat_map}
+use Rattle.std.specs.Prelude.{◌≡◌, ℕ, ◌+◌, ◌-◌, pos, Bool, not, List, [], ◌∷◌, length, drop, map}
+use Rattle.std.specs.List.{flat_map, list_all}
+use Rattle.std.specs.FinMap.{contains_key}
 use Rattle.adm_types.specs.Seasons.{SeasonFacts, IsSeason}
+use Rattle.adm_types.specs.declared.rows.Child.{Child}
+use Rattle.adm_types.specs.declared.rows.Application.{Application}
+use Rattle.adm_types.specs.declared.rows.PlaceRow.{PlaceRow}
 use Rattle.adm_types.specs.declared.draws.DrawRow.{DrawRow}
 use Rattle.adm_draws.specs.Draws.{row_of, offer_rows_of, lot_rows_of}
 use Rattle.adm_register.specs.State.{only_season, State as Register}
@@ -83,6 +87,18 @@ pub record IsRowOf (season : SeasonFacts) (row : SeasonRow) : Type 0 where
 abbrev pub RepresentsNew : SeasonRow → Trees → Type 0
 RepresentsNew row db = (season : SeasonFacts) → IsRowOf season row → RepresentsIn Second db (only_season season)
 
+-- the child was not there
+abbrev pub is_new_child : Register → Child → Bool
+is_new_child old child = not (contains_key old.children child.no)
+
+-- the child had no application
+abbrev pub is_new_application : Register → Application → Bool
+is_new_application old application = not (contains_key old.applications application.child)
+
+-- the child had no place
+abbrev pub is_new_place : Register → PlaceRow → Bool
+is_new_place old place = not (contains_key old.places place.child)
+
 -- the changes are just the rows of the new register that the old one has not, and the keys of the old one that the new one has not
 pub record IsChanges (old new : Register) (changes : Changes) : Type 0 where
   pub difference : Difference
@@ -90,8 +106,11 @@ pub record IsChanges (old new : Register) (changes : Changes) : Type 0 where
   pub schools : map written_school changes.schools ≡ map school_row difference.schools
   pub replaced : changes.replaced ≡ replaced_of old.schools difference.schools
   pub children : map written_child changes.children ≡ map child_row difference.children
+  pub only_new_children : changes.only_new_children ≡ list_all (is_new_child old) difference.children
   pub applications : map written_application changes.applications ≡ map application_row difference.applications
+  pub only_new_applications : changes.only_new_applications ≡ list_all (is_new_application old) difference.applications
   pub places : changes.places ≡ difference.places
+  pub only_new_places : changes.only_new_places ≡ list_all (is_new_place old) difference.places
   pub left : changes.left ≡ difference.left
   pub draws : changes.draws ≡ map row_of difference.draws
   pub offers : changes.offers ≡ flat_map offer_rows_of difference.draws

@@ -1,13 +1,16 @@
-// The table `application`. A row that changed replaces the one of the same child, and one that ended is deleted.
+// The table `application`. A row that changed replaces the one of the same child, one that is new is added, and one that ended is deleted.
 ghost use Rattle.adm_schema.specs.Schema.{application};
 ghost use Rattle.adm_store.specs.Changes.{written_application};
 ghost use Rattle.adm_store.specs.Writes.{Puts, Cuts, key_row};
 
+use crate::lent::run_rows;
 use crate::rows::ApplicationRow;
-use crate::statement::Statement;
-use crate::written::run_row;
+use crate::statement::{Eights, Keyed, Statement, run_all};
+use crate::written::{WrittenRow, run_row};
+use adm_batches::texts::{insert_application, insert_applications};
 use adm_schema::tables::applications::{delete_application, put_application};
 use adm_types::ChildNo;
+use sqlite::types::ValueRef;
 use sqlite::{Alter, Error, Transaction, params};
 
 pub(crate) struct PutApplication;
@@ -23,6 +26,55 @@ impl Statement for PutApplication {
 
     fn run<S: Alter>(tx: &mut Transaction<'_, S>, row: &ApplicationRow) -> Result<(), Error> {
         run_row(tx, put_application(), &row.columns)
+    }
+}
+
+/// Writes the application of a child that had none: it fails where it had one.
+pub(crate) struct AddApplication;
+
+impl Statement for AddApplication {
+    type Item = ApplicationRow;
+
+    ghost kind = { Puts };
+
+    ghost table = { application };
+
+    ghost row_of = { written_application };
+
+    fn run<S: Alter>(tx: &mut Transaction<'_, S>, row: &ApplicationRow) -> Result<(), Error> {
+        run_row(tx, insert_application(), &row.columns)
+    }
+}
+
+impl WrittenRow for ApplicationRow {
+    ghost count = { 3 };
+
+    ghost row_of = { written_application };
+
+    fn lend_at<'v>(&'v self, parameters: &mut [ValueRef<'v>], at: usize) {
+        self.columns.lend_at(parameters, at)
+    }
+
+    fn count() -> usize {
+        3
+    }
+}
+
+impl Eights for AddApplication {
+    fn run_eight<S: Alter>(
+        tx: &mut Transaction<'_, S>,
+        rows: &[ApplicationRow],
+    ) -> Result<(), Error> {
+        run_rows(tx, insert_applications(), rows)
+    }
+}
+
+impl Keyed for PutApplication {
+    fn add_all<S: Alter>(
+        tx: &mut Transaction<'_, S>,
+        rows: &[ApplicationRow],
+    ) -> Result<(), Error> {
+        run_all::<AddApplication, S>(tx, rows)
     }
 }
 

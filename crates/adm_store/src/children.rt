@@ -1,12 +1,15 @@
-// The table `child`. A row that changed replaces the one of the same child; none is deleted.
+// The table `child`. A row that changed replaces the one of the same child, and one that is new is added; none is deleted.
 ghost use Rattle.adm_schema.specs.Schema.{child};
 ghost use Rattle.adm_store.specs.Changes.{written_child};
 ghost use Rattle.adm_store.specs.Writes.{Puts};
 
+use crate::lent::run_rows;
 use crate::rows::ChildRow;
-use crate::statement::Statement;
-use crate::written::run_row;
+use crate::statement::{Eights, Keyed, Statement, run_all};
+use crate::written::{WrittenRow, run_row};
+use adm_batches::texts::{insert_child, insert_children};
 use adm_schema::tables::children::put_child;
+use sqlite::types::ValueRef;
 use sqlite::{Alter, Error, Transaction};
 
 pub(crate) struct PutChild;
@@ -22,5 +25,48 @@ impl Statement for PutChild {
 
     fn run<S: Alter>(tx: &mut Transaction<'_, S>, row: &ChildRow) -> Result<(), Error> {
         run_row(tx, put_child(), &row.columns)
+    }
+}
+
+/// Writes a child that was not there: it fails where one was.
+pub(crate) struct AddChild;
+
+impl Statement for AddChild {
+    type Item = ChildRow;
+
+    ghost kind = { Puts };
+
+    ghost table = { child };
+
+    ghost row_of = { written_child };
+
+    fn run<S: Alter>(tx: &mut Transaction<'_, S>, row: &ChildRow) -> Result<(), Error> {
+        run_row(tx, insert_child(), &row.columns)
+    }
+}
+
+impl WrittenRow for ChildRow {
+    ghost count = { 7 };
+
+    ghost row_of = { written_child };
+
+    fn lend_at<'v>(&'v self, parameters: &mut [ValueRef<'v>], at: usize) {
+        self.columns.lend_at(parameters, at)
+    }
+
+    fn count() -> usize {
+        7
+    }
+}
+
+impl Eights for AddChild {
+    fn run_eight<S: Alter>(tx: &mut Transaction<'_, S>, rows: &[ChildRow]) -> Result<(), Error> {
+        run_rows(tx, insert_children(), rows)
+    }
+}
+
+impl Keyed for PutChild {
+    fn add_all<S: Alter>(tx: &mut Transaction<'_, S>, rows: &[ChildRow]) -> Result<(), Error> {
+        run_all::<AddChild, S>(tx, rows)
     }
 }

@@ -1,11 +1,11 @@
 // The rows by which a new register differs from the one before, as they are written.
-ghost use Rattle.std.specs.Prelude.{◌≡◌, ◌++◌, [], ◌∷◌, if◌then◌else◌, IfOk, OnOk};
+ghost use Rattle.std.specs.Prelude.{◌≡◌, ◌++◌, [], ◌∷◌, if◌then◌else◌, not, IfOk, OnOk};
 ghost use Rattle.std.specs.FinMap.{contains_key};
-ghost use Rattle.std.specs.List.{flat_map};
+ghost use Rattle.std.specs.List.{flat_map, list_all};
 ghost use Rattle.adm_types.specs.Children.{present_row, present_of_import};
 ghost use Rattle.adm_register.specs.State.{State as Facts};
 ghost use Rattle.adm_register.specs.Difference.{IsDifference};
-ghost use Rattle.adm_store.specs.Changes.{IsChanges};
+ghost use Rattle.adm_store.specs.Changes.{IsChanges, is_new_child, is_new_application, is_new_place};
 ghost use Rattle.adm_rows.specs.Present.{was_present, moved_from, present_removed_of, arrived_from, present_added_by};
 ghost use Rattle.adm_store.specs.Schools.{replaced_of};
 
@@ -14,7 +14,9 @@ use crate::to_rows::to_rows;
 use adm_draws::{draw_rows, lot_rows, offer_rows};
 use adm_register::{Difference, Register};
 use adm_table::Shared;
-use adm_types::{Child, ChildNo, ImportRow, PresentRow, School, SchoolCode, Seq};
+use adm_types::{
+    Application, Child, ChildNo, ImportRow, PlaceRow, PresentRow, School, SchoolCode, Seq,
+};
 use std::alloc::{AllocError, Global};
 use std::mem;
 
@@ -153,6 +155,49 @@ fn add_imported(
     Ok(())
 }
 
+fn is_new_child(old: &Register, child: ChildNo) -> bool
+    ensures { result ≡ not (contains_key old.now.children child) }
+{
+    old.child(child).is_none()
+}
+
+/// None of these children was there.
+fn only_new_children(old: &Register, children: &[Shared<Child>]) -> bool
+    ensures { result ≡ list_all (is_new_child old.now) children.now }
+{
+    children
+        .iter()
+        .all(|row| is_new_child(old, row.as_ref().no))
+}
+
+fn is_new_application(old: &Register, child: ChildNo) -> bool
+    ensures { result ≡ not (contains_key old.now.applications child) }
+{
+    old.application(child).is_none()
+}
+
+/// None of these children had an application.
+fn only_new_applications(old: &Register, applications: &[Shared<Application>]) -> bool
+    ensures { result ≡ list_all (is_new_application old.now) applications.now }
+{
+    applications
+        .iter()
+        .all(|row| is_new_application(old, row.as_ref().child))
+}
+
+fn is_new_place(old: &Register, child: ChildNo) -> bool
+    ensures { result ≡ not (contains_key old.now.places child) }
+{
+    old.place(child).is_none()
+}
+
+/// None of these children had a place.
+fn only_new_places(old: &Register, places: &[PlaceRow]) -> bool
+    ensures { result ≡ list_all (is_new_place old.now) places.now }
+{
+    places.iter().all(|row| is_new_place(old, row.child))
+}
+
 /// The rows of this difference from the old register, as they are written. What it costs grows with them.
 pub fn changes(alloc: Global, old: &Register, difference: Difference) -> Result<Changes, AllocError>
     ensures { IfOk result (λ changes. (new : Facts) → IsDifference old.now new difference → IsChanges old.now new changes) }
@@ -168,13 +213,19 @@ pub fn changes(alloc: Global, old: &Register, difference: Difference) -> Result<
     let offers = offer_rows(alloc, difference.draws.as_slice())?;
     let lots = lot_rows(alloc, difference.draws.as_slice())?;
     let imported = to_rows(alloc, difference.imported.as_slice())?;
+    let only_new_children = only_new_children(old, difference.children.as_slice());
+    let only_new_applications = only_new_applications(old, difference.applications.as_slice());
+    let only_new_places = only_new_places(old, difference.places.as_slice());
     let mut rest = difference;
     Ok(Changes {
         schools: Seq::from_vec(schools),
         replaced: Seq::from_vec(replaced),
         children: Seq::from_vec(children),
+        only_new_children,
         applications: Seq::from_vec(applications),
+        only_new_applications,
         places: mem::replace(&mut rest.places, Seq::new(alloc)),
+        only_new_places,
         left: mem::replace(&mut rest.left, Seq::new(alloc)),
         draws: Seq::from_vec(draws),
         offers: Seq::from_vec(offers),

@@ -3,10 +3,13 @@ ghost use Rattle.adm_schema.specs.Schema.{imported};
 ghost use Rattle.adm_store.specs.Changes.{written_imported};
 ghost use Rattle.adm_store.specs.Writes.{Adds};
 
+use crate::lent::run_rows;
 use crate::rows::ImportedRow;
-use crate::statement::Statement;
-use crate::written::run_row;
+use crate::statement::{Eights, Statement};
+use crate::written::{WrittenRow, run_row};
+use adm_batches::texts::insert_imported_rows;
 use adm_schema::tables::children::insert_imported;
+use sqlite::types::ValueRef;
 use sqlite::{Alter, Error, Transaction};
 
 pub(crate) struct AddImported;
@@ -22,5 +25,25 @@ impl Statement for AddImported {
 
     fn run<S: Alter>(tx: &mut Transaction<'_, S>, row: &ImportedRow) -> Result<(), Error> {
         run_row(tx, insert_imported(), &row.columns)
+    }
+}
+
+impl WrittenRow for ImportedRow {
+    ghost count = { 9 };
+
+    ghost row_of = { written_imported };
+
+    fn lend_at<'v>(&'v self, parameters: &mut [ValueRef<'v>], at: usize) {
+        self.columns.lend_at(parameters, at)
+    }
+
+    fn count() -> usize {
+        9
+    }
+}
+
+impl Eights for AddImported {
+    fn run_eight<S: Alter>(tx: &mut Transaction<'_, S>, rows: &[ImportedRow]) -> Result<(), Error> {
+        run_rows(tx, insert_imported_rows(), rows)
     }
 }

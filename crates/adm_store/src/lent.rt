@@ -7,77 +7,50 @@ ghost use Rattle.sqlite.specs.State.{Survives};
 ghost use Rattle.sqlite.specs.Values.{bound, bound_value};
 ghost use Rattle.adm_store.specs.Writes.{RunsText};
 
+use crate::written::WrittenRow;
 use sqlite::types::ValueRef;
 use sqlite::{Alter, Error, Transaction};
 
-/// The parameters of eight rows of five columns at the most.
-pub(crate) type Parameters<'v> = [ValueRef<'v>; 40];
-
-/// These parameters, with a value at a place.
-pub(crate) fn with_value<'v>(
-    parameters: Parameters<'v>,
-    at: usize,
-    value: ValueRef<'v>,
-) -> Parameters<'v>
-    requires { at < 40 }
-    ensures { bound (take (at + 1) result) ≡ bound (take at parameters.entry) ++ bound_value (owned value.entry) ∷ [] }
+/// Sets the parameter at a place.
+pub(crate) fn set_value<'v>(parameters: &mut [ValueRef<'v>], at: usize, value: ValueRef<'v>)
+    requires { at < length parameters.old }
+    ensures long { length parameters.new ≡ length parameters.old }
+    ensures set { bound (take (at + 1) parameters.new) ≡ bound (take at parameters.old) ++ bound_value (owned value.entry) ∷ [] }
 {
-    let mut parameters = parameters;
     parameters[at] = value;
-    parameters
 }
 
-/// A row of five columns at the most.
-pub(crate) trait Lent {
-    ghost use Rattle.std.specs.Prelude.{ℕ};
-    ghost use Rattle.sqlite.specs.Order.{Row};
-
-    ghost width: { ℕ };
-
-    ghost columns: { Self → Row };
-
-    /// The parameters, with the values of the row from a place on.
-    fn lend_at<'v>(&'v self, parameters: Parameters<'v>, at: usize) -> Parameters<'v>
-        requires { at + width ≤ 40 }
-        ensures { bound (take (at + width) result) ≡ bound (take at parameters.entry) ++ columns self.now };
-
-    fn width() -> usize
-        ensures { result ≡ width };
-}
-
-/// The parameters, with the values of these rows from a place on, and the place after them.
-fn lend_all<'v, R: Lent>(
-    rows: &'v [R],
-    parameters: Parameters<'v>,
-    at: usize,
-) -> (Parameters<'v>, usize)
-    requires narrow { R.width ≤ 5 }
-    requires few { at + length rows.now * 5 ≤ 40 }
-    ensures end { result.1 ≤ at + length rows.now * 5 }
-    ensures lent { bound (take result.1 result.0) ≡ bound (take at parameters.entry) ++ flat_map R.columns rows.now }
+/// Sets the parameters from a place on to the values of these rows, and gives the place after them.
+fn lend_all<'v, R: WrittenRow>(rows: &'v [R], parameters: &mut [ValueRef<'v>], at: usize) -> usize
+    requires narrow { R.count ≤ 12 }
+    requires few { at + length rows.now * 12 ≤ length parameters.old }
+    ensures long { length parameters.new ≡ length parameters.old }
+    ensures end { result ≤ at + length rows.now * 12 }
+    ensures lent { bound (take result parameters.new) ≡ bound (take at parameters.old) ++ flat_map R.row_of rows.now }
 {
     match rows.split_first() {
-        None => (parameters, at),
+        None => at,
         Some((row, others)) => {
-            let more = row.lend_at(parameters, at);
-            lend_all(others, more, at + R::width())
+            row.lend_at(parameters, at);
+            lend_all(others, parameters, at + R::count())
         }
     }
 }
 
-/// Runs a text with the values of eight rows. It takes no memory of its own.
-pub(crate) fn run_rows<S: Alter, R: Lent>(
+/// Runs a text with the values of eight rows of twelve columns at the most. It takes no memory of its own.
+pub(crate) fn run_rows<S: Alter, R: WrittenRow>(
     tx: &mut Transaction<'_, S>,
     text: &str,
     rows: &[R],
 ) -> Result<(), Error>
-    requires narrow { R.width ≤ 5 }
+    requires narrow { R.count ≤ 12 }
     requires eight { length rows.now ≡ 8 }
     ensures same_reference { tx.new.conn.ghost_name ≡ tx.old.conn.ghost_name }
-    ensures runs { OnOk result (RunsText text.now (flat_map R.columns rows.now) (state S.Store tx.old.conn.now) (state S.Store tx.new.conn.now)) }
+    ensures runs { OnOk result (RunsText text.now (flat_map R.row_of rows.now) (state S.Store tx.old.conn.now) (state S.Store tx.new.conn.now)) }
     ensures survives { Survives (state S.Store tx.old.conn.now) (state S.Store tx.new.conn.now) (λ _. ⊥) }
 {
-    let (parameters, end) = lend_all(rows, [ValueRef::Null; 40], 0);
+    let mut parameters = [ValueRef::Null; 96];
+    let end = lend_all(rows, &mut parameters, 0);
     tx.execute(text, &parameters[..end])?;
     Ok(())
 }

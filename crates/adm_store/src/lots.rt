@@ -3,12 +3,13 @@ ghost use Rattle.adm_schema.specs.Schema.{lot};
 ghost use Rattle.adm_rows.specs.DrawForms.{lot_row};
 ghost use Rattle.adm_store.specs.Writes.{Adds};
 
-use crate::lent::{Lent, Parameters, run_rows, with_value};
+use crate::lent::{run_rows, set_value};
 use crate::statement::{Eights, Statement};
+use crate::written::WrittenRow;
 use adm_batches::texts::insert_lots;
 use adm_schema::tables::draws::insert_lot;
 use adm_types::LotRow;
-use sqlite::types::ToSql;
+use sqlite::types::{ToSql, ValueRef};
 use sqlite::{Alter, Error, Transaction, params};
 
 pub(crate) struct AddLot;
@@ -30,19 +31,19 @@ impl Statement for AddLot {
     }
 }
 
-impl Lent for LotRow {
-    ghost width = { 4 };
+impl WrittenRow for LotRow {
+    ghost count = { 4 };
 
-    ghost columns = { lot_row };
+    ghost row_of = { lot_row };
 
-    fn lend_at<'v>(&'v self, parameters: Parameters<'v>, at: usize) -> Parameters<'v> {
-        let draw = with_value(parameters, at, self.draw.to_sql());
-        let school = with_value(draw, at + 1, self.lot.school.as_str().to_sql());
-        let child = with_value(school, at + 2, self.lot.child.get().to_sql());
-        with_value(child, at + 3, self.lot.lot.to_sql())
+    fn lend_at<'v>(&'v self, parameters: &mut [ValueRef<'v>], at: usize) {
+        set_value(parameters, at, self.draw.to_sql());
+        set_value(parameters, at + 1, self.lot.school.as_str().to_sql());
+        set_value(parameters, at + 2, self.lot.child.get().to_sql());
+        set_value(parameters, at + 3, self.lot.lot.to_sql());
     }
 
-    fn width() -> usize {
+    fn count() -> usize {
         4
     }
 }

@@ -7,12 +7,13 @@ ghost use Rattle.adm_rows.specs.Forms.{school_value};
 ghost use Rattle.adm_rows.specs.DrawForms.{offer_row};
 ghost use Rattle.adm_store.specs.Writes.{Adds};
 
-use crate::lent::{Lent, Parameters, run_rows, with_value};
+use crate::lent::{run_rows, set_value};
 use crate::statement::{Eights, Statement};
+use crate::written::WrittenRow;
 use adm_batches::texts::insert_offers;
 use adm_schema::tables::draws::insert_offer;
 use adm_types::{OfferRow, SchoolCode};
-use sqlite::types::ToSql;
+use sqlite::types::{ToSql, ValueRef};
 use sqlite::{Alter, Error, Transaction, params};
 
 /// The text of the code of a school that may be none.
@@ -47,19 +48,19 @@ impl Statement for AddOffer {
     }
 }
 
-impl Lent for OfferRow {
-    ghost width = { 4 };
+impl WrittenRow for OfferRow {
+    ghost count = { 4 };
 
-    ghost columns = { offer_row };
+    ghost row_of = { offer_row };
 
-    fn lend_at<'v>(&'v self, parameters: Parameters<'v>, at: usize) -> Parameters<'v> {
-        let draw = with_value(parameters, at, self.draw.to_sql());
-        let child = with_value(draw, at + 1, self.outcome.child.get().to_sql());
-        let school = with_value(child, at + 2, code_in(&self.outcome.school).to_sql());
-        with_value(school, at + 3, self.outcome.fresh.to_sql())
+    fn lend_at<'v>(&'v self, parameters: &mut [ValueRef<'v>], at: usize) {
+        set_value(parameters, at, self.draw.to_sql());
+        set_value(parameters, at + 1, self.outcome.child.get().to_sql());
+        set_value(parameters, at + 2, code_in(&self.outcome.school).to_sql());
+        set_value(parameters, at + 3, self.outcome.fresh.to_sql());
     }
 
-    fn width() -> usize {
+    fn count() -> usize {
         4
     }
 }

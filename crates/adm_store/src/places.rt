@@ -1,4 +1,4 @@
-// The table `place`. A row that changed replaces the one of the same child, and one that ended is deleted.
+// The table `place`. A row that changed replaces the one of the same child, one that is new is added, and one that ended is deleted.
 ghost use Rattle.std.specs.Prelude.{◌≡◌, [], ◌∷◌, pos};
 ghost use Rattle.sqlite.specs.declared.types.Value.TheVariants.{Int};
 ghost use Rattle.sqlite.specs.Values.{or_null};
@@ -6,10 +6,14 @@ ghost use Rattle.adm_schema.specs.Schema.{place};
 ghost use Rattle.adm_rows.specs.Forms.{place_row, state_columns};
 ghost use Rattle.adm_store.specs.Writes.{Puts, Cuts, key_row};
 
+use crate::lent::{run_rows, set_value};
 use crate::rows::number_of;
-use crate::statement::Statement;
+use crate::statement::{Eights, Keyed, Statement, run_all};
+use crate::written::WrittenRow;
+use adm_batches::texts::insert_places;
 use adm_schema::tables::places::{delete_place, put_place};
 use adm_types::{ChildNo, Day, PlaceRow, PlaceState};
+use sqlite::types::{ToSql, ValueRef};
 use sqlite::{Alter, Error, Transaction, params};
 
 fn number_in(day: &Option<Day>) -> Option<u32>
@@ -49,6 +53,38 @@ impl Statement for PutPlace {
         let (kind, day, reminded) = columns_of(&row.place.state);
         tx.execute(put_place(), params![child, school, kind, day, reminded])?;
         Ok(())
+    }
+}
+
+impl WrittenRow for PlaceRow {
+    ghost count = { 5 };
+
+    ghost row_of = { place_row };
+
+    fn lend_at<'v>(&'v self, parameters: &mut [ValueRef<'v>], at: usize) {
+        let (kind, day, reminded) = columns_of(&self.place.state);
+        set_value(parameters, at, self.child.get().to_sql());
+        set_value(parameters, at + 1, self.place.school.as_str().to_sql());
+        set_value(parameters, at + 2, kind.to_sql());
+        set_value(parameters, at + 3, day.to_sql());
+        set_value(parameters, at + 4, reminded.to_sql());
+    }
+
+    fn count() -> usize {
+        5
+    }
+}
+
+/// Eight places are added: it fails where one of the children has a place.
+impl Eights for PutPlace {
+    fn run_eight<S: Alter>(tx: &mut Transaction<'_, S>, rows: &[PlaceRow]) -> Result<(), Error> {
+        run_rows(tx, insert_places(), rows)
+    }
+}
+
+impl Keyed for PutPlace {
+    fn add_all<S: Alter>(tx: &mut Transaction<'_, S>, rows: &[PlaceRow]) -> Result<(), Error> {
+        run_all::<PutPlace, S>(tx, rows)
     }
 }
 

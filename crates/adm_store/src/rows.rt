@@ -64,8 +64,14 @@ pub struct Changes {
     /// Those of these schools that were there: their rows are deleted before.
     pub replaced: Seq<SchoolCode>,
     pub children: Seq<ChildRow>,
+    /// None of these children was there.
+    pub only_new_children: bool,
     pub applications: Seq<ApplicationRow>,
+    /// None of these children had an application.
+    pub only_new_applications: bool,
     pub places: Seq<PlaceRow>,
+    /// None of these children had a place.
+    pub only_new_places: bool,
     pub left: Seq<LeftPair>,
     /// The draws, by their numbers.
     pub draws: Seq<DrawRow>,
@@ -85,15 +91,18 @@ pub struct Changes {
 }
 
 // Written by hand, and not derived: what lets go of changes then calls this, in place of going through
-// its fourteen lists.
+// its fields.
 impl Drop for Changes {
     fn drop(self) {
         let Changes {
             schools: _,
             replaced: _,
             children: _,
+            only_new_children: _,
             applications: _,
+            only_new_applications: _,
             places: _,
+            only_new_places: _,
             left: _,
             draws: _,
             offers: _,

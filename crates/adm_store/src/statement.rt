@@ -69,3 +69,29 @@ pub(crate) fn run_all<W: Eights, S: Alter>(
     }
     run_each::<W, S>(tx, rest)
 }
+
+/// A statement that writes a row over the one of its key, and a way to write rows whose keys are new, which fails where one is not.
+pub(crate) trait Keyed: Statement {
+    fn add_all<S: Alter>(tx: &mut Transaction<'_, S>, items: &[Self::Item]) -> Result<(), Error>
+        ensures same_reference { tx.new.conn.ghost_name ≡ tx.old.conn.ghost_name }
+        ensures writes { OnOk result (Writes (write_of Self.kind Self.table Self.row_of items.now ∷ []) (state S.Store tx.old.conn.now) (state S.Store tx.new.conn.now)) }
+        ensures survives { Survives (state S.Store tx.old.conn.now) (state S.Store tx.new.conn.now) (λ _. ⊥) };
+}
+
+/// Writes the rows of these items: all at once where their keys are new, else by a statement for each. To look for the row of a key costs
+/// much beside writing it.
+pub(crate) fn put_all<W: Keyed, S: Alter>(
+    tx: &mut Transaction<'_, S>,
+    items: &[W::Item],
+    only_new: bool,
+) -> Result<(), Error>
+    ensures same_reference { tx.new.conn.ghost_name ≡ tx.old.conn.ghost_name }
+    ensures writes { OnOk result (Writes (write_of W.kind W.table W.row_of items.now ∷ []) (state S.Store tx.old.conn.now) (state S.Store tx.new.conn.now)) }
+    ensures survives { Survives (state S.Store tx.old.conn.now) (state S.Store tx.new.conn.now) (λ _. ⊥) }
+{
+    if only_new {
+        W::add_all(tx, items)
+    } else {
+        run_each::<W, S>(tx, items)
+    }
+}

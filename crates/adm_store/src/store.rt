@@ -27,7 +27,7 @@ use crate::present::{AddPresent, DeletePresent};
 use crate::rows::{Changes, last_draw};
 use crate::schools::write_schools;
 use crate::season::SetDraws;
-use crate::statement::{run_all, run_each};
+use crate::statement::{put_all, run_all, run_each};
 use crate::to_rows::ToRow;
 use crate::{CreateFault, Failed, creation};
 use adm_register::Register;
@@ -213,9 +213,13 @@ fn write_base<S: Alter>(tx: &mut Transaction<'_, S>, changes: &Changes) -> Resul
     ensures survives { Survives (state S.Store tx.old.conn.now) (state S.Store tx.new.conn.now) (λ _. ⊥) }
 {
     write_schools(tx, changes.replaced.as_slice(), changes.schools.as_slice())?;
-    run_each::<PutChild, S>(tx, changes.children.as_slice())?;
+    put_all::<PutChild, S>(tx, changes.children.as_slice(), changes.only_new_children)?;
     run_each::<DeleteApplication, S>(tx, changes.ended.as_slice())?;
-    run_each::<PutApplication, S>(tx, changes.applications.as_slice())
+    put_all::<PutApplication, S>(
+        tx,
+        changes.applications.as_slice(),
+        changes.only_new_applications,
+    )
 }
 
 /// Writes the places and the schools that children left; deletes the places that ended.
@@ -225,7 +229,7 @@ fn write_places<S: Alter>(tx: &mut Transaction<'_, S>, changes: &Changes) -> Res
     ensures survives { Survives (state S.Store tx.old.conn.now) (state S.Store tx.new.conn.now) (λ _. ⊥) }
 {
     run_each::<DeletePlace, S>(tx, changes.vacated.as_slice())?;
-    run_each::<PutPlace, S>(tx, changes.places.as_slice())?;
+    put_all::<PutPlace, S>(tx, changes.places.as_slice(), changes.only_new_places)?;
     run_each::<AddLeft, S>(tx, changes.left.as_slice())
 }
 
@@ -247,7 +251,7 @@ fn write_imported<S: Alter>(tx: &mut Transaction<'_, S>, changes: &Changes) -> R
     ensures writes { OnOk result (Writes (import_writes changes.now) (state S.Store tx.old.conn.now) (state S.Store tx.new.conn.now)) }
     ensures survives { Survives (state S.Store tx.old.conn.now) (state S.Store tx.new.conn.now) (λ _. ⊥) }
 {
-    run_each::<AddImported, S>(tx, changes.imported.as_slice())?;
+    run_all::<AddImported, S>(tx, changes.imported.as_slice())?;
     run_each::<DeletePresent, S>(tx, changes.moved.as_slice())?;
     run_each::<AddPresent, S>(tx, changes.present.as_slice())
 }

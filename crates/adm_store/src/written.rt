@@ -1,5 +1,5 @@
 // Rows as nested pairs of values, which are the parameters of a fixed text.
-ghost use Rattle.std.specs.Prelude.{◌≡◌, ◌++◌, ◌+◌, ◌≤◌, ℕ, suc, take, List, [], ◌∷◌, pos, Ok, IsTrue, IfOk, OnOk, refl};
+ghost use Rattle.std.specs.Prelude.{◌≡◌, ◌++◌, ◌+◌, ◌≤◌, ℕ, suc, take, length, List, [], ◌∷◌, pos, Ok, IsTrue, IfOk, OnOk, refl};
 ghost use Rattle.sqlite_value.specs.declared.value.Value.{Value as Columned};
 ghost use Rattle.sqlite_value.specs.declared.value.Value.TheVariants.{Int, Text as TextValue};
 ghost use Rattle.sqlite_value.specs.Value.{owned};
@@ -86,15 +86,17 @@ impl Written for Text {
     }
 }
 
-/// A row of sixteen columns at the most, as a statement takes it: `()` no column, and `(value, values)` a column and then others.
+/// A row, as a statement takes it: `()` no column, and `(value, values)` a column and then others.
 pub(crate) trait WrittenRow: Drop {
     ghost count: { ℕ };
 
     ghost row_of: { Self → RowOf };
 
-    fn lend_at<'v>(&'v self, refs: [ValueRef<'v>; 16], at: usize) -> [ValueRef<'v>; 16]
-        requires { at + count ≤ 16 }
-        ensures { bound (take (at + count) result) ≡ bound (take at refs.entry) ++ row_of self.now };
+    /// Sets the parameters from a place on to the values of the row.
+    fn lend_at<'v>(&'v self, parameters: &mut [ValueRef<'v>], at: usize)
+        requires { at + count ≤ length parameters.old }
+        ensures long { length parameters.new ≡ length parameters.old }
+        ensures lent { bound (take (at + count) parameters.new) ≡ bound (take at parameters.old) ++ row_of self.now };
 
     fn count() -> usize
         requires { count ≤ 16 }
@@ -106,9 +108,7 @@ impl WrittenRow for () {
 
     ghost row_of = { λ _. [] };
 
-    fn lend_at<'v>(&'v self, refs: [ValueRef<'v>; 16], _at: usize) -> [ValueRef<'v>; 16] {
-        refs
-    }
+    fn lend_at<'v>(&'v self, _parameters: &mut [ValueRef<'v>], _at: usize) {}
 
     fn count() -> usize {
         0
@@ -120,10 +120,9 @@ impl<T: Written, Others: WrittenRow> WrittenRow for (T, Others) {
 
     ghost row_of = { λ xs. T.value xs.0 ∷ Others.row_of xs.1 };
 
-    fn lend_at<'v>(&'v self, refs: [ValueRef<'v>; 16], at: usize) -> [ValueRef<'v>; 16] {
-        let mut refs = refs;
-        refs[at] = self.0.lend();
-        self.1.lend_at(refs, at + 1)
+    fn lend_at<'v>(&'v self, parameters: &mut [ValueRef<'v>], at: usize) {
+        parameters[at] = self.0.lend();
+        self.1.lend_at(parameters, at + 1)
     }
 
     fn count() -> usize {
@@ -131,7 +130,7 @@ impl<T: Written, Others: WrittenRow> WrittenRow for (T, Others) {
     }
 }
 
-/// Runs a text with the values of a row. It takes no memory of its own.
+/// Runs a text with the values of a row of sixteen columns at the most. It takes no memory of its own.
 pub(crate) fn run_row<S: Alter, R: WrittenRow>(
     tx: &mut Transaction<'_, S>,
     text: &str,
@@ -142,7 +141,8 @@ pub(crate) fn run_row<S: Alter, R: WrittenRow>(
     ensures runs { OnOk result (RunsText text.now (R.row_of row.now) (state S.Store tx.old.conn.now) (state S.Store tx.new.conn.now)) }
     ensures survives { Survives (state S.Store tx.old.conn.now) (state S.Store tx.new.conn.now) (λ _. ⊥) }
 {
-    let refs = row.lend_at([ValueRef::Null; 16], 0);
-    tx.execute(text, &refs[..R::count()])?;
+    let mut parameters = [ValueRef::Null; 16];
+    row.lend_at(&mut parameters, 0);
+    tx.execute(text, &parameters[..R::count()])?;
     Ok(())
 }
