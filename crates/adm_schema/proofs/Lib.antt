@@ -2,6 +2,9 @@ pub mod Casts
 pub mod Lists
 pub mod Queries
 pub mod Statements
+pub mod Inserts
+pub mod Deletes
+pub mod Replaces
 pub mod Updates
 pub mod Inside
 pub mod Creates
@@ -14,4 +17,7 @@ pub mod DrawCount
 pub mod Listed
 pub mod Answered
 pub mod OneFound
+pub mod OneReplaced
+pub mod Eights
+pub mod Fresh
 pub mod Migration

@@ -16,7 +16,7 @@ use Rattle.sqlite.specs.Table.{Table}
 use Rattle.sqlite.specs.Schema.{Schema}
 use Rattle.sqlite.specs.Command.TheVariants.{Select, Delete}
 use Rattle.sqlite.specs.Tree.{rowid, has_rowid, without_rowid}
-use Rattle.sqlite.specs.Edit.{id_in, without_all}
+use Rattle.sqlite.specs.Edit.{id_in, without_all, next_rowid, with_rowid}
 use Rattle.sqlite.specs.Effect.{Database}
 use Rattle.sqlite.specs.Listing.{understood, reads_listing}
 use Rattle.sqlite.specs.State.{State, Shown, ExecutesInside}
@@ -36,12 +36,12 @@ use Rattle.adm_schema.specs.Schema.{present, school, register_schema}
 use Rattle.adm_schema.proofs.Casts.{cast_null, cast_int}
 use Rattle.adm_schema.proofs.RowTexts.{finds_present, finds_school, cuts_present, cuts_school, inserts_present}
 use Rattle.sqlite.specs.Cast.{cast_row}
-use Rattle.sqlite.specs.Edit.{next_rowid, with_rowid}
 use Rattle.sqlite.specs.Rowids.TheVariants.{Chosen}
 use Rattle.sqlite_keyed.proofs.ListLemmas.{filter-map, filter_same, IsPermutation-same}
 use Rattle.std.specs.Prelude.{◌&&◌}
 use Rattle.adm_schema.proofs.OneRow.{answers_some, truth_is, one_test}
-use Rattle.adm_schema.proofs.Statements.{deleted, inserted, adds}
+use Rattle.adm_schema.proofs.Deletes.{deleted}
+use Rattle.adm_schema.proofs.Inserts.{inserted, adds}
 
 -- ---- two tests that each pick the same row alone pick the same rows
 
@@ -118,7 +118,7 @@ one_long [] one = absurd (cc)
 one_long (x ∷ []) one = (x, refl)
 one_long (x ∷ y ∷ more) one = absurd (cc)
 
-abbrev passing : List Term → Row → Row → Bool
+abbrev pub passing : List Term → Row → Row → Bool
 passing tests params r = list_all (holds (params ∷ r ∷ [])) tests
 
 module _ (schema : Schema) (table : Table) (at : ℕ) (found : slice_get schema.tables at ≡ Some table) (uncounted : table.is_counted ≡ false) (unstamped : table.stamps.terms ≡ [])
@@ -144,6 +144,23 @@ module _ (schema : Schema) (table : Table) (at : ℕ) (found : slice_get schema.
       (reads_as sql params old new schema has (Select (program_of (query_of table.tree tests (col 1 0 ∷ []) [])) names) is plain unlisted [] h) in
       no_source (λ (r : Row). eval_all (col 1 0 ∷ []) (params ∷ r ∷ [])) (filter (passing tests params) (old.now.trees table.tree)) asked
 
+  -- a query of the row of that rowid answers one row: no other row had it, and the rows that do not pass the tests are those of other rowids
+  pub picks_found : (tests : List Term) (params : Row) (by project : List Term) (given : Row) (k : ℤ) (x : Row) (rows answered : List Row) → filter (passing tests params) rows ≡ x ∷ [] → rowid x ≡ Int k
+      → ((r : Row) → passing by given r ≡ (equal Binary (rowid r) (Int k) && true))
+      → IsPermutation (map (λ r. eval_all project (given ∷ r ∷ [])) (filter (passing by given) rows)) answered → 1 ≡ length answered
+      → (answered ≡ eval_all project (given ∷ x ∷ []) ∷ []) × (without_rowid k rows ≡ filter (λ r. not (passing tests params r)) rows)
+  picks_found tests params by project given k x rows answered one key picks asked long =
+      let turned = λ (r : Row). eval_all project (given ∷ r ∷ []) in
+      let shown = one_long answered long in
+      let gone = one_source turned (filter (passing by given) rows) shown.0 (one_permutation shown.0 _ (IsPermutation-sym _ _ (subst (IsPermutation _) shown.1 asked))) in
+      let there : Has rows x = (has_filtered (passing tests params) rows x (subst (λ xs. Has xs x) (sym one) (inl refl))).0 in
+      let tied : passing by given x ≡ true = picks x ∙ one_test (equal Binary (rowid x) (Int k)) ∙ ap (λ v. equal Binary v (Int k)) key ∙ equal_int (Int k) k ∙ own_is_tied k in
+      let same : x ≡ gone.0 = only_one gone.0 x (subst (λ xs. Has xs x) gone.1 (has_kept (passing by given) rows x there tied)) in
+      let others = same_tests (passing tests params) (has_rowid k) rows x one (ap (λ v. is_eq (value_cmp v (Int k))) key ∙ own_is_tied k)
+      (λ r h at_k. only_one gone.0 r (subst (λ xs. Has xs r) gone.1 (has_kept (passing by given) rows r h (picks r ∙ one_test (equal Binary (rowid r) (Int k)) ∙ equal_int (rowid r) k ∙ at_k)))
+      ∙ sym same) in
+      (shown.1 ∙ ap (λ r. r ∷ []) (sym gone.2 ∙ ap turned (sym same)), others)
+
   -- a DELETE by that rowid deletes one row: no other row had it, and the rows that do not pass the tests remain
   pub cuts_found : (tests : List Term) (params : Row) (sql : List ℕ) (k : ℤ) (x : Row) (old new : State) → filter (passing tests params) (old.now.trees table.tree) ≡ x ∷ [] → rowid x ≡ Int k
       → command_of (understood schema sql) ≡ Delete at (program_of (query_of table.tree has_key (col 1 0 ∷ []) [])) → IsPlain (understood schema sql)
@@ -151,20 +168,10 @@ module _ (schema : Schema) (table : Table) (at : ℕ) (found : slice_get schema.
       → WritesOnly table old new × (new.now.trees table.tree ≡ filter (λ r. not (passing tests params r)) (old.now.trees table.tree))
   cuts_found tests params sql k x old new one key is plain has h =
       let rows = old.now.trees table.tree in
-      let by_key = passing has_key (Int k ∷ []) in
       let it = deleted schema table at found uncounted unstamped alone (program_of (query_of table.tree has_key (col 1 0 ∷ []) [])) sql (Int k ∷ []) old new 1 is plain has h in
       let asked = answers_some table.tree has_key (col 1 0 ∷ []) (record { schema = schema; trees = old.now.trees }) (Int k ∷ []) it.0 low it.2 in
-      let shown = one_long it.0 it.4 in
-      let gone = one_source (λ (r : Row). eval_all (col 1 0 ∷ []) ((Int k ∷ []) ∷ r ∷ [])) (filter by_key rows) shown.0
-      (one_permutation shown.0 _ (IsPermutation-sym _ _ (subst (IsPermutation _) shown.1 asked))) in
-      let there : Has rows x = (has_filtered (passing tests params) rows x (subst (λ xs. Has xs x) (sym one) (inl refl))).0 in
-      let tied : by_key x ≡ true = one_test (equal Binary (rowid x) (Int k)) ∙ ap (λ v. equal Binary v (Int k)) key ∙ equal_int (Int k) k ∙ own_is_tied k in
-      let same : x ≡ gone.0 = only_one gone.0 x (subst (λ xs. Has xs x) gone.1 (has_kept by_key rows x there tied)) in
-      let ids : ids_of it.0 ≡ k ∷ [] = ap ids_of (shown.1 ∙ ap (λ r. r ∷ []) (sym gone.2)) ∙ ap (λ (r : Row). id_in (rowid r) ∷ []) (sym same) ∙ ap (λ v. id_in v ∷ []) key in
-      let left : new.now.trees table.tree ≡ without_rowid k rows = it.3.rows ∙ ap (without_all rows) ids in
-      let others = same_tests (passing tests params) (has_rowid k) rows x one (ap (λ v. is_eq (value_cmp v (Int k))) key ∙ own_is_tied k)
-      (λ r h at_k. only_one gone.0 r (subst (λ xs. Has xs r) gone.1 (has_kept by_key rows r h (one_test (equal Binary (rowid r) (Int k)) ∙ equal_int (rowid r) k ∙ at_k))) ∙ sym same) in
-      (it.1, left ∙ others)
+      let picked = picks_found tests params has_key (col 1 0 ∷ []) (Int k ∷ []) k x rows it.0 one key (λ _. refl) asked it.4 in
+      (it.1, it.3.rows ∙ ap (without_all rows) (ap ids_of picked.0 ∙ ap (λ v. id_in v ∷ []) key) ∙ picked.1)
 
   -- by the columns of its rows
   pub drops_found : (tests : List Term) (params key : Row) (sql : List ℕ) (k : ℤ) (x : Row) (old new : State) → ((r : Row) → passing tests params r ≡ begins_with key (columns_of table r))

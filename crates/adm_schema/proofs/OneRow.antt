@@ -43,7 +43,8 @@ use Rattle.adm_lists.proofs.Orders.{same_key}
 use Rattle.adm_schema.specs.Queries.{query_of, program_of}
 use Rattle.adm_schema.specs.RowTexts.{has_key}
 use Rattle.adm_schema.specs.Effects.{PutsRow, DeletesRow, integer_key}
-use Rattle.adm_schema.proofs.Statements.{replaced, replaced_rows, Replaces, deleted}
+use Rattle.adm_schema.proofs.Deletes.{deleted}
+use Rattle.adm_schema.proofs.Replaces.{replaced, replaced_rows, Replaces}
 use Rattle.sqlite_rules.specs.Calls.{ids_of}
 use Rattle.sqlite_rules.specs.Keys.{AreConflicts, conflicts, shares}
 use Rattle.sqlite_schema.specs.declared.schema.Index.{Index}

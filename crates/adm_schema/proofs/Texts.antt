@@ -6,7 +6,7 @@ use Rattle.sqlite.specs.Source.TheVariants.{Values}
 use Rattle.sqlite.specs.Listing.{understood}
 use Rattle.sqlite.proofs.Callers.{IsPlain, command_of}
 use Rattle.sqlite_tied.specs.Compute.{everything}
-use Rattle.adm_schema.specs.Columns.{child_columns, application_columns, imported_columns, given_terms, shown_terms}
+use Rattle.adm_schema.specs.Columns.{child_columns, application_columns, imported_columns, given_terms, shown_terms, one_row, eight_rows}
 use Rattle.adm_schema.specs.Queries.{Asks, query_of, program_of}
 use Rattle.adm_schema.specs.declared.version.Version.{Version}
 use Rattle.adm_schema.specs.Schema.{schema_of, register_schema}
@@ -132,10 +132,15 @@ asks_lots v = record {
   answered = λ db e. answered _ db e 11 text.lot_columns [] (λ h. absurd (let wrong = h.1 in cc));
 }
 
-pub inserts_imported : (command_of (understood register_schema text.insert_imported) ≡ Insert 9 (Values (given_terms imported_columns) (suc (length imported_columns))))
+pub inserts_imported : (command_of (understood register_schema text.insert_imported) ≡ Insert 9 (Values (given_terms imported_columns one_row) (suc (length imported_columns))))
     × IsPlain (understood register_schema text.insert_imported)
 unfolding understood everything
 inserts_imported = (refl, (refl, refl))
+
+pub inserts_imported_rows : (command_of (understood register_schema text.insert_imported_rows) ≡ Insert 9 (Values (given_terms imported_columns eight_rows) (suc (length imported_columns))))
+    × IsPlain (understood register_schema text.insert_imported_rows)
+unfolding understood everything
+inserts_imported_rows = (refl, (refl, refl))
 
 pub asks_imported : (v : Version) → Asks (schema_of v) text.select_imported 14 (shown_terms imported_columns) []
 unfolding understood everything

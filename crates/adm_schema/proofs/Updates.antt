@@ -1,8 +1,7 @@
--- What an UPDATE without WHERE does, by its command.
-use Rattle.std.proofs.Common.{◌≡◌, ℕ, ◌^◌, List, [], ◌∷◌, ◌++◌, map, drop, slice_get, true, false, not, nat_le, Some, None, Ok, refl, sym, ap, subst, subst₂, ◌∙◌, append-nil}
+-- What an UPDATE does, by its command, and how many rows it writes.
+use Rattle.std.proofs.Common.{◌≡◌, ℕ, ◌^◌, List, [], ◌∷◌, ◌++◌, map, drop, slice_get, true, false, nat_le, Some, None, Ok, refl, sym, ap, subst, subst₂, ◌∙◌, append-nil, length}
 use Rattle.std.specs.List.Sorted.{IsPermutation}
-use Rattle.std.proofs.lemmas.Bool.{and_parts, not-true}
-use Rattle.std.proofs.lemmas.List.Sorted.{IsPermutation-refl, IsPermutation-trans, IsPermutation-sym, IsPermutation-map, IsPermutation-middle, IsPermutation-append}
+use Rattle.std.proofs.lemmas.List.Sorted.{IsPermutation-trans, IsPermutation-map}
 use Rattle.std.proofs.lemmas.Simd.{map-map}
 use Rattle.sqlite.specs.Order.{Row}
 use Rattle.sqlite.specs.Term.{Term, eval_all}
@@ -10,7 +9,7 @@ use Rattle.sqlite.specs.Table.{Table}
 use Rattle.sqlite.specs.Schema.{Schema}
 use Rattle.sqlite.specs.Command.TheVariants.{Update}
 use Rattle.sqlite.specs.Cast.{cast_row}
-use Rattle.sqlite.specs.Edit.{Edit, edit_of, Applies, id_in, have_rowids, is_taken, without_all}
+use Rattle.sqlite.specs.Edit.{Edit, edit_of, Applies, id_in, have_rowids, without_all}
 use Rattle.sqlite_rules.specs.Edit.{taken_by, numbered, put_all, are_fresh}
 use Rattle.sqlite.specs.Rowids.TheVariants.{Given}
 use Rattle.sqlite_schema.specs.declared.schema.Keys.TheVariants.{Enforced}
@@ -19,29 +18,22 @@ use Rattle.sqlite_rules.specs.Calls.{ids_of}
 use Rattle.sqlite.specs.Does.{Tally, Does, OnRows}
 use Rattle.sqlite.specs.Rows.{Task, Written, Updates}
 use Rattle.sqlite_schema.specs.declared.program.Program.{Program}
-use Rattle.sqlite.specs.Tree.{Trees, rowid, put_row}
+use Rattle.sqlite.specs.Tree.{Trees, rowid}
 use Rattle.sqlite.specs.Effect.{Database, Answers}
 use Rattle.sqlite.specs.Listing.{understood}
 use Rattle.sqlite.specs.State.{State, mode_of, ExecutesInside}
 use Rattle.sqlite.proofs.Callers.{IsPlain, command_of, statement_of, runs_as, one_step}
 use Rattle.adm_schema.specs.Queries.{query_of, program_of}
 use Rattle.adm_schema.specs.Effects.{WritesOnly}
-use Rattle.adm_schema.proofs.Lists.{put_free, all_go, ids_have}
+use Rattle.adm_schema.proofs.Lists.{put_fresh, own_rowids, all_go, ids_have}
 use Rattle.adm_schema.proofs.Queries.{answers_all}
-use Rattle.adm_schema.proofs.Statements.{went, same_value, task_in, at_table, ends, leaves_others}
+use Rattle.adm_schema.proofs.Statements.{went, same_value, task_in, at_table, ends, leaves_others, counts}
+use Rattle.std.specs.Prelude.{unwrap_or}
+use Rattle.std.proofs.lemmas.List.{length-map}
 
--- rows at rowids of their own are so many more
-put_fresh : (rows news : List Row) → are_fresh rows news ≡ true → IsPermutation (news ++ rows) (put_all rows news)
-put_fresh rows [] fresh = IsPermutation-refl rows
-put_fresh rows (new ∷ news) fresh =
-    let parts = and_parts (not (is_taken rows new)) (are_fresh (put_row new rows) news) fresh in
-    let later = put_fresh (put_row new rows) news parts.1 in
-    let here = IsPermutation-append news news (new ∷ rows) (put_row new rows) (IsPermutation-refl news) (put_free new rows (not-true _ parts.0)) in
-    IsPermutation-trans _ _ _ (IsPermutation-sym _ _ (IsPermutation-middle news new rows)) (IsPermutation-trans _ _ _ here later)
-
-own_rowids : (rows news : List Row) → numbered Given rows news ≡ news
-own_rowids rows [] = refl
-own_rowids rows (new ∷ news) = ap (λ more. new ∷ more) (own_rowids (put_row new rows) news)
+-- as many rows are written as are answered
+turned_length : (table : Table) (rows answered : List Row) → length (numbered Given rows (map (λ (s : Row). cast_row table (drop 1 s)) answered)) ≡ length answered
+turned_length table rows answered = ap length (own_rowids rows (map (λ (s : Row). cast_row table (drop 1 s)) answered)) ∙ length-map answered (λ (s : Row). cast_row table (drop 1 s))
 
 module _ (schema : Schema) (table : Table) (at : ℕ) (found : slice_get schema.tables at ≡ Some table) (uncounted : table.is_counted ≡ false) (unstamped : table.stamps.terms ≡ [])
     (alone : (olds news : List Row) → works schema Enforced 0 table.tree olds news ≡ []) where
@@ -50,34 +42,45 @@ module _ (schema : Schema) (table : Table) (at : ℕ) (found : slice_get schema.
 
   updates_on : (old new : State) (params : Row) (tally : Tally) (q : Program) (text : List ℕ) → old.now.schema ≡ schema
       → Does old.step_limit (mode_of old) params old.now text None (Update at q) (Ok (tally, new.now))
-      → (w : Written) × Updates (task old params) q params old.now.trees (Ok w) × (new.now ≡ record { schema = schema; trees = w.trees })
+      → (w : Written) × Updates (task old params) q params old.now.trees (Ok w) × (new.now ≡ record { schema = schema; trees = w.trees }) × (tally.rows ≡ Some (length w.rows))
   updates_on old new params tally q text has h =
       let done = went (at_table schema table at found uncounted unstamped alone (λ t. OnRows (record (task old params) { table = t }) (mode_of old) None (Update at q) old.now.trees) _
-      (subst (λ s. Does old.step_limit (mode_of old) params (record old.now { schema = s }) text None (Update at q) (Ok (tally, new.now))) has h)) in
-      (done.0, done.1, ends schema table at found uncounted unstamped alone (task old params) (mode_of old) done.0 tally new.now done.2)
+      (subst (λ s. Does old.step_limit (mode_of old) params (record old.now { schema = s }) text None (Update at q) (Ok (tally, new.now))) has h)) in (
+        done.0,
+        done.1,
+        ends schema table at found uncounted unstamped alone (task old params) (mode_of old) done.0 tally new.now done.2,
+        counts schema table at found uncounted unstamped alone (task old params) (mode_of old) done.0 tally new.now done.2,
+      )
 
   updates_some : (old : State) (params : Row) (q : Program) (db : Trees) (w : Written) → Updates (task old params) q params db (Ok w)
       → (rows : List Row) × Answers (record { schema = schema; trees = db }) q params rows × Applies schema Enforced db (edit_of db table (ids_of rows) Given 1 rows) w.trees
+      × (length w.rows ≡ length rows)
   updates_some old params q db w h =
       let asked = went h in
       let edited = went asked.2 in
       let edit : Edit = edit_of db table (ids_of asked.0) Given 1 asked.0 in
       let applied = one_step schema Enforced db edited.0 edit (alone (taken_by db edit) edit.news) edited.1 in
       let trees : w.trees ≡ edited.0 = ap (λ (it : Written). it.trees) (same_value edited.2) in
-      (asked.0, asked.1, subst (Applies schema Enforced db edit) (sym trees) applied)
+      let long : length w.rows ≡ length edit.news = ap (λ (it : Written). length it.rows) (same_value edited.2) in
+      (asked.0, asked.1, subst (Applies schema Enforced db edit) (sym trees) applied, long ∙ turned_length table (without_all (db table.tree) (ids_of asked.0)) asked.0)
 
   -- an UPDATE of the rows that a query answers, each as its old rowid and the new row
   pub updated : (q : Program) (sql : List ℕ) (params : Row) (old new : State) (count : ℕ) → command_of (understood schema sql) ≡ Update at q
       → IsPlain (understood schema sql) → old.now.schema ≡ schema → ExecutesInside 0 sql params old new (Ok count)
       → (rows : List Row) × WritesOnly table old new × Answers (record { schema = schema; trees = old.now.trees }) q params rows
-      × Applies schema Enforced old.now.trees (edit_of old.now.trees table (ids_of rows) Given 1 rows) new.now.trees
+      × Applies schema Enforced old.now.trees (edit_of old.now.trees table (ids_of rows) Given 1 rows) new.now.trees × (count ≡ length rows)
   updated q sql params old new count is plain has h =
       let w = runs_as sql params old new schema has (Update at q) is plain count h.0 in
       let on = updates_on old new params w.tally q (statement_of sql (understood schema sql)) has w.changed in
       let some = updates_some old params q old.now.trees on.0 on.1 in
       let edit : Edit = edit_of old.now.trees table (ids_of some.0) Given 1 some.0 in
-      let only = leaves_others schema table at found uncounted unstamped alone old new edit on.0.trees refl has on.2 some.2 h.1 w.sound in
-      (some.0, only, some.1, subst (Applies schema Enforced old.now.trees edit) (sym (ap (λ (d : Database). d.trees) on.2)) some.2)
+      let only = leaves_others schema table at found uncounted unstamped alone old new edit on.0.trees refl has on.2 some.2 h.1 w.sound in (
+        some.0,
+        only,
+        some.1,
+        subst (Applies schema Enforced old.now.trees edit) (sym (ap (λ (d : Database). d.trees) on.2)) some.2,
+        w.counted ∙ ap (λ o. unwrap_or o 0) on.3 ∙ some.3,
+      )
 
   -- each row comes in its new form, in place of the old one
   pub updated_all : (project : List Term) (sql : List ℕ) (params : Row) (old new : State) (count : ℕ)

@@ -1,5 +1,6 @@
 -- The columns of tables, by the list of the fields that they hold, and the texts of SQL and the terms that follow from columns.
-use Rattle.std.specs.Prelude.{ℕ, suc, Bool, true, false, List, [], ◌∷◌, ◌++◌, map, codes}
+use Rattle.std.specs.Prelude.{ℕ, suc, ◌*◌, Bool, true, false, List, [], ◌∷◌, ◌++◌, map, length, codes}
+use Rattle.std.specs.List.{flat_map}
 use Rattle.std.specs.Fmt.{digits_onto}
 use Rattle.sqlite.specs.declared.types.Value.TheVariants.{Null}
 use Rattle.sqlite.specs.Collation.TheVariants.{Binary}
@@ -72,20 +73,42 @@ places_from at (column ∷ columns) = at ∷ places_from (suc at) columns
 abbrev pub number_text : ℕ → List ℕ
 number_text n = digits_onto 64 10 false n []
 
--- what writes a row whose columns are the parameters, after the words that say how
-abbrev pub values_text : List ℕ → List ℕ → List Column → List ℕ
-values_text how table columns =
-    how ++ table ++ codes " (" ++ names columns ++ codes ") VALUES (" ++ listed (map (λ n. codes "?" ++ number_text n) (places_from 1 columns)) ++ codes ")"
+-- the places of the rows that a text writes: of one, and of eight
+abbrev pub one_row : List ℕ
+one_row = 0 ∷ []
+
+abbrev pub eight_rows : List ℕ
+eight_rows = 0 ∷ 1 ∷ 2 ∷ 3 ∷ 4 ∷ 5 ∷ 6 ∷ 7 ∷ []
+
+-- the parameters of the row at a place, of rows of these columns
+abbrev pub row_text : List Column → ℕ → List ℕ
+row_text columns at = codes "(" ++ listed (map (λ n. codes "?" ++ number_text n) (places_from (suc (at * length columns)) columns)) ++ codes ")"
+
+-- what writes the rows at these places, whose columns are the parameters, one row after another, after the words that say how
+abbrev pub values_text : List ℕ → List ℕ → List Column → List ℕ → List ℕ
+values_text how table columns rows = how ++ table ++ codes " (" ++ names columns ++ codes ") VALUES " ++ listed (map (row_text columns) rows)
 
 abbrev pub select_text : List ℕ → List Column → List ℕ
 select_text table columns = codes "SELECT " ++ names columns ++ codes " FROM " ++ table
 
 -- ---- what they mean
 
--- the parameters as a row is given to the table: the key goes to the rowid's place, and its own column is NULL
-abbrev pub given_terms : List Column → List Term
-given_terms [] = []
-given_terms (key ∷ columns) = col 0 0 ∷ lit Null ∷ map (λ n. col 0 n) (places_from 1 columns)
+-- the row at a place as it is given to a table whose key is the rowid: the key goes to the rowid's place, and its own column is NULL
+abbrev pub keyed_at : List Column → ℕ → List Term
+keyed_at [] at = []
+keyed_at (key ∷ columns) at = col 0 (at * suc (length columns)) ∷ lit Null ∷ map (λ n. col 0 n) (places_from (suc (at * suc (length columns))) columns)
+
+-- the rows at these places as they are given to it
+abbrev pub given_terms : List Column → List ℕ → List Term
+given_terms columns rows = flat_map (keyed_at columns) rows
+
+-- the row at a place as it is given to a table whose rowid is no column
+abbrev pub added_at : List Column → ℕ → List Term
+added_at columns at = lit Null ∷ map (λ n. col 0 n) (places_from (at * length columns) columns)
+
+-- the rows at these places as they are given to it
+abbrev pub added_terms : List Column → List ℕ → List Term
+added_terms columns rows = flat_map (added_at columns) rows
 
 -- the rowid, which is the key, and then each column
 abbrev pub shown_terms : List Column → List Term

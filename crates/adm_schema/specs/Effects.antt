@@ -46,6 +46,11 @@ pub record AddsRow (table : Table) (row : Row) (old new : State) : Type 0 where
   pub only : WritesOnly table old new
   pub adds : IsPermutation (row ∷ rows_of table old.now.trees) (rows_of table new.now.trees)
 
+-- this table has these rows too
+pub record AddsRows (table : Table) (news : List Row) (old new : State) : Type 0 where
+  pub only : WritesOnly table old new
+  pub adds : IsPermutation (news ++ rows_of table old.now.trees) (rows_of table new.now.trees)
+
 -- after this many writes, or where it was open before, the transaction is open
 abbrev pub StaysOpen : ℕ → State → State → Type 0
 StaysOpen writes old new = (0 < writes) ⊎ IsTrue old.is_open → IsTrue new.is_open
@@ -93,6 +98,11 @@ drop_of key = filter (λ row. not (begins_with key row))
 pub record DropsRow (table : Table) (key : Row) (old new : State) : Type 0 where
   pub only : WritesOnly table old new
   pub rows : IsPermutation (drop_of key (rows_of table old.now.trees)) (rows_of table new.now.trees)
+
+-- this table has this row in place of those that begin with these values
+pub record ReplacesRow (table : Table) (key row : Row) (old new : State) : Type 0 where
+  pub only : WritesOnly table old new
+  pub rows : IsPermutation (row ∷ drop_of key (rows_of table old.now.trees)) (rows_of table new.now.trees)
 
 -- ---- the table `meta`
 

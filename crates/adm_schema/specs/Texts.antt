@@ -4,7 +4,7 @@ use Rattle.sqlite.specs.declared.types.Value.TheVariants.{Null, Int}
 use Rattle.sqlite.specs.Collation.TheVariants.{Binary}
 use Rattle.sqlite.specs.Term.{Term, lit, col}
 use Rattle.sqlite_value.specs.declared.keys.Key.{Key}
-use Rattle.adm_schema.specs.Columns.{child_columns, application_columns, imported_columns, select_text, values_text}
+use Rattle.adm_schema.specs.Columns.{child_columns, application_columns, imported_columns, select_text, values_text, one_row, eight_rows}
 
 abbrev pub insert_meta : List ℕ
 insert_meta = codes "INSERT INTO meta (one, version, phase, year, holidays, draws) VALUES (1, 2, ?1, ?2, ?3, 0)"
@@ -98,7 +98,11 @@ abbrev pub lot_columns : List Term
 lot_columns = col 1 1 ∷ col 1 2 ∷ col 1 3 ∷ col 1 4 ∷ []
 
 abbrev pub insert_imported : List ℕ
-insert_imported = values_text (codes "INSERT INTO ") (codes "imported") imported_columns
+insert_imported = values_text (codes "INSERT INTO ") (codes "imported") imported_columns one_row
+
+-- eight imported rows
+abbrev pub insert_imported_rows : List ℕ
+insert_imported_rows = values_text (codes "INSERT INTO ") (codes "imported") imported_columns eight_rows
 
 abbrev pub select_imported : List ℕ
 select_imported = select_text (codes "imported") imported_columns

@@ -13,23 +13,21 @@ use Rattle.sqlite_trees.specs.View.{doubt}
 use Rattle.adm_types.specs.declared.draws.DrawRow.{DrawRow}
 use Rattle.adm_types.specs.declared.draws.OfferRow.{OfferRow}
 use Rattle.adm_types.specs.declared.draws.LotRow.{LotRow}
+use Rattle.adm_schema.specs.Columns.{added_terms, eight_rows}
 use Rattle.adm_schema.specs.Rows.{columns_of}
 use Rattle.adm_schema.specs.Schema.{draw, offer, lot, register_schema}
 use Rattle.adm_schema.specs.RowTexts as text
 use Rattle.adm_schema.proofs.Listed.{has_draw, has_offer, has_lot}
 use Rattle.adm_schema.proofs.Casts.{cast_null, cast_int}
-use Rattle.adm_schema.proofs.Statements.{inserted, adds}
-use Rattle.adm_schema.proofs.RowTexts.{inserts_offer, inserts_lot}
+use Rattle.adm_schema.proofs.Inserts.{inserted, adds, inserted_all, adds_all}
+use Rattle.adm_schema.proofs.Eights.{given_lots, given_offers}
+use Rattle.adm_schema.proofs.RowTexts.{inserts_offer, inserts_offers, inserts_lot, inserts_lots}
 use Rattle.adm_schema.specs.Texts.{insert_draw, draw_terms}
 use Rattle.adm_schema.proofs.Texts.{inserts_draw}
 use Rattle.adm_rows.specs.Forms.{truth_code}
 use Rattle.adm_rows.specs.Forms.{school_value}
 use Rattle.adm_rows.specs.DrawForms.{draw_row, offer_row, lot_row}
 use Rattle.adm_store.specs.Writes.{RunsText, Adds, Writes, write_of}
-use Rattle.adm_batches.specs.Texts as eight
-use Rattle.adm_batches.proofs.Added.{inserted_all, adds_all}
-use Rattle.adm_batches.proofs.Eights.{given_lots, given_offers}
-use Rattle.adm_batches.proofs.RowTexts.{inserts_lots, inserts_offers}
 use Rattle.adm_store.proofs.LogLemmas.{add_one, add_many, add_keyed}
 
 -- the code of a school that may be none, as a parameter
@@ -86,13 +84,13 @@ adds_offer old new count it later ran = add_one offer has_offer old new later re
     (Null ∷ offer_row it) old new count inserts_offer.0 inserts_offer.1 (given_at it it.outcome.school) (sees early h.1.was_open) h))
 
 -- eight of them
-pub adds_offers : (old new : State) (rows : List OfferRow) → length rows ≡ 8 → doubt old.is_clean ≤ doubt new.is_clean → RunsText eight.insert_offers (flat_map offer_row rows) old new
+pub adds_offers : (old new : State) (rows : List OfferRow) → length rows ≡ 8 → doubt old.is_clean ≤ doubt new.is_clean → RunsText text.insert_offers (flat_map offer_row rows) old new
     → Writes (write_of Adds offer offer_row rows ∷ []) old new
 adds_offers old new rows long later ran = add_many offer has_offer old new later refl (map offer_row rows) (λ clean sees.
     let early : HasCleanDisk old = omega (arith, later, clean) in
     let h = (ran clean).1 in
     adds_all register_schema offer 7 refl refl refl (λ _ _. refl) (λ it. Null ∷ offer_row it) offer_row rows old new (λ it. shown_at it it.outcome.school)
-    (inserted_all register_schema offer 7 refl refl refl (λ _ _. refl) eight.offers_terms 5 eight.insert_offers (flat_map offer_row rows)
+    (inserted_all register_schema offer 7 refl refl refl (λ _ _. refl) (added_terms offer.columns eight_rows) 5 text.insert_offers (flat_map offer_row rows)
     (map (λ it. Null ∷ offer_row it) rows) old new (ran clean).0 inserts_offers.0 inserts_offers.1
     (given_offers (λ (it : OfferRow). Int (pos it.draw)) (λ it. Int (pos it.outcome.child)) (λ it. school_value it.outcome.school) (λ it. Int (pos (truth_code it.outcome.fresh))) rows long)
     (sees early h.1.was_open) h))
@@ -112,13 +110,13 @@ adds_lot old new count it later ran = add_one lot has_lot old new later refl (lo
     (Null ∷ lot_row it) old new count inserts_lot.0 inserts_lot.1 refl (sees early h.1.was_open) h))
 
 -- eight of them
-pub adds_lots : (old new : State) (rows : List LotRow) → length rows ≡ 8 → doubt old.is_clean ≤ doubt new.is_clean → RunsText eight.insert_lots (flat_map lot_row rows) old new
+pub adds_lots : (old new : State) (rows : List LotRow) → length rows ≡ 8 → doubt old.is_clean ≤ doubt new.is_clean → RunsText text.insert_lots (flat_map lot_row rows) old new
     → Writes (write_of Adds lot lot_row rows ∷ []) old new
 adds_lots old new rows long later ran = add_many lot has_lot old new later refl (map lot_row rows) (λ clean sees.
     let early : HasCleanDisk old = omega (arith, later, clean) in
     let h = (ran clean).1 in
     adds_all register_schema lot 8 refl refl refl (λ _ _. refl) (λ it. Null ∷ lot_row it) lot_row rows old new shown_lot
-    (inserted_all register_schema lot 8 refl refl refl (λ _ _. refl) eight.lots_terms 5 eight.insert_lots (flat_map lot_row rows)
+    (inserted_all register_schema lot 8 refl refl refl (λ _ _. refl) (added_terms lot.columns eight_rows) 5 text.insert_lots (flat_map lot_row rows)
     (map (λ it. Null ∷ lot_row it) rows) old new (ran clean).0 inserts_lots.0 inserts_lots.1
     (given_lots (λ (it : LotRow). Int (pos it.draw)) (λ it. Text it.lot.school) (λ it. Int (pos it.lot.child)) (λ it. Int (pos it.lot.lot)) rows long)
     (sees early h.1.was_open) h))

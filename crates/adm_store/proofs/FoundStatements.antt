@@ -14,8 +14,7 @@ use Rattle.sqlite.specs.Clock.{timed}
 use Rattle.sqlite.proofs.Callers.{IsPlain}
 use Rattle.sqlite_trees.specs.View.{doubt}
 use Rattle.sqlite_rules.specs.Lists.{Has}
-use Rattle.adm_batches.specs.Effects.{ReplacesRow}
-use Rattle.adm_schema.specs.Effects.{WritesOnly, DropsRow, drop_of}
+use Rattle.adm_schema.specs.Effects.{WritesOnly, DropsRow, ReplacesRow, drop_of}
 use Rattle.adm_schema.specs.Rows.{rows_of}
 use Rattle.adm_schema.specs.Schema.{register_schema}
 use Rattle.adm_store.specs.Found.{DeletesFound}

@@ -7,6 +7,7 @@ pub mod DrawOrder
 pub mod TurnLemmas
 pub mod LoopLemmas
 pub mod LentLemmas
+pub mod LoopWrites
 pub mod LogLemmas
 pub mod LeftByWrites
 pub mod FoundStatements

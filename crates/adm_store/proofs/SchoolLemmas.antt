@@ -9,7 +9,7 @@ use Rattle.sqlite.specs.Cast.{cast_row}
 use Rattle.sqlite.specs.Rowids.TheVariants.{Chosen}
 use Rattle.sqlite.specs.State.{State, HasCleanDisk, Shown, ExecutesInside}
 use Rattle.sqlite.specs.Table.{Table}
-use Rattle.adm_schema.specs.Effects.{drop_of}
+use Rattle.adm_schema.specs.Effects.{ReplacesRow, drop_of}
 use Rattle.adm_schema.specs.Rows.{columns_of, rows_of}
 use Rattle.sqlite_trees.specs.View.{doubt}
 use Rattle.adm_schema.specs.Schema.{school, register_schema}
@@ -18,16 +18,15 @@ use Rattle.adm_schema.specs.Texts.{insert_school, school_terms}
 use Rattle.adm_schema.proofs.Listed.{has_school}
 use Rattle.adm_schema.proofs.Casts.{cast_null, cast_int}
 use Rattle.adm_schema.proofs.OneFound.{drops_school}
+use Rattle.adm_schema.proofs.OneReplaced.{replaces_school}
 use Rattle.adm_schema.proofs.RowTexts.{finds_school}
-use Rattle.adm_schema.proofs.Statements.{inserted, adds}
+use Rattle.adm_schema.proofs.Inserts.{inserted, adds}
 use Rattle.adm_schema.proofs.Texts.{inserts_school}
 use Rattle.adm_store.specs.declared.rows.SchoolRow.{SchoolRow}
 use Rattle.adm_store.specs.Changes.{written_school}
 use Rattle.adm_store.specs.Found.{DeletesFound, WritesFound}
 use Rattle.adm_store.specs.Schools.{code_row}
 use Rattle.adm_store.specs.Writes.{Adds, Drops, Writes, Leaves, write_of, changed, after_writes}
-use Rattle.adm_batches.specs.Effects.{ReplacesRow}
-use Rattle.adm_batches.proofs.Found.{replaces_school}
 use Rattle.adm_store.proofs.FoundStatements.{shown_open, search_alone, replaces_before, found_and_cut}
 use Rattle.adm_store.proofs.LogLemmas.{own_writes, add_one}
 

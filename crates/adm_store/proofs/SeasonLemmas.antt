@@ -12,7 +12,7 @@ use Rattle.adm_schema.proofs.Listed.{has_meta}
 use Rattle.adm_schema.specs.Schema.{meta, register_schema}
 use Rattle.adm_schema.specs.Texts.{insert_meta, meta_terms, update_meta}
 use Rattle.adm_schema.proofs.Casts.{cast_null, cast_int}
-use Rattle.adm_schema.proofs.Statements.{inserted, adds}
+use Rattle.adm_schema.proofs.Inserts.{inserted, adds}
 use Rattle.adm_schema.proofs.Texts.{inserts_meta}
 use Rattle.adm_schema.proofs.DrawCount.{sets_draws}
 use Rattle.adm_types.specs.declared.draws.DrawRow.{DrawRow}

@@ -12,6 +12,7 @@ use Rattle.sqlite.specs.Command.TheVariants.{Insert}
 use Rattle.sqlite.specs.Source.TheVariants.{Values}
 use Rattle.sqlite.specs.Listing.{understood}
 use Rattle.sqlite.proofs.Callers.{IsPlain, command_of}
+use Rattle.sqlite_schema.specs.declared.schema.Column.{Column}
 use Rattle.sqlite_schema.specs.declared.schema.Keys.TheVariants.{Enforced}
 use Rattle.sqlite_rules.specs.Action.{works}
 use Rattle.sqlite_rules.specs.Lists.{Has}
@@ -22,7 +23,7 @@ use Rattle.sqlite.specs.Values.{bound_value, or_null}
 use Rattle.sqlite.specs.Effect.{value_rows}
 use Rattle.sqlite.specs.Ops.{is_null}
 use Rattle.sqlite_schema.specs.declared.command.Conflict.TheVariants.{Replace}
-use Rattle.adm_schema.specs.Columns.{child_columns, application_columns, imported_columns, given_terms}
+use Rattle.adm_schema.specs.Columns.{child_columns, application_columns, imported_columns, given_terms, one_row, eight_rows}
 use Rattle.adm_schema.specs.Rows.{columns_of}
 use Rattle.sqlite.specs.State.{State, HasCleanDisk, ExecutesInside}
 use Rattle.adm_types.specs.declared.rows.PlaceRow.{PlaceRow}
@@ -32,24 +33,21 @@ use Rattle.adm_types.specs.declared.rows.PlaceState.TheVariants.{Offered, Accept
 use Rattle.sqlite_trees.specs.View.{doubt}
 use Rattle.adm_schema.specs.Schema.{child, application, place, left_list, imported, register_schema}
 use Rattle.adm_schema.specs.RowTexts as text
-use Rattle.adm_schema.specs.Texts.{insert_left_list, left_list_terms, insert_imported}
+use Rattle.adm_schema.specs.Texts.{insert_left_list, left_list_terms, insert_imported, insert_imported_rows}
 use Rattle.adm_schema.proofs.Listed.{has_child, has_application, has_place, has_left_list, has_imported}
 use Rattle.adm_schema.proofs.Casts.{cast_null, cast_int}
 use Rattle.adm_schema.proofs.OneRow.{puts_row, cuts_row}
-use Rattle.adm_schema.proofs.Statements.{inserted, adds}
-use Rattle.adm_schema.proofs.Texts.{inserts_left_list, inserts_imported}
-use Rattle.adm_schema.proofs.RowTexts.{puts_child, puts_application, puts_place, cuts_application, cuts_place}
+use Rattle.adm_schema.proofs.Inserts.{inserted, adds, inserted_all, adds_all}
+use Rattle.adm_schema.proofs.Fresh.{puts_all}
+use Rattle.adm_schema.proofs.Eights.{eight_of, given_places}
+use Rattle.adm_schema.proofs.Texts.{inserts_left_list, inserts_imported, inserts_imported_rows}
+use Rattle.adm_schema.proofs.RowTexts.{puts_child, inserts_child, inserts_children, puts_application, inserts_application, inserts_applications, puts_place, inserts_places, cuts_application, cuts_place}
 use Rattle.adm_store.specs.declared.rows.ChildRow.{ChildRow}
 use Rattle.adm_store.specs.declared.rows.ApplicationRow.{ApplicationRow}
 use Rattle.adm_store.specs.declared.rows.ImportedRow.{ImportedRow}
 use Rattle.adm_store.specs.Changes.{written_child, written_application, written_imported}
 use Rattle.adm_rows.specs.Forms.{place_row, left_row, state_columns, truth_code}
 use Rattle.adm_store.specs.Writes.{RunsText, Adds, Puts, Cuts, Writes, write_of, key_row}
-use Rattle.adm_batches.specs.Texts as batch
-use Rattle.adm_batches.proofs.Added.{inserted_all, adds_all}
-use Rattle.adm_batches.proofs.Fresh.{puts_all}
-use Rattle.adm_batches.proofs.Eights.{eight_of, given_places}
-use Rattle.adm_batches.proofs.RowTexts.{inserts_child, inserts_children, inserts_application, inserts_applications, inserts_places, inserts_imported_rows}
 use Rattle.adm_store.proofs.MapLemmas.{rows_keyed}
 use Rattle.adm_store.proofs.LogLemmas.{add_one, add_keyed, add_many_keyed, put_one, put_many, cut_one}
 
@@ -67,6 +65,13 @@ bound_number (Some n) = refl
 abbrev stored : Row → Row
 stored [] = []
 stored (key ∷ row) = key ∷ Null ∷ row
+
+-- the parameters of these rows, one after another, are given to a table of these columns as these rows
+abbrev Gives : {X : Type 0} → List Column → (X → Row) → List X → Type 0
+Gives columns row_of rows =
+    let terms = given_terms columns eight_rows in
+    let width = suc (length columns) in
+    value_rows (flat_map row_of rows) width (length terms / width) terms ≡ map (λ x. stored (row_of x)) rows
 
 -- rows that a plain INSERT wrote are each at its key
 module _ {X : Type 0} (table : Table) (listed : Has register_schema.tables table) (at : ℕ) (found : slice_get register_schema.tables at ≡ Some table) (uncounted : table.is_counted ≡ false)
@@ -91,7 +96,7 @@ pub writes_child : (old new : State) (it : ChildRow) → doubt old.is_clean ≤ 
 writes_child old new it later ran = put_one child has_child old new later refl (written_child it) (λ clean sees.
     let early : HasCleanDisk old = omega (arith, later, clean) in
     let h = (ran clean).1 in
-    puts_row register_schema child 2 refl refl refl (λ _ _. refl) (λ _. refl) (given_terms child_columns) (suc (length child_columns)) text.put_child (written_child it)
+    puts_row register_schema child 2 refl refl refl (λ _ _. refl) (λ _. refl) (given_terms child_columns one_row) (suc (length child_columns)) text.put_child (written_child it)
     (stored (written_child it)) (written_child it) (pos it.columns.0) old new (ran clean).0 (λ _ _. refl)
     puts_child.0 puts_child.1 refl (stored_child it) (stored_child it) refl refl (sees early h.1.was_open) h)
 
@@ -101,21 +106,18 @@ child_rows : (terms : List Term) (width : ℕ) (sql : List ℕ) (params : Row) (
     → doubt old.is_clean ≤ doubt new.is_clean → RunsText sql params old new → Writes (write_of Puts child written_child rows ∷ []) old new
 child_rows = puts_rows child has_child 2 refl refl refl (λ _ _. refl) refl (λ _. refl) written_child (λ _. refl) stored_child (λ _. refl)
 
-pub adds_child : (old new : State) (it : ChildRow) → doubt old.is_clean ≤ doubt new.is_clean → RunsText batch.insert_child (written_child it) old new
+pub adds_child : (old new : State) (it : ChildRow) → doubt old.is_clean ≤ doubt new.is_clean → RunsText text.insert_child (written_child it) old new
     → Writes (write_of Puts child written_child (it ∷ []) ∷ []) old new
 adds_child old new it =
-    child_rows (given_terms child_columns) (suc (length child_columns)) batch.insert_child (written_child it) (it ∷ []) inserts_child.0 inserts_child.1 refl old new
+    child_rows (given_terms child_columns one_row) (suc (length child_columns)) text.insert_child (written_child it) (it ∷ []) inserts_child.0 inserts_child.1 refl old new
 
-eight_children : (rows : List ChildRow) → length rows ≡ 8
-    → value_rows (flat_map written_child rows) (suc (length child_columns)) (length batch.children_terms / (suc (length child_columns))) batch.children_terms ≡ map (λ it. stored (written_child it)) rows
-eight_children rows long =
-    let it = eight_of rows long in
-    subst (λ xs. value_rows (flat_map written_child xs) (suc (length child_columns)) (length batch.children_terms / (suc (length child_columns))) batch.children_terms ≡ map (λ it. stored (written_child it)) xs) (sym it.8) refl
+eight_children : (rows : List ChildRow) → length rows ≡ 8 → Gives child_columns written_child rows
+eight_children rows long = subst (Gives child_columns written_child) (sym (eight_of rows long).8) refl
 
-pub adds_children : (old new : State) (rows : List ChildRow) → length rows ≡ 8 → doubt old.is_clean ≤ doubt new.is_clean → RunsText batch.insert_children (flat_map written_child rows) old new
+pub adds_children : (old new : State) (rows : List ChildRow) → length rows ≡ 8 → doubt old.is_clean ≤ doubt new.is_clean → RunsText text.insert_children (flat_map written_child rows) old new
     → Writes (write_of Puts child written_child rows ∷ []) old new
 adds_children old new rows long =
-    child_rows batch.children_terms (suc (length child_columns)) batch.insert_children (flat_map written_child rows) rows inserts_children.0 inserts_children.1 (eight_children rows long) old new
+    child_rows (given_terms child_columns eight_rows) (suc (length child_columns)) text.insert_children (flat_map written_child rows) rows inserts_children.0 inserts_children.1 (eight_children rows long) old new
 
 stored_application : (it : ApplicationRow) → cast_row application (stored (written_application it)) ≡ stored (written_application it)
 stored_application it = simp (cast_null, cast_int) refl
@@ -125,7 +127,7 @@ pub writes_application : (old new : State) (it : ApplicationRow) → doubt old.i
 writes_application old new it later ran = put_one application has_application old new later refl (written_application it) (λ clean sees.
     let early : HasCleanDisk old = omega (arith, later, clean) in
     let h = (ran clean).1 in
-    puts_row register_schema application 3 refl refl refl (λ _ _. refl) (λ _. refl) (given_terms application_columns)
+    puts_row register_schema application 3 refl refl refl (λ _ _. refl) (λ _. refl) (given_terms application_columns one_row)
     (suc (length application_columns)) text.put_application (written_application it) (stored (written_application it)) (written_application it) (pos it.columns.0) old new (ran clean).0 (λ _ _. refl)
     puts_application.0 puts_application.1 refl (stored_application it) (stored_application it) refl refl (sees early h.1.was_open) h)
 
@@ -135,22 +137,19 @@ application_rows : (terms : List Term) (width : ℕ) (sql : List ℕ) (params : 
     → doubt old.is_clean ≤ doubt new.is_clean → RunsText sql params old new → Writes (write_of Puts application written_application rows ∷ []) old new
 application_rows = puts_rows application has_application 3 refl refl refl (λ _ _. refl) refl (λ _. refl) written_application (λ _. refl) stored_application (λ _. refl)
 
-pub adds_application : (old new : State) (it : ApplicationRow) → doubt old.is_clean ≤ doubt new.is_clean → RunsText batch.insert_application (written_application it) old new
+pub adds_application : (old new : State) (it : ApplicationRow) → doubt old.is_clean ≤ doubt new.is_clean → RunsText text.insert_application (written_application it) old new
     → Writes (write_of Puts application written_application (it ∷ []) ∷ []) old new
 adds_application old new it =
-    application_rows (given_terms application_columns) (suc (length application_columns)) batch.insert_application (written_application it) (it ∷ [])
+    application_rows (given_terms application_columns one_row) (suc (length application_columns)) text.insert_application (written_application it) (it ∷ [])
     inserts_application.0 inserts_application.1 refl old new
 
-eight_applications : (rows : List ApplicationRow) → length rows ≡ 8
-    → value_rows (flat_map written_application rows) (suc (length application_columns)) (length batch.applications_terms / (suc (length application_columns))) batch.applications_terms ≡ map (λ it. stored (written_application it)) rows
-eight_applications rows long =
-    let it = eight_of rows long in
-    subst (λ xs. value_rows (flat_map written_application xs) (suc (length application_columns)) (length batch.applications_terms / (suc (length application_columns))) batch.applications_terms ≡ map (λ it. stored (written_application it)) xs) (sym it.8) refl
+eight_applications : (rows : List ApplicationRow) → length rows ≡ 8 → Gives application_columns written_application rows
+eight_applications rows long = subst (Gives application_columns written_application) (sym (eight_of rows long).8) refl
 
 pub adds_applications : (old new : State) (rows : List ApplicationRow) → length rows ≡ 8 → doubt old.is_clean ≤ doubt new.is_clean
-    → RunsText batch.insert_applications (flat_map written_application rows) old new → Writes (write_of Puts application written_application rows ∷ []) old new
+    → RunsText text.insert_applications (flat_map written_application rows) old new → Writes (write_of Puts application written_application rows ∷ []) old new
 adds_applications old new rows long =
-    application_rows batch.applications_terms (suc (length application_columns)) batch.insert_applications (flat_map written_application rows) rows
+    application_rows (given_terms application_columns eight_rows) (suc (length application_columns)) text.insert_applications (flat_map written_application rows) rows
     inserts_applications.0 inserts_applications.1 (eight_applications rows long) old new
 
 pub cuts_application_out : (old new : State) (count : ℕ) (number : ℕ) → doubt old.is_clean ≤ doubt new.is_clean
@@ -223,18 +222,16 @@ place_is it = go it.place.state
     go Accepted = refl
     go Plan = refl
 
-eight_places : (rows : List PlaceRow) → length rows ≡ 8
-    → value_rows (flat_map place_row rows) 6 (length batch.places_terms / 6) batch.places_terms ≡ map (λ it. stored (place_row it)) rows
-eight_places rows long =
-    subst (λ (f : PlaceRow → Row). value_rows (flat_map f rows) 6 (length batch.places_terms / 6) batch.places_terms ≡ map (λ it. stored (f it)) rows) (λ i it. place_is it i)
+eight_places : (rows : List PlaceRow) → length rows ≡ 8 → Gives place.columns place_row rows
+eight_places rows long = subst (λ (f : PlaceRow → Row). Gives place.columns f rows) (λ i it. place_is it i)
     (given_places (λ (it : PlaceRow). Int (pos it.child)) (λ it. Text it.place.school) (λ it. column (place_row it) 2) (λ it. column (place_row it) 3)
     (λ it. column (place_row it) 4) rows long)
 
 -- eight places of children that had none
-pub adds_places : (old new : State) (rows : List PlaceRow) → length rows ≡ 8 → doubt old.is_clean ≤ doubt new.is_clean → RunsText batch.insert_places (flat_map place_row rows) old new
+pub adds_places : (old new : State) (rows : List PlaceRow) → length rows ≡ 8 → doubt old.is_clean ≤ doubt new.is_clean → RunsText text.insert_places (flat_map place_row rows) old new
     → Writes (write_of Puts place place_row rows ∷ []) old new
 adds_places old new rows long =
-    puts_rows place has_place 4 refl refl refl (λ _ _. refl) refl (λ _. refl) place_row (λ _. refl) stored_place shown_place batch.places_terms 6 batch.insert_places (flat_map place_row rows) rows
+    puts_rows place has_place 4 refl refl refl (λ _ _. refl) refl (λ _. refl) place_row (λ _. refl) stored_place shown_place (given_terms place.columns eight_rows) 6 text.insert_places (flat_map place_row rows) rows
     inserts_places.0 inserts_places.1 (eight_places rows long) old new
 
 pub cuts_place_out : (old new : State) (count : ℕ) (number : ℕ) → doubt old.is_clean ≤ doubt new.is_clean
@@ -265,22 +262,19 @@ adds_imported old new it later ran = add_keyed imported has_imported old new lat
     let early : HasCleanDisk old = omega (arith, later, clean) in
     let h = (ran clean).1 in
     adds register_schema imported 9 refl refl refl (λ _ _. refl) old new (stored (written_imported it)) (written_imported it) (λ rows. ap (columns_of imported) (given_imported it rows))
-    (inserted register_schema imported 9 refl refl refl (λ _ _. refl) (given_terms imported_columns) (suc (length imported_columns)) insert_imported (written_imported it)
+    (inserted register_schema imported 9 refl refl refl (λ _ _. refl) (given_terms imported_columns one_row) (suc (length imported_columns)) insert_imported (written_imported it)
     (stored (written_imported it)) old new (ran clean).0 inserts_imported.0 inserts_imported.1 refl (sees early h.1.was_open) h))
 
-eight_imported : (rows : List ImportedRow) → length rows ≡ 8
-    → value_rows (flat_map written_imported rows) (suc (length imported_columns)) (length batch.imported_terms / (suc (length imported_columns))) batch.imported_terms ≡ map (λ it. stored (written_imported it)) rows
-eight_imported rows long =
-    let it = eight_of rows long in
-    subst (λ xs. value_rows (flat_map written_imported xs) (suc (length imported_columns)) (length batch.imported_terms / (suc (length imported_columns))) batch.imported_terms ≡ map (λ it. stored (written_imported it)) xs) (sym it.8) refl
+eight_imported : (rows : List ImportedRow) → length rows ≡ 8 → Gives imported_columns written_imported rows
+eight_imported rows long = subst (Gives imported_columns written_imported) (sym (eight_of rows long).8) refl
 
 -- eight of them
 pub adds_imported_rows : (old new : State) (rows : List ImportedRow) → length rows ≡ 8 → doubt old.is_clean ≤ doubt new.is_clean
-    → RunsText batch.insert_imported_rows (flat_map written_imported rows) old new → Writes (write_of Adds imported written_imported rows ∷ []) old new
+    → RunsText insert_imported_rows (flat_map written_imported rows) old new → Writes (write_of Adds imported written_imported rows ∷ []) old new
 adds_imported_rows old new rows long later ran = add_many_keyed imported has_imported old new later refl (map written_imported rows)
     (rows_keyed (λ (it : ImportedRow). it.columns.0) written_imported (λ _. refl) rows) (λ clean sees.
     let early : HasCleanDisk old = omega (arith, later, clean) in
     let h = (ran clean).1 in
     adds_all register_schema imported 9 refl refl refl (λ _ _. refl) (λ it. stored (written_imported it)) written_imported rows old new (λ it rows. ap (columns_of imported) (given_imported it rows))
-    (inserted_all register_schema imported 9 refl refl refl (λ _ _. refl) batch.imported_terms (suc (length imported_columns)) batch.insert_imported_rows (flat_map written_imported rows)
+    (inserted_all register_schema imported 9 refl refl refl (λ _ _. refl) (given_terms imported_columns eight_rows) (suc (length imported_columns)) insert_imported_rows (flat_map written_imported rows)
     (map (λ it. stored (written_imported it)) rows) old new (ran clean).0 inserts_imported_rows.0 inserts_imported_rows.1 (eight_imported rows long) (sees early h.1.was_open) h))

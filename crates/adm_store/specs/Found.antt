@@ -3,7 +3,7 @@ use Rattle.std.specs.Prelude.{◌≡◌, ℕ, ℤ, List, [], ◌∷◌, ◌++◌
 use Rattle.sqlite.specs.declared.types.Value.TheVariants.{Int}
 use Rattle.sqlite.specs.Order.{Row, column}
 use Rattle.sqlite.specs.State.{State, ExecutesInside}
-use Rattle.adm_batches.specs.Texts.{update_school}
+use Rattle.adm_schema.specs.RowTexts.{update_school}
 use Rattle.adm_store.specs.declared.rows.SchoolRow.{SchoolRow}
 use Rattle.adm_store.specs.Changes.{written_school}
 

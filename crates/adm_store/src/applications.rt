@@ -7,8 +7,9 @@ use crate::lent::run_rows;
 use crate::rows::ApplicationRow;
 use crate::statement::{Eights, Keyed, Statement, run_all};
 use crate::written::{WrittenRow, run_row};
-use adm_batches::texts::{insert_application, insert_applications};
-use adm_schema::tables::applications::{delete_application, put_application};
+use adm_schema::tables::applications::{
+    delete_application, insert_application, insert_applications, put_application,
+};
 use adm_types::ChildNo;
 use sqlite::types::ValueRef;
 use sqlite::{Alter, Error, Transaction, params};

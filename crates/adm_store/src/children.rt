@@ -7,8 +7,7 @@ use crate::lent::run_rows;
 use crate::rows::ChildRow;
 use crate::statement::{Eights, Keyed, Statement, run_all};
 use crate::written::{WrittenRow, run_row};
-use adm_batches::texts::{insert_child, insert_children};
-use adm_schema::tables::children::put_child;
+use adm_schema::tables::children::{insert_child, insert_children, put_child};
 use sqlite::types::ValueRef;
 use sqlite::{Alter, Error, Transaction};
 

@@ -7,8 +7,7 @@ use crate::lent::run_rows;
 use crate::rows::ImportedRow;
 use crate::statement::{Eights, Statement};
 use crate::written::{WrittenRow, run_row};
-use adm_batches::texts::insert_imported_rows;
-use adm_schema::tables::children::insert_imported;
+use adm_schema::tables::children::{insert_imported, insert_imported_rows};
 use sqlite::types::ValueRef;
 use sqlite::{Alter, Error, Transaction};
 

@@ -12,8 +12,7 @@ ghost use Rattle.adm_store.specs.Writes.{Adds, Drops, Writes, write_of};
 use crate::found::cut_found;
 use crate::rows::SchoolRow;
 use crate::statement::{Statement, run_each};
-use adm_batches::texts::update_school;
-use adm_schema::tables::schools::{delete_school, find_school, insert_school};
+use adm_schema::tables::schools::{delete_school, find_school, insert_school, update_school};
 use adm_types::SchoolCode;
 use sqlite::{Alter, Error, Row, Transaction, params};
 

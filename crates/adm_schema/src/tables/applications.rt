@@ -2,7 +2,7 @@
 ghost use Rattle.std.specs.Prelude.{◌≡◌};
 ghost use Rattle.adm_schema.specs.Creations.{create_application};
 ghost use Rattle.adm_schema.specs.Texts.{select_applications};
-ghost use Rattle.adm_schema.specs.RowTexts.{put_application, delete_application};
+ghost use Rattle.adm_schema.specs.RowTexts.{put_application, insert_application, insert_applications, delete_application};
 
 use crate::expected::{KeysAre, TableIs};
 use sqlite_schema::schema::Kind;
@@ -30,6 +30,20 @@ pub fn put_application() -> &'static str
     ensures { result.now ≡ put_application }
 {
     "INSERT OR REPLACE INTO application (child, day, preferences) VALUES (?1, ?2, ?3)"
+}
+
+/// Adds a row.
+pub fn insert_application() -> &'static str
+    ensures { result.now ≡ insert_application }
+{
+    "INSERT INTO application (child, day, preferences) VALUES (?1, ?2, ?3)"
+}
+
+/// Adds eight rows.
+pub fn insert_applications() -> &'static str
+    ensures { result.now ≡ insert_applications }
+{
+    "INSERT INTO application (child, day, preferences) VALUES (?1, ?2, ?3), (?4, ?5, ?6), (?7, ?8, ?9), (?10, ?11, ?12), (?13, ?14, ?15), (?16, ?17, ?18), (?19, ?20, ?21), (?22, ?23, ?24)"
 }
 
 /// Deletes the row of a key.

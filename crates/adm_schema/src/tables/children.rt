@@ -1,8 +1,8 @@
 // The tables `child` and `imported`: their columns and keys, and the texts of SQL that make, write and read them.
 ghost use Rattle.std.specs.Prelude.{◌≡◌};
 ghost use Rattle.adm_schema.specs.Creations.{create_child, create_imported};
-ghost use Rattle.adm_schema.specs.Texts.{select_children, insert_imported, select_imported};
-ghost use Rattle.adm_schema.specs.RowTexts.{put_child};
+ghost use Rattle.adm_schema.specs.Texts.{select_children, insert_imported, insert_imported_rows, select_imported};
+ghost use Rattle.adm_schema.specs.RowTexts.{put_child, insert_child, insert_children};
 
 use crate::expected::{KeysAre, TableIs};
 use sqlite_schema::schema::Kind;
@@ -53,6 +53,20 @@ pub fn put_child() -> &'static str
     "INSERT OR REPLACE INTO child (child, name, east, north, looked_after, flags, siblings) VALUES (?1, ?2, ?3, ?4, ?5, ?6, ?7)"
 }
 
+/// Adds a row to `child`.
+pub fn insert_child() -> &'static str
+    ensures { result.now ≡ insert_child }
+{
+    "INSERT INTO child (child, name, east, north, looked_after, flags, siblings) VALUES (?1, ?2, ?3, ?4, ?5, ?6, ?7)"
+}
+
+/// Adds eight rows to `child`.
+pub fn insert_children() -> &'static str
+    ensures { result.now ≡ insert_children }
+{
+    "INSERT INTO child (child, name, east, north, looked_after, flags, siblings) VALUES (?1, ?2, ?3, ?4, ?5, ?6, ?7), (?8, ?9, ?10, ?11, ?12, ?13, ?14), (?15, ?16, ?17, ?18, ?19, ?20, ?21), (?22, ?23, ?24, ?25, ?26, ?27, ?28), (?29, ?30, ?31, ?32, ?33, ?34, ?35), (?36, ?37, ?38, ?39, ?40, ?41, ?42), (?43, ?44, ?45, ?46, ?47, ?48, ?49), (?50, ?51, ?52, ?53, ?54, ?55, ?56)"
+}
+
 /// The rows of `child`, column by column.
 pub fn select_children() -> &'static str
     ensures { result.now ≡ select_children }
@@ -72,6 +86,13 @@ pub fn insert_imported() -> &'static str
     ensures { result.now ≡ insert_imported }
 {
     "INSERT INTO imported (child, name, east, north, looked_after, flags, siblings, day, preferences) VALUES (?1, ?2, ?3, ?4, ?5, ?6, ?7, ?8, ?9)"
+}
+
+/// Adds eight rows to `imported`.
+pub fn insert_imported_rows() -> &'static str
+    ensures { result.now ≡ insert_imported_rows }
+{
+    "INSERT INTO imported (child, name, east, north, looked_after, flags, siblings, day, preferences) VALUES (?1, ?2, ?3, ?4, ?5, ?6, ?7, ?8, ?9), (?10, ?11, ?12, ?13, ?14, ?15, ?16, ?17, ?18), (?19, ?20, ?21, ?22, ?23, ?24, ?25, ?26, ?27), (?28, ?29, ?30, ?31, ?32, ?33, ?34, ?35, ?36), (?37, ?38, ?39, ?40, ?41, ?42, ?43, ?44, ?45), (?46, ?47, ?48, ?49, ?50, ?51, ?52, ?53, ?54), (?55, ?56, ?57, ?58, ?59, ?60, ?61, ?62, ?63), (?64, ?65, ?66, ?67, ?68, ?69, ?70, ?71, ?72)"
 }
 
 /// The rows of `imported`, column by column.

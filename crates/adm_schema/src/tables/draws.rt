@@ -2,7 +2,7 @@
 ghost use Rattle.std.specs.Prelude.{◌≡◌};
 ghost use Rattle.adm_schema.specs.Creations.{create_draw, create_offer, create_lot};
 ghost use Rattle.adm_schema.specs.Texts.{insert_draw, select_draws, select_offers, select_lots};
-ghost use Rattle.adm_schema.specs.RowTexts.{insert_offer, insert_lot};
+ghost use Rattle.adm_schema.specs.RowTexts.{insert_offer, insert_offers, insert_lot, insert_lots};
 
 use crate::expected::{KeysAre, TableIs};
 use sqlite_schema::schema::Kind;
@@ -78,6 +78,13 @@ pub fn insert_offer() -> &'static str
     "INSERT INTO offer (draw, child, school, fresh) VALUES (?1, ?2, ?3, ?4)"
 }
 
+/// Adds eight rows to `offer`.
+pub fn insert_offers() -> &'static str
+    ensures { result.now ≡ insert_offers }
+{
+    "INSERT INTO offer (draw, child, school, fresh) VALUES (?1, ?2, ?3, ?4), (?5, ?6, ?7, ?8), (?9, ?10, ?11, ?12), (?13, ?14, ?15, ?16), (?17, ?18, ?19, ?20), (?21, ?22, ?23, ?24), (?25, ?26, ?27, ?28), (?29, ?30, ?31, ?32)"
+}
+
 /// The rows of `offer`, column by column.
 pub fn select_offers() -> &'static str
     ensures { result.now ≡ select_offers }
@@ -97,6 +104,13 @@ pub fn insert_lot() -> &'static str
     ensures { result.now ≡ insert_lot }
 {
     "INSERT INTO lot (draw, school, child, lot) VALUES (?1, ?2, ?3, ?4)"
+}
+
+/// Adds eight rows to `lot`.
+pub fn insert_lots() -> &'static str
+    ensures { result.now ≡ insert_lots }
+{
+    "INSERT INTO lot (draw, school, child, lot) VALUES (?1, ?2, ?3, ?4), (?5, ?6, ?7, ?8), (?9, ?10, ?11, ?12), (?13, ?14, ?15, ?16), (?17, ?18, ?19, ?20), (?21, ?22, ?23, ?24), (?25, ?26, ?27, ?28), (?29, ?30, ?31, ?32)"
 }
 
 /// The rows of `lot`, column by column.

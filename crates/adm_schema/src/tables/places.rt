@@ -2,7 +2,7 @@
 ghost use Rattle.std.specs.Prelude.{◌≡◌};
 ghost use Rattle.adm_schema.specs.Creations.{create_place};
 ghost use Rattle.adm_schema.specs.Texts.{select_places};
-ghost use Rattle.adm_schema.specs.RowTexts.{put_place, delete_place};
+ghost use Rattle.adm_schema.specs.RowTexts.{put_place, insert_places, delete_place};
 
 use crate::expected::{KeysAre, TableIs};
 use sqlite_schema::schema::Kind;
@@ -32,6 +32,13 @@ pub fn put_place() -> &'static str
     ensures { result.now ≡ put_place }
 {
     "INSERT OR REPLACE INTO place (child, school, kind, day, reminded) VALUES (?1, ?2, ?3, ?4, ?5)"
+}
+
+/// Adds eight rows.
+pub fn insert_places() -> &'static str
+    ensures { result.now ≡ insert_places }
+{
+    "INSERT INTO place (child, school, kind, day, reminded) VALUES (?1, ?2, ?3, ?4, ?5), (?6, ?7, ?8, ?9, ?10), (?11, ?12, ?13, ?14, ?15), (?16, ?17, ?18, ?19, ?20), (?21, ?22, ?23, ?24, ?25), (?26, ?27, ?28, ?29, ?30), (?31, ?32, ?33, ?34, ?35), (?36, ?37, ?38, ?39, ?40)"
 }
 
 /// Deletes the row of a key.

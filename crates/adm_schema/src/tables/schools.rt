@@ -2,7 +2,7 @@
 ghost use Rattle.std.specs.Prelude.{◌≡◌};
 ghost use Rattle.adm_schema.specs.Creations.{create_school};
 ghost use Rattle.adm_schema.specs.Texts.{insert_school, select_schools};
-ghost use Rattle.adm_schema.specs.RowTexts.{find_school, delete_school};
+ghost use Rattle.adm_schema.specs.RowTexts.{find_school, update_school, delete_school};
 
 use crate::expected::{KeysAre, TableIs};
 use sqlite_schema::schema::Kind;
@@ -40,6 +40,13 @@ pub fn find_school() -> &'static str
     ensures { result.now ≡ find_school }
 {
     "SELECT rowid FROM school WHERE code = ?1"
+}
+
+/// Writes all columns of the row of a rowid.
+pub fn update_school() -> &'static str
+    ensures { result.now ≡ update_school }
+{
+    "UPDATE school SET code = ?1, name = ?2, pan = ?3, east = ?4, north = ?5, criteria = ?6 WHERE rowid = ?7"
 }
 
 /// Deletes the row of a rowid.

@@ -1,7 +1,7 @@
 use Rattle.std.proofs.Common.{refl, ◌∙◌}
 use Rattle.sqlite.specs.Held.{state}
 use Rattle.adm_store.proofs.CommitLemmas.{on_ok}
-use Rattle.adm_store.proofs.LogLemmas.{none_so_far, more_so_far, all_so_far}
+use Rattle.adm_store.proofs.LoopWrites.{none_so_far, more_so_far, all_so_far}
 use Rattle.adm_store.proofs.statement.run_all.Goals as goal
 
 pub eights-init : goal.eights-init

@@ -1,6 +1,6 @@
 use Rattle.std.proofs.Common.{◌≡◌, length}
 use Rattle.sqlite.specs.Held.{state}
-use Rattle.adm_store.proofs.LogLemmas.{SoFar}
+use Rattle.adm_store.proofs.LoopWrites.{SoFar}
 use Rattle.adm_store.proofs.statement.run_all.Given as goal
 
 -- what the items before the rest write

@@ -2,7 +2,7 @@ use Rattle.std.proofs.Common.{◌≡◌, arith, refl, subst, ◌∙◌, ap, [], 
 use Rattle.sqlite.specs.Held.{state}
 use Rattle.adm_schema.proofs.Inside.{survives_same, survives_on}
 use Rattle.adm_store.specs.Writes.{write_of, Writes}
-use Rattle.adm_store.proofs.LogLemmas.{writes_none, writes_more}
+use Rattle.adm_store.proofs.LoopWrites.{writes_none, writes_more}
 use Rattle.adm_store.proofs.statement.run_each.Goals as goal
 
 pub items-init : goal.items-init

@@ -21,7 +21,7 @@ use Rattle.sqlite_schema.specs.declared.schema.Keys.TheVariants.{Enforced}
 use Rattle.sqlite_rules.proofs.TableLemmas.{int_is}
 use Rattle.sqlite.specs.State.{State}
 use Rattle.adm_schema.specs.Rows.{columns_of}
-use Rattle.adm_schema.specs.Effects.{WritesOnly, Turns, integer_key, put_in, put_each}
+use Rattle.adm_schema.specs.Effects.{WritesOnly, Turns, put_in, put_each}
 use Rattle.adm_schema.proofs.Lists.{put_free, keyed_put}
 use Rattle.adm_schema.proofs.Inside.{puts_moved}
 use Rattle.adm_schema.proofs.OneRow.{shown_without, shown_keyed}
