@@ -6,6 +6,7 @@ ghost use Rattle.adm_store.specs.Writes.{Puts, Cuts, key_row};
 use crate::lent::run_rows;
 use crate::rows::ApplicationRow;
 use crate::statement::{Eights, Keyed, Statement, run_all};
+use crate::to_rows::WishRow;
 use crate::written::{WrittenRow, run_row};
 use adm_schema::tables::applications::{
     delete_application, insert_application, insert_applications, put_application,
@@ -48,7 +49,7 @@ impl Statement for AddApplication {
 }
 
 impl WrittenRow for ApplicationRow {
-    ghost count = { 3 };
+    ghost count = { ⟦<(ChildNo, WishRow) as WrittenRow>⟧.count };
 
     ghost row_of = { written_application };
 
@@ -57,7 +58,7 @@ impl WrittenRow for ApplicationRow {
     }
 
     fn count() -> usize {
-        3
+        <(ChildNo, WishRow) as WrittenRow>::count()
     }
 }
 

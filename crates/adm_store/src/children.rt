@@ -6,6 +6,7 @@ ghost use Rattle.adm_store.specs.Writes.{Puts};
 use crate::lent::run_rows;
 use crate::rows::ChildRow;
 use crate::statement::{Eights, Keyed, Statement, run_all};
+use crate::to_rows::HomeRow;
 use crate::written::{WrittenRow, run_row};
 use adm_schema::tables::children::{insert_child, insert_children, put_child};
 use sqlite::types::ValueRef;
@@ -45,7 +46,7 @@ impl Statement for AddChild {
 }
 
 impl WrittenRow for ChildRow {
-    ghost count = { 7 };
+    ghost count = { ⟦<HomeRow<()> as WrittenRow>⟧.count };
 
     ghost row_of = { written_child };
 
@@ -54,7 +55,7 @@ impl WrittenRow for ChildRow {
     }
 
     fn count() -> usize {
-        7
+        <HomeRow<()> as WrittenRow>::count()
     }
 }
 

@@ -6,6 +6,7 @@ ghost use Rattle.adm_store.specs.Writes.{Adds};
 use crate::lent::run_rows;
 use crate::rows::ImportedRow;
 use crate::statement::{Eights, Statement};
+use crate::to_rows::{HomeRow, WishRow};
 use crate::written::{WrittenRow, run_row};
 use adm_schema::tables::children::{insert_imported, insert_imported_rows};
 use sqlite::types::ValueRef;
@@ -28,7 +29,7 @@ impl Statement for AddImported {
 }
 
 impl WrittenRow for ImportedRow {
-    ghost count = { 9 };
+    ghost count = { ⟦<HomeRow<WishRow> as WrittenRow>⟧.count };
 
     ghost row_of = { written_imported };
 
@@ -37,7 +38,7 @@ impl WrittenRow for ImportedRow {
     }
 
     fn count() -> usize {
-        9
+        <HomeRow<WishRow> as WrittenRow>::count()
     }
 }
 

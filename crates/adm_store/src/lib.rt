@@ -28,4 +28,4 @@ pub use difference::changes;
 pub use fault::{CreateFault, Failed};
 pub use rows::{ApplicationRow, Changes, ChildRow, ImportedRow, SchoolRow};
 pub use store::{Store, create, open};
-pub use to_rows::HomeRow;
+pub use to_rows::{HomeRow, WishRow};

@@ -2,7 +2,7 @@
 ghost use Rattle.std.specs.Prelude.{◌≡◌, ◌+◌, length};
 ghost use Rattle.adm_store.specs.Changes.{last_draw, draw_count};
 
-use crate::to_rows::HomeRow;
+use crate::to_rows::{HomeRow, WishRow};
 use adm_types::{
     ChildNo, Day, DrawRow, LeftPair, LotRow, OfferRow, Phase, PlaceRow, PresentRow, SchoolCode,
     Seq, Text,
@@ -48,13 +48,13 @@ pub struct ChildRow {
 /// A row of the table `application`, as it is written. The codes of schools are joined by `;`.
 #[derive(Drop)]
 pub struct ApplicationRow {
-    pub columns: (ChildNo, (Day, (Text, ()))),
+    pub columns: (ChildNo, WishRow),
 }
 
 /// A row of the table `imported`, as it is written.
 #[derive(Drop)]
 pub struct ImportedRow {
-    pub columns: HomeRow<(Day, (Text, ()))>,
+    pub columns: HomeRow<WishRow>,
 }
 
 /// The rows of a new register that the old one has not, table by table, and the keys of the old

@@ -8,7 +8,7 @@ ghost use Rattle.sqlite.specs.Order.{Row as Columns};
 use crate::rows::{ApplicationRow, ChildRow, ImportedRow, SchoolRow, SeasonRow};
 use adm_rows::lists;
 use adm_table::Shared;
-use adm_types::{Application, Child, ChildNo, ImportRow, School, Season, Text};
+use adm_types::{Application, Child, ChildNo, Day, ImportRow, School, Season, Text};
 use std::alloc::{AllocError, Global};
 
 /// A value of a register, which is written as a row of a table.
@@ -67,6 +67,9 @@ impl ToRow for School {
 /// The columns of a child's row, as they are written, and then others: metres from the west and the south, flag `f` as bit `f`, and codes of
 /// schools joined by `;`.
 pub type HomeRow<Others> = (ChildNo, (Text, (u32, (u32, (bool, (u16, (Text, Others)))))));
+
+/// The day and the preferences of an application, as they are written: codes of schools joined by `;`.
+pub type WishRow = (Day, (Text, ()));
 
 /// The columns of a child, and then others.
 fn home_row<Others: Drop>(
