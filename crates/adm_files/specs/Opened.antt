@@ -6,6 +6,7 @@ use Rattle.sqlite_wal.specs.Recovery.{Image}
 use Rattle.sqlite_wal.specs.Reads.{AreClean}
 use Rattle.sqlite_store.specs.declared.store.FileStore.{FileStore}
 use Rattle.sqlite.specs.declared.error.Error.{Error}
+use Rattle.sqlite.specs.Effect.{IsDatabase}
 use Rattle.sqlite.specs.State.{HasCleanDisk, Survives}
 use Rattle.sqlite.specs.Held.{Held}
 use Rattle.sqlite.specs.Files.{file_state, IsClosed}
@@ -32,9 +33,10 @@ module _ {D : Type 0} {g : disk.Ghosts D} where
   abbrev pub Closes : Held (FileStore D g) → Result (Files D) (Error × FileStore D g) → Type 0
   Closes c closed = MatchResult closed (λ files. AreClean g files.log files.db → IsCopied c files) (λ e. IsClosed c e.1)
 
-  -- a connection to files that held this, which is open
+  -- a connection to files that held this, which is open, and whose schema is the one that the database lists
   abbrev pub IsFound : Image → Held (FileStore D g) → Type 0
-  IsFound image c = HasCleanDisk (file_state c) → IsTrue (file_state c).is_open × FindsIn image (file_state c)
+  IsFound image c = HasCleanDisk (file_state c)
+      → IsTrue (file_state c).is_open × FindsIn image (file_state c) × IsDatabase (file_state c).committed × (c.schema ≡ (file_state c).committed.schema)
 
   -- the files represent no register, or could not be read, and stay as they were, or represent the same register in the second version; the first error that fits is reported
   pub record IsNotOpened (image : Image) (e : Result Exit Fault) (closed : Result (Files D) (Error × FileStore D g)) : Type 0 where

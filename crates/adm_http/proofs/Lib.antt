@@ -11,3 +11,4 @@ pub mod RouteLemmas
 pub mod LawLemmas
 pub mod StateLemmas
 pub mod ShowLemmas
+pub mod BodyLemmas

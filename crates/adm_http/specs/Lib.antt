@@ -9,3 +9,4 @@ pub mod States
 pub mod Purposes
 pub mod Shows
 pub mod Connections
+pub mod Bodies

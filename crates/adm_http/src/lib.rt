@@ -20,7 +20,7 @@ mod states;
 
 pub use connections::Connections;
 pub use desk::{answer, serve_one};
-pub use laws::judged_in_one_way;
+pub use laws::{bodies_are_commands, judged_in_one_way};
 pub use listen::serve_on;
 pub use port::Port;
 pub use router::Routes;

@@ -1,5 +1,5 @@
 -- What each subcommand keeps of a register, from what it did.
-use Rattle.std.proofs.Common.{◌≡◌, ◌∙◌, ◌⊎◌, ℕ, ◌-◌, take, drop, length, List, [], ◌∷◌, ◌++◌, Result, Ok, Err, inl, inr, refl, sym, ap, subst}
+use Rattle.std.proofs.Common.{◌≡◌, ◌∙◌, ◌⊎◌, ◌≤◌, ℕ, ◌-◌, take, drop, length, List, [], ◌∷◌, ◌++◌, Result, Ok, Err, inl, inr, refl, sym, ap, subst, arith}
 use Rattle.std.specs.Prelude.{⊤}
 use Rattle.std.proofs.Math.Seq.{take-length}
 use Rattle.std.proofs.lemmas.Grind.{flat_map-append}
@@ -29,12 +29,14 @@ use Rattle.adm_desk.specs.declared.run.Run.{Run}
 use Rattle.adm_desk.specs.declared.run.RunFault.{RunFault}
 use Rattle.adm_desk.specs.declared.run.RunFault.TheVariants as run
 use Rattle.adm_desk.proofs.AcknowledgedLemmas.{keeps, keeps_lines}
+use Rattle.adm_http.specs.Bodies.{AnswersBodies}
 use Rattle.adm_files.specs.Imports.{ImportsAs}
 use Rattle.adm_files.specs.Opened.{IsOpened}
 use Rattle.adm_files.specs.declared.exit.Exit.{Exit}
 use Rattle.adm_files.specs.declared.fault.Fault.{Fault}
 use Rattle.adm_files.specs.declared.fault.Fault.TheVariants as fault
 use Rattle.adm_program.specs.Does.{Does}
+use Rattle.adm_program.specs.Served.{ServesAs}
 use Rattle.adm_program.specs.SuccessiveRuns.{AnswersInput, AnswersRows, AnswersNone, AnswersBy, StartsClean}
 use Rattle.adm_program.proofs.Remaining.{Leaves, not_opened, desk_kept, not_created}
 
@@ -124,9 +126,16 @@ module _ {D : Type 0} {g : disk.Ghosts D} where
           keeps file_state desk last ((Import it.0, answer) ∷ []) opened.alive opened.leaves (last, it.2.handled, refl),
         )
 
+    -- the bodies of requests
+    kept_served : AnswersBodies {C = Held (FileStore D g)} file_state → (last : Desk g) (port count : ℕ) (output : Stream) (e : Result Exit Fault) → ServesAs desk last port count output e
+        → (bodies : List (List ℕ)) × (answers : List LineAnswer) × (length bodies ≤ count) × AnswersLines command_line desk bodies answers last
+    kept_served bodies last port count output (Ok x) it = bodies count desk last it.1
+    kept_served bodies last port count output (Err fault.Listen) it = ([], [], omega arith, it.0)
+    kept_served bodies last port count output (Err f) it = ([], [], omega arith, it.0)
+
   -- ---- each subcommand
 
-  module _ (seen : SeenMayStay g) (one : OneRegister) (image : Image) (rows : List ℕ → Stream) (input output : Stream) (e : Result Exit Fault) (closed : Closed g) where
+  module _ (seen : SeenMayStay g) (one : OneRegister) (bodies : AnswersBodies {C = Held (FileStore D g)} file_state) (image : Image) (rows : List ℕ → Stream) (input output : Stream) (e : Result Exit Fault) (closed : Closed g) where
     -- the commands of the run, with their answers, and what it leaves
     abbrev Runs : (a : Action) → Does image a rows input output e closed → Type 0
     Runs a did = (answered : List (Command × Answer)) × AnswersBy a rows input output answered × Leaves {g = g} image closed (StartsClean image a rows input output e closed did) answered
@@ -147,7 +156,13 @@ module _ {D : Type 0} {g : disk.Ghosts D} where
     each (action.Import file csv) (unread, inr (desk, opened, inr it)) =
         let kept = kept_rows image desk opened it.after (rows csv.now) output e it.ends in
         (kept.0, kept.1, desk_kept seen one image desk it.after kept.0 closed opened kept.2 it.closes)
-    each (action.Serve file port count) did = ([], ([], [], refl), λ old file never after left. absurd never)
+    each (action.Serve file port count) (unread, inl it) = ([], ([], [], omega arith, refl), not_opened seen one image e closed ⊤ it.0)
+    each (action.Serve file port count) (unread, inr (desk, opened, it)) =
+        let leads = kept_served image desk opened bodies it.after port count output e it.ends in (
+          handled leads.0 leads.1,
+          (leads.0, leads.1, leads.2, refl),
+          desk_kept seen one image desk it.after (handled leads.0 leads.1) closed opened (keeps_all image desk opened it.after leads.0 leads.1 leads.3) it.closes,
+        )
     each (action.Letter file child) (unread, inl it) = ([], refl, not_opened seen one image e closed ⊤ it.0)
     each (action.Letter file child) (unread, inr (desk, opened, it)) = ([], refl, desk_kept seen one image desk desk [] closed opened (keeps_none image desk opened desk refl) it.1)
     each (action.List file school) (unread, inl it) = ([], refl, not_opened seen one image e closed ⊤ it.0)

@@ -1,5 +1,5 @@
 -- What a run leaves of two files that held a register, from what it did up to the close of its connection.
-use Rattle.std.proofs.Common.{◌≡◌, ◌≢◌, ◌≤◌, inl, inr, refl, sym, subst, arith, Option, Some, None, List, [], ◌∷◌, ◌++◌, Result, Ok, Err}
+use Rattle.std.proofs.Common.{◌≡◌, ◌≢◌, ◌≤◌, ◌∙◌, inl, inr, refl, ap, sym, subst, arith, Option, Some, None, List, [], ◌∷◌, ◌++◌, length, Result, Ok, Err}
 use Rattle.std.proofs.Math.Logic.{∥∥₁_elim, ∥∥₁_map}
 use Rattle.sqlite_disk.specs.declared.Disk.{Ghosts}
 use Rattle.sqlite_disk.specs.declared.Files.{Files}
@@ -21,7 +21,13 @@ use Rattle.adm_register.specs.State.{only_season, State as Register}
 use Rattle.adm_commands.specs.Imports.{Reaches}
 use Rattle.adm_rows.specs.Faults.{IsNoRegister}
 use Rattle.adm_rows.specs.Represents.{Represents, OneRegister}
-use Rattle.adm_schema.specs.Schema.{no_schema}
+use Rattle.adm_schema.specs.Schema.{no_schema, schema_of}
+use Rattle.adm_schema.specs.declared.version.Version.{Version}
+use Rattle.adm_schema.specs.declared.version.Version.TheVariants.{First, Second}
+use Rattle.sqlite.specs.Effect.{Database, IsDatabase}
+use Rattle.sqlite.specs.Schema.{Schema}
+use Rattle.sqlite_catalog.proofs.ReadLemmas.{lists_once}
+use Rattle.sqlite_trees.specs.Objects.{catalog_tree}
 use Rattle.adm_desk.specs.Acknowledged.{KeepsAcknowledged, acknowledged, in_flight, FindsAgain}
 use Rattle.adm_desk.specs.Crashes.{IsFileOf}
 use Rattle.adm_desk.specs.DeskState.{DeskState}
@@ -51,6 +57,17 @@ effect old kept found answered run finds = by_work (in_flight answered) refl fin
       | inl same ↦ (acknowledged answered, inl refl, subst (λ (r : Register). Reaches old (acknowledged answered) r) (sym same) run)
       | inr step ↦ (acknowledged answered ++ command ∷ [], inr (command, some, refl), reaches_more (acknowledged answered) (command ∷ []) old kept found run (found, step, refl))
     ]
+
+-- a version's schema has tables
+has_tables : (v : Version) → schema_of v ≢ no_schema
+has_tables First = λ same. (let none : length (schema_of First).tables ≡ 0 = ap (λ (s : Schema). length s.tables) same in cc)
+has_tables Second = λ same. (let none : length (schema_of Second).tables ≡ 0 = ap (λ (s : Schema). length s.tables) same in cc)
+
+-- so a file of a register has
+has_table : (schema : Schema) (db : Database) → IsDatabase db → schema ≡ db.schema → (r : Register) → Represents db.trees r → schema ≢ no_schema
+has_table schema db sound listed r is = λ none.
+    let same : db.schema ≡ schema_of is.version = lists_once (db.trees catalog_tree) db.schema (schema_of is.version) sound.lists is.stands.sound.lists in
+    has_tables is.version (sym same ∙ sym listed ∙ none)
 
 -- where there was a table, `init` makes none
 uncreated : {D : Type 0} {g : Ghosts D} (season : SeasonFacts) (found left : Held (FileStore D g)) (e : Result Exit Fault) → CreatesAs season found left e → found.schema ≢ no_schema
@@ -139,9 +156,11 @@ module _ {D : Type 0} {g : Ghosts D} (seen : SeenMayStay g) where
 
   -- no register was created
   pub not_created : OneRegister → (before : Image) (season : SeasonFacts) (e : Result Exit Fault) (closed : Result (Files D) (Error × FileStore D g)) (it : Creates before season e closed)
-      → Leaves {g = g} before closed (HasCleanDisk (file_state it.found) × (it.found.schema ≢ no_schema)) []
-  not_created one before season e closed it = nothing before closed (HasCleanDisk (file_state it.found) × (it.found.schema ≢ no_schema)) (λ old file start after left.
+      → Leaves {g = g} before closed (HasCleanDisk (file_state it.found)) []
+  not_created one before season e closed it = nothing before closed (HasCleanDisk (file_state it.found)) (λ old file start after left.
       still_file old it.creates.left closed it.creates.closes after left (λ clean db may.
-      let was = it.is_found start.0 in
-      let same = settled_at it.found.store seen db was.0 (uncreated season it.found it.creates.left e it.creates.made start.1 clean db may) in
-      ∥∥₁_map (stands one before old file it.found was.1) (λ is. subst (λ (t : Trees). Represents t old) (sym same) is)))
+      let was = it.is_found start in
+      ∥∥₁_map (stands one before old file it.found was.1) (λ is.
+      let used = has_table it.found.schema (file_state it.found).committed was.2 was.3 old is in
+      let same = settled_at it.found.store seen db was.0 (uncreated season it.found it.creates.left e it.creates.made used clean db may) in
+      subst (λ (t : Trees). Represents t old) (sym same) is)))

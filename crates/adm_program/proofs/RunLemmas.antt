@@ -5,12 +5,16 @@ use Rattle.std.proofs.lemmas.List.{append-nil}
 use Rattle.sqlite_disk.specs.declared.Disk.{Ghosts}
 use Rattle.sqlite_wal.specs.Recovery.{Image}
 use Rattle.sqlite_wal.proofs.LogLemmas.{SeenMayStay}
+use Rattle.sqlite_store.specs.declared.store.FileStore.{FileStore}
+use Rattle.sqlite.specs.Files.{file_state}
+use Rattle.sqlite.specs.Held.{Held}
 use Rattle.adm_types.specs.declared.commands.Command.{Command}
 use Rattle.adm_register.specs.State.{State as Register}
 use Rattle.adm_commands.specs.Imports.{Reaches}
 use Rattle.adm_rows.specs.Represents.{OneRegister}
 use Rattle.adm_desk.specs.Crashes.{IsFileOf}
 use Rattle.adm_desk.specs.declared.answer.Answer.{Answer}
+use Rattle.adm_http.specs.Bodies.{AnswersBodies}
 use Rattle.adm_program.specs.SuccessiveRuns.{ProgramRun, AreAnswered, IsEffect, AreEffects, HoldsAfterRuns, RunInOrder, OneMoreRun, AllRuns, OpensAfterRuns, NeverNoRegister}
 use Rattle.adm_program.proofs.Keeping.{each}
 use Rattle.adm_program.proofs.Remaining.{reaches_more, same_register, never_none}
@@ -26,10 +30,10 @@ effects_more (first ∷ runs) answered done last it is =
 after_none : (first : Register) (image : Image) → IsFileOf first image → HoldsAfterRuns first [] image
 after_none first image file = ∣ ([], first, refl, refl, file) ∣₁
 
-module _ {D : Type 0} (g : Ghosts D) (seen : SeenMayStay g) (one : OneRegister) where
+module _ {D : Type 0} (g : Ghosts D) (seen : SeenMayStay g) (one : OneRegister) (bodies : AnswersBodies {C = Held (FileStore D g)} file_state) where
   pub one_more_run : OneMoreRun g
   one_more_run first runs before after run held it =
-      let did = each {g = g} seen one before run.rows run.input run.output it.acts.ended it.acts.closed run.action it.acts.does in (
+      let did = each {g = g} seen one bodies before run.rows run.input run.output it.acts.ended it.acts.closed run.action it.acts.does in (
         did.0,
         did.1,
         ∥∥₁_elim held squash₁ (λ was. ∥∥₁_map (did.2 was.1 was.4 it.clean after it.left) (λ now. (

@@ -1,5 +1,5 @@
 -- Runs of the program, one after another, each over what a crash may have left of the same two files.
-use Rattle.std.specs.Prelude.{◌≡◌, ◌≢◌, ◌⊎◌, ⊤, ℕ, List, [], ◌∷◌, ◌++◌, take, Some, Result, Ok, Err}
+use Rattle.std.specs.Prelude.{◌≡◌, ◌≤◌, ◌⊎◌, ⊤, ℕ, List, [], ◌∷◌, ◌++◌, length, take, Some, Result, Ok, Err}
 use Rattle.std.specs.Io.KnownBytes.{Appends, Consumes}
 use Rattle.std.proofs.Common.{inl, inr}
 use Rattle.sqlite_disk.specs.declared.Disk as disk
@@ -21,7 +21,6 @@ use Rattle.adm_types.specs.declared.commands.Command.TheVariants.{Import}
 use Rattle.adm_types.specs.declared.rows.ImportRow.{ImportRow}
 use Rattle.adm_register.specs.State.{only_season, State as Register}
 use Rattle.adm_commands.specs.Imports.{Reaches}
-use Rattle.adm_schema.specs.Schema.{no_schema}
 use Rattle.adm_rows.specs.Faults.{IsNoRegister}
 use Rattle.adm_words.specs.declared.actions.Action.{Action}
 use Rattle.adm_words.specs.declared.actions.Action.TheVariants as action
@@ -78,11 +77,12 @@ pub record AnswersRows (file output : Stream) (answered : List (Command × Answe
 abbrev pub AnswersNone : Stream → List (Command × Answer) → Type 0
 AnswersNone output answered = (answered ≡ []) × (output.new ≡ output.old)
 
--- `do` answers commands in its lines or none, `import` one of all rows or none, `serve` some in the bodies of requests, and the others none
+-- `do` answers commands in its lines or none, `import` one of all rows or none, `serve` those in the bodies of at most as many requests as it serves, and the others none
 abbrev pub AnswersBy : Action → (List ℕ → Stream) → Stream → Stream → List (Command × Answer) → Type 0
 AnswersBy (action.Do file) rows input output answered = AnswersNone output answered ⊎ AnswersInput input output answered
 AnswersBy (action.Import file csv) rows input output answered = AnswersNone output answered ⊎ AnswersRows (rows csv.now) output answered
-AnswersBy (action.Serve file port count) rows input output answered = (bodies : List (List ℕ)) × (answers : List LineAnswer) × (answered ≡ handled bodies answers)
+AnswersBy (action.Serve file port count) rows input output answered =
+    (bodies : List (List ℕ)) × (answers : List LineAnswer) × (length bodies ≤ count) × (answered ≡ handled bodies answers)
 AnswersBy other rows input output answered = answered ≡ []
 
 -- these are the commands of each run, with their answers
@@ -122,14 +122,14 @@ module _ {D : Type 0} {g : disk.Ghosts D} where
   OpensClean (inl it) = ⊤
   OpensClean (inr it) = HasCleanDisk (file_state it.0.conn)
 
-  -- The same of each subcommand, as it opened the files. An `init` has seen a table in them. Of `serve` this says nothing: no run of it is meant.
+  -- the same of each subcommand, as it opened the files
   abbrev pub StartsClean : (image : Image) (a : Action) (rows : List ℕ → Stream) (input output : Stream) (e : Result Exit Fault) (closed : Result (Files D) (Error × FileStore D g))
       → Does image a rows input output e closed → Type 0
-  StartsClean image (action.Init file phase year days) rows input output e closed did = HasCleanDisk (file_state did.6.found) × (did.6.found.schema ≢ no_schema)
+  StartsClean image (action.Init file phase year days) rows input output e closed did = HasCleanDisk (file_state did.6.found)
   StartsClean image (action.Do file) rows input output e closed did = OpensClean did
   StartsClean image (action.WhatIf file) rows input output e closed did = OpensClean did
   StartsClean image (action.Import file csv) rows input output e closed did = OpensClean did.1
-  StartsClean image (action.Serve file port count) rows input output e closed did = ⊥
+  StartsClean image (action.Serve file port count) rows input output e closed did = OpensClean did.1
   StartsClean image (action.Letter file child) rows input output e closed did = OpensClean did.1
   StartsClean image (action.List file school) rows input output e closed did = OpensClean did.1
   StartsClean image (action.RoundReport file round) rows input output e closed did = OpensClean did.1
