@@ -27,6 +27,7 @@ use Rattle.sqlite.specs.declared.error.Error.TheVariants as error
 use Rattle.sqlite.specs.declared.error.ErrorCode.TheVariants as code
 use Rattle.adm_files.specs.declared.cause.Cause.{Cause}
 use Rattle.adm_files.specs.declared.cause.Cause.TheVariants as cause
+use Rattle.adm_files.specs.declared.connecting.OpenError.{OpenError}
 use Rattle.adm_files.specs.declared.ended.Ended.{Ended}
 use Rattle.adm_files.specs.declared.fault.Fault.{Fault}
 use Rattle.adm_files.specs.declared.fault.Fault.TheVariants.{TooManyHolidays, YearRange, InUse, NotOurs, Version, BadRow, Disk, Memory, Read, Write, UnknownChild, UnknownSchool, NoRound, Listen, NotRead, Row}
@@ -221,9 +222,9 @@ error_of (Ok files) = None
 error_of (Err e) = Some e.0
 
 -- how a line ended, whether it began or not
-abbrev pub line_outcome : {D : Type 0} {g : disk.Ghosts D} → Result (Ended D g) Fault → Result Exit Fault
+abbrev pub line_outcome : {D : Type 0} {g : disk.Ghosts D} → Result (Ended D g) (OpenError D g) → Result Exit Fault
 line_outcome (Ok e) = ending_of e.exit (error_of e.closed)
-line_outcome (Err fault) = Err fault
+line_outcome (Err error) = Err error.fault
 
 -- what the arguments were read as: `init` and what prints a text end with 0 or 1, `do`, `what-if` and `import` never with 2, and `serve` with 0, 1 or 4; 2 where they are a usage error
 abbrev pub ExitsBy : Result Action ArgumentsFault → ℕ → Type 0

@@ -1,5 +1,5 @@
 -- What is printed of an error: its text, or a beginning of it where the writer has failed.
-use Rattle.std.specs.Prelude.{◌≡◌, ◌⊎◌, ℕ, true, List, take, Result, Ok, Err}
+use Rattle.std.specs.Prelude.{◌≡◌, ◌≢◌, ◌⊎◌, ℕ, true, List, [], take, Result, Ok, Err}
 use Rattle.std.specs.Io.KnownBytes.{Appends}
 use Rattle.adm_words.specs.Lines.{IsFaultText}
 use Rattle.adm_words.specs.declared.faults.ArgumentsFault.{ArgumentsFault}
@@ -26,12 +26,12 @@ abbrev pub ReportsOutcome : Result Exit Fault → Stream → Type 0
 ReportsOutcome (Ok e) errors = errors.new ≡ errors.old
 ReportsOutcome (Err fault) errors = ReportsText (fault_line fault) errors
 
--- what is wrong with the arguments is printed; the text of clap is its own, so of that this says nothing
+-- what is wrong with the arguments is printed; the text of clap is its own, so of that this says only that it is not empty
 abbrev pub ReportsArguments : ArgumentsFault → Stream → Type 0
-ReportsArguments fault errors = (text : List ℕ) × IsFaultText fault text × ReportsText text errors
+ReportsArguments fault errors = (text : List ℕ) × IsFaultText fault text × (text ≢ []) × ReportsText text errors
 
 -- ---- for a private clause
 
 -- the same of one print
 abbrev pub PrintsArguments : {A B : Type 0} → ArgumentsFault → Stream → Result A B → Type 0
-PrintsArguments fault errors result = (text : List ℕ) × IsFaultText fault text × PrintsText text errors result
+PrintsArguments fault errors result = (text : List ℕ) × IsFaultText fault text × (text ≢ []) × PrintsText text errors result

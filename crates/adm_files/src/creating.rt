@@ -1,15 +1,17 @@
 // How the register of a season is created in a file.
-ghost use Rattle.std.specs.Prelude.{◌≡◌, false, codes, IfOk, IfErr, IsErr, IsErrAnd};
+ghost use Rattle.std.specs.Prelude.{◌≡◌, ◌≢◌, false, codes, IfOk, IfErr, IsErr, IsErrAnd};
 ghost use Rattle.sqlite_wal.specs.Files.{image_at};
 ghost use Rattle.adm_files.specs.Exits.{IsOpenFault, IsDisk};
+ghost use Rattle.adm_schema.specs.Schema.{no_schema};
+ghost use Rattle.adm_files.specs.Opened.{LeavesAsFound};
 ghost use Rattle.adm_files.specs.Runs.{Creates, CreatesIn};
 
 use crate::cause::Cause;
+use crate::connecting::{OpenError, before_open, changed, open_file};
 use crate::ended::Ended;
 use crate::exit::Exit;
 use crate::fault::Fault;
 use crate::found::{Found, Head, is_reserved, make_empty};
-use crate::opening::open_file;
 use crate::trial::Trial;
 use adm_store::{CreateFault, create};
 use adm_types::Season;
@@ -17,7 +19,8 @@ use sqlite::{Connection, FileFrom, FileStore, Start, Unknown};
 use sqlite_disk::Disk;
 use std::alloc::Global;
 
-/// Creates the register of a season in the file. The `Err` is why it was not opened.
+/// Creates the register of a season in the file. The `Err` is why it was not opened, with what
+/// remained of it.
 ///
 /// A file that is made here is one that its owner alone may read and write. A file that is refused
 /// stays as it was, and so does its log: where the log has pages, the file is tried on a copy first,
@@ -27,24 +30,27 @@ pub fn init<S: Start>(
     file: &str,
     start: S,
     season: &Season,
-) -> Result<Ended<FileFrom<S>>, Fault>
+) -> Result<Ended<FileFrom<S>>, OpenError<FileFrom<S>>>
     ensures ok { IfOk result (λ ended. Creates (image_at S.Start) season.now ended.exit ended.closed) }
+    ensures err { IfErr result (λ e. IsOpenFault e.fault) }
+    ensures left { IfErr result (λ e. LeavesAsFound (image_at S.Start) e.remains) }
+    ensures memory { file.now ≡ codes ":memory:" → IsErrAnd result (λ e. IsDisk e.fault) }
+{
+    match doubtful(rt, file) {
+        Ok(Some(found)) => create_after_trial(rt, file, &found, start, season),
+        Ok(None) => create_at(rt, file, start, season),
+        Err(fault) => Err(before_open(fault, start)),
+    }
+}
+
+/// Finds or makes the file. `Some` where its log has pages, so that an open would write to it.
+fn doubtful(rt: &HostRuntime, file: &str) -> Result<Option<Found>, Fault>
     ensures err { IfErr result IsOpenFault }
     ensures memory { file.now ≡ codes ":memory:" → IsErrAnd result IsDisk }
 {
     if is_reserved(file) {
         return Err(Fault::Disk(None));
     }
-    match doubtful(rt, file)? {
-        Some(found) => create_after_trial(rt, file, &found, start, season),
-        None => create_at(rt, file, start, season),
-    }
-}
-
-/// Finds or makes the file. `Some` where its log has pages, so that an open would write to it.
-fn doubtful(rt: &HostRuntime, file: &str) -> Result<Option<Found>, Fault>
-    ensures { IfErr result IsOpenFault }
-{
     match Found::at(rt, file) {
         Ok(found) => match found.head(rt) {
             Head::Foreign => Err(Fault::Disk(Some(Cause::NoDatabase))),
@@ -69,11 +75,15 @@ fn create_after_trial<S: Start>(
     found: &Found,
     start: S,
     season: &Season,
-) -> Result<Ended<FileFrom<S>>, Fault>
+) -> Result<Ended<FileFrom<S>>, OpenError<FileFrom<S>>>
     ensures ok { IfOk result (λ ended. Creates (image_at S.Start) season.now ended.exit ended.closed) }
-    ensures err { IfErr result IsOpenFault }
+    ensures err { IfErr result (λ e. IsOpenFault e.fault) }
+    ensures left { IfErr result (λ e. LeavesAsFound (image_at S.Start) e.remains) }
 {
-    let trial = Trial::hold(rt, found)?;
+    let trial = match Trial::hold(rt, found) {
+        Ok(trial) => trial,
+        Err(fault) => return Err(before_open(fault, start)),
+    };
     match is_taken(rt, &trial, season) {
         Ok(false) => {
             trial.end(rt);
@@ -86,7 +96,7 @@ fn create_after_trial<S: Start>(
         }
         Err(fault) => {
             trial.end(rt);
-            Err(fault)
+            Err(before_open(fault, start))
         }
     }
 }
@@ -96,7 +106,10 @@ fn is_taken(rt: &HostRuntime, trial: &Trial, season: &Season) -> Result<bool, Fa
     ensures { IfErr result IsOpenFault }
 {
     trial.make_copies(rt)?;
-    let mut conn = open_file(rt, trial.copy(), Unknown)?;
+    let mut conn = match open_file(rt, trial.copy(), Unknown) {
+        Ok(conn) => conn,
+        Err(error) => return Err(error.fault),
+    };
     match create(rt.alloc(), &mut conn, season) {
         Ok(()) => Ok(false),
         Err(CreateFault::InUse) => Ok(true),
@@ -111,17 +124,30 @@ fn refuse<S: Start>(
     trial: &Trial,
     start: S,
     season: &Season,
-) -> Result<Ended<FileFrom<S>>, Fault>
+) -> Result<Ended<FileFrom<S>>, OpenError<FileFrom<S>>>
     ensures ok { IfOk result (λ ended. Creates (image_at S.Start) season.now ended.exit ended.closed) }
     ensures refused { IfOk result (λ ended. IsErr ended.exit) }
-    ensures err { IfErr result IsOpenFault }
+    ensures err { IfErr result (λ e. IsOpenFault e.fault) }
+    ensures left { IfErr result (λ e. LeavesAsFound (image_at S.Start) e.remains) }
 {
-    trial.make_copies(rt)?;
-    let Ended { exit, closed } = create_at(rt, trial.copy(), start, season)?;
-    match exit {
-        Ok(_done) => Err(Fault::Disk(Some(Cause::Changed))),
-        Err(_) => Ok(Ended { exit, closed }),
+    if let Err(error) = trial.make_copies(rt) {
+        return Err(before_open(Fault::from(error), start));
     }
+    let conn = open_file(rt, trial.copy(), start)?;
+    if is_unused(&conn) {
+        return Err(changed(conn));
+    }
+    Ok(create_register(rt.alloc(), conn, season))
+}
+
+/// Whether a database has no table, no index and no view.
+fn is_unused<D: Disk + Drop>(conn: &Connection<FileStore<D>>) -> bool
+    ensures { result ≡ false → conn.now.schema ≢ no_schema }
+{
+    let schema = conn.schema();
+    schema.tables.as_slice().is_empty()
+        && schema.indexes.as_slice().is_empty()
+        && schema.views.as_slice().is_empty()
 }
 
 /// Creates the register in the file at the path.
@@ -130,9 +156,10 @@ fn create_at<S: Start>(
     path: &str,
     start: S,
     season: &Season,
-) -> Result<Ended<FileFrom<S>>, Fault>
+) -> Result<Ended<FileFrom<S>>, OpenError<FileFrom<S>>>
     ensures ok { IfOk result (λ ended. Creates (image_at S.Start) season.now ended.exit ended.closed) }
-    ensures err { IfErr result IsOpenFault }
+    ensures err { IfErr result (λ e. IsOpenFault e.fault) }
+    ensures left { IfErr result (λ e. LeavesAsFound (image_at S.Start) e.remains) }
 {
     let conn = open_file(rt, path, start)?;
     Ok(create_register(rt.alloc(), conn, season))

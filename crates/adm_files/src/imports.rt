@@ -6,9 +6,10 @@ ghost use Rattle.adm_desk.specs.Lines.{answer_text};
 ghost use Rattle.adm_files.specs.Exits.{IsOpenFault, IsDisk};
 ghost use Rattle.adm_files.specs.Imports.{IsHandled, Imports, ImportsFile, ImportsInto};
 ghost use Rattle.adm_wire.specs.Streams.{reader, writer};
-ghost use Rattle.adm_files.specs.Opened.{files};
+ghost use Rattle.adm_files.specs.Opened.{files, LeavesAsFound};
 ghost use Rattle.adm_files.specs.Texts.{Puts};
 
+use crate::connecting::OpenError;
 use crate::ended::{Ended, close};
 use crate::exit::Exit;
 use crate::fault::Fault;
@@ -101,12 +102,13 @@ pub fn import<S: Start, F: Rows, O: Output>(
     start: S,
     rows: &mut F,
     output: &mut O,
-) -> Result<Ended<FileFrom<S>>, Fault>
+) -> Result<Ended<FileFrom<S>>, OpenError<FileFrom<S>>>
     ensures ok { IfOk result (λ ended. ImportsInto (image_at S.Start) (files F.Rows rows.old rows.new csv.now)
         (writer O.Output output.old output.new)
         ended.exit ended.closed) }
-    ensures err { IfErr result IsOpenFault }
-    ensures memory { file.now ≡ codes ":memory:" → IsErrAnd result IsDisk }
+    ensures err { IfErr result (λ e. IsOpenFault e.fault) }
+    ensures left { IfErr result (λ e. LeavesAsFound (image_at S.Start) e.remains) }
+    ensures memory { file.now ≡ codes ":memory:" → IsErrAnd result (λ e. IsDisk e.fault) }
     ensures untouched { OnErr result (O.contents output.new ≡ O.contents output.old) }
 {
     match open_desk(rt, file, start)? {

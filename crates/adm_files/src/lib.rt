@@ -2,6 +2,7 @@
 #![tactic(auto)]
 
 mod cause;
+mod connecting;
 mod creating;
 mod document;
 mod ended;
@@ -18,6 +19,7 @@ mod rows;
 mod trial;
 
 pub use cause::Cause;
+pub use connecting::{OpenError, Remains, Untouched, before_open};
 pub use creating::init;
 pub use document::Document;
 pub use ended::{Closed, Ended, close};

@@ -7,8 +7,10 @@ ghost use Rattle.adm_desk.specs.Questions.{AnswersQuestionLine};
 ghost use Rattle.adm_desk.specs.DeskState.{Handles};
 ghost use Rattle.adm_files.specs.Exits.{IsOpenFault, IsDisk};
 ghost use Rattle.adm_wire.specs.Streams.{reader, writer};
+ghost use Rattle.adm_files.specs.Opened.{LeavesAsFound};
 ghost use Rattle.adm_files.specs.Runs.{OpensAndRuns, Runs};
 
+use crate::connecting::OpenError;
 use crate::ended::{Ended, close};
 use crate::exit::Exit;
 use crate::fault::Fault;
@@ -26,13 +28,14 @@ pub fn do_lines<S: Start, I: Input, O: Output>(
     start: S,
     input: &mut I,
     output: &mut O,
-) -> Result<Ended<FileFrom<S>>, Fault>
+) -> Result<Ended<FileFrom<S>>, OpenError<FileFrom<S>>>
     ensures ok { IfOk result (λ ended. OpensAndRuns (AnswersLine (Handles file_state)) (image_at S.Start)
         (reader I.Input input.old input.new)
         (writer O.Output output.old output.new)
         ended.exit ended.closed) }
-    ensures err { IfErr result IsOpenFault }
-    ensures memory { file.now ≡ codes ":memory:" → IsErrAnd result IsDisk }
+    ensures err { IfErr result (λ e. IsOpenFault e.fault) }
+    ensures left { IfErr result (λ e. LeavesAsFound (image_at S.Start) e.remains) }
+    ensures memory { file.now ≡ codes ":memory:" → IsErrAnd result (λ e. IsDisk e.fault) }
     ensures untouched { OnErr result ((I.remaining input.new ≡ I.remaining input.old) × (O.contents output.new ≡ O.contents output.old)) }
 {
     match open_desk(rt, file, start)? {
@@ -66,13 +69,14 @@ pub fn answer_questions<S: Start, I: Input, O: Output>(
     start: S,
     input: &mut I,
     output: &mut O,
-) -> Result<Ended<FileFrom<S>>, Fault>
+) -> Result<Ended<FileFrom<S>>, OpenError<FileFrom<S>>>
     ensures ok { IfOk result (λ ended. OpensAndRuns AnswersQuestionLine (image_at S.Start)
         (reader I.Input input.old input.new)
         (writer O.Output output.old output.new)
         ended.exit ended.closed) }
-    ensures err { IfErr result IsOpenFault }
-    ensures memory { file.now ≡ codes ":memory:" → IsErrAnd result IsDisk }
+    ensures err { IfErr result (λ e. IsOpenFault e.fault) }
+    ensures left { IfErr result (λ e. LeavesAsFound (image_at S.Start) e.remains) }
+    ensures memory { file.now ≡ codes ":memory:" → IsErrAnd result (λ e. IsDisk e.fault) }
     ensures untouched { OnErr result ((I.remaining input.new ≡ I.remaining input.old) × (O.contents output.new ≡ O.contents output.old)) }
 {
     match open_desk(rt, file, start)? {

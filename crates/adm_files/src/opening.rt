@@ -1,46 +1,24 @@
 // How the file of a register is opened.
-ghost use Rattle.std.specs.Prelude.{◌≡◌, None, false, codes, IfOk, IfErr, IsErr, IsErrAnd};
+ghost use Rattle.std.specs.Prelude.{◌≡◌, codes, IfOk, IfErr, IsErr, IsErrAnd};
 ghost use Rattle.sqlite_wal.specs.Files.{image_at};
-ghost use Rattle.sqlite.specs.Files.{file_state};
-ghost use Rattle.adm_rows.specs.Represents.{IsStarted};
 ghost use Rattle.adm_files.specs.Exits.{IsOpenFault, IsDisk};
-ghost use Rattle.adm_files.specs.Opened.{IsFound, OpensAs};
+ghost use Rattle.adm_files.specs.Opened.{IsOpened, LeavesAsFound, OpensAs};
 
-use crate::cause::{Cause, cause_of_new};
+use crate::cause::Cause;
+use crate::connecting::{OpenError, before_open, changed, open_file};
 use crate::ended::Ended;
 use crate::fault::Fault;
 use crate::found::{Found, Head, is_reserved};
 use crate::trial::Trial;
 use adm_desk::Desk;
 use adm_rows::OpenFault;
-use sqlite::{Connection, FileFrom, FileStore, Start, Unknown};
+use sqlite::{FileFrom, FileStore, Start, Unknown};
 
 /// A desk over the register in a file, or how the line ended without one.
 pub type Opened<D> = Result<Desk<FileStore<D>>, Ended<D>>;
 
-/// Opens the file, or makes it. The `Err` is Disk, or Memory where memory ran out.
-pub fn open_file<S: Start>(
-    rt: &HostRuntime,
-    file: &str,
-    start: S,
-) -> Result<Connection<FileStore<FileFrom<S>>>, Fault>
-    ensures ended { IfOk result (λ c. c.in_transaction ≡ false) }
-    ensures started { IfOk result (λ c. IsStarted (file_state c)) }
-    ensures found { IfOk result (IsFound (image_at S.Start)) }
-    ensures err { IfErr result IsOpenFault }
-    ensures memory { file.now ≡ codes ":memory:" → IsErrAnd result IsDisk }
-{
-    match Connection::open_from(rt, file, false, start) {
-        Ok(conn) => Ok(conn),
-        Err((error, _left)) => match Fault::from(error) {
-            Fault::Disk(None) => Err(Fault::Disk(cause_of_new(rt, file))),
-            fault => Err(fault),
-        },
-    }
-}
-
 /// Opens the register in the file, which is there: an open makes no file here. The `Err` is why the
-/// file was not opened.
+/// file was not opened, with what remained of it.
 ///
 /// A file that is refused stays as it was, and so does a log with pages. An open of a file that
 /// begins as a database, without such a log, writes nothing before it knows the register. Where the
@@ -50,8 +28,21 @@ pub fn open_desk<S: Start>(
     rt: &HostRuntime,
     file: &str,
     start: S,
-) -> Result<Opened<FileFrom<S>>, Fault>
+) -> Result<Opened<FileFrom<S>>, OpenError<FileFrom<S>>>
     ensures ok { IfOk result (OpensAs (image_at S.Start)) }
+    ensures err { IfErr result (λ e. IsOpenFault e.fault) }
+    ensures left { IfErr result (λ e. LeavesAsFound (image_at S.Start) e.remains) }
+    ensures memory { file.now ≡ codes ":memory:" → IsErrAnd result (λ e. IsDisk e.fault) }
+{
+    match doubtful(rt, file) {
+        Ok(Some(found)) => open_after_trial(rt, file, &found, start),
+        Ok(None) => open_at(rt, file, start),
+        Err(fault) => Err(before_open(fault, start)),
+    }
+}
+
+/// Finds the file. `Some` where an open may write to it before it is known to be a register.
+fn doubtful(rt: &HostRuntime, file: &str) -> Result<Option<Found>, Fault>
     ensures err { IfErr result IsOpenFault }
     ensures memory { file.now ≡ codes ":memory:" → IsErrAnd result IsDisk }
 {
@@ -60,8 +51,8 @@ pub fn open_desk<S: Start>(
     }
     let found = Found::at(rt, file)?;
     match found.head(rt) {
-        Head::Database if found.is_doubtful() => open_after_trial(rt, file, &found, start),
-        Head::Database => open_at(rt, file, start),
+        Head::Database if found.is_doubtful() => Ok(Some(found)),
+        Head::Database => Ok(None),
         Head::Unfinished | Head::Foreign => Err(Fault::Disk(Some(Cause::NoDatabase))),
     }
 }
@@ -72,11 +63,15 @@ fn open_after_trial<S: Start>(
     file: &str,
     found: &Found,
     start: S,
-) -> Result<Opened<FileFrom<S>>, Fault>
+) -> Result<Opened<FileFrom<S>>, OpenError<FileFrom<S>>>
     ensures ok { IfOk result (OpensAs (image_at S.Start)) }
-    ensures err { IfErr result IsOpenFault }
+    ensures err { IfErr result (λ e. IsOpenFault e.fault) }
+    ensures left { IfErr result (λ e. LeavesAsFound (image_at S.Start) e.remains) }
 {
-    let trial = Trial::hold(rt, found)?;
+    let trial = match Trial::hold(rt, found) {
+        Ok(trial) => trial,
+        Err(fault) => return Err(before_open(fault, start)),
+    };
     match is_refused(rt, &trial) {
         Ok(false) => {
             trial.end(rt);
@@ -89,7 +84,7 @@ fn open_after_trial<S: Start>(
         }
         Err(fault) => {
             trial.end(rt);
-            Err(fault)
+            Err(before_open(fault, start))
         }
     }
 }
@@ -99,7 +94,10 @@ fn is_refused(rt: &HostRuntime, trial: &Trial) -> Result<bool, Fault>
     ensures { IfErr result IsOpenFault }
 {
     trial.make_copies(rt)?;
-    let conn = open_file(rt, trial.copy(), Unknown)?;
+    let conn = match open_file(rt, trial.copy(), Unknown) {
+        Ok(conn) => conn,
+        Err(error) => return Err(error.fault),
+    };
     match Desk::open(rt.alloc(), conn) {
         Ok(_desk) => Ok(false),
         Err((OpenFault::Disk, _conn)) => Err(Fault::Disk(None)),
@@ -109,22 +107,43 @@ fn is_refused(rt: &HostRuntime, trial: &Trial) -> Result<bool, Fault>
 }
 
 /// Refuses new copies, and so the file: it never gives a desk, which would be one over a copy.
-fn refuse<S: Start>(rt: &HostRuntime, trial: &Trial, start: S) -> Result<Opened<FileFrom<S>>, Fault>
+fn refuse<S: Start>(
+    rt: &HostRuntime,
+    trial: &Trial,
+    start: S,
+) -> Result<Opened<FileFrom<S>>, OpenError<FileFrom<S>>>
     ensures ok { IfOk result (OpensAs (image_at S.Start)) }
     ensures refused { IfOk result IsErr }
-    ensures err { IfErr result IsOpenFault }
+    ensures err { IfErr result (λ e. IsOpenFault e.fault) }
+    ensures left { IfErr result (λ e. LeavesAsFound (image_at S.Start) e.remains) }
 {
-    trial.make_copies(rt)?;
+    if let Err(error) = trial.make_copies(rt) {
+        return Err(before_open(Fault::from(error), start));
+    }
     match open_at(rt, trial.copy(), start)? {
-        Ok(_desk) => Err(Fault::Disk(Some(Cause::Changed))),
+        Ok(desk) => Err(changed_meanwhile(desk)),
         Err(ended) => Ok(Err(ended)),
     }
 }
 
+/// The error that a file was refused, and then was a register.
+fn changed_meanwhile<S: Start>(desk: Desk<FileStore<FileFrom<S>>>) -> OpenError<FileFrom<S>>
+    requires { IsOpened (image_at S.Start) desk }
+    ensures err { IsOpenFault result.fault }
+    ensures left { LeavesAsFound (image_at S.Start) result.remains }
+{
+    changed(desk.into_connection())
+}
+
 /// Opens the register in the file at the path.
-fn open_at<S: Start>(rt: &HostRuntime, path: &str, start: S) -> Result<Opened<FileFrom<S>>, Fault>
+fn open_at<S: Start>(
+    rt: &HostRuntime,
+    path: &str,
+    start: S,
+) -> Result<Opened<FileFrom<S>>, OpenError<FileFrom<S>>>
     ensures ok { IfOk result (OpensAs (image_at S.Start)) }
-    ensures err { IfErr result IsOpenFault }
+    ensures err { IfErr result (λ e. IsOpenFault e.fault) }
+    ensures left { IfErr result (λ e. LeavesAsFound (image_at S.Start) e.remains) }
 {
     let conn = open_file(rt, path, start)?;
     match Desk::open(rt.alloc(), conn) {

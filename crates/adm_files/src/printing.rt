@@ -3,9 +3,10 @@ ghost use Rattle.std.specs.Prelude.{◌≡◌, codes, false, IfOk, IfErr, OnErr,
 ghost use Rattle.sqlite_wal.specs.Files.{image_at};
 ghost use Rattle.adm_wire.specs.Streams.{writer};
 ghost use Rattle.adm_files.specs.Exits.{IsOpenFault, IsDisk};
-ghost use Rattle.adm_files.specs.Opened.{Closes};
+ghost use Rattle.adm_files.specs.Opened.{Closes, LeavesAsFound};
 ghost use Rattle.adm_files.specs.Texts.{Puts, Prints, PrintsAs, document_text};
 
+use crate::connecting::OpenError;
 use crate::document::Document;
 use crate::ended::{Ended, close};
 use crate::exit::Exit;
@@ -74,12 +75,13 @@ pub fn print<S: Start, O: Output>(
     start: S,
     document: Document,
     output: &mut O,
-) -> Result<Ended<FileFrom<S>>, Fault>
+) -> Result<Ended<FileFrom<S>>, OpenError<FileFrom<S>>>
     ensures ok { IfOk result (λ ended. Prints (image_at S.Start) document
         (writer O.Output output.old output.new)
         ended.exit ended.closed) }
-    ensures err { IfErr result IsOpenFault }
-    ensures memory { file.now ≡ codes ":memory:" → IsErrAnd result IsDisk }
+    ensures err { IfErr result (λ e. IsOpenFault e.fault) }
+    ensures left { IfErr result (λ e. LeavesAsFound (image_at S.Start) e.remains) }
+    ensures memory { file.now ≡ codes ":memory:" → IsErrAnd result (λ e. IsDisk e.fault) }
     ensures untouched { OnErr result (O.contents output.new ≡ O.contents output.old) }
 {
     match open_desk(rt, file, start)? {

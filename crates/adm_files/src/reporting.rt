@@ -5,6 +5,7 @@ ghost use Rattle.adm_wire.specs.Streams.{writer};
 ghost use Rattle.adm_files.specs.Reports.{ReportsText, ReportsOutcome, ReportsArguments, PrintsArguments};
 ghost use Rattle.adm_files.specs.declared.fault.Fault.TheVariants.{Memory};
 
+use crate::connecting::OpenError;
 use crate::ended::{Ended, ending};
 use crate::exit::Exit;
 use crate::fault::{Fault, print_text};
@@ -23,13 +24,13 @@ pub fn print_memory_fault<E: Output>(errors: &mut E) -> u8
 }
 
 /// The exit of a line, whose error is printed.
-pub fn end<D: Disk + Drop, E: Output>(ended: Result<Ended<D>, Fault>, errors: &mut E) -> Exit
+pub fn end<D: Disk + Drop, E: Output>(ended: Result<Ended<D>, OpenError<D>>, errors: &mut E) -> Exit
     ensures exit { result ≡ exit_of_result (line_outcome ended) }
     ensures reported { ReportsOutcome (line_outcome ended) (writer E.Output errors.old errors.new) }
 {
     match ended {
         Ok(ended) => print_fault(ending(ended), errors),
-        Err(fault) => print_fault(Err(fault), errors),
+        Err(error) => print_fault(Err(error.fault), errors),
     }
 }
 
@@ -58,7 +59,7 @@ pub fn refuse_arguments<E: Output>(alloc: Global, fault: &ArgumentsFault, errors
 }
 
 /// Prints what is wrong with the arguments. It takes memory for the text of `clap` alone; where
-/// there is none, that is printed.
+/// there is none, or where `clap` had none for its text, which is then empty, that is printed.
 fn print_arguments_fault<E: Output>(
     alloc: Global,
     fault: &ArgumentsFault,
@@ -68,8 +69,8 @@ fn print_arguments_fault<E: Output>(
 {
     match fault {
         ArgumentsFault::Usage(_) => match fault_text(alloc, fault) {
-            Ok(text) => print_text(text.as_str(), errors),
-            Err(_) => Fault::Memory.print(errors),
+            Ok(text) if !text.is_empty() => print_text(text.as_str(), errors),
+            Ok(_) | Err(_) => Fault::Memory.print(errors),
         },
         ArgumentsFault::BadDate => print_text("fault: BadDate\n", errors),
         ArgumentsFault::BadWord => print_text("fault: BadWord\n", errors),

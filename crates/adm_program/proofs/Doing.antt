@@ -1,16 +1,13 @@
 -- The result of each action, and the exit status of its line, from the clauses of what it calls.
 use Rattle.std.proofs.Common.{◌≡◌, ◌≢◌, ◌⊎◌, ℕ, Bool, true, false, if◌then◌else◌, nat_lt, refl, List, Option, None, Some, Result, Ok, Err, inl, inr, Bor, sym, subst}
-use Rattle.std.specs.Prelude.{IfOk, IsTrue}
+use Rattle.std.specs.Prelude.{IfOk}
 use Rattle.sqlite_disk.specs.declared.Disk as disk
 use Rattle.sqlite_disk.specs.declared.Files.{Files}
 use Rattle.sqlite_wal.specs.Recovery.{Image}
 use Rattle.sqlite_store.specs.declared.store.FileStore.{FileStore}
 use Rattle.sqlite.specs.declared.error.Error.{Error}
-use Rattle.adm_types.specs.Numbers.{is_from}
 use Rattle.adm_types.specs.Seasons.{SeasonFacts, IsRising}
 use Rattle.adm_types.specs.declared.seasons.Phase.{Phase}
-use Rattle.adm_types.specs.declared.seasons.SeasonFault.{SeasonFault}
-use Rattle.adm_types.specs.declared.seasons.SeasonFault.TheVariants as season
 use Rattle.adm_words.specs.declared.actions.Action.{Action}
 use Rattle.adm_words.specs.declared.actions.Action.TheVariants as action
 use Rattle.adm_words.specs.declared.faults.ArgumentsFault.{ArgumentsFault}
@@ -24,7 +21,7 @@ use Rattle.adm_desk.specs.declared.answer.Answer.{Answer}
 use Rattle.adm_desk.specs.declared.answer.Answer.TheVariants as answer
 use Rattle.adm_desk.specs.declared.run.Run.{Run}
 use Rattle.adm_desk.specs.declared.run.RunFault.{RunFault}
-use Rattle.adm_files.specs.Exits.{of_season, of_lines, has_many_holidays, IsCauseIn, ExitsBy, exit_of_answer, ending_of, error_of, exit_of_result, line_outcome, exit_of_arguments, exit_code}
+use Rattle.adm_files.specs.Exits.{of_lines, ExitsBy, exit_of_answer, ending_of, error_of, exit_of_result, line_outcome, exit_of_arguments, exit_code}
 use Rattle.adm_wire.specs.Streams.{Stream}
 use Rattle.adm_files.specs.Opened.{IsNotOpened}
 use Rattle.adm_files.specs.Imports.{ImportsAs, ImportsFile, ImportsInto}
@@ -34,6 +31,7 @@ use Rattle.adm_files.specs.Runs.{LineStep, OpensAndRuns, Creates, CreatesAs}
 use Rattle.adm_program.specs.Does.{Does}
 use Rattle.adm_files.specs.declared.document.Document.{Document}
 use Rattle.adm_files.specs.declared.document.Document.TheVariants as document
+use Rattle.adm_files.specs.declared.connecting.OpenError.{OpenError}
 use Rattle.adm_files.specs.declared.ended.Ended.{Ended}
 use Rattle.adm_files.specs.declared.exit.Exit.{Exit}
 use Rattle.adm_files.specs.declared.exit.Exit.TheVariants as exit
@@ -42,15 +40,6 @@ use Rattle.adm_files.specs.declared.fault.Fault.{Fault}
 pub if_ok : {X E : Type 0} {P Q : X → Type 0} → ((x : X) → P x → Q x) → (r : Result X E) → IfOk r P → IfOk r Q
 if_ok more (Ok x) holds = more x holds
 if_ok more (Err e) holds = holds
-
--- why there is no season
-pub no_season : (file : Bor (List ℕ)) (phase : Phase) (year : ℕ) (days : List ℕ) (fault : SeasonFault)
-    → (fault ≡ season.YearRange → is_from 2000 2100 year ≡ false)
-    → (fault ≡ season.TooManyHolidays → IsTrue (has_many_holidays (action.Init file phase year days)))
-    → IsCauseIn (action.Init file phase year days) (of_season fault)
-no_season file phase year days season.YearRange range many = inl (refl, range refl)
-no_season file phase year days season.TooManyHolidays range many = inr (inl (refl, many refl))
-no_season file phase year days season.Memory range many = inr (inr (inl refl))
 
 -- the status of a line that ended so, and of the result of its close
 abbrev status : Result Exit Fault → Option Error → ℕ
@@ -198,7 +187,7 @@ module _ {D : Type 0} {g : disk.Ghosts D} where
   made image (action.Pairs file school) rows input output e closed does = document_exit image (document.Pairs school) output e closed does.1
 
   -- the status of an action
-  pub exits : (image : Image) (a : Action) (rows : List ℕ → Stream) (input output : Stream) (r : Result (Ended D g) Fault) (x : Exit)
+  pub exits : (image : Image) (a : Action) (rows : List ℕ → Stream) (input output : Stream) (r : Result (Ended D g) (OpenError D g)) (x : Exit)
       → IfOk r (λ ended. Does image a rows input output ended.exit ended.closed) → x ≡ exit_of_result (line_outcome r) → ExitsBy (Ok a) (exit_code x)
   exits image a rows input output (Ok ended) x does reported = subst (λ (y : Exit). ExitsBy (Ok a) (exit_code y)) (sym reported) (made image a rows input output ended.exit ended.closed does)
   exits image a rows input output (Err f) x does reported = subst (λ (y : Exit). ExitsBy (Ok a) (exit_code y)) (sym reported) (unmade a)

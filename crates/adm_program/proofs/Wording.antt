@@ -1,6 +1,6 @@
 -- How a command line ends, from the clauses of what it calls.
 use Rattle.std.proofs.Common.{◌≡◌, ℕ, List, Result, Ok, Err, inl, inr, ap}
-use Rattle.std.specs.Prelude.{IfOk, IfErr, OnErr, IsTrue}
+use Rattle.std.specs.Prelude.{IfOk, IfErr, IsErrAnd, OnErr, IsTrue}
 use Rattle.std.specs.Borrow.{Bor}
 use Rattle.sqlite_disk.specs.declared.Disk as disk
 use Rattle.sqlite_disk.specs.declared.start.Start as start
@@ -12,25 +12,25 @@ use Rattle.adm_wire.specs.Streams.{Stream}
 use Rattle.adm_files.specs.Reports.{ReportsOutcome}
 use Rattle.adm_program.specs.Does.{Does}
 use Rattle.adm_program.specs.Arguments.{ActsOn, texts}
+use Rattle.adm_files.specs.declared.connecting.OpenError.{OpenError}
 use Rattle.adm_files.specs.declared.ended.Ended.{Ended}
 use Rattle.adm_files.specs.declared.exit.Exit.{Exit}
-use Rattle.adm_files.specs.declared.fault.Fault.{Fault}
 use Rattle.adm_files.specs.declared.fault.Fault.TheVariants.{TooManyHolidays}
 
 -- arguments that name an action
-pub taken : {D S : Type 0} {g : disk.Ghosts D} (first : start.Ghosts S) (arguments : List (Bor (List ℕ))) (a : Action) (rows : List ℕ → Stream) (input output errors : Stream) (r : Result (Ended D g) Fault) (x : Exit)
-    → ReadsArguments (texts arguments) (Ok a) → IfOk r (λ ended. Does (image_at first) a rows input output ended.exit ended.closed) → IfErr r (IsCauseIn a)
-    → (IsTrue (has_many_holidays a) → r ≡ Err TooManyHolidays) → OnErr r ((input.new ≡ input.old) × (output.new ≡ output.old))
+pub taken : {D S : Type 0} {g : disk.Ghosts D} (first : start.Ghosts S) (arguments : List (Bor (List ℕ))) (a : Action) (rows : List ℕ → Stream) (input output errors : Stream) (r : Result (Ended D g) (OpenError D g)) (x : Exit)
+    → ReadsArguments (texts arguments) (Ok a) → IfOk r (λ ended. Does (image_at first) a rows input output ended.exit ended.closed) → IfErr r (λ e. IsCauseIn a e.fault)
+    → (IsTrue (has_many_holidays a) → IsErrAnd r (λ e. e.fault ≡ TooManyHolidays)) → OnErr r ((input.new ≡ input.old) × (output.new ≡ output.old))
     → x ≡ exit_of_result (line_outcome r) → ReportsOutcome (line_outcome r) errors → ActsOn g first arguments rows input output errors (exit_code x)
 taken first arguments a rows input output errors (Ok ended) x reads does cause many kept exits reported =
     record {
       read = Ok a;
       reads = reads;
-      follows = inl (record { ended = ended.exit; closed = ended.closed; does = does; few = λ (t : IsTrue (has_many_holidays a)). (let e = many t in cc); reported = reported; exits = ap exit_code exits });
+      follows = inl (record { ended = ended.exit; closed = ended.closed; does = does; few = λ (t : IsTrue (has_many_holidays a)). many t; reported = reported; exits = ap exit_code exits });
     }
 taken first arguments a rows input output errors (Err f) x reads does cause many kept exits reported =
     record {
       read = Ok a;
       reads = reads;
-      follows = inr (record { cause = f; is_cause = cause; many = λ (t : IsTrue (has_many_holidays a)). (let e = many t in cc); unread = kept.0; unwritten = kept.1; reported = reported; exits = ap exit_code exits });
+      follows = inr (record { cause = f.fault; is_cause = cause; many = λ (t : IsTrue (has_many_holidays a)). many t; unread = kept.0; unwritten = kept.1; reported = reported; exits = ap exit_code exits });
     }

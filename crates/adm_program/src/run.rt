@@ -8,15 +8,15 @@ ghost use Rattle.adm_program.specs.Does.{Does};
 ghost use Rattle.adm_program.specs.Logged.{Logs, LogsBy, PrintsConnections};
 ghost use Rattle.adm_files.specs.Imports.{ImportsInto};
 ghost use Rattle.adm_wire.specs.Streams.{reader, writer};
-ghost use Rattle.adm_files.specs.Opened.{files};
+ghost use Rattle.adm_files.specs.Opened.{files, LeavesAsFound};
 ghost use Rattle.adm_program.specs.Served.{ServesOver};
 ghost use Rattle.adm_files.specs.Texts.{Prints};
 ghost use Rattle.adm_program.specs.Arguments.{ActsOn, texts};
 
 use crate::serving::serve_connections;
 use adm_files::{
-    Document, Ended, Fault, Rows, answer_questions, do_lines, end, import, init, open_desk, print,
-    refuse_arguments,
+    Document, Ended, Fault, OpenError, Rows, answer_questions, before_open, do_lines, end, import,
+    init, open_desk, print, refuse_arguments,
 };
 use adm_types::Season;
 use adm_wire::{Input, Output};
@@ -54,7 +54,8 @@ pub fn run_arguments<S: Start, F: Rows, I: Input, O: Output, E: Output, L: Outpu
 }
 
 /// Does what a line of the command line says. The `Err` is why there is no season of these
-/// values, or why the file was not opened; then nothing was read or written.
+/// values, or why the file was not opened, with what remained of it; then nothing was read or
+/// written.
 fn run_action<S: Start, F: Rows, I: Input, O: Output, L: Output>(
     rt: &HostRuntime,
     action: Action<'_>,
@@ -63,13 +64,14 @@ fn run_action<S: Start, F: Rows, I: Input, O: Output, L: Output>(
     input: &mut I,
     output: &mut O,
     log: &mut L,
-) -> Result<Ended<FileFrom<S>>, Fault>
+) -> Result<Ended<FileFrom<S>>, OpenError<FileFrom<S>>>
     ensures ok { IfOk result (λ ended. Does (image_at S.Start) action.entry (files F.Rows rows.old rows.new)
         (reader I.Input input.old input.new)
         (writer O.Output output.old output.new)
         ended.exit ended.closed) }
-    ensures err { IfErr result (IsCauseIn action.entry) }
-    ensures many { IsTrue (has_many_holidays action.entry) → result ≡ Err TooManyHolidays }
+    ensures err { IfErr result (λ e. IsCauseIn action.entry e.fault) }
+    ensures left { IfErr result (λ e. LeavesAsFound (image_at S.Start) e.remains) }
+    ensures many { IsTrue (has_many_holidays action.entry) → IsErrAnd result (λ e. e.fault ≡ TooManyHolidays) }
     ensures untouched { OnErr result ((I.remaining input.new ≡ I.remaining input.old) × (O.contents output.new ≡ O.contents output.old)) }
     ensures log { LogsBy (Ok action.entry) (errors_of L.Output log.old) (errors_of L.Output log.new) }
 {
@@ -81,7 +83,7 @@ fn run_action<S: Start, F: Rows, I: Input, O: Output, L: Output>(
             holidays,
         } => match Season::new(rt.alloc(), phase, year, holidays.as_slice()) {
             Ok(season) => init(rt, file, start, &season),
-            Err(fault) => Err(Fault::from(fault)),
+            Err(fault) => Err(before_open(Fault::from(fault), start)),
         },
         Action::Do { file } => do_lines(rt, file, start, input, output),
         Action::WhatIf { file } => answer_questions(rt, file, start, input, output),
@@ -110,12 +112,13 @@ fn serve<S: Start, O: Output, L: Output>(
     count: u32,
     output: &mut O,
     log: &mut L,
-) -> Result<Ended<FileFrom<S>>, Fault>
+) -> Result<Ended<FileFrom<S>>, OpenError<FileFrom<S>>>
     ensures ok { IfOk result (λ ended. ServesOver (image_at S.Start) port count
         (writer O.Output output.old output.new)
         ended.exit ended.closed) }
-    ensures err { IfErr result IsOpenFault }
-    ensures memory { file.now ≡ codes ":memory:" → IsErrAnd result IsDisk }
+    ensures err { IfErr result (λ e. IsOpenFault e.fault) }
+    ensures left { IfErr result (λ e. LeavesAsFound (image_at S.Start) e.remains) }
+    ensures memory { file.now ≡ codes ":memory:" → IsErrAnd result (λ e. IsDisk e.fault) }
     ensures untouched { OnErr result (O.contents output.new ≡ O.contents output.old) }
     ensures log { PrintsConnections (errors_of L.Output log.old) (errors_of L.Output log.new) }
 {

@@ -22,6 +22,8 @@ returns-in-Err-clause-ok g c =
       left = c.in-Err.conn;
       none = c.in-Err.ensures.bad;
       first = c.in-Err.ensures.first;
+      unlimited = c.in_ok-conn.ensures.unlimited;
+      disk = c.in-Err.ensures.disk;
       kept = c.in-Err.ensures.left;
       closes = closes c.in-Err.conn c.close_files.result _ c.close_files.ensures.copied c.close_files.ensures.err;
     }

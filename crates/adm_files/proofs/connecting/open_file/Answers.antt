@@ -1,6 +1,10 @@
 use Rattle.std.proofs.Common.{ap}
 use Rattle.sqlite.specs.Effect.{Database}
-use Rattle.adm_files.proofs.opening.open_file.Goals as goal
+use Rattle.adm_files.proofs.Fresh.{if_some}
+use Rattle.adm_files.proofs.connecting.open_file.Goals as goal
+
+pub remains_of-requires : goal.remains_of-requires
+remains_of-requires g c = if_some _ _ c.in-Err.left (λ left it. (it.0, it.1, it.2, λ clean. (it.3 clean).1)) c.in-Err.ensures.cause
 
 pub returns-in-Ok-clause-found : goal.returns-in-Ok-clause-found
 returns-in-Ok-clause-found g c = λ clean.
