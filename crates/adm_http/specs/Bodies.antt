@@ -1,4 +1,4 @@
--- What serving requests does to a desk: it answers the commands in their bodies.
+-- What serving requests does to a desk, as lines of commands.
 use Rattle.std.specs.Prelude.{ℕ, ◌≤◌, List, length}
 use Rattle.sqlite.specs.State.{State as Disk}
 use Rattle.adm_desk.specs.DeskState.{DeskState, Handles}
@@ -8,7 +8,7 @@ use Rattle.adm_http.specs.Connections.{AnswersUpTo}
 use Rattle.adm_http.specs.Purposes.{RunsBody}
 use Rattle.adm_http.specs.Shows.{Shows}
 
--- However at most so many requests were answered, at most as many bodies of them, as lines of commands, lead from the desk before them to the one after.
+-- However at most so many requests were answered, at most as many lines of commands lead from the desk before them to the one after.
 abbrev pub AnswersBodies : {C : Type 0} → (C → Disk) → Type 0
 AnswersBodies {C} disk =
     (count : ℕ) (old new : DeskState C) → AnswersUpTo (RunsBody disk) Shows count old new

@@ -13,7 +13,8 @@ pub fn judged_in_one_way()
     ensures { JudgedInOneWay }
 {}
 
-/// Serving requests changes a desk as the commands in their bodies do, one after another.
+/// Serving requests changes a desk as at most as many lines of commands do, one after another. That
+/// these are bodies of those requests it does not say.
 pub fn bodies_are_commands<S: Alter>()
     ensures { AnswersBodies (state S.Store) }
 {}
