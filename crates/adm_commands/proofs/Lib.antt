@@ -12,6 +12,8 @@ pub mod FillFit
 pub mod EachOf
 pub mod RowTests
 pub mod ImportSeen
+pub mod ImportBeside
+pub mod ImportWalked
 pub mod ImportWalk
 pub mod ImportAgain
 pub mod ImportFit

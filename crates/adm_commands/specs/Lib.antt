@@ -5,6 +5,7 @@ pub mod Offered
 pub mod Problem
 pub mod WhatIf
 pub mod Commands
+pub mod Beside
 pub mod Steps
 pub mod History
 pub mod Imports

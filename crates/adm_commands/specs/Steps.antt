@@ -1,5 +1,5 @@
 -- What a command leaves and answers: one step of the register.
-use Rattle.std.specs.Prelude.{◌≡◌, ⊤, ℕ, Option, Some, None, Result, Ok, Err}
+use Rattle.std.specs.Prelude.{◌≡◌, ⊤, ℕ, Some, None, Result, Ok, Err}
 use Rattle.adm_types.specs.declared.commands.Command.{Command}
 use Rattle.adm_types.specs.declared.commands.Refusal.{Refusal}
 use Rattle.adm_types.specs.declared.commands.Reply.{Reply}

@@ -77,12 +77,12 @@ pub record AnswersRows (file output : Stream) (answered : List (Command × Answe
 abbrev pub AnswersNone : Stream → List (Command × Answer) → Type 0
 AnswersNone output answered = (answered ≡ []) × (output.new ≡ output.old)
 
--- `do` answers commands in its lines or none, `import` one of all rows or none, `serve` those in the bodies of at most as many requests as it serves, and the others none
+-- `do` answers commands in its lines or none, `import` one of all rows or none, `serve` those in at most as many lines as it serves requests, and the others none
 abbrev pub AnswersBy : Action → (List ℕ → Stream) → Stream → Stream → List (Command × Answer) → Type 0
 AnswersBy (action.Do file) rows input output answered = AnswersNone output answered ⊎ AnswersInput input output answered
 AnswersBy (action.Import file csv) rows input output answered = AnswersNone output answered ⊎ AnswersRows (rows csv.now) output answered
 AnswersBy (action.Serve file port count) rows input output answered =
-    (bodies : List (List ℕ)) × (answers : List LineAnswer) × (length bodies ≤ count) × (answered ≡ handled bodies answers)
+    (lines : List (List ℕ)) × (answers : List LineAnswer) × (length lines ≤ count) × (answered ≡ handled lines answers)
 AnswersBy other rows input output answered = answered ≡ []
 
 -- these are the commands of each run, with their answers

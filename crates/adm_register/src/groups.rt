@@ -1,12 +1,11 @@
 // The tables of a register in two groups, so that no function makes all of them.
 // One that makes many values, each of which may fail, lets go at each of those before it.
-ghost use Rattle.std.specs.Prelude.{◌≡◌, [], IfOk};
+ghost use Rattle.std.specs.Prelude.{◌≡◌, []};
 
 use adm_table::{Shared, Table};
 use adm_types::{
     Application, Child, ChildNo, Draw, ImportRow, LeftPair, PlaceRow, School, SchoolCode, Season,
 };
-use std::alloc::AllocError;
 
 /// The season, its schools and children, and who applies.
 pub(crate) struct Base {
@@ -60,18 +59,6 @@ impl Base {
             applications: Table::new(),
         }
     }
-
-    /// The same rows again, which the two share.
-    pub(crate) fn share(&self) -> Result<Base, AllocError>
-        ensures { IfOk result (λ shared. shared ≡ self.now) }
-    {
-        Ok(Base {
-            season: self.season.clone()?,
-            schools: self.schools.share()?,
-            children: self.children.share()?,
-            applications: self.applications.share()?,
-        })
-    }
 }
 
 impl Course {
@@ -85,17 +72,5 @@ impl Course {
             draws: Table::new(),
             imported: Table::new(),
         }
-    }
-
-    /// The same rows again, which the two share.
-    pub(crate) fn share(&self) -> Result<Course, AllocError>
-        ensures { IfOk result (λ shared. shared ≡ self.now) }
-    {
-        Ok(Course {
-            places: self.places.share()?,
-            left: self.left.share()?,
-            draws: self.draws.share()?,
-            imported: self.imported.share()?,
-        })
     }
 }

@@ -1,5 +1,5 @@
 // The rows of a register as tables, without any invariant, and what is read off them.
-ghost use Rattle.std.specs.Prelude.{◌≡◌, IfOk, Some, option_copied, count_by};
+ghost use Rattle.std.specs.Prelude.{◌≡◌, Some, option_copied, count_by};
 ghost use Rattle.std.specs.FinMap as map;
 ghost use Rattle.std.specs.Map.{values_of};
 ghost use Rattle.adm_register.specs.Plans.{has_plan};
@@ -13,7 +13,6 @@ use adm_types::{
     Application, Child, ChildNo, Draw, ImportRow, LeftPair, Place, PlaceRow, PlaceState, School,
     SchoolCode, Season,
 };
-use std::alloc::AllocError;
 use std::marker::Model;
 
 /// A season and tables of rows, which need not be a register's. Queries of them take no
@@ -49,16 +48,6 @@ impl Tables {
             base: Base::new(season),
             course: Course::new(),
         }
-    }
-
-    /// The same rows again, which the two share. It takes memory for a pointer to each piece of them.
-    pub fn share(&self) -> Result<Tables, AllocError>
-        ensures { IfOk result (λ shared. shared ≡ self.now) }
-    {
-        Ok(Tables {
-            base: self.base.share()?,
-            course: self.course.share()?,
-        })
     }
 
     /// The season.

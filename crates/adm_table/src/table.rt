@@ -84,7 +84,7 @@ impl<K: Ord, V> Table<K, V> {
 
 impl<K: Ord + Drop, V: Drop> Table<K, V> {
     /// The same rows again, which the two tables share.
-    pub fn share(&self) -> Result<Self, AllocError>
+    fn share(&self) -> Result<Self, AllocError>
         ensures { IfOk result (λ shared. shared ≡ self.now) }
     {
         match &self.rows {

@@ -1,5 +1,5 @@
 -- To add a child.
-use Rattle.std.specs.Prelude.{Bool, not, nat_lt, List, [], ◌∷◌}
+use Rattle.std.specs.Prelude.{ℕ, Bool, not, nat_lt, List, [], ◌∷◌}
 use Rattle.std.specs.FinMap.{len, contains_key}
 use Rattle.adm_types.specs.declared.rows.Child.{Child}
 use Rattle.adm_types.specs.declared.commands.Refusal.{Refusal}
@@ -11,15 +11,19 @@ use Rattle.adm_register.specs.Change.{change_of_child}
 use Rattle.adm_commands.specs.KeptByTypes.{KeptByChild}
 use Rattle.adm_commands.specs.Rules.{Rules, changes_just}
 
--- its number is new, its name and its numbers are in their limits, its siblings' schools are there, and there are fewer than 2,000 children
-unfoldable pub tests : State → Child → List (Bool × Refusal)
-tests old child =
+-- its number is new, its name and its numbers are in their limits, its siblings' schools are there, and there are fewer children than there is room for
+abbrev pub tests_with_room : ℕ → State → Child → List (Bool × Refusal)
+tests_with_room room old child =
     (not (contains_key old.children child.no), ChildKnown)
     ∷ (is_name child.name, BadText)
     ∷ (is_child_in_range child, OutOfRange)
     ∷ (are_schools old.schools child.siblings, UnknownSchool)
-    ∷ (nat_lt (len old.children) most_children, RegisterFull)
+    ∷ (nat_lt (len old.children) room, RegisterFull)
     ∷ []
+
+-- these tests, with room for 2,000 children
+unfoldable pub tests : State → Child → List (Bool × Refusal)
+tests old child = tests_with_room most_children old child
 
 -- the command: the child is written
 abbrev pub rules : Child → Rules

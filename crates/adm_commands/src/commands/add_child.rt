@@ -2,7 +2,7 @@
 ghost use Rattle.std.specs.Prelude.{◌≡◌, IfOk};
 ghost use Rattle.adm_commands.specs.Tests.{first_failing};
 ghost use Rattle.adm_commands.specs.Rules.{Follows};
-ghost use Rattle.adm_commands.specs.Commands.AddChild.{rules, tests};
+ghost use Rattle.adm_commands.specs.Commands.AddChild.{rules, tests, tests_with_room};
 
 use crate::child_values::put_child;
 use crate::command_result::{CommandResult, done, refused};
@@ -14,8 +14,15 @@ use std::alloc::{AllocError, Global};
 
 /// Why the child is refused.
 #[tactic(auto, unfolding(crate::specs::Commands::AddChild::tests))]
-pub(crate) fn refusal_of(old: &Tables, child: &Child) -> Option<Refusal>
+fn refusal_of(old: &Tables, child: &Child) -> Option<Refusal>
     ensures { result ≡ first_failing (tests old.now child.now) }
+{
+    refusal_with_room(MOST_CHILDREN, old, child)
+}
+
+/// Why the child is refused where there is room for so many children.
+pub(crate) fn refusal_with_room(room: usize, old: &Tables, child: &Child) -> Option<Refusal>
+    ensures { result ≡ first_failing (tests_with_room room old.now child.now) }
 {
     first_failing(&[
         (!old.has_child(child.no), Refusal::ChildKnown),
@@ -25,7 +32,7 @@ pub(crate) fn refusal_of(old: &Tables, child: &Child) -> Option<Refusal>
             old.are_schools(child.siblings.as_slice()),
             Refusal::UnknownSchool,
         ),
-        (old.child_count() < MOST_CHILDREN, Refusal::RegisterFull),
+        (old.child_count() < room, Refusal::RegisterFull),
     ])
 }
 

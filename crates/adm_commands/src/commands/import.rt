@@ -1,31 +1,40 @@
 // To import children with their applications.
-ghost use Rattle.std.specs.Prelude.{◌≡◌, [], ◌∷◌, ◌++◌, map, None, IfOk, OnOk};
-ghost use Rattle.std.specs.List.{IsDistinct};
-ghost use Rattle.std.specs.List.Sorted.{IsPermutation, IsStrictlySortedBy};
-ghost use Rattle.std.specs.Ordering.{eq_by_cmp, nat_cmp};
-ghost use Rattle.adm_commands.specs.Commands.Import.{rules, change_of, is_known, refusal_of_row, with_row, refused_from, new_rows};
+ghost use Rattle.std.specs.Prelude.{◌≡◌, ◌||◌, map, is_some, None, IfOk, OnOk, option_copied};
+ghost use Rattle.std.specs.Option.{option_or};
+ghost use Rattle.std.specs.BTreeMap.{keys, values, insert_entry};
+ghost use Rattle.std.specs.FinMap.{get, contains_key};
+ghost use Rattle.std.specs.List.Sorted.{IsPermutation};
+ghost use Rattle.std.specs.Ordering.{nat_cmp};
+ghost use Rattle.adm_table.specs.TableRows.{row_at};
+ghost use Rattle.adm_commands.specs.Commands.Import.{rules, change_of, is_known, refusal_of_row, refused_from, new_rows};
+ghost use Rattle.adm_commands.specs.Beside.{IsBeside};
 ghost use Rattle.adm_commands.specs.Rules.{Follows};
-ghost use Rattle.adm_register.specs.State.{application_of};
+ghost use Rattle.adm_register.specs.State.{State, application_of};
 
 use crate::command_result::CommandResult;
 use crate::commands::{add_child, apply};
-use crate::one_row::one;
 use adm_register::{Difference, Tables};
-use adm_table::{Same, Shared, Table};
-use adm_types::{Application, Child, ImportRow, Refusal, Reply, Seq};
+use adm_table::{Same, Shared};
+use adm_types::limits::MOST_CHILDREN;
+use adm_types::{Application, Child, ChildNo, ImportRow, Refusal, Reply, Seq};
 use std::alloc::{AllocError, Global};
+use std::collections::BTreeMap;
+
+/// The rows of an import that are new so far, by their children's numbers.
+type Added = BTreeMap<ChildNo, Shared<ImportRow>>;
 
 /// What results from the rows of an import, one after another.
 struct Walked {
     /// The first refusal, with the number of its row.
     why: Option<(Refusal, u64)>,
     /// The rows before it that were not known.
-    added: Vec<Shared<ImportRow>>,
+    added: Added,
 }
 
 /// The rows that are new, in the order of their children's numbers, and how many there are beside
-/// those that were known; or the first row that is refused, with its number from 1. What it costs
-/// grows with the rows, and for each that is new with the pieces of three tables.
+/// those that were known; or the first row that is refused, with its number from 1. It takes memory
+/// for the rows that are new. What it costs grows with the rows and the schools that they name, times
+/// the logarithm of the children and the schools.
 pub(crate) fn evaluate(
     old: &Tables,
     alloc: Global,
@@ -37,33 +46,33 @@ pub(crate) fn evaluate(
     if let Some(refused) = why {
         return Ok(Err(refused));
     }
-    let added = in_order(alloc, added)?;
     let count = added.len();
     let known = rows.len().saturating_sub(count);
     let reply = Reply::Imported {
         added: count as u64,
         known: known as u64,
     };
-    Ok(Ok((rows_put(alloc, added)?, reply)))
+    let added = added.into_values().collect(alloc)?;
+    Ok(Ok((rows_put(alloc, Seq::from_vec(added))?, reply)))
 }
 
 /// Goes through the rows up to the first that is refused, each beside those before it.
 fn walk(old: &Tables, alloc: Global, rows: &[ImportRow]) -> Result<Walked, AllocError>
     ensures why { IfOk result (λ walk. walk.why ≡ refused_from old.now 1 rows.now) }
-    ensures added { IfOk result (λ walk. walk.why ≡ None → walk.added.items ≡ new_rows old.now rows.now) }
+    ensures added { IfOk result (λ walk. walk.why ≡ None → IsPermutation (new_rows old.now rows.now) (values walk.added)) }
+    ensures numbers { IfOk result (λ walk. map (λ row. row.child.no) (values walk.added) ≡ keys walk.added) }
 {
-    let mut seen = Shared::new(alloc, old.share()?)?;
-    let mut added = Vec::new(alloc);
+    let mut added = BTreeMap::new(alloc);
     let mut number = 1;
     let mut rest = rows;
     while let Some((row, others)) = rest.split_first() {
-        let now = seen.as_ref();
-        if let Some(refusal) = refusal_of_row(now, row) {
+        if let Some(refusal) = refusal_of_row(old, &added, row) {
             let why = Some((refusal, number));
             return Ok(Walked { why, added });
         }
-        if !is_known(now, row) {
-            seen = with_row(now, alloc, row, &mut added)?;
+        let known = is_known(old, &added, row);
+        if !known {
+            add(alloc, &mut added, row)?;
         }
         number += 1;
         rest = others;
@@ -72,78 +81,56 @@ fn walk(old: &Tables, alloc: Global, rows: &[ImportRow]) -> Result<Walked, Alloc
 }
 
 /// Whether the row is equal to the imported row that is kept for its child.
-#[tactic(auto, unfolding(crate::specs::Commands::Import::is_known))]
-fn is_known(seen: &Tables, row: &ImportRow) -> bool
-    ensures { result ≡ is_known seen.now row.now }
+fn is_known(old: &Tables, added: &Added, row: &ImportRow) -> bool
+    ensures { (seen : State) → IsBeside old.now added.now.entries seen → result ≡ is_known seen row.now }
 {
-    match seen.imported_row(row.child.no) {
+    match kept_row(old, added, row.child.no) {
         None => false,
         Some(kept) => kept.is_same(row),
     }
 }
 
-/// Why the row is refused.
-#[tactic(auto, unfolding(crate::specs::Commands::Import::refusal_of_row, crate::specs::Commands::Import::row_tests))]
-fn refusal_of_row(seen: &Tables, row: &ImportRow) -> Option<Refusal>
-    ensures { result ≡ refusal_of_row seen.now row.now }
+/// The row that is kept for a child.
+fn kept_row<'a>(old: &'a Tables, added: &'a Added, child: ChildNo) -> Option<&'a ImportRow>
+    ensures { option_copied result ≡ option_or (row_at nat_cmp added.now.entries child) (get old.now.imported child) }
 {
-    if is_known(seen, row) {
+    match added.get(&child) {
+        Some(row) => Some(row.as_ref()),
+        None => old.imported_row(child),
+    }
+}
+
+/// Whether there is a child of this number.
+fn has_child(old: &Tables, added: &Added, child: ChildNo) -> bool
+    ensures { result ≡ (is_some (row_at nat_cmp added.now.entries child) || contains_key old.now.children child) }
+{
+    added.contains_key(&child) || old.has_child(child)
+}
+
+/// Why the row is refused.
+fn refusal_of_row(old: &Tables, added: &Added, row: &ImportRow) -> Option<Refusal>
+    ensures { (seen : State) → IsBeside old.now added.now.entries seen → result ≡ refusal_of_row seen row.now }
+{
+    if is_known(old, added, row) {
         return None;
     }
-    if seen.has_child(row.child.no) {
+    if has_child(old, added, row.child.no) {
         return Some(Refusal::RowDiffers);
     }
-    match add_child::refusal_of(seen, &row.child) {
+    let room = MOST_CHILDREN.saturating_sub(added.len());
+    match add_child::refusal_with_room(room, old, &row.child) {
         Some(refusal) => Some(refusal),
-        None => {
-            apply::further_refusal_of(seen, row.child.no, row.day, row.preferences.as_slice())
-        }
+        None => apply::further_refusal_of(old, row.child.no, row.day, row.preferences.as_slice()),
     }
 }
 
-/// The register with a row that is new.
-#[tactic(auto, unfolding(crate::specs::Commands::Import::with_row))]
-fn after_row(
-    seen: &Tables,
-    alloc: Global,
-    row: Shared<ImportRow>,
-) -> Result<Shared<Tables>, AllocError>
-    ensures { IfOk result (λ next. next ≡ with_row seen.now row) }
+/// The row joins those that are new.
+fn add(alloc: Global, added: &mut Added, row: &ImportRow) -> Result<(), AllocError>
+    ensures { OnOk result (added.new.entries ≡ insert_entry nat_cmp added.old.entries row.now.child.no row.now) }
 {
-    let change = rows_put(alloc, one(alloc, row)?)?;
-    Shared::new(alloc, seen.after(alloc, &change)?)
-}
-
-/// The register with a row that is new, which joins those that were added.
-fn with_row(
-    seen: &Tables,
-    alloc: Global,
-    row: &ImportRow,
-    added: &mut Vec<Shared<ImportRow>>,
-) -> Result<Shared<Tables>, AllocError>
-    ensures next { IfOk result (λ next. next ≡ with_row seen.now row.now) }
-    ensures added { OnOk result (added.new.items ≡ added.old.items ++ row.now ∷ []) }
-{
-    let row = Shared::new(alloc, row.clone()?)?;
-    let next = after_row(seen, alloc, row.clone()?)?;
-    added.push(row)?;
-    Ok(next)
-}
-
-/// The rows in the order of their children's numbers.
-fn in_order(
-    alloc: Global,
-    rows: Vec<Shared<ImportRow>>,
-) -> Result<Seq<Shared<ImportRow>>, AllocError>
-    requires { IsDistinct (eq_by_cmp nat_cmp) (map (λ row. row.child.no) rows.items) }
-    ensures same { IfOk result (λ sorted. IsPermutation rows.items sorted) }
-    ensures sorted { IfOk result (λ sorted. IsStrictlySortedBy nat_cmp (map (λ row. row.child.no) sorted)) }
-{
-    match Table::of_rows(alloc, rows)? {
-        Some(table) => Ok(Seq::from_vec(table.to_vec(alloc)?)),
-        // No two rows have one number, so this does not come.
-        None => Ok(Seq::new(alloc)),
-    }
+    let copy = Shared::new(alloc, row.clone()?)?;
+    let _there = added.insert(row.child.no, copy)?;
+    Ok(())
 }
 
 /// What these rows add: the children, their applications, and the rows themselves.

@@ -1,23 +1,32 @@
-use Rattle.std.proofs.Common.{◌≡◌, ◌∙◌, ap, sym, None}
+use Rattle.std.proofs.Common.{◌∙◌, ap, sym, ◌-◌}
+use Rattle.adm_types.specs.Limits.{most_children}
 use Rattle.adm_commands.specs.Commands.AddChild as add_child
 use Rattle.adm_commands.specs.Commands.Apply as apply
 use Rattle.adm_register.specs.State.{application_of}
 use Rattle.adm_commands.specs.Tests.{first_failing}
-use Rattle.adm_commands.proofs.RowTests.{or_next, refusal_of_new}
+use Rattle.adm_commands.proofs.ImportBeside.{known_refusal, there_refusal, new_refusal}
+use Rattle.adm_commands.proofs.RowTests.{or_next}
 use Rattle.adm_commands.proofs.commands.import.refusal_of_row.Goals as goal
 
+pub returns-then-is_known : goal.returns-then-is_known
+returns-then-is_known c seen beside = sym (known_refusal c.args.old.now c.args.added.now.entries seen beside c.args.row.now (sym (c.is_known.ensures seen beside) ∙ c.if-is_known.true))
+
+pub returns-then-has_child : goal.returns-then-has_child
+returns-then-has_child c seen beside =
+    sym (there_refusal c.args.old.now c.args.added.now.entries seen beside c.args.row.now (sym (c.is_known.ensures seen beside) ∙ c.if-is_known.false) (sym c.has_child.ensures ∙ c.if-has_child.true))
+
 pub returns-in-Some : goal.returns-in-Some
-returns-in-Some c =
-    let s = c.args.seen.now in
-    let row = c.args.row.now in
-    sym (refusal_of_new s row (sym c.is_known.ensures ∙ c.if-is_known.false) (sym c.has_child.ensures ∙ c.if-has_child.false)
-    ∙ ap (λ o. or_next o (first_failing (apply.further_tests s (application_of row)))) (sym c.refusal_of.ensures ∙ c.in-Some.is))
+returns-in-Some c seen beside =
+    let room = sym (c.saturating_sub-room.ensures ∙ ap (λ count. most_children - count) c.len.ensures.len) in
+    sym (new_refusal c.args.old.now c.args.added.now.entries seen beside c.args.row.now (sym (c.is_known.ensures seen beside) ∙ c.if-is_known.false) (sym c.has_child.ensures ∙ c.if-has_child.false)
+    ∙ ap (λ o. or_next o (first_failing (apply.further_tests c.args.old.now (application_of c.args.row.now))))
+    (ap (λ room. first_failing (add_child.tests_with_room room c.args.old.now c.args.row.now.child)) room ∙ sym c.refusal_with_room.ensures ∙ c.in-Some.is))
 
 pub returns-in-None : goal.returns-in-None
-returns-in-None c =
-    let s = c.args.seen.now in
+returns-in-None c seen beside =
     let row = c.args.row.now in
-    let passes : first_failing (add_child.tests s row.child) ≡ None = sym c.refusal_of.ensures ∙ c.in-None.is in
-    sym (refusal_of_new s row (sym c.is_known.ensures ∙ c.if-is_known.false) (sym c.has_child.ensures ∙ c.if-has_child.false)
-    ∙ ap (λ o. or_next o (first_failing (apply.further_tests s (application_of row)))) passes
-    ∙ sym (c.further_refusal_of.ensures ∙ ap (λ list. first_failing (apply.further_tests s (record { child = row.child.no; day = row.day; list = list }))) c.as_slice.ensures))
+    let room = sym (c.saturating_sub-room.ensures ∙ ap (λ count. most_children - count) c.len.ensures.len) in
+    sym (new_refusal c.args.old.now c.args.added.now.entries seen beside row (sym (c.is_known.ensures seen beside) ∙ c.if-is_known.false) (sym c.has_child.ensures ∙ c.if-has_child.false)
+    ∙ ap (λ o. or_next o (first_failing (apply.further_tests c.args.old.now (application_of row)))) (ap (λ room. first_failing (add_child.tests_with_room room c.args.old.now row.child)) room ∙ sym c.refusal_with_room.ensures ∙ c.in-None.is)
+    ∙ sym (c.further_refusal_of.ensures
+    ∙ ap (λ list. first_failing (apply.further_tests c.args.old.now (record { child = row.child.no; day = row.day; list = list }))) c.as_slice.ensures))
