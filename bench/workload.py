@@ -28,13 +28,14 @@ def schools_written(numbers):
     return [(PUT_SCHOOL, (f"S{n}", f"School number {n}", 30, 1000 * n, 500, "sibling;within:800;flag:3")) for n in numbers]
 
 
-def raises(number):
-    return {"cmd": "raise_pan", "school": f"S{number}", "pan": 31}
+def raises(numbers, pans):
+    """The commands that raise each of these schools to each of these admission numbers, all to one before any to the next."""
+    return [{"cmd": "raise_pan", "school": f"S{n}", "pan": pan} for pan in pans for n in numbers]
 
 
-def raises_written(numbers):
-    """The raised numbers of these schools, as the statements that write them."""
-    return [(RAISE, (31, f"S{n}")) for n in numbers]
+def raises_written(numbers, pans):
+    """The same as the statements that write them."""
+    return [(RAISE, (pan, f"S{n}")) for pan in pans for n in numbers]
 
 
 # ---- children and their applications: bench/applications and bench/aims
