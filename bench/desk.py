@@ -7,6 +7,7 @@ import contextlib
 import json
 import os
 import resource
+import select
 import sqlite3
 import statistics
 import subprocess
@@ -19,6 +20,8 @@ HARMLESS = {"cmd": "raise_pan", "school": "NOSCHOOL", "pan": 1}
 UNKNOWN = '{"name":"UnknownSchool","refused":1}'
 RUNS = 3
 MEMORY = "/dev/shm"
+# seconds between two looks for answers
+PAUSE = 0.0002
 # what a run may cost, as a multiple of the baseline, and what a command may cost in a large register, as a multiple of one in a small one
 MOST_ON_DISK = 1.5
 MOST_IN_MEMORY = 2.5
@@ -162,6 +165,7 @@ class Desk:
 
     def __init__(self, program, file, status=0):
         self.process = subprocess.Popen([program, "do", file], stdin=subprocess.PIPE, stdout=subprocess.PIPE, bufsize=0)
+        os.set_blocking(self.process.stdout.fileno(), False)
         self.status = status
 
     def __enter__(self):
@@ -181,11 +185,18 @@ class Desk:
         return self.answers_to(lines(commands))
 
     def answers_to(self, given):
-        """The same for lines of input."""
+        """The same for lines of input. Where there are several, the answers are looked for now and then: a reader that waits for them is woken by each,
+        which costs the run more than to print it."""
         self.process.stdin.write(given)
         pieces, wanted = [], given.count(b"\n")
         while wanted > 0:
             more = self.process.stdout.read(65536)
+            if more is None:
+                if wanted > 1:
+                    time.sleep(PAUSE)
+                else:
+                    select.select([self.process.stdout], [], [])
+                continue
             assert more, "the program ended"
             pieces.append(more)
             wanted -= more.count(b"\n")
