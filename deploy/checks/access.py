@@ -98,7 +98,8 @@ def focus(page, see):
         visit(page, view)
         wanted = page.value(STOPS)
         page.value("document.activeElement.blur(); document.body.tabIndex = -1; document.body.focus(); document.body.removeAttribute('tabindex')")
-        seen, shown = [], []
+        seen: list[str] = []
+        shown: list[str] = []
         for _ in range(len(wanted) + 8):
             page.press("Tab")
             stop, frame = page.value(f"[{FOCUS}.id || {FOCUS}.innerText || {FOCUS}.className, getComputedStyle({FOCUS}).outlineWidth]")

@@ -9,8 +9,10 @@ def check(world, see):
     night = lambda keep: world.run(nightly, world.file, copies, keep)
     names = lambda: sorted(path.name for path in copies.iterdir())
     (copies / "before-round-1.db").write_text("another's")
-    for number in (1, 2, 3):
+    # of the first release, without numbers, and of a clock that was years ahead
+    for number in (1, 2):
         (copies / f"nightly-2025-03-0{number}T023000.db").write_text("old")
+    (copies / "nightly-000007-2096-03-03T023000.db").write_text("old")
     before = names()
     see("no backup of a register in use", night(2).returncode, 1)
     see("and then no copy is removed", names(), before)
@@ -21,7 +23,8 @@ def check(world, see):
     world.run("admissions", "do", world.file)
     see("a backup of one that is not", night(2).returncode, 0)
     after = names()
-    see("of the nightly ones two are kept, and the others' stay", (len(after), after[:2]), (3, ["before-round-1.db", "nightly-2025-03-03T023000.db"]))
+    see("of the nightly ones the two that were made last are kept, and the others' stay", (after[:2], after[2][:15]),
+        (["before-round-1.db", "nightly-000007-2096-03-03T023000.db"], "nightly-000008-"))
     copy = copies / after[2]
     see("the copy is the register", copy.read_bytes() == world.file.read_bytes())
 
@@ -32,7 +35,8 @@ def check(world, see):
     wanted = letters() + [world.ask("/child/8/letter", "jane").body]
     world.end(world.desk)
     see("a restore", world.run("admissions-restore", copy, world.file).returncode, 0)
-    lines = [json.loads(line) for line in world.logged().splitlines()]
+    # (an entry ends at a line feed alone: a body may have other signs that splitlines takes for an end)
+    lines = [json.loads(line) for line in world.logged().split("\n") if line]
     again = [line["body"] for line in lines if line["target"] == "/command" and line["status"] == "200"][-2:]
     see("the log has the accepted ones as they were sent", again, sent)
     done = world.run("admissions", "do", world.file, input="".join(body + "\n" for body in again))

@@ -23,11 +23,11 @@ CLOCK = """(() => {{
 
 class Browser:
     """One page. `rule` may give a response (status, body) in place of the site's, or 'broken', for a request of a method and a path. `posted` has the body
-    of each POST that the page has sent."""
+    of each POST that the page has sent, and `console` what the browser's console reports of requests that failed."""
 
     def __init__(self, world, who):
         self.who, self.password, self.host = who, world.passwords.get(who, ""), world.host
-        self.rule, self.errors, self.posted, self.number, self.rest = None, [], [], 0, b""
+        self.rule, self.errors, self.posted, self.console, self.number, self.rest = None, [], [], [], 0, b""
         key = world.run("openssl", "x509", "-in", world.certificate, "-pubkey", "-noout").stdout
         raw = base64.b64decode("".join(key.strip().split("\n")[1:-1]))
         pinned = base64.b64encode(hashlib.sha256(raw).digest()).decode()
@@ -97,6 +97,11 @@ class Browser:
             self.errors.append(given["exceptionDetails"].get("exception", {}).get("description", "?"))
         elif method == "Log.entryAdded" and given["entry"]["source"] in ("security", "javascript"):
             self.errors.append(given["entry"]["text"])
+        elif method == "Log.entryAdded" and given["entry"]["source"] == "network":
+            self.console.append(given["entry"]["text"])
+        elif method == "Page.javascriptDialogOpening":
+            # A page that is busy asks before it is left
+            self.send("Page.handleJavaScriptDialog", accept=True)
 
     def paused(self, given):
         asked = given["request"]
@@ -123,11 +128,12 @@ class Browser:
     def wait(self, script, seconds=120):
         return until(lambda: self.value(f"Boolean({script})"), script, seconds)
 
-    def press(self, key, times=1, shift=False):
+    def press(self, key, times=1, shift=False, is_held=False):
         code, text = KEYS.get(key, (0, key))
         for _ in range(times):
             known = {"key": key, "windowsVirtualKeyCode": code, "modifiers": 8 if shift else 0}
-            self.call("Input.dispatchKeyEvent", type="keyDown", **known, **({"text": text} if text else {}))
+            for is_repeat in (False, True, True) if is_held else (False,):
+                self.call("Input.dispatchKeyEvent", type="keyDown", autoRepeat=is_repeat, **known, **({"text": text} if text else {}))
             self.call("Input.dispatchKeyEvent", type="keyUp", **known)
 
     def type(self, text):

@@ -7,6 +7,7 @@ import signal
 import threading
 import time
 
+from checks.expected import headers_differ, units_differ
 from checks.world import NAME, until
 
 AMEND = '{{"cmd":"amend","child":6,"name":"Fay Ford {0}","east":0,"north":300,"looked_after":false,"flags":[],"siblings":[]}}'
@@ -23,11 +24,12 @@ def check(world, see):
 
 
 def units(world, see):
-    """The units as systemd reads them, with the folders of the room."""
+    """The units as they are installed, and as systemd reads them, with the folders of the room."""
     folder = world.prefix / "lib/systemd/system"
-    for unit in folder.iterdir():
+    see("the units have the lines of the list, and no others", units_differ(folder, world.installation.usr), [])
+    for unit in folder.glob("admissions*"):
         unit.write_text(re.sub(f"=(-?){world.installation.usr}/(bin|lib/admissions)/", rf"=\1{world.prefix}/\2/", unit.read_text()))
-    verified = world.run("systemd-analyze", "verify", *sorted(folder.iterdir()))
+    verified = world.run("systemd-analyze", "verify", *sorted(folder.glob("admissions*")))
     see("systemd accepts the units without a remark", (verified.returncode, verified.stdout + verified.stderr), (0, ""))
 
 
@@ -75,13 +77,14 @@ def too_many(world, see):
         world.continue_desk()
     busy = [answer for answer in answers if answer.status == 503]
     see("of 300 at once on a suspended desk 256 wait and get their answer", [answer.status for answer in answers].count(200), 256)
+    see("with the headers", [headers_differ(it.fields) for it in busy[:1]], [[]])
     see("and the others are asked to retry", {(answer.body, answer.fields.get("retry-after")) for answer in busy}, {('{"busy":true}', "2")})
 
 
 def leaves(world, see):
     """A client that leaves when its command is at the desk: it is done, and the log reports it."""
     body = AMEND.format("left")
-    logged = lambda: [line["status"] for line in map(json.loads, world.logged().splitlines()) if "Fay Ford left" in line["body"]]
+    logged = lambda: [line["status"] for line in map(json.loads, world.logged().splitlines()) if "Fay Ford left" in line.get("body", "")]
     world.stop_desk()
     try:
         client = world.connect()
@@ -99,7 +102,8 @@ def leaves(world, see):
 def gone(world, see):
     """A desk that is killed and restarted."""
     world.end(world.desk, signal.SIGKILL)
-    see("while there is no desk the site says so", (lambda it: (it.status, it.body))(world.ask("/child/1", "jane")), (502, '{"unanswered":true}'))
+    see("while there is no desk the site says so", (lambda it: (it.status, it.body, headers_differ(it.fields)))(world.ask("/child/1", "jane")),
+        (502, '{"unanswered":true}', []))
     see("the log is taken in after a kill", world.run("admissions", "do", world.file).returncode, 0)
     world.start_desk()
     see("a desk that was restarted is found without more", world.ask("/child/1", "jane").status, 200)

@@ -6,7 +6,7 @@ import signal
 
 from checks.browser import Browser
 from checks.page import ANSWER, RESULT, WAITS, confirm, opened, press, visit, write
-from checks.world import NAME
+from checks.world import NAME, until
 
 
 def check(world, see):
@@ -66,9 +66,16 @@ def shown(page, see):
         see(f"an answer {status} {body}", press(page, "#accept"), expected)
     page.rule = lambda method, path: "broken" if method == "POST" else None
     see("a connection that breaks", press(page, "#accept"), "There was no answer. It may be done: look before you send it again.")
-    page.rule = lambda method, path: "broken"
+    sent = len(page.posted)
+    page.rule = lambda method, path: "broken" if method == "POST" or len(page.posted) > sent else None
     see("and the child cannot be shown either", press(page, "#accept"),
         "There was no answer. It may be done: look before you send it again. It cannot be shown now.")
+    page.rule = lambda method, path: "broken"
+    visit(page, "#child/12/amend")
+    write(page, name="Hal")
+    press(page, "#amend-form button")
+    see("before a command the page sees that nobody answers, and sends nothing", (confirm(page), len(page.posted)),
+        ("Nothing was sent. There was no answer. Try again; if there is still none, inform whoever runs the desk.", sent + 1))
     page.rule = None
 
 
@@ -120,10 +127,14 @@ def without_index(world, page, see):
 def failing(world, page, see):
     """The real desk, killed in the middle of a command, and on a full disk."""
     opened(page, "/#child/11")
-    world.stop_desk()
+    before = len(page.posted)
+    page.rule = lambda method, path: world.stop_desk() if method == "POST" else None
     page.value("document.getElementById('answer').textContent = ''; document.getElementById('accept').click()")
     page.wait(f"{ANSWER}.startsWith('Sending')")
     page.value("document.getElementById('accept').click()")
+    until(lambda: (page.value("0"), len(page.posted) > before)[1], "the command")
+    until(world.at_desk, "the command at the desk")
+    page.rule = None
     world.end(world.desk, signal.SIGKILL)
     page.wait(f"{ANSWER}.startsWith('There was no answer')")
     see("a desk that ends before its answer", page.value(ANSWER), "There was no answer. It may be done: look before you send it again. It cannot be shown now.")
@@ -136,7 +147,8 @@ def failing(world, page, see):
     write(page, name="F" * 80)
     press(page, "#amend-form button")
     see("a full disk", confirm(page), "The disk of the register has failed, and the desk does nothing more until it is repaired. Inform whoever runs it. "
-        "What you sent may be done or not: look when the desk is back. It cannot be shown now.")
+        "What you sent may be done or not: look when the desk is back.")
+    see("and the form has what was typed", page.value("document.getElementById('name').value"), "F" * 80)
     world.end(world.desk)
     see("then the log is taken in", world.run("admissions", "do", world.file).returncode, 0)
     world.start_desk()

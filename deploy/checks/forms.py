@@ -7,7 +7,7 @@ import json
 from checks.page import FOCUS, RESULT, confirm, opened, press, question, visit, write
 from checks.world import until
 
-TODAY = "2025-04-02"
+TODAY_IN_WORDS = "2 April 2025"
 
 FIELDS = """Object.fromEntries(['name', 'east', 'north', 'flags', 'siblings', 'present'].map(id => [id, document.getElementById(id).value])
     .concat([['looked-after', document.getElementById('looked-after').checked]]))"""
@@ -36,6 +36,8 @@ def corrections(world, page, see):
         see(f"a wrong value is not sent, and its field has the focus: {name}",
             (press(page, "#amend-form button"), page.value(f"[{FOCUS}.id, {FOCUS}.getAttribute('aria-invalid')]")),
             (f"Nothing was sent. {reason}", [name, "true"]))
+        see(f"and its error is tied to it: {name}", page.value(
+            f"document.getElementById({FOCUS}.getAttribute('aria-errormessage')).innerText"), reason)
         write(page, **{name: before})
     write(page, name="D'Arcy Tŷ-Bell")
     press(page, "#amend-form button")
@@ -54,8 +56,11 @@ def corrections(world, page, see):
     write(page, name="Ten")
     page.posted.clear()
     see("what somebody else corrected meanwhile is not overwritten", press(page, "#amend-form button"),
-        "Nothing was sent: somebody else has corrected this child meanwhile. The form has the data as it is now.")
-    see("it is in the form then", (page.value(FIELDS)["present"], page.value(FIELDS)["east"], page.posted), ("PRIM9", "7", []))
+        "Nothing was sent: somebody else has corrected this child meanwhile. The form has the data as it is now, and what you typed is kept: "
+        "where both differ, the present data is below it.")
+    see("it is in the form then, beside what was typed", (page.value(FIELDS)["present"], page.value(FIELDS)["east"], page.value(FIELDS)["name"], page.posted),
+        ("PRIM9", "7", "Ten", []))
+    conflict(world, page, see)
     # A field that this page does not know
     page.value("import('/register.js').then(it => { it.child(9).data.boarder = true; })")
     page.rule = lambda method, path: (200, '{"done":true}') if method == "POST" else None
@@ -71,16 +76,34 @@ def corrections(world, page, see):
     opened(page, "/?again")
 
 
+def conflict(world, page, see):
+    """The same field is changed by two: what was typed stays, with the present data below it, and is sent only after that was seen."""
+    other = {"cmd": "amend", "child": 10, "name": "Child of 10", "east": 8, "north": 1001, "looked_after": False, "flags": [], "siblings": [],
+             "present": "PRIM9"}
+    write(page, north="1002")
+    world.ask("/command", "jane", json.dumps(other))
+    until(lambda: '1001' in (world.room / "index/since.jsonl").read_text(), "the line of the commands since")
+    press(page, "#amend-form button")
+    see("where both changed a field, the present data is below what was typed", page.value(
+        "[document.getElementById('north').value, document.getElementById('north-now').innerText, document.getElementById('east').value]"),
+        ["1002", "In the register now: 1001", "8"])
+    page.value("[...document.querySelectorAll('#amend-form-kept button')].find(it => it.innerText === 'Clear it').click()")
+    page.wait("document.getElementById('name') && document.getElementById('name').value === 'Child of 10'")
+    see("what was typed can be cleared", (page.value(FIELDS)["north"], page.value("Object.keys(sessionStorage)"), page.posted), ("1001", [], []))
+
+
 def additions(world, page, see):
     visit(page, "#add")
     see("the next number is proposed, and today", page.value("[document.getElementById('child').value, document.getElementById('applied').value]"),
-        ["17", TODAY])
+        ["17", TODAY_IN_WORDS])
     write(page, name="ann ábel", east="10", north="20", flags="3", siblings="b a", present="prim7", preference_1="B", preference_2="E")
     press(page, "#add-form button")
     asked = question(page)
     see("a new child is asked about, with those of the same name",
         all(part in asked for part in ("Add child 17, ann ábel: applied 2 April 2025 for B, E?", "after the closing day, 31 October 2024",
         "There is already child 1 of this name: home 0 east, 100 north", "There is already child 2 of this name: home 0 east, 200 north")), True)
+    see("with its schools in their order, by name", page.value("[...document.querySelectorAll('#sure-whom li')].map(it => it.innerText)"),
+        ['B Bo "Peep" School', "E \u2068مدرسة الأمل\u2069"])
     see("it is added with its application", confirm(page), "Done, and stored. Child 17 is added: applied 2 April 2025 for B, E.")
     see("as it was entered", json.loads(data(world, 17))[0], {"name": "ann ábel", "east": 10, "north": 20, "looked_after": 0, "flags": 8, "siblings": "B;A",
         "present": "PRIM7"})
@@ -97,7 +120,9 @@ def additions(world, page, see):
     press(page, "#add-form button")
     see("if the application is refused, both are said", confirm(page),
         "Child 18 is added, but without the application. Refused, and nothing has changed. The lists are closed: it is after 31 December of the year of entry.")
-    write(page, applied="2025-04-01", preference_1="A")
+    see("what was typed of the application is in the form of the child then", page.value("['applied', 'preference-1'].map(id => document.getElementById(id).value)"),
+        ["1 January 2026", "A"])
+    write(page, applied="1/4/2025", preference_1="A")
     press(page, "#apply-form button")
     see("and the application is entered at the child", confirm(page), "Done, and stored. Child 18: applied 1 April 2025 for A.")
 
@@ -114,5 +139,7 @@ def plans(page, see):
     see("an admission number is not lowered", press(page, "#raise-form button"), "Nothing was sent. The admission number can only be raised: it is 2.")
     write(page, pan="5")
     press(page, "#raise-form button")
+    see("a raise says from what to what", question(page),
+        "Raise the admission number of E \u2068مدرسة الأمل\u2069 from 2 to 5? It cannot be lowered again.")
     confirm(page)
     see("and raised", page.value(RESULT).split("\n")[1:3], ["Admission number", "5"])

@@ -115,7 +115,7 @@ def seconds(world, page, see):
     longest = max(used - before.get(pid, 0) for pid, used in processor_seconds(world, page).items())
     load = os.getloadavg()[0]
     print(f"        all letters: {taken:.1f} seconds, of which the busiest process used the processor for {longest:.1f}; load {load:.0f}")
-    if load <= os.cpu_count():
+    if load <= (os.cpu_count() or 1):
         see(f"all letters are read within {SECONDS} seconds", taken <= SECONDS)
     else:
         print("        not judged: others use the processors")

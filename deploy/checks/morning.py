@@ -101,7 +101,7 @@ def check(world, see):
         see("the worklists of the morning", rows(page, "#worklists table")[1:4], [f"Not answered|{ANSWERS + REMINDERS + LAPSES}",
             f"Due for a reminder|{ANSWERS + REMINDERS}", f"Due for a withdrawal|{LAPSES}"])
         clerk = Clerk(page)
-        for work, kind in ((lambda: pile(clerk, answers), ("answers", ANSWERS, 5)), (lambda: bulk(clerk, "remind-due", "remind"), ("reminders", REMINDERS, 2)),
+        for work, kind in ((lambda: pile(clerk, answers), ("answers", ANSWERS, 5.25)), (lambda: bulk(clerk, "remind-due", "remind"), ("reminders", REMINDERS, 2)),
                            (lambda: bulk(clerk, "lapse-due", "lapse"), ("withdrawals", LAPSES, 4)), (lambda: corrections(clerk), ("corrections", 5, 20)),
                            (lambda: additions(clerk), ("new applications", 3, 50))):
             work()
@@ -130,12 +130,13 @@ def go(clerk, hash, what):
 
 
 def yes(clerk):
-    clerk.page.wait("document.getElementById('sure').open")
-    clerk.press("y")
+    """From the button that does nothing, which has the focus, to the one that confirms."""
+    clerk.page.wait(f"document.getElementById('sure').open && {FOCUS}.id === 'sure-no'")
+    clerk.press("Tab", "Enter")
 
 
 def pile(clerk, answers):
-    """45 families accept and 15 decline: a number and Enter twice, or a number, a minus, Enter and Y."""
+    """45 families accept and 15 decline: a number and Enter twice, or a number, a minus, Enter, Tab and Enter."""
     page = clerk.page
     go(clerk, "#answers", f"{FOCUS}.id === 'answer-child'")
     for at, child in enumerate(answers):
@@ -152,7 +153,7 @@ def pile(clerk, answers):
 
 
 def bulk(clerk, name, cmd):
-    """From the first view: the list, all ticked, its button, and Y."""
+    """From the first view: the list, all ticked, its button, and Yes."""
     page = clerk.page
     clerk.tab_to(f"{FOCUS}.hash === '#start'", shift=True)
     clerk.press("Enter")
@@ -171,7 +172,7 @@ ADDED = {301: "Rhys Morgan", 302: "Ann Lee", 303: "Ivo Stone"}
 
 
 def corrections(clerk):
-    """Five homes: the child by its number, the link, the field, Enter and Y."""
+    """Five homes: the child by its number, the link, the field, Enter and Yes."""
     page = clerk.page
     for child, north in CORRECTED.items():
         clerk.tab_to(f"{FOCUS}.id === 'find'", shift=True)

@@ -2,6 +2,7 @@
 
 import json
 
+from checks import refusals
 from checks.browser import Browser
 from checks.world import AUTHORITY
 
@@ -81,10 +82,13 @@ def dates(page):
 
 
 def strangers(world, see):
-    for who, title in (("", "401 Authorization Required"), ("alpha", "403 Forbidden")):
+    for who, status, reason in (("", 401, "sign in with a name and a password of this site"),
+                                ("alpha", 403, "the name that signed in may not do this")):
         page = Browser(world, who)
         page.open("/")
-        see(f"the page is not shown to {who or 'who is not signed in'}", page.value("[document.title, document.getElementById('find')]"), [title, None])
+        see(f"the page is not shown to {who or 'who is not signed in'}, but why",
+            page.value("[document.title, document.getElementById('find'), JSON.parse(document.querySelector('pre').textContent)]"),
+            ["", None, {"reason": reason, "status": status}])
         world.end(page.process)
     for path in ("/index.json", "/since.jsonl", "/who", "/authority", "/register.js"):
         see(f"{path} is for the office alone", [world.ask(path, who).status for who in (None, "alpha", "jane")], [401, 403, 200])
@@ -130,15 +134,15 @@ def finding(page, see):
     page.wait(f"{RESULT}.includes('Fay')")
     found(page, "e")
     page.press("Enter")
-    page.wait("location.hash === '#child/5'")
+    page.wait(f"{ANSWER} === 'Child 5.'")
     found(page, "1")
     page.press("Enter")
-    page.wait("location.hash === '#child/1'")
-    see("or the exact number", True)
+    page.wait(f"{ANSWER} === 'Child 1.'")
+    see("or the exact number", page.value("location.hash"), "#child/1")
     found(page, "a")
     page.press("Enter")
-    page.wait("location.hash === '#school/A'")
-    see("or the exact code", True)
+    page.wait(f"{ANSWER} === 'The waiting list of A, as it is now.'")
+    see("or the exact code", page.value("location.hash"), "#school/A")
     visit(page, "#find/h")
     see("all that match are a view", rows(page), ["Child|Name|East|North|Present|Applied|Schools",
         "4|<script>document.title='hit'</script>|0|5,000||31 October 2024|C", "12|Hal Hill|0|9,001||31 October 2024|D"])
@@ -219,7 +223,7 @@ def by_keyboard(page, see):
 def answers(world, page, see):
     visit(page, "#child/4")
     page.posted.clear()
-    see("today is proposed for a reminder", page.value("document.getElementById('on').value"), "2025-03-20")
+    see("today is proposed for a reminder", page.value("document.getElementById('on').value"), "20 March 2025")
     for day, year in (("12025-03-20", 12025), ("0025-03-20", 25), ("2111-01-01", 2111), ("1989-12-31", 1989)):
         write(page, on=day)
         see(f"a reminder in the year {year} is not sent, and the answer is about the day", press(page, "#day-form button"),
@@ -247,12 +251,28 @@ def answers(world, page, see):
     press(page, "#decline")
     see("a place is declined after a question", question(page),
         "Decline the place of child 2, Ben Bell, at B Beta? This cannot be undone: the school is not offered to the child again.")
+    sent = len(page.posted)
     world.ask("/command", "jane", '{"cmd":"decline","child":2,"school":"B"}')
-    see("what somebody else did meanwhile is refused with a text", confirm(page),
-        "Refused, and nothing has changed. The child has no open offer of this school. Perhaps it was answered already.")
+    see("what somebody else did meanwhile is seen before a command is sent", (confirm(page), len(page.posted)),
+        ("Child 2: the place at B was declined or withdrawn meanwhile. Nothing was sent.", sent))
     see("and the child is shown as it is then", "The child has no place." in page.value(RESULT))
-    see("every refusal has its text", page.value("import('/desk.js').then(it => Object.keys(it.REFUSALS).length)"), 23)
+    see("what is done between that look and the command is refused with a text",
+        between(page, '{"cmd":"decline","child":4,"school":"C"}'),
+        "Refused, and nothing has changed. The child has no open offer of this school. Perhaps it was answered already.")
+    see("every refusal has its text, word for word", page.value("import('/desk.js').then(it => it.REFUSALS)"), refusals.TEXTS)
+    see("each refusal of ERRORS is among them", sorted(refusals.TEXTS), refusals.names())
     see("each command was sent once", len(page.posted), len(set(page.posted)))
+
+
+def between(page, command):
+    """Has the desk answer a decline as it does where somebody else was quicker by a moment. Returns what is reported."""
+    child = json.loads(command)["child"]
+    visit(page, f"#child/{child}")
+    page.rule = lambda method, path: (409, '{"name":"NotOffered","refused":15}') if method == "POST" else None
+    press(page, "#decline")
+    said = confirm(page)
+    page.rule = None
+    return said
 
 
 def press_no(page):

@@ -194,7 +194,7 @@ def printed(page, world, name):
         raise RuntimeError(read.stderr)
     sheets = []
     for sheet in xml.etree.ElementTree.fromstring(read.stdout).iter("{http://www.w3.org/1999/xhtml}page"):
-        rows = []
+        rows: list[list[Word]] = []
         for word in sorted(map(Word, sheet), key=lambda it: it.top):
             if not rows or word.top - rows[-1][0].top > 4:
                 rows.append([])

@@ -1,47 +1,192 @@
-"""The commands of a round and of a fill that the page shows, pasted into a shell. Called by checks/work.py, on its register."""
+"""The commands of a round and of a fill that the page shows: those of the HANDBOOK, and pasted into a shell
+they do what they say. Called by checks/work.py, on its register."""
 
-from checks.page import visit, write
+import os
+import pathlib
+import re
+import subprocess
+
+from checks.page import ANSWER, visit, write
+from checks.world import group
+
+HANDBOOK = pathlib.Path(__file__).resolve().parent.parent.parent / "docs/HANDBOOK.md"
+# Fills in the supervisor's sheet, from the last row to the first: a lot for each row, by its number
+FILL_IN = """
+import sys, openpyxl
+book = openpyxl.load_workbook(sys.argv[1])
+rows = list(book.active.values)
+lot = [str(it).lower() for it in rows[0]].index("lot")
+filled = [row[:lot] + (number,) + row[lot + 1:] for number, row in enumerate(rows[1:], 1)]
+for at, row in enumerate([rows[0], *reversed(filled)], 1):
+    for place, value in enumerate(row, 1):
+        book.active.cell(at, place, value)
+book.save(sys.argv[1])
+"""
+
+
+def part(heading, end):
+    """What the HANDBOOK says from a text to another one."""
+    text = HANDBOOK.read_text(encoding="utf-8")
+    return text[text.index(heading) :].partition(end)[0]
+
+
+def blocks(text):
+    """The blocks of commands in a part of the HANDBOOK."""
+    return [it.strip("\n") for it in re.findall(r"(?ms)^```\n(.*?)^```$", text)]
+
+
+def with_values(block, **values):
+    """A block of the HANDBOOK with other values of its variables, which its first line has."""
+    first, _, rest = block.partition("\n")
+    for name, value in values.items():
+        first = re.sub(rf"\b{name}=\S+", f"{name}={value}", first)
+    return f"{first}\n{rest}"
 
 
 def check(world, page, see):
-    """The commands for a fill and a round are pasted into a shell, as they are shown, and do what they say."""
-    blocks = "[...document.querySelectorAll('#steps pre')].map(it => it.innerText)"
+    """The page's blocks are the HANDBOOK's, and are pasted into a shell, as they are shown."""
+    shown = "[...document.querySelectorAll('#steps pre')].map(it => it.innerText)"
     visit(page, "#draw/B")
     write(page, on="2025-04-03")
-    fill = page.value(blocks)
+    fill = page.value(shown)
     visit(page, "#draw")
-    write(page, on="2025-04-03")
-    held = page.value(blocks)
+    write(page, on="3/4/2025")
+    held = page.value(shown)
+    as_written(world, see, fill, held)
+    days(page, see)
     world.end(world.desk)
     world.run("admissions", "do", world.file)
-    folder = world.room / "paste"
-    for room in (folder, folder / "round"):
-        room.mkdir()
-        (room / "work.db").write_bytes(world.file.read_bytes())
-    paste = lambda text, room=folder: world.run("bash", "-c", text, cwd=room)
-    see("the desk is closed before, and opened after", (fill[0].split("\n")[0], fill[-1].split("\n")[-1]),
-        (f"systemctl stop admissions@{world.file.parent.name}", f"systemctl start admissions@{world.file.parent.name}"))
-    see("and its folder is entered", fill[0].split("\n")[1], f"cd /var/lib/admissions/{world.file.parent.name}")
-    made = paste(fill[1])
-    see("a fill: a backup and the pairs", (made.returncode, (folder / "copies/before-draw-3.db").exists()), (0, True))
-    pairs = (folder / "draw-3.pairs").read_text().splitlines()
-    (folder / "draw-3.csv").write_text("".join(",".join((*pair.split(), str(lot))) + "\n" for lot, pair in enumerate(pairs, 1)))
-    see("and the fill, with its day", (paste(fill[2]).stdout.endswith('"done":true}\n'),
-        world.run("admissions", "list", folder / "work.db", "B").stdout.splitlines()[-1].endswith("vacancies 0")), (True, True))
-    paste_round(world, see, held, folder / "round", paste)
+    for name, steps in (("fill", fill), ("round", held)):
+        room = world.room / "paste" / name
+        room.mkdir(parents=True)
+        (room / "reg.db").write_bytes(world.file.read_bytes())
+        (room / "reg.db").chmod(0o600)
+        paste_all(world, see, steps, room, name)
     world.start_desk()
 
 
-def paste_round(world, see, held, room, paste):
-    """The blocks of a round, on a copy of its own: the sheet comes back in another order than the pairs."""
-    see("a round: a backup and the pairs", (paste(held[1], room).returncode, (room / "copies/before-draw-3.db").exists()), (0, True))
-    pairs = (room / "draw-3.pairs").read_text().splitlines()
-    (room / "draw-3.csv").write_text("".join(",".join((*pair.split(), str(lot))) + "\n" for lot, pair in reversed(list(enumerate(pairs, 1)))))
-    ran = paste(held[2], room)
-    see("the round is run, with its day", (ran.returncode, '"done":true' in ran.stdout,
-        world.run("admissions", "round-report", room / "work.db", "3").stdout.splitlines()[:1]), (0, True, ["Round 3, draw 3, 2025-04-03"]))
-    audited = paste(held[3], room)
-    see("the audit prints what the page says", audited.stdout.splitlines(), ["0", "The outcomes are stable, and the best for each child of all that are stable"])
-    see("and the report is kept", (room / "report-3").read_text(), world.run("admissions", "round-report", room / "work.db", "3").stdout)
-    again = paste(held[2], room)
-    see("pasted once more it sends nothing", (again.returncode != 0, '"done":true' in again.stdout), (True, False))
+def as_written(world, see, fill, held):
+    """Each block is the one that the HANDBOOK has, with the values of this draw; round them are the lines
+    for an installed register."""
+    name = world.file.parent.name
+    written = blocks(part("## Run a round", "## Record answers"))[:3]
+    see(
+        "the blocks of a round are those of the HANDBOOK",
+        held[2:5],
+        [with_values(it, draw=3, day="2025-04-03", round=3) for it in written],
+    )
+    written = part("**Fill a vacancy.**", "**A second round**")
+    see(
+        "so are those of a fill",
+        fill[2:4],
+        [with_values(it, draw=3, day="2025-04-03", school="B") for it in blocks(written)[:2]],
+    )
+    audit = group(r"`(admissions-audit [^`]+)`", written)
+    see("which is audited too", fill[4], audit.replace("draw-2", "draw-3"))
+    before = [
+        f"systemctl stop admissions@{name}\ncd /var/lib/admissions/{name}\nsetpriv --reuid=admissions --regid=admissions --clear-groups bash",
+        "umask 077; set -o noclobber; mkdir -p copies",
+    ]
+    after = ["exit", f"systemctl start admissions@{name}"]
+    see(
+        "before them the desk is closed and its folder entered, as its user; after them it is opened",
+        [it[:2] + it[5:] for it in (fill, held)],
+        [before + after] * 2,
+    )
+
+
+def days(page, see):
+    """A day that cannot be has no blocks, and one far from today a warning."""
+    write(page, on="2026-01-01")
+    see(
+        "a day that cannot be that of a draw has no commands",
+        page.value("document.getElementById('steps').innerText"),
+        "1 January 2026 cannot be the day of this draw. Its day may be from 10 March 2025 to 31 December 2025.",
+    )
+    write(page, on="30 October 2025")
+    see(
+        "one that is far from today has a warning",
+        page.value("document.getElementById('strange-day').innerText"),
+        "30 October 2025 is 211 days after today. Is it right?",
+    )
+    see(
+        "and the page reports no error",
+        page.value(f"{ANSWER}"),
+        "Paste each block into a terminal, one after another.",
+    )
+
+
+def paste(world, text, room, *answers):
+    """Pastes a block into a terminal, and types answers to its questions. Returns its status and what it
+    printed."""
+    terminal, end = os.openpty()
+    os.write(terminal, "".join(f"{it}\n" for it in answers).encode())
+    done = subprocess.run(
+        ["bash", "-c", text],
+        cwd=room,
+        env=world.environment,
+        stdin=end,
+        stdout=subprocess.PIPE,
+        stderr=subprocess.STDOUT,
+        text=True,
+        timeout=300,
+        check=False,
+    )
+    os.close(terminal)
+    os.close(end)
+    return done.returncode, done.stdout
+
+
+def paste_all(world, see, steps, room, kind):
+    """From the copy to the audit. The real day is far from that of the draw, so admissions-send asks: once
+    it gets No, then Yes."""
+    paste(world, steps[1], room)
+    see(
+        f"a {kind}: a copy, the pairs and the sheet",
+        (paste(world, steps[2], room)[0], sorted(it.name for it in room.rglob("*draw-3*"))),
+        (0, ["before-draw-3.db", "draw-3.pairs", "draw-3.xlsx"]),
+    )
+    filled = world.run("/usr/bin/python3", "-c", FILL_IN, room / "draw-3.xlsx")
+    see("the sheet is filled in, in another order", (filled.returncode, filled.stderr), (0, ""))
+    before = (room / "reg.db").read_bytes()
+    asked = paste(world, steps[3], room, "no")[1]
+    see(
+        "a day that is far from the clock's is asked about, and after no nothing is sent",
+        (
+            "with the day 2025-04-03" in asked,
+            "Send all the same?" in asked,
+            asked.endswith("nothing was sent\n"),
+            (room / "reg.db").read_bytes() == before,
+        ),
+        (True, True, True, True),
+    )
+    (room / "draw-3.jsonl").unlink()
+    status, printed = paste(world, steps[3], room, "yes")
+    see(f"the {kind} is sent", (status, "1 of 1 line done" in printed), (0, True))
+    status, audited = paste(world, steps[4], room)
+    last = {
+        "round": [
+            "0",
+            "The outcomes are stable, and the best for each child of all that are stable",
+        ],
+        "fill": [
+            "The child is the first by class, distance and lot of all who waited there, and there was a vacancy"
+        ],
+    }[kind]
+    see(
+        "the audit prints what the page says",
+        (status, audited.splitlines()[-len(last) :]),
+        (0, last),
+    )
+    if kind == "round":
+        see(
+            "with its day, and the report is kept",
+            (room / "report-3").read_text().splitlines()[:1],
+            ["Round 3, draw 3, 2025-04-03"],
+        )
+    status, again = paste(world, steps[3], room, "yes")
+    see(
+        "pasted once more it sends nothing",
+        (status != 0, "1 of 1 line done" in again),
+        (True, False),
+    )

@@ -18,6 +18,24 @@ def check(world, see):
         ended = [until(client.ended, f"the end of a client {kind}") for client in some]
         see(f"the site gives up each client {kind}, without an answer", ended, ["closed"] * 10)
     see("and the desk has seen none of them", "fault: Read" in (world.room / "log/desk").read_text(), False)
+    half_heads(world, see)
+
+
+def half_heads(world, see):
+    """More clients of one address with half a head than Debian's nginx takes connections (768 for each of its two processes here): others are served."""
+    count, head = 1700, f"GET /child/1 HTTP/1.1\r\nHost: {NAME}\r\n".encode()
+    for _ in range(3):
+        with concurrent.futures.ThreadPoolExecutor(32) as pool:
+            clients = list(pool.map(lambda _: Slow(world.connect("127.0.0.2"), head), range(count)))
+        answer = world.ask("/child/1", "jane")
+        still_open = sum(it.ended() is None for it in clients)
+        for it in clients:
+            it.connection.close()
+        # (the site gives them up after ten seconds: where that was too few to open them all, more are opened)
+        if still_open > 1536:
+            break
+    print(f"        {still_open} of {count} were open when the other client had its answer")
+    see("beside over 1,536 half heads of one address, another one is answered", (still_open > 1536, answer.status), (True, 200))
 
 
 class Slow:

@@ -124,24 +124,34 @@ def reminders(world, page, see):
         ["Child 5", "2 of 11 ticked"])
     page.value("document.getElementById('tick-all').click()")
     see("all are ticked at once", page.value("document.getElementById('ticked').innerText"), "11 of 11 ticked")
-    see("the proposed day is today", page.value("document.getElementById('on').value"), TODAY)
+    see("the proposed day is today, and is read out in words", page.value("['on', 'on-hint'].map(id => document.getElementById(id)).map(it => it.value ?? it.innerText)"),
+        ["2 April 2025", "Wednesday 2 April 2025"])
     page.posted.clear()
     world.ask("/command", "jane", '{"cmd":"remind","child":5,"school":"A","day":"2025-04-01"}')
     press(page, "#do-remind")
     see("one question says how many and what cannot be undone", question(page),
         "Record a reminder of 2 April 2025 for 11 children? A recorded reminder cannot be changed.")
+    see("and whom it concerns, each by number, name and school", (len(whom(page)), whom(page)[:2], page.value("document.getElementById('sure-yes').innerText")),
+        (11, ['Child 1, Ann Abel: B Bo "Peep" School', "Child 5, \u2068שרה כהן\u2069: A Ysgol Tŷ Gwyn"], "Yes, record 11 reminders"))
     press_no(page)
     see("after No nothing is sent", page.posted, [])
     press(page, "#do-remind")
     page.value("document.getElementById('sure-yes').click()")
     page.wait("document.getElementById('counts')")
-    see("what was done and what was refused", page.value("document.getElementById('counts').innerText"), "10 reminders done, 1 refused.")
-    see("with the reason", rows(page, "#outcome table"), ["Child|Name|School|Reason", "5|שרה כהן|A|This offer has a reminder already."])
-    see("each was sent once, in order", [json.loads(body)["child"] for body in page.posted], [1, 5, 6, 7, 8, 9, 10, 11, 12, 13, 14])
+    see("what was done and what was not sent", page.value("document.getElementById('counts').innerText"),
+        "10 reminders done, 1 not sent, since the child has changed.")
+    see("with the reason", rows(page, "#outcome table"),
+        ["Child|Name|School|Reason", "5|שרה כהן|A|Child 5: a reminder of 1 April 2025 was recorded meanwhile. Nothing was sent."])
+    see("each other was sent once, in order", [json.loads(body)["child"] for body in page.posted], [1, 6, 7, 8, 9, 10, 11, 12, 13, 14])
     see("by the register too", [f"reminded 2025-04-0{1 if child == 5 else 2}" in world.ask(f"/child/{child}/letter", "jane").body for child in (1, 5, 14)],
         [True] * 3)
     visit(page, "#list/remind-due")
     see("nobody is due any more", rows(page)[1:], [])
+
+
+def whom(page):
+    """Whom an open question concerns, a line for each."""
+    return page.value("[...document.querySelectorAll('#sure-whom li')].map(it => it.innerText)")
 
 
 def withdrawals(world, page, see):
@@ -174,7 +184,7 @@ def withdrawals(world, page, see):
     page.value("document.getElementById('go-on').click()")
     page.wait("document.getElementById('counts') && document.getElementById('counts').innerText === '3 withdrawals done.'")
     see("the one whose answer was lost is not sent again", [json.loads(body)["child"] for body in page.posted], [2, 3, 4])
-    lapses = [line for line in map(json.loads, world.logged().splitlines()) if '"lapse"' in line["body"]]
+    lapses = [line for line in map(json.loads, world.logged().splitlines()) if '"lapse"' in line.get("body", "")]
     see("each withdrawal reached the desk once", sorted(json.loads(line["body"])["child"] for line in lapses), [2, 3, 4])
     see("and none is due any more", rows(page)[1:], [])
 
@@ -197,6 +207,7 @@ def pile(world, page, see):
     page.type("12")
     page.press("Enter")
     page.wait(f"{ANSWER}.startsWith('Child 12')")
+    page.wait(f"{FOCUS}.value === '12'")
     see("a child that has accepted is shown, and the field keeps the focus", (page.value(ANSWER), page.value(f"[{FOCUS}.id, {FOCUS}.value]")),
         ("Child 12, Child of 12: The child has a place at B Bo \"Peep\" School, which was accepted.", ["answer-child", "12"]))
     page.value(f"{FOCUS}.value = ''")
@@ -208,6 +219,7 @@ def pile(world, page, see):
     page.type("peep")
     page.press("Enter")
     page.wait(f"{ANSWER}.startsWith('0')")
+    see("an entry that is nobody is in the field again", page.value(f"[{FOCUS}.id, {FOCUS}.value]"), ["answer-child", "peep"])
     page.value(f"{FOCUS}.value = ''")
     page.type("may")
     page.press("Enter")
@@ -219,18 +231,23 @@ def pile(world, page, see):
     page.type("7-")
     page.press("Enter")
     see("a minus after the number asks at once", question(page), f"Decline the place of child 7, Zoë Tŷ-Owen, at A Ysgol Tŷ Gwyn? {IS_FINAL}")
-    page.press("n")
+    page.press("Escape")
     page.wait("!document.getElementById('sure').open")
-    see("N is no, and the field has the number", page.value(f"[{FOCUS}.id, {FOCUS}.value]"), ["answer-child", "7-"])
+    see("Escape is no, and the field has the number", page.value(f"[{FOCUS}.id, {FOCUS}.value]"), ["answer-child", "7-"])
     page.press("Enter")
     question(page)
-    page.press("y")
+    sent = len(page.posted)
+    for key in "yYnNusuf":
+        page.press(key)
+    see("no letter answers it", (page.value("document.getElementById('sure').open"), page.value(f"{FOCUS}.id"), len(page.posted)), (True, "sure-no", sent))
+    page.press("Tab")
+    page.press(" ")
     page.wait(f"{ANSWER}.startsWith('Done')")
-    see("Y is yes", page.value(ANSWER), "Done, and stored. Child 7, Zoë Tŷ-Owen, has declined A Ysgol Tŷ Gwyn.")
+    see("its button does", page.value(ANSWER), "Done, and stored. Child 7, Zoë Tŷ-Owen, has declined A Ysgol Tŷ Gwyn.")
 
 
 def while_sending(world, page, see):
-    """A quick clerk enters the next number while the desk has not yet answered. Then the one before is refused, since somebody else declined it."""
+    """A quick clerk enters the next number while the desk has not yet answered. Then the one before is not sent, since somebody else declined it."""
     page.type("5")
     page.press("Enter")
     page.wait(f"{FOCUS}.id === 'accept'")
@@ -239,13 +256,14 @@ def while_sending(world, page, see):
     page.press("Enter")
     page.type("8")
     page.press("Enter")
-    see("what is typed meanwhile is the next number", (page.value(f"[{FOCUS}.id, {FOCUS}.value]"), rows(page)[1]), (["answer-child", "8"],
-        "5|שרה כהן|accept|A|is being sent"))
+    see("what is typed meanwhile is the next entry", (page.value(f"[{FOCUS}.id, {FOCUS}.value, document.getElementById('offer').innerText]"), rows(page)[1]),
+        (["answer-child", "", "Looking up 8 …"], "5|שרה כהן|accept|A|is being sent"))
     world.continue_desk()
     page.wait(f"{FOCUS}.id === 'accept'")
     see("it is looked up after the answer", page.value(ANSWER).startswith("Child 8, D’Arcy Bell: The child was offered a place at A"), True)
-    see("and the one that was refused stays in sight", page.value("document.getElementById('not-recorded').innerText"),
-        "1 answer was not recorded: see the results.")
+    see("and the one that was not sent stays in sight", (page.value("document.getElementById('not-recorded').innerText"), rows(page)[1]),
+        ("1 answer was not recorded: see the results.",
+         "5|שרה כהן|accept|A|Child 5: the place at A was declined or withdrawn meanwhile. Nothing was sent."))
     page.press("Tab", shift=True)
     page.press("Tab", shift=True)
     see("back in the field", page.value(f"{FOCUS}.id"), "answer-child")
@@ -276,16 +294,18 @@ def file_of_commands(world, page, see):
     page.wait("document.getElementById('send-file')")
     see("a file is shown before it is sent", page.value("document.getElementById('counts').innerText"),
         "8 lines: 1 amend, 3 accept, 1 decline, 3 that cannot be sent.")
-    see("with names, and with what is to be looked at", rows(page),
-        ["Line|Command|Child|Name|School|Day|Note", "1|accept|14|Child of 14|B||", "2|accept|9|Child of 9|A||",
-        "3|amend|10|Child of 10|||removes the present school PRIM9, since the line does not repeat it", "5|accept|15|Child of 15|A||",
-        "6|round||||2025-04-02|rounds and fills are run in the terminal",
-        "7|nothing|||||the command is unknown", "8||||||it is no JSON", "9|decline|1|Ann Abel|B||"])
+    see("with names, with what the register has, and with what is to be looked at", rows(page),
+        ["Line|Command|Child|Name|School|Day|In the register|Note", "1|accept|14|Child of 14|B||B, offered 3 March 2025, reminded 2 April 2025|",
+        "2|accept|9|Child of 9|A||A, offered 3 March 2025, reminded 2 April 2025|",
+        "3|amend|10|Child of 10||||removes the present school PRIM9, since the line does not repeat it", "5|accept|15|Child of 15|A||no place|",
+        "6|round||||2025-04-02||rounds and fills are run in the terminal",
+        "7|nothing||||||the command is unknown", "8|||||||it is no JSON", "9|decline|1|Ann Abel|B||B, offered 10 March 2025, reminded 2 April 2025|"])
     see("nothing is sent yet", page.posted, [])
     page.rule = lambda method, path: "broken" if method == "POST" and len(page.posted) == 2 else None
     press(page, "#send-file")
     see("a question says how many", question(page),
         "Send 5 commands of morning.jsonl: 1 amend, 3 accept, 1 decline? 1 of them cannot be undone. 1 of them have a note.")
+    see("and what cannot be undone, line by line", whom(page), ["Child 1, Ann Abel: declines B"])
     page.value("document.getElementById('sure-yes').click()")
     page.wait("document.getElementById('go-on')")
     page.rule = None
@@ -296,7 +316,7 @@ def file_of_commands(world, page, see):
     see("then the rest is sent", page.value("document.getElementById('counts').innerText"),
         "4 commands done, 4 refused or unreadable, 0 without an answer, 0 not sent.")
     see("no line twice but that whose first try was not done", [json.loads(body)["child"] for body in page.posted], [14, 9, 9, 10, 15, 1])
-    see("the reasons", [row.split("|")[0:1] + row.split("|")[6:] for row in rows(page)[1:]],
+    see("the reasons", [row.split("|")[0:1] + row.split("|")[7:] for row in rows(page)[1:]],
         [["5", "The child has no open offer of this school. Perhaps it was answered already."],
         ["6", "rounds and fills are run in the terminal"], ["7", "the command is unknown"], ["8", "it is no JSON"]])
     page.value("document.getElementById('not-done').click()")

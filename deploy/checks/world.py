@@ -12,16 +12,23 @@ import subprocess
 import time
 
 HERE = pathlib.Path(__file__).resolve().parent.parent
+HAS_IPV6 = pathlib.Path("/proc/net/if_inet6").exists()
 NAME = "admissions.example"
 AUTHORITY = "Cyngor Sir Tŷ \"Ddewi\" Council"
 PEOPLE = {"jane": "office;", "alpha": "school-A;", "smith": None}
-# Has the site of a register, or the machine's own part, made by the installed admissions-setup: its folder, then what is called and its arguments
+# Has the site of a register, the machine's own part, or a main file of nginx made by the installed admissions-setup: its folder, then what is called and its arguments
 MAKE_SITE = """
 import pathlib, sys
 sys.path.insert(0, sys.argv[1])
 from machine import sites
 model = pathlib.Path(sys.argv[2]).read_text(encoding="utf-8")
-print(sites.site_text(model, *sys.argv[3:]) if sys.argv[3:] else sites.machine_text(model, (sites.share() / "machine.conf").read_text(encoding="utf-8")))
+here = sites.this_machine()
+if sys.argv[3:] == ["main"]:
+    print(sites.limits_text() + sites.main_text("events {\\n\\tworker_connections 768;\\n}"))
+elif sys.argv[3:]:
+    print(sites.site_text(model, *sys.argv[3:], here))
+else:
+    print(sites.machine_text(model, (sites.share() / "machine.conf").read_text(encoding="utf-8"), here))
 """
 
 REGISTER = r"""
@@ -65,6 +72,14 @@ def until(what, name, seconds=120):
     raise TimeoutError(f"{name}: not within {seconds} seconds")
 
 
+def group(pattern: str, text: str) -> str:
+    """The first group of a pattern in a text that must have it."""
+    found = re.search(pattern, text)
+    if not found:
+        raise RuntimeError(f"there is no {pattern} in {text[:1000]!r}")
+    return found[1]
+
+
 class Installation:
     """The files that are tested, in a folder of their own: those of the repository as make and deploy/install install them, with a program; or without one
     those of the package that is installed on this machine, as dpkg lists them."""
@@ -88,7 +103,7 @@ class Installation:
                 raise RuntimeError(made.stdout + made.stderr)
 
     def site(self, *named):
-        """The site of a register by its name and host, or the machine's own part."""
+        """The site of a register by its name and host, the machine's own part, or its main file (`main`)."""
         model = self.root / "etc/nginx/sites-available/admissions"
         made = subprocess.run(["/usr/bin/python3", "-B", "-c", MAKE_SITE, self.prefix / "share/admissions", model, *named], text=True, capture_output=True, check=False)
         if made.returncode:
@@ -104,7 +119,7 @@ class World:
         self.installation, self.room, self.processes, self.beside = installation, room, [], []
         self.name, self.host, self.lines, self.people = name, host, lines, people or PEOPLE
         self.root, self.prefix, self.file, self.settings = installation.root, installation.prefix, room / "reg.db", room / "settings"
-        self.site_port, self.desk_port = None, free_port()  # the desk's port is in a network of its own
+        self.site_port, self.desk_port = 0, free_port()  # the desk's port is in a network of its own
         for folder in ("run", "log", "copies", "temp", "index", "downloads", "settings"):
             (room / folder).mkdir(parents=True)
         self.passwords = {name: os.urandom(9).hex() for name in self.people}
@@ -203,7 +218,8 @@ class World:
 
     def start_door(self):
         """The door, with as many files as its unit allows."""
-        limit = re.search(r"(?m)^LimitNOFILE=(\d+)$", (self.prefix / "lib/systemd/system/admissions-door@.service").read_text())[1]
+        unit = self.prefix / "lib/systemd/system/admissions-door@.service"
+        limit = group(r"(?m)^LimitNOFILE=(\d+)$", unit.read_text())
         self.door = self.spawn(*self.inside("prlimit", f"--nofile={limit}", "systemd-socket-activate", f"--listen={self.room}/run/desk.sock",
                                             "/lib/systemd/systemd-socket-proxyd", "--connections-max=300", f"127.0.0.1:{self.desk_port}"), log="door")
         until((self.room / "run/desk.sock").exists, "the door")
@@ -229,15 +245,20 @@ class World:
         return replaced(self.installation.site(self.name, self.host), (
             (f"/etc/admissions/{self.name}", f"{self.settings}"), ("root /etc/admissions;", f"root {self.root}/etc/admissions;"),
             (f"/run/admissions-index/{self.name}", f"{self.room}/index"), (f"/run/admissions/{self.name}.sock", f"{self.room}/run/desk.sock"),
-            (f"/var/log/admissions/{self.name}", f"{self.room}/log"), (f"{usr}/share", f"{self.root}{usr}/share"), ("listen 443", f"listen 127.0.0.1:{self.site_port}")))
+            (f"/var/log/admissions/{self.name}", f"{self.room}/log"), (f"{usr}/share", f"{self.root}{usr}/share"), *self.listens(("443", self.site_port))))
+
+    def listens(self, *ports):
+        """The ports that the site listens at, with those of this room, and of this machine alone."""
+        pairs = [(f"listen {port}", f"listen 127.0.0.1:{own}") for port, own in ports]
+        return pairs + [(f"listen [::]:{port}", f"listen [::1]:{own}") for port, own in ports if HAS_IPV6]
 
     def write_sites(self):
-        machine = replaced(self.installation.site(), (("listen 443", f"listen 127.0.0.1:{self.site_port}"), ("listen 80", f"listen 127.0.0.1:{self.plain_port}")))
+        machine = replaced(self.installation.site(), self.listens(("443", self.site_port), ("80", self.plain_port)))
         (self.room / "site.conf").write_text(machine + "".join(world.site_text() for world in (self, *self.beside)))
         temp = "".join(f"{kind}_temp_path {self.room}/temp/{kind};\n" for kind in ("client_body", "proxy", "fastcgi", "uwsgi", "scgi"))
         user = "user root;" if os.getuid() == 0 else ""
         (self.room / "nginx.conf").write_text(f"{user} daemon off; worker_processes 2; pid {self.room}/run/nginx.pid; error_log {self.room}/log/nginx;\n"
-                                              f"events {{ worker_connections 768; }}\nhttp {{ include /etc/nginx/mime.types; {temp} include {self.room}/site.conf; }}\n")
+                                              f"{self.installation.site('main')}\nhttp {{ include /etc/nginx/mime.types; {temp} include {self.room}/site.conf; }}\n")
 
     def ask(self, path, who=None, body=None, origin=True, kind="application/json", password=None, options=()):
         """What curl gets, with the site's own name mapped to the port of the room, and by default as from a page of the site."""
@@ -251,21 +272,21 @@ class World:
             arguments += ["--header", f"Origin: {origin}"] if origin else []
         return Answer(self.run(*arguments, *options, f"https://{self.host}{path}"))
 
-    def connect(self):
+    def connect(self, source="127.0.0.1"):
         """A bare TLS connection to the site."""
         context = ssl.create_default_context(cafile=str(self.certificate))
-        return context.wrap_socket(self.knock(), server_hostname=self.host)
+        return context.wrap_socket(self.knock(source), server_hostname=self.host)
 
-    def knock(self):
-        """A connection to the site's port, before TLS."""
-        return socket.create_connection(("127.0.0.1", self.site_port), timeout=120)
+    def knock(self, source="127.0.0.1"):
+        """A connection to the site's port, before TLS, from an address of this machine."""
+        return socket.create_connection(("127.0.0.1", self.site_port), timeout=120, source_address=(source, 0))
 
     def basic(self, who):
         """The field of a head that signs somebody in."""
         return "Authorization: Basic " + base64.b64encode(f"{who}:{self.passwords[who]}".encode()).decode()
 
     def logged(self):
-        return (self.room / "log/asked.log").read_text()
+        return (self.room / "log/asked.log").read_text(encoding="utf-8", errors="surrogateescape")
 
 
 def replaced(text, pairs):

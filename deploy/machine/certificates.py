@@ -1,38 +1,40 @@
 """The key and the certificate of a site, and the request for one."""
 import datetime
+import pathlib
+import subprocess
+import typing
 
 from . import files
+from .registers import Register
 from .run import Failed, call, tool
 
 DAYS_OF_TRIAL = 90
 
 
-def openssl(*arguments, **more):
-    return call(tool("openssl", "openssl"), *arguments, **more)
+def openssl(*arguments: object) -> "subprocess.CompletedProcess[str]":
+    return call(tool("openssl", "openssl"), *arguments)
 
 
-def paths(register):
+def paths(register: Register) -> tuple[pathlib.Path, pathlib.Path, pathlib.Path]:
     return register.settings / "site.key", register.settings / "site.crt", register.settings / "site.csr"
 
 
-def make(register, host):
+def make(register: Register, host: str) -> typing.Iterator[str]:
     """Makes what is missing of a key, a request for a certificate, and a certificate that the key itself signs. Returns a line for each."""
     key, certificate, request = paths(register)
     name = ("-subj", f"/CN={host}", "-addext", f"subjectAltName=DNS:{host}")
-    lines = []
     if not key.exists():
         files.write(key, openssl("genpkey", "-algorithm", "EC", "-pkeyopt", "ec_paramgen_curve:P-256").stdout, 0o600)
-        lines.append(f"made the key {key}")
+        yield f"made the key {key}"
     if not request.exists():
         files.write(request, openssl("req", "-new", "-key", key, *name).stdout, 0o644)
-        lines.append(f"made the request {request}: let an authority sign it")
+        yield f"made the request {request}: let an authority sign it"
     if not certificate.exists():
         files.write(certificate, openssl("req", "-x509", "-key", key, "-days", str(DAYS_OF_TRIAL), *name).stdout, 0o644)
-        lines.append(f"made the certificate {certificate}, for a trial of {DAYS_OF_TRIAL} days")
-    return lines
+        yield f"made the certificate {certificate}, for a trial of {DAYS_OF_TRIAL} days"
 
 
-def warning(register):
+def warning(register: Register) -> str | None:
     """One line where browsers will not trust the certificate."""
     key, certificate, request = paths(register)
     if not is_self_signed(certificate):
@@ -40,26 +42,29 @@ def warning(register):
     return f"WARNING: no authority has signed {certificate}, so browsers warn of the site. Let one sign {request}, and put its answer there; the key is {key}"
 
 
-def is_self_signed(certificate):
+def is_self_signed(certificate: pathlib.Path) -> bool:
     names = openssl("x509", "-in", certificate, "-noout", "-subject", "-issuer", "-nameopt", "RFC2253").stdout.splitlines()
     return len({line.partition("=")[2] for line in names}) == 1
 
 
-def take(register, certificate, key):
+def take(register: Register, certificate: str, key: str) -> bool:
     """Takes a certificate and its key from files. Returns whether they are others than before."""
-    with open(certificate, encoding="ascii") as one, open(key, encoding="ascii") as other:
-        texts = one.read(), other.read()
+    try:
+        with open(certificate, encoding="ascii") as one, open(key, encoding="ascii") as other:
+            texts = one.read(), other.read()
+    except UnicodeDecodeError as error:
+        raise Failed(f"{certificate} or {key} is not in the form PEM, which is text") from error
     if public_key("x509", "-pubkey", "-noout", "-in", certificate) != public_key("pkey", "-pubout", "-in", key):
         raise Failed(f"{certificate} is not of the key {key}")
     to_key, to_certificate, _ = paths(register)
     return any([files.write(to_certificate, texts[0], 0o644), files.write(to_key, texts[1], 0o600)])
 
 
-def public_key(*arguments):
+def public_key(*arguments: object) -> str:
     return openssl(*arguments).stdout.strip()
 
 
-def days_left(certificate):
+def days_left(certificate: pathlib.Path) -> int:
     """How many whole days a certificate is still valid, negative after its end."""
     text = openssl("x509", "-in", certificate, "-noout", "-enddate", "-dateopt", "iso_8601").stdout.strip().partition("=")[2]
     end = datetime.datetime.strptime(text, "%Y-%m-%d %H:%M:%SZ").replace(tzinfo=datetime.timezone.utc)

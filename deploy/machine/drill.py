@@ -2,7 +2,8 @@
 
   drill NAME
 
-The register itself and its copies are only read. Where a second place is named, its newest copy is fetched and tried in the same way. What was restored is
+The newest copy is the one that was made last, whatever the clock was. The register itself and its copies are only read. Where a second place is named, its copy
+of the same name is fetched and tried in the same way. The archive of its settings is read, and its users are counted. What was restored is
 removed at the end. The result is in /var/backups/admissions/NAME/drill.report, which admissions-status reads. A drill that fails leaves the
 report of the one before it, and its unit fails.
 
@@ -11,31 +12,34 @@ example:
 
 exit status: 0 restored and opened; 1 not, and the line says why; 2 wrong arguments.
 """
+import argparse
 import pathlib
 import tempfile
 
-from .registers import named, open_error, rows, season_of
+from . import copies
+from .registers import Register, known, open_error, rows, season_of
 from .run import Failed, call, program
 from .second_copy import fetched, now, place_of, write_report
+from .settings_copy import members_of
 
 REPORT = "drill.report"
 COUNTS = {"schools": "school", "children": "child", "applications": "application", "places": "place", "rounds and fills": "draw"}
 
 
-def arguments(reader):
+def arguments(reader: argparse.ArgumentParser) -> None:
     reader.add_argument("name", metavar="NAME", help="the name of the register")
 
 
-def main(given):
-    register, place = named(given.name), place_of()
-    copies = register.nightly_copies()
-    if not copies:
+def main(given: argparse.Namespace) -> int:
+    register, place = known(given.name), place_of()
+    made = register.nightly_copies()
+    if not made:
         raise Failed(f"{register.name} has no nightly copy to restore")
     lines = []
     with tempfile.TemporaryDirectory() as room:
-        lines.append(f"{now()} {copies[-1]}: {tried(copies[-1], room)}")
+        lines.append(f"{now()} {made[-1]}: {tried(made[-1], room)}")
         if place:
-            back = fetched(place, register, copies[-1].name, room)
+            back = fetched_whole(place, register, made[-1], room)
             lines.append(f"{now()} {place}/{register.name}/{back.name}: {tried(back, room)}")
     text = "".join(f"{line}\n" for line in lines)
     write_report(register, REPORT, text)
@@ -43,8 +47,15 @@ def main(given):
     return 0
 
 
-def tried(copy, room):
-    """Restores a copy as an office would, opens it, and counts its rows."""
+def fetched_whole(place: str, register: Register, copy: pathlib.Path, room: str) -> pathlib.Path:
+    """A copy of the second place with the archive of its settings, if the first place has one."""
+    if copies.settings_of(copy).exists():
+        fetched(place, register, copies.settings_of(copy).name, room)
+    return fetched(place, register, copy.name, room)
+
+
+def tried(copy: pathlib.Path, room: str) -> str:
+    """Restores a copy as an office would, opens it, and counts its rows, and the users of its settings."""
     with tempfile.TemporaryDirectory(dir=room) as folder:
         file = pathlib.Path(folder, "reg.db")
         call(program("admissions-restore"), copy, file)
@@ -52,4 +63,13 @@ def tried(copy, room):
             raise Failed(f"{copy} was restored, but does not open: {error}")
         season = season_of(file)
         counts = ", ".join(f"{rows(file, f'SELECT count(*) FROM {table}')[0][0]} {name}" for name, table in COUNTS.items())
-        return f"restored and opened, {season.phase} {season.year}: {counts}"
+        return f"restored and opened, {season.phase} {season.year}: {counts}; {settings_text(copy)}"
+
+
+def settings_text(copy: pathlib.Path) -> str:
+    found = members_of(copy)
+    if not found:
+        return "without settings"
+    if missing := {"passwords", "roles", "site-name"} - found.keys():
+        raise Failed(f"the settings of {copy} lack {', '.join(sorted(missing))}")
+    return f"settings with {len(found['passwords'][1].splitlines())} users"

@@ -1,51 +1,135 @@
 """Who may sign in at a register, with which role and password. A user is a line in two files that nginx reads."""
+import pathlib
 import re
 import secrets
+import typing
 
 from . import files
+from .registers import Register
 from .run import Failed, call, tool
 from .sites import share
 
 USER = re.compile("[a-z0-9][a-z0-9._-]{0,31}")
 ROLE = re.compile("office|school-[A-Z0-9]{1,8}")
+ROLES = ("office, which reads everything and sends every command, or school-CODE, which reads the"
+         " waiting list of the school CODE and nothing else")
 # what means something else at the begin of a line of roles
 NO_USERS = ("default", "hostnames", "include", "volatile")
 # Each request is checked with the hash, and a page sends thousands: few rounds are enough, for the password is drawn, of 144 bits
 ROUNDS = 1000
+LINE = re.compile(r"\s*(?P<user>[^\s;#]+)\s+(?P<role>[^\s;#]+)\s*;\s*(#.*)?")
+NOTHING = re.compile(r"\s*(#.*)?")
+GROUP = "www-data"
 
 
-def read(path):
-    return path.read_text(encoding="utf-8") if path.exists() else ""
+class User(typing.NamedTuple):
+    """Who is in the file of roles, in that of passwords, or in both."""
+
+    name: str
+    role: str | None
+    has_password: bool
 
 
-def role_of(text, user):
-    """The role in a file of roles, or None."""
-    found = re.findall(rf"(?m)^\s*{re.escape(user)}\s+([^\s;]+)\s*;", text)
-    return found[0] if found else None
+def read(path: pathlib.Path) -> str:
+    try:
+        return path.read_text(encoding="utf-8") if path.exists() else ""
+    except UnicodeDecodeError as error:
+        raise Failed(f"{path} is no text in UTF-8, from its byte {error.start} on") from error
 
 
-def with_role(text, user, role):
-    """The file of roles with this role of a user."""
-    before = role_of(text, user)
+def roles_path(register: Register) -> pathlib.Path:
+    return register.settings / "roles"
+
+
+def passwords_path(register: Register) -> pathlib.Path:
+    return register.settings / "passwords"
+
+
+def roles_of(register: Register) -> dict[str, str]:
+    """The users of the file of roles. A line that is none of its form, by which nginx would refuse the sites, is an error that names it."""
+    out: dict[str, str] = {}
+    for at, line in enumerate(read(roles_path(register)).splitlines(), 1):
+        if NOTHING.fullmatch(line):
+            continue
+        where, found = f"{roles_path(register)}, line {at}", LINE.fullmatch(line)
+        if not found:
+            raise Failed(f"{where}: {line.strip()!r} is not of the form 'USER ROLE;'")
+        if found["user"] in out:
+            raise Failed(f"{where}: {found['user']} is in an earlier line already")
+        out[found["user"]] = found["role"]
+    return out
+
+
+def hashes_of(register: Register) -> dict[str, str]:
+    """The users of the file of passwords, each with the line."""
+    lines = read(passwords_path(register)).splitlines()
+    return {line.partition(":")[0]: line for line in lines if ":" in line}
+
+
+def users_of(register: Register) -> list[User]:
+    roles, hashes = roles_of(register), hashes_of(register)
+    return [User(it, roles.get(it), it in hashes) for it in sorted(roles.keys() | hashes.keys())]
+
+
+def problems_of(register: Register) -> list[str]:
+    """What keeps a user of the files out: no password, no role, or one that does not exist."""
+    out = []
+    for it in users_of(register):
+        if it.role is None:
+            out.append(f"{it.name} has no role, and may do nothing")
+        elif not ROLE.fullmatch(it.role):
+            out.append(f"{it.name} has the unknown role {it.role}, and may do nothing")
+        if not it.has_password:
+            out.append(f"{it.name} has no password, and cannot sign in")
+    return out
+
+
+def write_roles(register: Register, text: str) -> None:
+    files.write(roles_path(register), text, 0o640, group=GROUP)
+
+
+def write_hashes(register: Register, hashes: dict[str, str]) -> None:
+    text = "".join(f"{line}\n" for line in hashes.values())
+    files.write(passwords_path(register), text, 0o640, group=GROUP)
+
+
+def make_files(register: Register) -> None:
+    """Makes the two files, without users, where they are not there."""
+    if not roles_path(register).exists():
+        write_roles(register, read(share() / "roles"))
+    if not passwords_path(register).exists():
+        write_hashes(register, {})
+
+
+def set_role(register: Register, user: str, role: str) -> str | None:
+    """Gives a user a role. Returns what was changed, or None."""
+    text, before = read(roles_path(register)), roles_of(register).get(user)
     if before == role:
-        return text
-    if before:
-        raise Failed(f"{user} has the role {before} already: to change it, change the line in the file of roles")
-    return text + ("" if not text or text.endswith("\n") else "\n") + f"{user} {role};\n"
-
-
-def add(register, user, role, is_new_password=False):
-    """Adds a user with a drawn password, or a new password. Returns the password, or None where the user was there."""
-    roles, passwords = register.settings / "roles", register.settings / "passwords"
-    texts = read(roles) or read(share() / "roles"), read(passwords)
-    text = with_role(texts[0], user, role)
-    if text != texts[0] or not roles.exists():
-        files.write(roles, text, 0o640, group="www-data")
-    others = [line for line in texts[1].splitlines() if not line.startswith(f"{user}:")]
-    if len(others) < len(texts[1].splitlines()) and not is_new_password:
         return None
+    if before is None:
+        write_roles(register, text + ("" if not text or text.endswith("\n") else "\n") + f"{user} {role};\n")
+        return f"{user} has the role {role}"
+    line = rf"(?m)^(\s*{re.escape(user)}\s+){re.escape(before)}(?=\s*;)"
+    write_roles(register, re.sub(line, rf"\g<1>{role}", text))
+    return f"{user} has the role {role}, and no longer {before}"
+
+
+def set_password(register: Register, user: str) -> str:
+    """Draws a password for a user, and returns it."""
     password = secrets.token_urlsafe(18)
     salt = f"rounds={ROUNDS}${secrets.token_hex(8)}"
-    hashed = call(tool("openssl", "openssl"), "passwd", "-6", "-salt", salt, "-stdin", text=password + "\n").stdout.strip()
-    files.write(passwords, "".join(f"{line}\n" for line in [*others, f"{user}:{hashed}"]), 0o640, group="www-data")
+    hashed = call(tool("openssl", "openssl"), "passwd", "-6", "-salt", salt, "-stdin", text=password + "\n")
+    write_hashes(register, hashes_of(register) | {user: f"{user}:{hashed.stdout.strip()}"})
     return password
+
+
+def remove(register: Register, user: str) -> None:
+    """Removes a user: the password first, without which the next request is refused."""
+    write_hashes(register, {name: line for name, line in hashes_of(register).items() if name != user})
+    lines = read(roles_path(register)).splitlines(keepends=True)
+    others = [it for it in lines if not ((found := LINE.fullmatch(it.rstrip("\n"))) and found["user"] == user)]
+    write_roles(register, "".join(others))
+
+
+def role_of(register: Register, user: str) -> str | None:
+    return roles_of(register).get(user)

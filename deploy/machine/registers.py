@@ -3,15 +3,16 @@ import dataclasses
 import pathlib
 import re
 import sqlite3
+import typing
 import urllib.parse
 
+from . import copies
 from .run import Failed, call, program
 
 NAME = re.compile("[a-z0-9]([a-z0-9-]{0,38}[a-z0-9])?")
 PHASES = {1: "primary", 2: "secondary"}
 REGISTERS, COPIES = pathlib.Path("/var/lib/admissions"), pathlib.Path("/var/backups/admissions")
 SETTINGS, LOGS = pathlib.Path("/etc/admissions"), pathlib.Path("/var/log/admissions")
-NIGHTLY = "nightly-????-??-??T??????.db"
 
 
 @dataclasses.dataclass(frozen=True)
@@ -21,45 +22,45 @@ class Register:
     name: str
 
     @property
-    def folder(self):
+    def folder(self) -> pathlib.Path:
         return REGISTERS / self.name
 
     @property
-    def file(self):
+    def file(self) -> pathlib.Path:
         return self.folder / "reg.db"
 
     @property
-    def copies(self):
+    def copies(self) -> pathlib.Path:
         return COPIES / self.name
 
     @property
-    def settings(self):
+    def settings(self) -> pathlib.Path:
         return SETTINGS / self.name
 
     @property
-    def logs(self):
+    def logs(self) -> pathlib.Path:
         return LOGS / self.name
 
     @property
-    def socket(self):
+    def socket(self) -> pathlib.Path:
         return pathlib.Path(f"/run/admissions/{self.name}.sock")
 
     @property
-    def index(self):
+    def index(self) -> pathlib.Path:
         """The folder of its index, for the page."""
         return pathlib.Path("/run/admissions-index", self.name)
 
     @property
-    def host(self):
+    def host(self) -> str | None:
         """The name of its site, or None."""
         try:
             return (self.settings / "site-name").read_text(encoding="utf-8").strip() or None
         except FileNotFoundError:
             return None
 
-    def nightly_copies(self):
-        """Its nightly copies, the oldest first: their names are in the order of time."""
-        return sorted(self.copies.glob(NIGHTLY))
+    def nightly_copies(self) -> list[pathlib.Path]:
+        """Its nightly copies, the oldest first."""
+        return copies.made(self.copies)
 
 
 @dataclasses.dataclass(frozen=True)
@@ -71,22 +72,33 @@ class Season:
     version: int
 
 
-def named(name):
+def named(name: str) -> Register:
     if not NAME.fullmatch(name):
-        raise Failed(f"{name!r} is no name of a register: 1 to 40 small letters, digits and hyphens, and no hyphen at either end", 2)
+        raise Failed(f"{name!r} is no name of a register: 1 to 40 small letters, digits and hyphens,"
+                     " and no hyphen at either end", 2)
     return Register(name)
 
 
-def all_registers():
+def known(name: str) -> Register:
+    """A register that is set up on this machine."""
+    register = named(name)
+    if not register.file.exists() and register.host is None:
+        there = ", ".join(it.name for it in all_registers()) or "none"
+        raise Failed(f"no such register: {name}; registers of this machine: {there}", 2)
+    return register
+
+
+def all_registers() -> list[Register]:
     """Those that have a file here, by name."""
     found = sorted(REGISTERS.glob("*/reg.db")) if REGISTERS.is_dir() else []
     return [Register(it.parent.name) for it in found if NAME.fullmatch(it.parent.name)]
 
 
-def rows(file, query):
+def rows(file: pathlib.Path, query: str) -> list[tuple[typing.Any, ...]]:
     """What a query reads from a file as it is: without its log, and nothing is left beside it."""
     try:
-        with_file = sqlite3.connect(f"file:{urllib.parse.quote(str(file))}?mode=ro&immutable=1", uri=True)
+        name = f"file:{urllib.parse.quote(str(file))}?mode=ro&immutable=1"
+        with_file = sqlite3.connect(name, uri=True)
         try:
             return with_file.execute(query).fetchall()
         finally:
@@ -95,14 +107,16 @@ def rows(file, query):
         raise Failed(f"{file} cannot be read as a register: {error}") from error
 
 
-def season_of(file):
+def season_of(file: pathlib.Path) -> Season:
     found = rows(file, "SELECT phase, year, version FROM meta")
     if len(found) != 1 or found[0][0] not in PHASES:
         raise Failed(f"{file} is no register")
     return Season(PHASES[found[0][0]], found[0][1], found[0][2])
 
 
-def open_error(file, as_user=None):
+def open_error(file: pathlib.Path, as_user: str | None = None) -> str:
     """What the program prints if it does not open a file; an empty text where it does. It merges the log."""
     done = call(program("admissions"), "do", file, as_user=as_user, may_fail=True)
-    return "" if done.returncode == 0 else ", ".join((done.stderr + done.stdout).splitlines()) or f"status {done.returncode}"
+    if done.returncode == 0:
+        return ""
+    return ", ".join((done.stderr + done.stdout).splitlines()) or f"status {done.returncode}"

@@ -3,7 +3,8 @@
   second-copy NAME
 
 /etc/admissions/second-copy names the place in one line, as rsync names it: a folder of another disk, or of another machine by ssh. The folder NAME is made in
-it. Copies that are there stay as they are. Then the newest copy is fetched back, compared with the first one byte by byte, and opened by the program.
+it. Copies that are there stay as they are; of the log, what is new is added. Then the newest copy and the archive of its settings are fetched back
+and compared with the first ones byte by byte, the copy is opened by the program, and rsync compares the log by checksums.
 The result is in /var/backups/admissions/NAME/second-copy.report, which admissions-status reads. Where no place is named nothing is done.
 
 example:
@@ -11,24 +12,27 @@ example:
 
 exit status: 0 done, or no place is named; 1 not done, and the line says why; 2 wrong arguments.
 """
+import argparse
 import datetime
 import os
 import pathlib
 import tempfile
 
-from .registers import SETTINGS, NIGHTLY, named, open_error
-from .run import Failed, call, tool
+from . import copies
+from .registers import SETTINGS, Register, known, open_error
+from .run import USER, Failed, call, tool
+from .settings_copy import LOG
 
 REPORT = "second-copy.report"
 SSH = "ssh -o BatchMode=yes -o ConnectTimeout=30"
 
 
-def arguments(reader):
+def arguments(reader: argparse.ArgumentParser) -> None:
     reader.add_argument("name", metavar="NAME", help="the name of the register")
 
 
-def main(given):
-    register, place = named(given.name), place_of()
+def main(given: argparse.Namespace) -> int:
+    register, place = known(given.name), place_of()
     if place is None:
         print(f"no second place is named in {SETTINGS / 'second-copy'}")
         return 0
@@ -38,7 +42,7 @@ def main(given):
     return 0
 
 
-def place_of():
+def place_of() -> str | None:
     """The line that names the second place, or None."""
     try:
         lines = (SETTINGS / "second-copy").read_text(encoding="utf-8").splitlines()
@@ -50,42 +54,64 @@ def place_of():
     return found[0].rstrip("/") or "/" if found else None
 
 
-def is_local(place):
+def is_local(place: str) -> bool:
     """As rsync decides it: a colon before any slash names a machine."""
     return ":" not in place.partition("/")[0]
 
 
-def copied(register, place):
-    """Copies, fetches back, compares and opens. Returns the line of the report."""
-    copies = register.nightly_copies()
-    if not copies:
-        raise Failed(f"{register.name} has no nightly copy yet")
-    if is_local(place) and not os.path.isdir(place):
+def rsync(*arguments: object) -> str:
+    """Runs rsync, with what all calls share, and returns what it printed."""
+    return call(tool("rsync", "rsync"), "--times", "--omit-dir-times", "--chmod=D700,F600", "--rsh", SSH, *arguments).stdout
+
+
+def see_place(register: Register, place: str) -> None:
+    """Refuses a folder of this machine that is not there, or that cannot be written."""
+    if not os.path.isdir(place):
         raise Failed(f"{place} is not there: is the disk mounted?")
-    rsync = (tool("rsync", "rsync"), "--times", "--ignore-existing", "--chmod=D700,F600", "--rsh", SSH)
-    call(*rsync, "--dirs", "--include", NIGHTLY, "--exclude", "*", f"{register.copies}/", f"{place}/{register.name}/")
+    for path in (place, f"{place}/{register.name}"):
+        if os.path.isdir(path) and not os.access(path, os.W_OK | os.X_OK):
+            raise Failed(f"{path} cannot be written by the user {USER}, who makes the copies: chown {USER}: {path}")
+
+
+def copied(register: Register, place: str) -> str:
+    """Copies, fetches back, compares and opens. Returns the line of the report."""
+    made = register.nightly_copies()
+    if not made:
+        raise Failed(f"{register.name} has no nightly copy yet")
+    if is_local(place):
+        see_place(register, place)
+    there = f"{place}/{register.name}/"
+    filters = [it for pattern in copies.PATTERNS for it in ("--include", pattern)]
+    rsync("--ignore-existing", "--dirs", *filters, "--exclude", "*", f"{register.copies}/", there)
+    has_log = (register.copies / LOG).is_dir()
+    if has_log:
+        rsync("--recursive", register.copies / LOG, there)
+    settings = copies.settings_of(made[-1])
     with tempfile.TemporaryDirectory() as room:
-        back = fetched(place, register, copies[-1].name, room)
-        if back.read_bytes() != copies[-1].read_bytes():
-            raise Failed(f"{place}/{register.name}/{back.name} is not equal to {copies[-1]}")
-        if error := open_error(back):
-            raise Failed(f"{place}/{register.name}/{back.name} does not open: {error}")
+        for path in (made[-1], settings):
+            if path.exists() and fetched(place, register, path.name, room).read_bytes() != path.read_bytes():
+                raise Failed(f"{there}{path.name} is not equal to {path}")
+        if error := open_error(pathlib.Path(room, made[-1].name)):
+            raise Failed(f"{there}{made[-1].name} does not open: {error}")
+    if has_log and (differs := rsync("--recursive", "--checksum", "--dry-run", "--out-format=%n", register.copies / LOG, there)):
+        raise Failed(f"{there}{LOG} is not equal to {register.copies / LOG}: {' '.join(differs.split())}")
     is_same = is_local(place) and os.stat(place).st_dev == os.stat(register.copies).st_dev
-    warning = "; WARNING: on the same disk as the first copies" if is_same else ""
-    return f"{now()} {copies[-1].name} is in {place}/{register.name}, equal to the first copy, and opens{warning}"
+    return (f"{now()} {made[-1].name} is in {place}/{register.name}, equal to the first copy, and opens"
+            + ("" if settings.exists() else "; WARNING: without users, settings and log")
+            + ("; WARNING: on the same disk as the first copies" if is_same else ""))
 
 
-def fetched(place, register, name, room):
+def fetched(place: str, register: Register, name: str, room: str) -> pathlib.Path:
     """A copy of the second place, fetched into a folder."""
     call(tool("rsync", "rsync"), "--rsh", SSH, f"{place}/{register.name}/{name}", f"{room}/")
     return pathlib.Path(room, name)
 
 
-def now():
+def now() -> str:
     return datetime.datetime.now().astimezone().isoformat(timespec="seconds")
 
 
-def write_report(register, name, text):
+def write_report(register: Register, name: str, text: str) -> None:
     """A report beside the copies, in one step."""
     new = register.copies / f".{name}.new"
     new.write_text(text, encoding="utf-8")

@@ -1,57 +1,121 @@
-"""Prints the commands that were done over the site of a register since a moment, as they were sent: to send them again after a restore.
+"""Prints the commands that were done over the site of a register since a moment, each on one line:
+to send them again after a restore.
 
   admissions-sent NAME TIME
 
-They are in the order in which they were done, from /var/log/admissions/NAME/asked.log and its earlier files. TIME is a day or a moment of the local time of
-the log, such as 2025-03-03T02:30. Commands that were sent by `admissions do` are not in the log.
+They are in the order in which they were done, from /var/log/admissions/NAME/asked.log and its
+earlier files. TIME is a day or a moment of the local time of the log, such as 2025-03-03T02:30. A
+command is printed as it was sent, except that a line break between its fields is a space. Commands
+that were sent by `admissions do` are not in the log.
+
+An entry that cannot be read, as a crash or a full disk may leave one, is named on the standard
+error with its file and line, and all others are printed: look whether its command is done.
 
 example:
   admissions-sent secondary-2025 2025-03-03T02:30 > again.jsonl
 
-exit status: 0 done; 1 not, and the line says why; 2 wrong arguments.
+exit status: 0 done; 1 not or not wholly done, and each line of the standard error says why; 2 wrong
+arguments.
 """
+import argparse
 import datetime
 import gzip
 import json
+import pathlib
+import re
+import sys
+import zlib
+from collections.abc import Iterator
 
 from .registers import named
 from .run import Failed
 
+LOG = re.compile(r"asked\.log(?:\.([0-9]+)(?:\.gz)?)?")
+# How each entry begins. nginx escapes the quotation marks within its values, so these bytes are
+# nowhere else in a log, whatever was sent
+BEGIN = b'{"at":"'
+# The server has accepted the body as JSON, whose strings have no control character as it is (RFC
+# 8259, section 7). So each of these is between two tokens, where a space means the same; nothing
+# else is changed, and a key that is repeated stays in its place
+BETWEEN_TOKENS = str.maketrans("\n\r\t", "   ")
 
-def arguments(reader):
+
+def arguments(reader: argparse.ArgumentParser) -> None:
     reader.add_argument("name", metavar="NAME", help="the name of the register")
-    reader.add_argument("since", metavar="TIME", help="from when on, YYYY-MM-DD or YYYY-MM-DDTHH:MM")
+    reader.add_argument(
+        "since", metavar="TIME", help="from when on, YYYY-MM-DD or YYYY-MM-DDTHH:MM")
 
 
-def main(given):
+def main(given: argparse.Namespace) -> int:
     logs = named(given.name).logs
     try:
         since = datetime.datetime.fromisoformat(given.since).astimezone()
     except ValueError as error:
         raise Failed(f"{given.since!r} is no moment: YYYY-MM-DD or YYYY-MM-DDTHH:MM", 2) from error
-    # (the newest file first by its name: asked.log, asked.log.1, asked.log.2.gz, ..)
-    files = sorted(logs.glob("asked.log*"), key=number, reverse=True)
+    files = in_order(logs)
     if not files:
         raise Failed(f"{logs} has no asked.log")
+    doubtful: list[str] = []
+    unread = 0
     for path in files:
-        for line in lines(path):
-            if line["target"] == "/command" and line["status"] == "200" and datetime.datetime.fromisoformat(line["at"]) >= since:
-                print(line["body"])
-    return 0
-
-
-def number(path):
-    """The number of a file that logrotate has put aside, 0 for the newest one."""
-    digits = [it for it in path.name.split(".") if it.isdigit()]
-    return int(digits[0]) if digits else 0
-
-
-def lines(path):
-    opened = gzip.open if path.suffix == ".gz" else open
-    with opened(path, "rt", encoding="utf-8") as file:
-        for at, line in enumerate(file, 1):
+        for place, entry in entries(path):
             try:
-                yield json.loads(line)
-            except ValueError as error:
-                # (a machine that fails may leave a part of the last line)
-                raise Failed(f"line {at} of {path} cannot be read: remove it, and look whether its command is done") from error
+                moment, command = read(entry)
+            except (ValueError, KeyError, TypeError, AttributeError):
+                doubtful.append(place)
+                continue
+            if moment < since:
+                # (and what was before it is older still)
+                doubtful.clear()
+                continue
+            unread += report(doubtful)
+            if command is not None:
+                sys.stdout.buffer.write(command + b"\n")
+    unread += report(doubtful)
+    return 1 if unread else 0
+
+
+def report(places: list[str]) -> int:
+    """Names the entries that cannot be read, and returns how many they are."""
+    sys.stdout.flush()
+    for place in places:
+        said = f"{place}: an entry cannot be read: look whether its command is done"
+        print(f"admissions-sent: {said}", file=sys.stderr)
+    count = len(places)
+    places.clear()
+    return count
+
+
+def in_order(logs: pathlib.Path) -> list[pathlib.Path]:
+    """The files of a log, the oldest first: .., asked.log.2.gz, asked.log.1, asked.log."""
+    # (while logrotate compresses a file, it is there in both forms, and the last one taken is
+    # whole)
+    paths = sorted(logs.glob("asked.log*"), reverse=True)
+    found = {int(name[1] or 0): it for it in paths if (name := LOG.fullmatch(it.name))}
+    return [found[number] for number in sorted(found, reverse=True)]
+
+
+def entries(path: pathlib.Path) -> Iterator[tuple[str, bytes]]:
+    """The entries of a file, each with its place. One that was torn has no line end, and the next
+    one follows on its line.
+    """
+    at = 0
+    try:
+        with gzip.open(path) if path.suffix == ".gz" else open(path, "rb") as file:
+            for at, line in enumerate(file, 1):
+                before, *rest = line.rstrip(b"\n").split(BEGIN)
+                for entry in [before] * bool(before) + [BEGIN + it for it in rest]:
+                    yield f"{path}, line {at}", entry
+    except (OSError, EOFError, zlib.error):
+        # (what follows in a damaged file is one entry that cannot be read)
+        yield f"{path}, after line {at}", b""
+
+
+def read(entry: bytes) -> tuple[datetime.datetime, bytes | None]:
+    """The moment of an entry; and its command on one line, or nothing if it has none that was done.
+    """
+    line: dict[str, str] = json.loads(entry.decode("utf-8", "surrogateescape"))
+    moment = datetime.datetime.fromisoformat(line["at"]).astimezone()
+    if (line["method"], line["target"], line["status"]) != ("POST", "/command", "200"):
+        return moment, None
+    return moment, line["body"].translate(BETWEEN_TOKENS).encode("utf-8", "surrogateescape")

@@ -1,28 +1,36 @@
-"""Sets up a register on this machine, with its site, its first user, its units and its timers.
+"""Sets up a register on this machine, with its site, its users, its units and its timers.
 
-  admissions-setup [NAME] [--phase PHASE --year YEAR] [--holiday DAY].. [--site HOST] [--authority TEXT] [--user USER [--role ROLE]]
-  admissions-setup NAME --user USER [--role ROLE] [--new-password]
+  admissions-setup [NAME] [--phase PHASE --year YEAR] [--holiday DAY].. [--site HOST] [--authority TEXT] [--user USER --role ROLE]
+  admissions-setup NAME --copy FILE
+  admissions-setup NAME --user USER [--role ROLE] [--new-password] | --remove USER | --users
+  admissions-setup NAME --holiday DAY..
   admissions-setup --sites
 
 The first form asks on a terminal for what is not given. It makes what is missing, and changes nothing that is there: typed twice, it does nothing
 the second time. Each register has a NAME, such as secondary-2025, a HOST of its own, such as secondary.admissions.example, and users of its own.
-The second form adds a user to a register. The password is drawn, and printed once. The third form makes all sites again, after a change of
+With --copy the register is made from a copy, and users, settings and log from what the nightly backup left beside it.
+The third form adds a user, changes the role of one, draws another password, removes a user, or lists them. A password is drawn, and printed once. The
+fourth form replaces the holidays of a register that is still empty. The last form makes all sites again, after a change of
 /etc/nginx/sites-available/admissions.
+A change of what is there is shown, and is done after a yes on the terminal, or with --yes.
 
 example:
-  admissions-setup secondary-2025 --phase secondary --year 2025 --holiday 2025-04-18 --site admissions.example --user jane
+  admissions-setup secondary-2025 --phase secondary --year 2025 --holiday 2025-04-18 --site admissions.example --user jane --role office
 
 exit status: 0 done; 1 not or not wholly done, and the line says why: correct that and type it again; 2 wrong arguments.
 """
-import datetime
+import argparse
 import os
+import pathlib
 import shutil
 import sys
 import time
+import typing
 
-from . import certificates, files, people, sites
+from . import answers, certificates, files, holidays, people, settings_copy, sites
+from .answers import ask, confirm
 from .desk import status_of
-from .registers import COPIES, LOGS, PHASES, REGISTERS, SETTINGS, named, season_of
+from .registers import COPIES, LOGS, PHASES, REGISTERS, SETTINGS, Register, known, named, season_of
 from .run import USER, Failed, call, is_booted, program, tool
 
 NEEDED = {"nginx": "nginx", "openssl": "openssl", "systemctl": "systemd", "systemd-sysusers": "systemd", "systemd-tmpfiles": "systemd"}
@@ -30,107 +38,146 @@ AUTHORITY = SETTINGS / "authority"
 WAIT = 60
 
 
-def arguments(reader):
-    reader.add_argument("name", nargs="?", metavar="NAME", help="the name of the register: small letters, digits and hyphens (default: PHASE-YEAR)")
-    reader.add_argument("--phase", choices=list(PHASES.values()))
-    reader.add_argument("--year", type=int, help="the year of entry, from 2000 to 2100")
-    reader.add_argument("--holiday", action="append", default=[], metavar="DAY", help="a day that is no working day, YYYY-MM-DD; may be repeated")
-    reader.add_argument("--copy", metavar="FILE", help="begin with this copy of a register, in place of a new one")
-    reader.add_argument("--site", metavar="HOST", help="the site's name, by which browsers find this machine")
-    reader.add_argument("--user", help="who may sign in: small letters and digits")
-    reader.add_argument("--role", default=None, help="office (default), or school-CODE, which may read the waiting list of that school alone")
-    reader.add_argument("--new-password", action="store_true", help="draw another password for a user who is there already")
-    reader.add_argument("--authority", metavar="TEXT", help="the name of the authority, which is printed on each sheet of each register")
-    reader.add_argument("--certificate", metavar="FILE", help="the certificate of the site, with those between it and its authority")
-    reader.add_argument("--key", metavar="FILE", help="its key")
-    reader.add_argument("--sites", action="store_true", help="make all sites again, and nothing else")
+def arguments(reader: argparse.ArgumentParser) -> None:
+    add = reader.add_argument
+    add("name", nargs="?", metavar="NAME", help="the name of the register: small letters, digits and hyphens (default: PHASE-YEAR)")
+    add("--phase", choices=list(PHASES.values()))
+    add("--year", help="the year of entry, from 2000 to 2100")
+    add("--holiday", action="append", default=[], metavar="DAY",
+        help="a day that is no working day, YYYY-MM-DD; may be repeated. `none` where there is none")
+    add("--copy", metavar="FILE", help="begin with this copy of a register, and with what is beside it, in place of a new one")
+    add("--site", metavar="HOST", help="the site's name, by which browsers find this machine")
+    add("--user", help="who may sign in: small letters and digits")
+    add("--role", help=f"the role of that user: {people.ROLES}")
+    add("--new-password", action="store_true", help="draw another password for a user who is there already")
+    add("--remove", metavar="USER", help="remove a user")
+    add("--users", action="store_true", help="list the users with their roles")
+    add("--yes", action="store_true", help="do not ask whether a change of what is there is right")
+    add("--authority", metavar="TEXT", help="the name of the authority, which is printed on each sheet of each register")
+    add("--certificate", metavar="FILE", help="the certificate of the site, with those between it and its authority")
+    add("--key", metavar="FILE", help="its key")
+    add("--sites", action="store_true", help="make all sites again, and nothing else")
 
 
-def main(given):
+def main(given: argparse.Namespace) -> int:
     if os.geteuid() != 0:
         raise Failed("only root can set up a register")
     for command, package in NEEDED.items():
         tool(command, package)
     if given.sites:
-        report(sites.make_all())
+        with files.lock():
+            report(make_sites())
         return 0
-    register = completed(given)
+    if given.users or given.remove:
+        if given.name is None:
+            raise Failed("NAME is missing: whose users?", 2)
+        return list_users(known(given.name)) if given.users else remove_user(known(given.name), given)
     checked(given)
-    for step in (make_folders, make_register, make_settings):
-        report(step(register, given) or [])
+    register = completed(given)
+    changes = confirmed(register, given)
+    with files.lock():
+        return set_up(register, given, changes)
+
+
+def set_up(register: Register, given: argparse.Namespace, changes: "Changes") -> int:
+    see_site_is_free(register, given)
+    for step in (make_folders, make_register, take_settings, make_settings):
+        report(step(register, given))
+    if changes.holidays is not None:
+        report([holidays.change(register, given.holiday, changes.holidays)])
     if given.user:
-        password = people.add(register, given.user, given.role or "office", given.new_password)
-        report([f"{given.user} signs in at https://{register.host}/ with the password {password}" if password else f"{given.user} keeps the password"])
-    report(sites.make_all())
+        report(make_user(register, given, changes))
+    report(make_sites())
     has_started = start(register)
     if warning := certificates.warning(register):
         print(warning)
     return 0 if has_started else 1
 
 
-def report(lines):
+def report(lines: typing.Iterable[str]) -> None:
     for line in lines:
         print(line, flush=True)
 
 
-def ask(question, default=None):
-    """What is typed on the terminal for a question."""
-    if not sys.stdin.isatty():
-        raise Failed(f"not given: {question}", 2)
-    print(f"{question}{f' [{default}]' if default else ''}: ", end="", flush=True)
-    line = sys.stdin.readline()
-    if not line:
-        raise Failed("the input ended")
-    return line.strip() or default or ""
+def make_sites() -> list[str]:
+    """Makes all sites; a broken file of roles, which nginx would not name, is refused first."""
+    for register in sites.registers_with_site():
+        people.roles_of(register)
+    return sites.make_all()
 
 
-def completed(given):
+def checked(given: argparse.Namespace) -> None:
+    """Refuses what is wrong before anything is asked or made."""
+    if given.year is not None:
+        given.year = answers.year(given.year)
+    given.has_holidays = bool(given.holiday)
+    given.holiday = answers.holidays([] if given.holiday == [answers.NONE] else given.holiday)
+    for name in ("site", "user", "role", "authority"):
+        if getattr(given, name) is not None:
+            (answers.host if name == "site" else getattr(answers, name))(getattr(given, name))
+    if given.role is not None and given.user is None:
+        raise Failed("--role needs --user: whose role?", 2)
+    if given.new_password and given.user is None:
+        raise Failed("--new-password needs --user: whose password?", 2)
+    if given.copy and given.has_holidays:
+        raise Failed("--holiday is for a new register: a copy has its own", 2)
+    if bool(given.certificate) != bool(given.key):
+        raise Failed("--certificate and --key belong together", 2)
+
+
+def completed(given: argparse.Namespace) -> Register:
     """The register; what is not given is asked for."""
-    if given.name is None:
-        given.phase = given.phase or ask("--phase (primary or secondary)")
-        given.year = given.year or ask("--year of entry")
-        given.name = f"{given.phase}-{given.year}"
+    if given.name is None or given.copy is None and not named(given.name).file.exists():
+        given.phase = given.phase or ask("--phase (primary or secondary)", answers.phase)
+        given.year = given.year or ask("--year of entry", answers.year)
+        given.name = given.name or f"{given.phase}-{given.year}"
+        is_asked = not given.has_holidays and not named(given.name).file.exists() and sys.stdin.isatty()
+        if is_asked:
+            given.holiday = ask("--holiday days (YYYY-MM-DD, separated by blanks), or none",
+                                lambda it: answers.holidays([] if it == answers.NONE else it.split()), answers.NONE)
     register = named(given.name)
-    is_new = not register.file.exists()
-    if is_new and not given.copy:
-        is_asked = given.phase is None or given.year is None
-        given.phase = given.phase or ask("--phase (primary or secondary)")
-        given.year = given.year or ask("--year of entry")
-        if is_asked and not given.holiday:
-            given.holiday = ask("--holiday days (YYYY-MM-DD, separated by spaces), or none", "none").replace("none", "").split()
-    given.site = given.site or register.host or ask("--site, the name by which browsers find it")
-    if not given.user and not (register.settings / "passwords").exists():
-        given.user = ask("--user, who signs in first")
-    if given.authority is None and not AUTHORITY.exists() and sys.stdin.isatty():
-        given.authority = ask("--authority, the name that is printed on each sheet, or none", "none").replace("none", "") or None
+    copied = settings_copy.names_of(given.copy) if given.copy else {}
+    given.site = given.site or register.host or copied.get("site-name") \
+        or ask("--site, the name by which browsers find it", answers.host)
+    if not given.user and "passwords" not in copied and not people.passwords_path(register).exists():
+        given.user = ask("--user, who signs in first", answers.user)
+    if given.user and not given.role and people.role_of(register, given.user) is None:
+        given.role = ask(f"--role of {given.user}: {people.ROLES}", answers.role)
+    if given.authority is None and not AUTHORITY.exists() and "authority" not in copied and sys.stdin.isatty():
+        given.authority = ask("--authority, the name that is printed on each sheet, or none",
+                              lambda it: None if it == answers.NONE else answers.authority(it), answers.NONE)
     return register
 
 
-def checked(given):
-    """Refuses what is wrong before anything is made."""
-    try:
-        year = int(given.year) if given.year is not None else None
-        days = [datetime.date.fromisoformat(it) for it in given.holiday]
-    except ValueError as error:
-        raise Failed(f"no year, or no day: {error}", 2) from error
-    if given.phase not in (None, *PHASES.values()) or year is not None and not 2000 <= year <= 2100 or len(days) > 40:
-        raise Failed("the phase is primary or secondary, the year from 2000 to 2100, and there are at most 40 holidays", 2)
-    if not sites.HOST.fullmatch(given.site):
-        raise Failed(f"{given.site!r} is no name of a site: it has small letters, digits, hyphens and at least one point", 2)
-    if given.user is not None and (not people.USER.fullmatch(given.user) or given.user in people.NO_USERS):
-        raise Failed(f"{given.user!r} is no name of a user: small letters and digits, and then also . _ -", 2)
-    if given.role is not None and not people.ROLE.fullmatch(given.role):
-        raise Failed(f"{given.role!r} is no role: office or school-CODE", 2)
-    if given.authority is not None and (not given.authority.strip() or not given.authority.isprintable()):
-        raise Failed(f"{given.authority!r} is no name of an authority: it is one line", 2)
-    if bool(given.certificate) != bool(given.key):
-        raise Failed("--certificate and --key belong together", 2)
-    taken = next((it for it in sites.registers_with_site() if it.host == given.site and it.name != given.name), None)
+class Changes(typing.NamedTuple):
+    """What was shown of a register before a change was confirmed, and is changed only if it is still so."""
+
+    role: str | None
+    holidays: list[str] | None
+
+
+def confirmed(register: Register, given: argparse.Namespace) -> Changes:
+    """Shows what of a register that is there will be changed, and has it confirmed."""
+    role = people.role_of(register, given.user) if given.user else None
+    if role and given.role and role != given.role:
+        confirm(f"the role of {given.user} changes from {role} to {given.role}", given.yes)
+    before = None
+    if given.has_holidays and register.file.exists() and register.file.stat().st_size:
+        if change := holidays.change_of(register, given.holiday):
+            before = holidays.days_of(register.file)
+            confirm(change, given.yes)
+        else:
+            print(f"{register.name} has just these holidays")
+    return Changes(role, before)
+
+
+def see_site_is_free(register: Register, given: argparse.Namespace) -> None:
+    taken = next((it for it in sites.registers_with_site() if it.host == given.site and it != register), None)
     if taken:
         raise Failed(f"{given.site} is the site of {taken.name} already: each register has a site name of its own", 2)
 
 
-def make_folders(register, _):
+def make_folders(register: Register, _: argparse.Namespace) -> typing.Iterator[str]:
     call(tool("systemd-sysusers", "systemd"), "admissions.conf")
     call(tool("systemd-tmpfiles", "systemd"), "--create", "admissions.conf")
     for_desk, for_site = (0o700, USER, USER), (0o750, "root", "www-data")
@@ -140,24 +187,32 @@ def make_folders(register, _):
             yield f"made {path}"
 
 
-def make_register(register, given):
+def make_register(register: Register, given: argparse.Namespace) -> typing.Iterator[str]:
     """Makes the register, or sees that the one that is there is the one that is named."""
     file = register.file
     if file.exists() and file.stat().st_size:
         found = season_of(file)
-        if given.phase not in (None, found.phase) or given.year is not None and int(given.year) != found.year:
+        if given.phase not in (None, found.phase) or given.year not in (None, found.year):
             raise Failed(f"{file} is the register of {found.phase} {found.year} already: give another one another NAME")
-        return []
-    if given.copy:
+        if given.copy:
+            yield f"{file} is there already, and stays as it is: admissions-restore puts a copy in its place"
+    elif given.copy:
         call(program("admissions-restore"), os.path.abspath(given.copy), file)
         for path in register.folder.iterdir():
             shutil.chown(path, USER, USER)
-        return [f"made {file} from {given.copy}"]
-    call(program("admissions"), "init", file, given.phase, given.year, *given.holiday, as_user=USER)
-    return [f"made {file}, for {given.phase} {given.year}{', holidays ' if given.holiday else ''}{' '.join(given.holiday)}"]
+        yield f"made {file} from {given.copy}"
+    else:
+        call(program("admissions"), "init", file, given.phase, given.year, *given.holiday, as_user=USER)
+        yield f"made {file}, for {given.phase} {given.year}, {f'holidays ' if given.holiday else 'without holidays'}{' '.join(given.holiday)}"
 
 
-def make_settings(register, given):
+def take_settings(register: Register, given: argparse.Namespace) -> typing.Iterator[str]:
+    """Takes users, settings and log from beside the copy, where this machine has none of them."""
+    if given.copy:
+        yield from settings_copy.restored(register, pathlib.Path(given.copy))
+
+
+def make_settings(register: Register, given: argparse.Namespace) -> typing.Iterator[str]:
     """The site's name, its certificate, and empty files of users."""
     path = register.settings / "site-name"
     before = register.host
@@ -170,14 +225,48 @@ def make_settings(register, given):
         yield from certificates.make(register, given.site)
     if given.authority and files.write(AUTHORITY, given.authority + "\n", 0o644):
         yield f"the authority is {given.authority}"
-    for name in ("roles", "passwords"):
-        if not (register.settings / name).exists():
-            files.write(register.settings / name, people.read(sites.share() / "roles") if name == "roles" else "", 0o640, group="www-data")
+    people.make_files(register)
     if files.write(path, given.site + "\n", 0o644):
         yield f"the site is {given.site}"
 
 
-def start(register):
+def make_user(register: Register, given: argparse.Namespace, changes: Changes) -> typing.Iterator[str]:
+    """The user with the role and, where there was none or another is wanted, a password."""
+    user, found = given.user, people.role_of(register, given.user)
+    if found != changes.role:
+        raise Failed(f"the role of {user} was changed meanwhile: it is {found or 'none'}")
+    if given.role and (changed := people.set_role(register, user, given.role)) and found:
+        yield changed
+    if user in people.hashes_of(register) and not given.new_password:
+        yield f"{user} keeps the password"
+    else:
+        yield f"{user} signs in at https://{register.host}/ with the password {people.set_password(register, user)}"
+
+
+def list_users(register: Register) -> int:
+    for it in people.users_of(register):
+        print(f"{it.name} {it.role or '-'}")
+    for problem in people.problems_of(register):
+        print(f"WARNING: {problem}", file=sys.stderr)
+    return 0
+
+
+def remove_user(register: Register, given: argparse.Namespace) -> int:
+    user = next((it for it in people.users_of(register) if it.name == given.remove), None)
+    if user is None:
+        there = ", ".join(it.name for it in people.users_of(register)) or "none"
+        raise Failed(f"{given.remove!r} is no user of {register.name}; its users: {there}")
+    confirm(f"{user.name}, with the role {user.role or 'none'}, is removed from {register.name}", given.yes)
+    with files.lock():
+        people.remove(register, user.name)
+        print(f"removed {user.name}")
+        report(make_sites())
+    if not any(it.role == "office" and it.has_password for it in people.users_of(register)):
+        print(f"WARNING: {register.name} has no user with the role office any more")
+    return 0
+
+
+def start(register: Register) -> bool:
     """Enables and starts what is not, and waits until the desk answers. Returns whether it does."""
     control = tool("systemctl", "systemd")
     units = [f"admissions@{register.name}.service", f"admissions-backup@{register.name}.timer", f"admissions-drill@{register.name}.timer"]

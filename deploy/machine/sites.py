@@ -1,7 +1,11 @@
-"""The sites of nginx: one of each register, made of the site that the office may change, and the machine's own part, made once."""
+"""The sites of nginx: one of each register, made of the site that the office may change, and the
+machine's own part, made once.
+"""
+import dataclasses
 import hashlib
 import pathlib
 import re
+import socket
 
 from . import files
 from .registers import NAME, SETTINGS, Register
@@ -9,12 +13,58 @@ from .run import USER, Failed, call, is_booted, tool
 
 AVAILABLE, ENABLED = pathlib.Path("/etc/nginx/sites-available"), pathlib.Path("/etc/nginx/sites-enabled")
 MODEL, MACHINE = AVAILABLE / "admissions", pathlib.Path("/etc/nginx/conf.d/admissions.conf")
+# nginx's main file, and one that it reads as a part of it
+MAIN, LIMITS = pathlib.Path("/etc/nginx/nginx.conf"), pathlib.Path("/etc/nginx/modules-enabled/90-admissions.conf")
+# The connections of each process of nginx, so that silent clients do not keep others out; a request
+# that is passed on takes two, and each is a file
+CONNECTIONS, OPEN_FILES = 8192, 16384
+# From this version on HTTP/2 is a directive of its own, and an option of `listen` is warned of
+HTTP2_DIRECTIVE = (1, 25, 1)
 READ = pathlib.Path("/run/admissions-sites-read")
 FIRST, LAST = "# The machine's own part, which is there once:\n", "# The end of that part\n"
 HOST = re.compile(r"(?=.{1,253}\Z)[a-z0-9]([a-z0-9-]{0,61}[a-z0-9])?(\.[a-z0-9]([a-z0-9-]{0,61}[a-z0-9])?)+")
 FOLDERS = pathlib.Path("/etc/tmpfiles.d")
-MADE_FOLDERS = "# Made by admissions-setup: the index for the page, and the commands since, for the desk's user and the site alone, and in memory\n"
+MADE_FOLDERS = """# Made by admissions-setup: the index for the page, and the commands since, for the desk's user and the site alone, and in memory;
+# and the log, which is for root alone: nginx opens it before it gives up its rights, and gives it
+# away when it gets the signal to reopen it
+d {index} 2750 {user} www-data
+f {index}/since.jsonl 0660 {user} www-data
+f {logs}/asked.log 0600 root root
+f {logs}/errors.log 0600 root root
+z {logs}/*.log* 0600 root root
+"""
 MADE = "# Made by admissions-setup from sites-available/admissions: change that, and type admissions-setup --sites\n"
+
+
+@dataclasses.dataclass(frozen=True)
+class Machine:
+    """What the text of a site depends on."""
+
+    nginx: tuple[int, ...]
+    has_ipv6: bool
+
+    def adapted(self, text: str) -> str:
+        """A text of the model, which is that of a new nginx on a machine with IPv6, for this one.
+        """
+        if not self.has_ipv6:
+            text = re.sub(r"(?m)^ *listen \[::\]:.*\n", "", text)
+        if self.nginx < HTTP2_DIRECTIVE and "http2 on;" in text:
+            text = re.sub(r"(?m)^ *http2 on;\n", "", text)
+            text = re.sub(r"(?m)^( *listen [^;]*443 ssl);", r"\1 http2;", text)
+        return text
+
+
+def this_machine() -> Machine:
+    """The version of nginx here, and whether a socket of IPv6 can be made."""
+    said = call(tool("nginx", "nginx"), "-v").stderr
+    version = re.search(r"nginx/([0-9]+)\.([0-9]+)\.([0-9]+)", said)
+    if not version:
+        raise Failed(f"nginx does not name its version: {said.strip()}")
+    try:
+        socket.socket(socket.AF_INET6).close()
+    except OSError:
+        return Machine(tuple(map(int, version.groups())), False)
+    return Machine(tuple(map(int, version.groups())), True)
 
 
 def parts(model):
@@ -34,7 +84,7 @@ def replaced(text, old, new):
     return out
 
 
-def site_text(model, name, host):
+def site_text(model: str, name: str, host: str, machine: Machine) -> str:
     """The site of one register: its host, folders and socket, and names that no other site has."""
     suffix = name.replace("-", "_")
     text = parts(model)[1]
@@ -46,17 +96,32 @@ def site_text(model, name, host):
         ("/var/log/admissions/", f"/var/log/admissions/{name}/"),
         (r"\$(role|may|is_foreign|is_other_type|is_done)\b", rf"$\1_{suffix}"),
         (r"log_format (admissions|admissions_done) ", rf"log_format \1_{suffix} "),
-        (r"asked\.log admissions;", f"asked.log admissions_{suffix};"),
+        (r"asked\.log admissions if", f"asked.log admissions_{suffix} if"),
         (r"since\.jsonl admissions_done ", f"since.jsonl admissions_done_{suffix} "),
         (r"(upstream|zone|http:/)([ /])desk\b", rf"\1\2desk_{suffix}"),
-        (r"\$upstream_addr = desk\)", f"$upstream_addr = desk_{suffix})"),
     ):
         text = replaced(text, old, new)
-    return MADE + text
+    return MADE + machine.adapted(text)
 
 
-def machine_text(model, more):
-    return MADE + parts(model)[0] + more
+def machine_text(model: str, more: str, machine: Machine) -> str:
+    """The machine's own part, after what is before any of it."""
+    return MADE + machine.adapted(more + parts(model)[0])
+
+
+def limits_text() -> str:
+    """How many files each process of nginx may have open."""
+    return f"{MADE}worker_rlimit_nofile {OPEN_FILES};\n"
+
+
+def main_text(text: str) -> str:
+    """nginx's main file, with connections enough. The number that was there stays behind it, for a
+    purge of the package to put it back.
+    """
+    found = re.search(r"(?m)^(\s*worker_connections\s+)([0-9]+);", text)
+    if not found or int(found[2]) >= CONNECTIONS:
+        return text
+    return f"{text[:found.start()]}{found[1]}{CONNECTIONS}; # {found[2]} before admissions-setup{text[found.end():]}"
 
 
 def share():
@@ -71,18 +136,24 @@ def registers_with_site():
 
 
 def make_all():
-    """Makes the sites that differ from what they should be, all or none, and has nginx read them. Returns what was changed, a line each."""
+    """Makes the sites that differ from what they should be, all or none, and has nginx read them.
+    Returns what was changed, a line each.
+    """
     if not MODEL.exists():
         raise Failed(f"{MODEL} is missing")
     model = MODEL.read_text(encoding="utf-8")
-    wanted = {MACHINE: machine_text(model, (share() / "machine.conf").read_text(encoding="utf-8"))}
-    wanted |= {AVAILABLE / f"admissions-{it.name}": site_text(model, it.name, it.host) for it in registers_with_site()}
+    machine = this_machine()
+    wanted = {MACHINE: machine_text(model, (share() / "machine.conf").read_text(encoding="utf-8"), machine), LIMITS: limits_text()}
+    if MAIN.exists():
+        wanted[MAIN] = main_text(MAIN.read_text(encoding="utf-8"))
+    sites = {AVAILABLE / f"admissions-{it.name}": site_text(model, it.name, it.host, machine) for it in registers_with_site()}
+    wanted |= sites
     before = {path: path.read_text(encoding="utf-8") if path.exists() else None for path in wanted}
-    lines, links = make_index_folders(), []
+    lines, links = make_folders(), []
     for path, text in wanted.items():
         if files.write(path, text, 0o644):
-            lines.append(f"made {path}")
-        if path != MACHINE and files.link(ENABLED / path.name, f"../sites-available/{path.name}"):
+            lines.append(f"{'changed' if path == MAIN else 'made'} {path}")
+        if path in sites and files.link(ENABLED / path.name, f"../sites-available/{path.name}"):
             links.append(ENABLED / path.name)
             lines.append(f"enabled {ENABLED / path.name}")
     default = ENABLED / "default"
@@ -100,23 +171,26 @@ def make_all():
     return lines
 
 
-def make_index_folders():
-    """Has systemd make the folder of each register's index, now and when the machine starts: it is in memory, and nginx does not start without it.
-    Returns what was made, a line each."""
+def make_folders():
+    """Has systemd make what is in memory, which nginx does not start without, and the log of each
+    register, now and when the machine starts. Returns what was made, a line each.
+    """
     lines = []
     for register in registers_with_site():
-        path, folder = FOLDERS / f"admissions-{register.name}.conf", register.index
-        text = f"{MADE_FOLDERS}d {folder} 2750 {USER} www-data\nf {folder}/since.jsonl 0660 {USER} www-data\n"
-        if files.write(path, text, 0o644):
+        path = FOLDERS / f"admissions-{register.name}.conf"
+        is_new = files.write(path, MADE_FOLDERS.format(index=register.index, logs=register.logs, user=USER), 0o644)
+        if is_new:
             lines.append(f"made {path}")
-        if not (folder / "since.jsonl").exists():
+        made = (register.index / "since.jsonl", register.logs / "asked.log", register.logs / "errors.log")
+        if is_new or not all(it.exists() for it in made):
             call(tool("systemd-tmpfiles", "systemd"), "--create", path)
     return lines
 
 
 def read_by_nginx(wanted):
-    """Has nginx read the sites, roles and certificates, if it has not read them as they are now. A run that was killed before this is so made up
-    for. Returns whether it read them."""
+    """Has nginx read the sites, roles and certificates, if it has not read them as they are now. A
+    run that was killed before this is so made up for. Returns whether it read them.
+    """
     digest = hashlib.sha256("".join(wanted.values()).encode())
     for register in registers_with_site():
         for name in ("roles", "site.crt", "site.key"):

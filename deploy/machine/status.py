@@ -1,41 +1,52 @@
-"""Reports how the registers of this machine are: file, desk, index, copies, disks, certificates.
+"""Reports how the registers of this machine are: file, desk, site, units, users, log, index, copies, disks, certificates.
 
   admissions-status [NAME ..] [--line]
 
-Without a NAME it reports all registers. With --line it prints one line, for a monitoring system. Nothing is changed, and no register is opened.
+Without a NAME it reports all registers. With --line it prints one line, for a monitoring system. No register is opened. The site is sent two requests
+without a password, which it must refuse: one of nobody, and one of the user admissions-status, which it must write to its log.
 
 example:
   admissions-status --line
 
-exit status: 0 all is well; 1 something needs attention; 2 wrong arguments.
+exit status: 0 all is well; 1 something needs attention; 2 wrong arguments, or no such register.
 """
+import argparse
 import datetime
+import http.client
+import json
 import os
 import shutil
+import ssl
 import stat
 import time
 
-from . import certificates
-from .desk import status_of
+from . import certificates, copies, people
+from .desk import site_status_of, status_of
 from .drill import REPORT as DRILL
-from .registers import REGISTERS, all_registers, named, season_of
-from .run import Failed
+from .registers import REGISTERS, Register, all_registers, known, season_of
+from .run import Failed, call, is_booted, tool
 from .second_copy import REPORT as SECOND, place_of
 
 # from when on something needs attention
 COPY_HOURS, DRILL_DAYS, CERTIFICATE_DAYS = 26, 35, 21
 LEAST_ROOM, ROOM_FACTOR = 200_000_000, 10
+# the end of a log that is looked at: a command has a body of 1 MiB at most, which may be longer as it is written there
+END_OF_LOG = 8 << 20
+LOG_SECONDS = 5.0
+# who asks without a password: the site writes a line of a refused request only if it has a name
+ASKING = "admissions-status"
+State = tuple[bool, str]
 
 
-def arguments(reader):
+def arguments(reader: argparse.ArgumentParser) -> None:
     reader.add_argument("names", nargs="*", metavar="NAME", help="the name of a register; all of them if none is given")
     reader.add_argument("--line", action="store_true", help="one line for a monitoring system")
 
 
-def main(given):
+def main(given: argparse.Namespace) -> int:
     if os.geteuid() != 0:
         raise Failed("only root can see all of it")
-    registers = [named(it) for it in given.names] or all_registers()
+    registers = [known(it) for it in given.names] or all_registers()
     if not registers:
         print(f"no register is set up in {REGISTERS}: type admissions-setup")
         return 1
@@ -52,9 +63,10 @@ def main(given):
     return 1 if bad else 0
 
 
-def report(register):
+def report(register: Register) -> dict[str, State]:
     """What is known of a register: for each part whether it is well, and a text."""
-    parts = {"register": file_of, "desk": desk_of, "index": index_of, "copy": copy_of, "second copy": second_of, "drill": drill_of, "disk": room_of, "certificate": certificate_of}
+    parts = {"register": file_of, "desk": desk_of, "site": site_of, "units": units_of, "users": users_of, "log": log_of, "index": index_of,
+             "copy": copy_of, "second copy": second_of, "drill": drill_of, "disk": room_of, "certificate": certificate_of}
     out = {}
     for name, part in parts.items():
         try:
@@ -64,7 +76,7 @@ def report(register):
     return out
 
 
-def file_of(register):
+def file_of(register: Register) -> State:
     found = register.file.lstat()
     season = season_of(register.file)
     text = f"{season.phase} {season.year}, file version {season.version}, {found.st_size:,} bytes"
@@ -72,7 +84,7 @@ def file_of(register):
     return is_private, text if is_private else f"{text}, and others can read it: chmod 600 {register.file}"
 
 
-def desk_of(register):
+def desk_of(register: Register) -> State:
     before = time.monotonic()
     status = status_of(register.socket)
     if status in (200, 404):
@@ -82,30 +94,148 @@ def desk_of(register):
     return False, f"does not answer: systemctl status admissions@{register.name}" if status is None else f"answers {status}"
 
 
-def index_of(register):
+def site_of(register: Register) -> State:
+    """Whether nginx answers for the site, as it does to a request without a password, and with the certificate that is in its file."""
+    if register.host is None:
+        return True, "it has none"
+    before = time.monotonic()
+    try:
+        status, shown = site_status_of(register.host)
+    except (OSError, http.client.HTTPException) as error:
+        return False, f"https://{register.host}/ does not answer on this machine ({error}): systemctl status nginx"
+    if status != 401:
+        return False, f"https://{register.host}/ answers {status}, and not 401, to who has not signed in"
+    if shown != first_certificate(register):
+        return False, "nginx shows another certificate than that of its file: systemctl reload nginx"
+    return True, f"nginx asks for a password in {1000 * (time.monotonic() - before):.0f} ms"
+
+
+def first_certificate(register: Register) -> bytes:
+    text = certificates.paths(register)[1].read_text(encoding="ascii")
+    end = "-----END CERTIFICATE-----"
+    return ssl.PEM_cert_to_DER_cert(text[text.index("-----BEGIN"):].partition(end)[0] + end)
+
+
+def units_of(register: Register) -> State:
+    """Whether what must run, or start by itself, does, and whether what ran last failed."""
+    if not is_booted():
+        return False, "systemd does not run here"
+    backup, drill = (f"admissions-{it}@{register.name}.timer" for it in ("backup", "drill"))
+    desk, bad = f"admissions@{register.name}.service", []
+    for unit in (desk, backup, drill, *(["nginx.service"] if register.host else [])):
+        found = shown_of(unit, "ActiveState", "UnitFileState")
+        if found["ActiveState"] != "active":
+            bad.append(f"{unit} is {found['ActiveState']}: systemctl start {unit}")
+        if found["UnitFileState"] != "enabled":
+            bad.append(f"{unit} is {found['UnitFileState'] or 'not there'}: systemctl enable {unit}")
+    for name in ("backup", "second-copy", "drill"):
+        unit = f"admissions-{name}@{register.name}.service"
+        if shown_of(unit, "ActiveState")["ActiveState"] == "failed":
+            bad.append(f"{unit} has failed: journalctl -u {unit}")
+    return not bad, "; ".join(bad) or f"enabled and active; next backup {next_of(backup)}, next drill {next_of(drill)}"
+
+
+def shown_of(unit: str, *names: str) -> dict[str, str]:
+    """Properties of a unit as systemd prints them."""
+    lines = call(tool("systemctl", "systemd"), "show", *(f"--property={it}" for it in names), unit).stdout.splitlines()
+    return dict.fromkeys(names, "") | {line.partition("=")[0]: line.partition("=")[2] for line in lines}
+
+
+def next_of(timer: str) -> str:
+    return shown_of(timer, "NextElapseUSecRealtime")["NextElapseUSecRealtime"] or "never"
+
+
+def users_of(register: Register) -> State:
+    problems = people.problems_of(register)
+    roles = [it.role for it in people.users_of(register) if it.has_password]
+    if register.host and "office" not in roles:
+        problems.append("nobody with the role office can sign in")
+    return not problems, "; ".join(problems) or f"{len(roles)}, of whom {roles.count('office')} have the role office"
+
+
+def log_of(register: Register) -> State:
+    """Whether the log of the site is one that root alone writes, ends in a whole line, and has a line more after a request."""
+    if register.host is None:
+        return True, "it has no site"
+    path = register.logs / "asked.log"
+    if not path.exists():
+        return False, f"{path} is not there, so nobody records who does what: systemctl reload nginx"
+    found = path.lstat()
+    if not stat.S_ISREG(found.st_mode) or found.st_uid != 0 or found.st_mode & 0o027:
+        return False, f"{path} must be a file that root alone writes and others do not read: chown root {path} && chmod 600 {path}"
+    with open(path, "rb") as file:
+        file.seek(max(0, found.st_size - END_OF_LOG))
+        last = file.read().rpartition(b"\n")
+    if last[2] or not is_whole(last[0].rpartition(b"\n")[2]):
+        return False, f"the last line of {path} is not whole: a command may be done without a record"
+    if not grows(register, found.st_size):
+        return False, f"a request was not written to {path}: is its disk full, and does nginx write to this file? systemctl reload nginx"
+    return True, f"{found.st_size:,} bytes, and written"
+
+
+def is_whole(line: bytes) -> bool:
+    """Whether a line of the log is whole. A log that was just begun has none."""
+    try:
+        return not line or isinstance(json.loads(line.decode("utf-8", "replace")), dict)
+    except ValueError:
+        return False
+
+
+def grows(register: Register, before: int) -> bool:
+    """Whether the log is longer soon after a request than it was."""
+    try:
+        site_status_of(register.host or "", ASKING)
+    except (OSError, http.client.HTTPException):
+        return False
+    end = time.monotonic() + LOG_SECONDS
+    while (register.logs / "asked.log").stat().st_size == before:
+        if time.monotonic() > end:
+            return False
+        time.sleep(0.02)
+    return True
+
+
+def index_of(register: Register) -> State:
     """The index by which the page finds names: written before the desk started."""
     if register.host is None:
         return True, "it has no site"
     path = register.index / "index.json"
     if not path.exists():
         return False, f"none, so the page finds numbers and codes alone: journalctl -u admissions@{register.name}"
-    return True, f"{path.stat().st_size:,} bytes, {age(time.time() - path.stat().st_mtime)}"
+    return True, f"{path.stat().st_size:,} bytes, {age_text(time.time() - path.stat().st_mtime)}"
 
 
-def age(seconds):
+def age_text(seconds: float) -> str:
+    if is_ahead(seconds):
+        return f"dated {-seconds / 3600:,.0f} hours in the future; the time here is {datetime.datetime.now():%Y-%m-%d %H:%M}: is the clock right?"
     hours = seconds / 3600
     return f"{hours:.0f} hours old" if hours < 72 else f"{hours / 24:.0f} days old"
 
 
-def copy_of(register):
-    copies = register.nightly_copies()
-    if not copies:
+def is_ahead(seconds: float) -> bool:
+    """Whether an age is that of something which is dated later than now."""
+    return seconds < -copies.AHEAD
+
+
+def is_recent(seconds: float, limit: float) -> bool:
+    return not is_ahead(seconds) and seconds < limit
+
+
+def copy_of(register: Register) -> State:
+    """The copy that was made last. One that is dated ahead was made by a wrong clock, or the clock is wrong now."""
+    made = register.nightly_copies()
+    if not made:
         return False, f"none yet: systemctl start admissions-backup@{register.name}"
-    old = time.time() - copies[-1].stat().st_mtime
-    return old < COPY_HOURS * 3600, f"{copies[-1].name}, {age(old)}, {len(copies)} of them"
+    old = copies.age(made[-1])
+    text = f"{made[-1].name}, {age_text(old)}, {len(made)} of them"
+    if ahead := [it for it in made[:-1] if is_ahead(copies.age(it))]:
+        return False, f"{text}; {ahead[0].name} is {age_text(copies.age(ahead[0]))} Rename it to keep it, or remove it"
+    if not copies.settings_of(made[-1]).exists():
+        return False, f"{text}; without users, settings and log: journalctl -u admissions-second-copy@{register.name}"
+    return is_recent(old, COPY_HOURS * 3600), text
 
 
-def report_of(register, name):
+def report_of(register: Register, name: str) -> tuple[str, float] | None:
     """The last line of a report and its age in seconds, or None."""
     path = register.copies / name
     if not path.exists():
@@ -114,7 +244,7 @@ def report_of(register, name):
     return (lines[-1] if lines else ""), time.time() - path.stat().st_mtime
 
 
-def second_of(register):
+def second_of(register: Register) -> State:
     place = place_of()
     if place is None:
         return True, "no second place is named in /etc/admissions/second-copy"
@@ -122,31 +252,31 @@ def second_of(register):
     if found is None:
         return False, f"none in {place} yet: systemctl start admissions-second-copy@{register.name}"
     line, old = found
-    return old < COPY_HOURS * 3600 and "WARNING" not in line, line
+    return is_recent(old, COPY_HOURS * 3600) and "WARNING" not in line, f"{line}; {age_text(old)}"
 
 
-def drill_of(register):
+def drill_of(register: Register) -> State:
     found = report_of(register, DRILL)
     if found is None:
-        return bool(is_young(register)), f"none yet: systemctl start admissions-drill@{register.name}"
-    return found[1] < DRILL_DAYS * 86400, found[0]
+        return is_young(register), f"none yet: systemctl start admissions-drill@{register.name}"
+    return is_recent(found[1], DRILL_DAYS * 86400), f"{found[0]}; {age_text(found[1])}"
 
 
-def is_young(register):
+def is_young(register: Register) -> bool:
     """Whether no drill can be expected yet: the register's folder is younger than the time between two."""
     settings = register.settings / "site-name"
-    return settings.exists() and time.time() - settings.stat().st_mtime < DRILL_DAYS * 86400
+    return settings.exists() and is_recent(time.time() - settings.stat().st_mtime, DRILL_DAYS * 86400)
 
 
-def room_of(register):
-    """The room on the disks of the register and its copies: ten times the register, and 200 MB at least."""
+def room_of(register: Register) -> State:
+    """The room on the disks of the register, its copies and its log: ten times the register, and 200 MB at least."""
     needed = max(LEAST_ROOM, ROOM_FACTOR * register.file.stat().st_size)
     rooms = [(shutil.disk_usage(path).free, path) for path in (register.folder, register.copies, register.logs) if path.is_dir()]
     free, path = min(rooms)
-    return free >= needed, f"{free / 1e9:.1f} GB free at {path}"
+    return free >= needed, f"{free / 1e9:.1f} GB free at {path}, of {needed / 1e9:.1f} GB that are needed"
 
 
-def certificate_of(register):
+def certificate_of(register: Register) -> State:
     certificate = certificates.paths(register)[1]
     if register.host is None:
         return True, "it has no site"

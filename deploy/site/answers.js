@@ -1,9 +1,11 @@
-// A pile of answers: a number or a name, Enter, and Enter again to accept; with a - after it, to decline. The field takes the next one while an answer
-// is sent. What was recorded is listed below, as long as the page is open.
+// A pile of answers: a number or a name and Enter shows the offer, and Enter again accepts it; with a - after the number, to decline.
+// An entry leaves the field with its Enter: what is typed while a child is looked up or an answer is sent is the next entry, and
+// nothing but the button of the child that is shown answers. What was recorded, and what was not, is listed below, as long as the
+// page is open.
 import { Shown } from "./desk.js";
 import { button, childLink, element, field, say, schoolLink } from "./elements.js";
 import { matches } from "./finding.js";
-import { hasIndex, letterOf } from "./register.js";
+import { hasIndex, letterOf, nameOf } from "./register.js";
 import { isSure, send } from "./sending.js";
 import { column, table } from "./tables.js";
 import { IS_FINAL, isolated, placeInWords, plural } from "./words.js";
@@ -23,69 +25,128 @@ function meant(text) {
   return children[0].data.child;
 }
 
+// An entry as it is typed: a number or a name, and a minus for a decline
+function read(entry) {
+  const [, text, minus] = /^(.*?)\s*(-?)$/.exec(entry);
+  return { text, isDecline: Boolean(minus) };
+}
+
+const whoIs = ({ number, name }) => `Child ${number}, ${isolated(name)}`;
+
+// An entry that was left without an answer, listed below: nothing that was typed is lost unseen
+function leave({ number, name, text }, reason) {
+  settled(number);
+  recorded.unshift({ number, name: name || text, cmd: "", school: "", result: `Nothing was sent: ${reason}`, isBad: true, isOpen: true });
+  showNow();
+}
+
 // #answers
 export function answersView() {
-  const input = element("input", { id: "answer-child", autocomplete: "off", required: true });
+  const input = element("input", { id: "answer-child", autocomplete: "off" });
   const room = element("div", { id: "offer" });
   const list = element("div", {});
-  const form = element("form", { id: "answers-form", className: "screen-only" },
+  const form = element("form", { id: "answers-form", className: "screen-only", noValidate: true },
     field("Child’s number or name", input, "Enter shows the offer, and Enter again accepts it. To decline, put - after the number: 17-"),
     element("p", { className: "tools" }, element("button", {}, "Look up")));
-  // A child that is found after a later request is not shown
-  let turn = 0;
-  form.onsubmit = async (event) => {
+  // The entry that is looked up or shown, and has no answer yet
+  let open = null;
+
+  form.onsubmit = (event) => {
     event.preventDefault();
-    const mine = ++turn;
-    room.replaceChildren();
-    const [, text, minus] = /^(.*?)\s*(-?)$/.exec(input.value.trim());
+    const entry = input.value.trim();
+    if (entry) lookUp(entry);
+    else say(open && !open.letter ? `${open.text} is still being looked up. Nothing was sent.` : "Enter a number or a name.");
+  };
+  // A key that is held down answers nothing, and what is typed while the button has the focus is the next entry
+  form.addEventListener("keydown", stopRepeated);
+  room.addEventListener("keydown", (event) => {
+    stopRepeated(event);
+    if (event.key.length === 1 && event.key !== " " && !event.ctrlKey && !event.altKey && !event.metaKey) input.focus();
+  });
+
+  async function lookUp(entry) {
+    const { text, isDecline } = read(entry);
+    if (open && open.text !== text) leave(open, `the next entry came ${open.letter ? "before an answer" : "while it was looked up"}.`);
+    const mine = { text, entry };
+    open = mine;
+    input.value = "";
+    room.replaceChildren(element("p", {}, `Looking up ${isolated(text)} …`));
+    say(`Looking up ${isolated(text)} …`);
     try {
-      const number = meant(text);
+      mine.number = meant(text);
+      mine.name = nameOf(mine.number);
       await sending;
-      const letter = await letterOf(number);
-      if (mine === turn) await offer(letter, Boolean(minus));
+      const letter = await letterOf(mine.number);
+      if (open === mine) await offer(Object.assign(mine, { letter, name: letter.name }), isDecline);
     } catch (error) {
       if (!(error instanceof Shown)) throw error;
-      if (mine !== turn) return;
-      say(error.message, true);
-      input.focus();
-      input.select();
+      if (open === mine) notFound(mine, error.message);
     }
-  };
+  }
 
-  // The offer of a child: Accept has the focus. A place that was accepted before can be declined, but the field keeps the focus
-  function offer(letter, isDecline) {
-    const { place, number, name } = letter;
-    const who = `Child ${number}, ${isolated(name)}`;
-    room.replaceChildren(element("h3", {}, who), element("p", {}, placeInWords(place)));
+  function notFound(mine, reason) {
+    open = null;
+    room.replaceChildren();
+    if (!giveBack(mine)) leave(mine, reason);
+    say(reason, true);
+  }
+
+  // An entry that came to nothing is in the field again, to be corrected, if nothing was typed meanwhile
+  function giveBack({ entry }) {
+    if (input.value || !input.isConnected) return false;
+    input.value = entry;
     input.focus();
     input.select();
-    if (!place || place.kind === "plan") return say(`${who}: there is no offer to answer. ${placeInWords(place)}`, true);
-    const accept = button("Accept", () => record(letter, "accept"), { id: "accept" });
-    const decline = button("Decline", () => record(letter, "decline"), { id: "decline", className: "final" });
+    return true;
+  }
+
+  // The offer of a child. Accept has the focus, but only if nothing was typed or pressed elsewhere since the entry
+  function offer(mine, isDecline) {
+    const { letter } = mine;
+    const { place } = letter;
+    const who = whoIs(letter);
+    const isWaiting = form.contains(document.activeElement) && !input.value;
+    room.replaceChildren(element("h3", {}, who), element("p", {}, placeInWords(place)));
+    if (!place || place.kind === "plan") {
+      open = null;
+      giveBack(mine);
+      return say(`${who}: there is no offer to answer. ${placeInWords(place)}`, true);
+    }
+    const accept = button("Accept", () => record(mine, "accept"), { id: "accept" });
+    const decline = button("Decline", () => record(mine, "decline"), { id: "decline", className: "final" });
     room.append(element("p", { className: "tools" }, place.kind === "offered" ? accept : null, decline));
     say(`${who}: ${placeInWords(place)}`);
-    if (isDecline) return record(letter, "decline");
-    if (place.kind === "offered") accept.focus();
+    if (place.kind !== "offered") open = null;
+    if (isDecline && isWaiting) return record(mine, "decline");
+    if (place.kind !== "offered") giveBack(mine);
+    else if (isWaiting) accept.focus();
     return null;
   }
 
-  async function record({ number, name, place }, cmd) {
+  async function record(mine, cmd) {
+    const { letter } = mine;
+    const { number, name, place } = letter;
     const where = `${place.school} ${isolated(place.name)}`;
     const question = `Decline the place of child ${number}, ${isolated(name)}, at ${where}? ${IS_FINAL}`;
-    if (cmd === "decline" && !await isSure(question, "Yes, decline")) return;
+    if (cmd === "decline" && !await isSure(question, "Yes, decline")) {
+      giveBack(mine);
+      return;
+    }
+    if (open === mine) open = null;
     const entry = { number, name, cmd, school: place.school, result: "is being sent" };
+    settled(number);
     recorded.unshift(entry);
-    turn += 1;
     room.replaceChildren();
     showRecorded();
-    input.value = "";
+    if (input.value === mine.entry) input.value = "";
     input.focus();
     const done = `Child ${number}, ${isolated(name)}, has ${cmd === "accept" ? "accepted" : "declined"} ${where}.`;
-    sending = sending.then(() => send({ cmd, child: number, school: place.school }, done)).then((reply) => {
+    sending = sending.then(() => send({ cmd, child: number, school: place.school }, done, letter)).then((reply) => {
       const { text, bad } = reply || { text: "Nothing was sent: another task is in progress.", bad: true };
       Object.assign(entry, { result: bad ? text : "done", isBad: bad });
       showNow();
-      if (list.isConnected || bad) say(`${bad ? `Child ${number}, ${isolated(name)}: ` : ""}${text}`, bad);
+      if (reply && reply.now && !open) room.replaceChildren(element("h3", {}, whoIs(reply.now)), element("p", {}, placeInWords(reply.now.place)));
+      if (list.isConnected || bad) say(`${bad && !text.startsWith("Child ") ? `${whoIs(letter)}: ` : ""}${text}`, bad);
     });
     await sending;
   }
@@ -98,7 +159,7 @@ export function answersView() {
     list.replaceChildren(warning, table({
       caption: "Recorded here", file: "answers.csv", rows: recorded,
       columns: [
-        column("Child", (it) => it.number, { isFigure: true, cell: (it) => childLink(it.number) }),
+        column("Child", (it) => it.number, { isFigure: true, cell: (it) => (it.number ? childLink(it.number) : "") }),
           column("Name", (it) => it.name, { cell: (it) => element("bdi", {}, it.name) }),
         column("Answer", (it) => it.cmd), column("School", (it) => it.school, { cell: (it) => schoolLink(it.school) }), column("Result", (it) => it.result),
       ],
@@ -108,4 +169,14 @@ export function answersView() {
   showNow = showRecorded;
   showRecorded();
   return { title: "Answers to offers", nodes: [form, room, list], status: "Enter a number or a name.", focus: input };
+}
+
+function stopRepeated(event) {
+  if (event.key === "Enter" && event.repeat) event.preventDefault();
+}
+
+// An entry that was left before is settled by an answer for the same child
+function settled(number) {
+  const at = recorded.findIndex((it) => it.isOpen && it.number === number);
+  if (number && at >= 0) recorded.splice(at, 1);
 }

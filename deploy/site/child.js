@@ -1,13 +1,13 @@
 // A child: where it has a place and since when, until when to answer, where it waits and why; and what can be done for it.
 import { Shown } from "./desk.js";
-import { button, element, facts, field, link, schoolLink } from "./elements.js";
+import { button, dayField, dayInput, element, facts, link, report, schoolLink } from "./elements.js";
 import { amendView, applyForm, planForm } from "./forms.js";
 import { withDays } from "./reading.js";
-import { child, hasIndex, letterOf, lettersOf, register, school } from "./register.js";
+import { child, endOf, hasIndex, letterOf, lettersOf, register, school } from "./register.js";
 import { again } from "./router.js";
 import { isDaySure, isSure, send } from "./sending.js";
 import { column, table } from "./tables.js";
-import { IS_FINAL, count, day, deadline, isolated, placeInWords, plural, priority, today } from "./words.js";
+import { IS_FINAL, count, day, deadline, isolated, placeInWords, plural, priority, readDay, today } from "./words.js";
 
 const numberOf = (text) => {
   if (!/^[1-9][0-9]{0,6}$/.test(text || "")) throw new Shown("A child has a number from 1 to 9999999.");
@@ -18,8 +18,8 @@ const numberOf = (text) => {
 export async function childView([text, part]) {
   const number = numberOf(text);
   if (part === "letter") return lettersView([text]);
+  if (part === "amend") return amendView(number);
   const letter = await letterOf(number);
-  if (part === "amend") return amendView(letter);
   return {
     title: `Child ${number}, ${isolated(letter.name)}`, status: `Child ${number}.`, nodes: [
       element("p", { className: "tools screen-only" }, link(`#child/${number}/letter`, "Letter"), hasIndex
@@ -30,14 +30,19 @@ export async function childView([text, part]) {
   };
 }
 
-// Sends a command, and shows the child as it is then
-async function act(command, done) {
-  const reply = await send(command, done);
-  if (reply) again(reply);
-}
+// Sends a command if the child is still as this letter shows it, and shows the child as it is then. What was typed into a form is
+// kept until it was done
+const actOn = (letter) => async (command, done, forget = () => {}) => {
+  const reply = await send(command, done, letter);
+  if (!reply) return;
+  if (!reply.bad) forget();
+  if (reply.isUnsent) report(reply);
+  else again(reply);
+};
 
 function place(letter) {
   const { place: held, number } = letter;
+  const act = actOn(letter);
   const nodes = [element("p", { id: "place" }, placeInWords(held))];
   if (!held) return nodes;
   const where = `${held.school} ${isolated(held.name)}`;
@@ -53,27 +58,30 @@ function place(letter) {
   return nodes;
 }
 
-async function decline({ number, name, place: held }, where) {
+async function decline(letter, where) {
+  const { number, name, place: held } = letter;
   const question = `Decline the place of child ${number}, ${isolated(name)}, at ${where}? ${IS_FINAL}`;
-  if (await isSure(question, "Yes, decline")) act({ cmd: "decline", child: number, school: held.school },
+  if (await isSure(question, "Yes, decline")) actOn(letter)({ cmd: "decline", child: number, school: held.school },
     `Child ${number} has declined the place at ${where}.`);
 }
 
 // The reminder of an offer, and after it the withdrawal
-function dayForm({ number, name, place: held }, where) {
+function dayForm(letter, where) {
+  const { number, name, place: held } = letter;
   const isReminder = !held.reminded;
-  const input = element("input", { type: "date", id: "on", required: true, value: today() });
-  const form = element("form", { className: "actions screen-only", id: "day-form" },
-    field(isReminder ? "Day of the reminder" : "Day of the withdrawal", input),
+  const input = dayInput("on", today());
+  const form = element("form", { className: "actions screen-only", id: "day-form", noValidate: true },
+    dayField(isReminder ? "Day of the reminder" : "Day of the withdrawal", input),
       element("button", { className: "final" }, isReminder ? "Record the reminder" : "Withdraw the offer"));
   form.onsubmit = async (event) => {
     event.preventDefault();
-    const on = input.value;
+    const on = readDay(input.value);
     if (!await isDaySure(on, isReminder ? "Record the reminder" : "Withdraw the offer")) return;
     const what = isReminder ? `Record a reminder of ${day(on)} for` : `Withdraw the offer of ${where}, on ${day(on)}, from`;
-    if (!await isSure(`${what} child ${number}, ${isolated(name)}? This cannot be undone.`, isReminder ? "Yes, record it" : "Yes, withdraw it")) return;
+    const question = `${what} child ${number}, ${isolated(name)}? This cannot be undone.`;
+    if (!await isSure(question, isReminder ? "Yes, record it" : "Yes, withdraw it")) return;
     const done = isReminder ? `The reminder of ${day(on)} is recorded. Print the letter again: it has the warning.` : `The offer of ${where} is withdrawn.`;
-    act({ cmd: isReminder ? "remind" : "lapse", child: number, school: held.school, day: on }, done);
+    actOn(letter)({ cmd: isReminder ? "remind" : "lapse", child: number, school: held.school, day: on }, done);
   };
   return form;
 }
@@ -86,7 +94,7 @@ function waiting(letter) {
     const where = `${wait.school} ${isolated(wait.name)}`;
     const who = `child ${letter.number}, ${isolated(letter.name)}`;
     const question = `Remove ${who}, from the waiting list of ${where}? This cannot be undone: the child cannot return to it.`;
-    if (await isSure(question, "Yes, leave the list")) act({ cmd: "leave_list", child: letter.number, school: wait.school },
+    if (await isSure(question, "Yes, leave the list")) actOn(letter)({ cmd: "leave_list", child: letter.number, school: wait.school },
       `Child ${letter.number} has left the waiting list of ${where}.`);
   };
   const made = table({
@@ -116,7 +124,8 @@ function fate(code, index, letter, preferences) {
   const wait = letter.waits.find((it) => it.school === code);
   if (wait) return `waits, position ${count(wait.position)} of ${count(wait.of)}`;
   if (own >= 0 && index > own) return "below the child’s place";
-  return register.draws.size ? "declined, left or withdrawn" : "before the first round";
+  if (!register.draws.size) return "before the first round";
+  return endOf(letter.number, code) || "declined, left or withdrawn";
 }
 
 function application(letter) {
@@ -133,6 +142,7 @@ function application(letter) {
     ["Present school", data.present || "none"],
   ]);
   if (isPlan) return [about];
+  const act = actOn(letter);
   const plan = planForm(letter, act);
   if (!applied) return [about, applyForm(letter.number, act), plan];
   const rows = preferences.map((code, index) => ({ code, index, fate: fate(code, index, letter, preferences) }));

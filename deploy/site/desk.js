@@ -35,6 +35,10 @@ export const FAULTS = {
 
 const MAY_BE_DONE = "There was no answer. It may be done: look before you send it again.";
 const ASK_AGAIN = "There was no answer. Try again; if there is still none, inform whoever runs the desk.";
+const CLOSED = "The desk is closed, perhaps for a draw. What you typed is kept here: try again when it is open.";
+
+// Whether there was no answer of the desk: the site had none from it, or the browser none from the site
+export const isAway = ({ status }) => status === 0 || status === 502 || status === 504;
 
 // An answer that is not the expected one, in plain English. `changes` is whether the request was a command
 export function describe({ status, body }, changes) {
@@ -48,7 +52,7 @@ export function describe({ status, body }, changes) {
   }
   if (status === 503 && reply.memory) return "The desk had no memory for this. Nothing has changed. Try again.";
   if (status === 503 && reply.busy) return "Too many requests were sent at once. This one was not passed on, and nothing has changed. Try again.";
-  if (status === 0 || status === 502 || status === 504) return changes ? MAY_BE_DONE : ASK_AGAIN;
+  if (isAway({ status })) return changes ? MAY_BE_DONE : status === 502 ? CLOSED : ASK_AGAIN;
   if (status === 401) return "You are not signed in. Nothing has changed.";
   if (status === 403) return "With the name that you signed in with you may not do this. Nothing has changed.";
   if (status === 404) return "The register has none of this number or code.";
@@ -60,7 +64,7 @@ export function describe({ status, body }, changes) {
 export function outcome({ status, body }) {
   if (status === 200) return "done";
   if (status === 409 || (status === 400 && body.includes('"fault"'))) return "refused";
-  if (status === 0 || status === 502 || status === 504 || body.includes('"failed"')) return "unknown";
+  if (isAway({ status }) || body.includes('"failed"')) return "unknown";
   return "unsent";
 }
 
@@ -76,15 +80,21 @@ export async function ask(target, body, headers = {}) {
   }
 }
 
-// What is shown in place of a view
-export class Shown extends Error {}
+// What is shown in place of a view, and the status of the answer that it is shown for
+export class Shown extends Error {
+  constructor(message, status = null) {
+    super(message);
+    this.status = status;
+    this.isAway = status !== null && isAway({ status });
+  }
+}
 
 // The text of a resource of the desk, or the reason why there is none. A request that was not passed on is repeated
 export async function read(target) {
   for (let turn = 0; ; turn++) {
     const answer = await ask(target);
     if (answer.status === 200) return answer.body;
-    if (answer.status !== 503 || !answer.body.includes('"busy"') || turn === 10) throw new Shown(describe(answer, false));
+    if (answer.status !== 503 || !answer.body.includes('"busy"') || turn === 10) throw new Shown(describe(answer, false), answer.status);
     await new Promise((resolve) => setTimeout(resolve, 200));
   }
 }

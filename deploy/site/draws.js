@@ -1,36 +1,44 @@
-// Rounds and fills: the commands to paste, filled in. A backup, a supervisor's lots and an audit belong to them, so the page does not send them.
+// Rounds and fills: the commands to paste, filled in. A backup, a supervisor's lots and an audit belong to them, so the page does not
+// send them. The blocks are those of the HANDBOOK, between the lines that enter and leave the folder of an installed register:
+// deploy/checks/pasting.py compares them.
 import { Shown } from "./desk.js";
-import { button, element, field, say } from "./elements.js";
+import { button, dayField, dayInput, element, say } from "./elements.js";
 import { nextDraw, register, rounds, school } from "./register.js";
-import { day, isolated, today } from "./words.js";
+import { strangeness } from "./sending.js";
+import { day, isolated, readDay, today } from "./words.js";
 
 const close = (name) => [`systemctl stop admissions@${name}`, `cd /var/lib/admissions/${name}`,
   "setpriv --reuid=admissions --regid=admissions --clear-groups bash"];
-const open = (name) => ["exit", `systemctl start admissions@${name}`];
 
 // Each step: its heading, what it does, and its lines
-export function steps({ draw, on, code, round, name, file }) {
-  const pairs = `admissions pairs ${file}${code ? " $school" : ""}`;
-  const names = code ? `draw=${draw} school=${code}` : `draw=${draw}`;
-  const made = [
+export function steps({ draw, on, code, round, name }) {
+  const [names, pairs, option] = code ? [`draw=${draw} school=${code}`, "admissions pairs reg.db $school", " --school $school"]
+    : [`draw=${draw}`, "admissions pairs reg.db", ""];
+  return [
     ["Close the desk", "As root. The page has no answers until the last step.", close(name)],
-    ["Back up, and list who needs a lot", "The supervisor draws a lot for each line of the file, and returns them as CSV with a third column.", [
-      "umask 077; mkdir -p copies", names, `admissions-backup ${file} copies/before-draw-$draw.db && ${pairs} > draw-$draw.pairs`]],
-    [code ? "Fill the vacancy" : "Run the round", `The sheet of the supervisor is draw-${draw}.csv.`, [
+    ["Keep files private, and overwrite none", "", ["umask 077; set -o noclobber; mkdir -p copies"]],
+    ["Back up, and make the sheet", `The supervisor enters a lot in each row of draw-${draw}.xlsx, and returns it to the same folder.`, [
+      names,
+      `admissions-backup reg.db copies/before-draw-$draw.db && ${pairs} > draw-$draw.pairs &&`,
+      "    admissions-lots draw-$draw.pairs --sheet draw-$draw.xlsx --register reg.db"]],
+    [code ? "Fill the vacancy" : "Run the round", "It asks before it sends a day that looks wrong. If it asks, read the day and type yes or no.", [
       `${names} day=${on}`,
-      `admissions-lots draw-$draw.pairs draw-$draw.csv --number $draw --day $day${code ? " --school $school" : ""} > draw-$draw.jsonl &&`,
-      `    ${pairs} | cmp - draw-$draw.pairs && cmp ${file} copies/before-draw-$draw.db &&`,
-      `    admissions do ${file} < draw-$draw.jsonl`]],
-  ];
-  if (!code) {
-    made.push(["Audit before anyone is informed", "0 and “The outcomes are stable, and the best for each child of all that are stable” must be printed.", [
+      "[ -s draw-$draw.jsonl ] || rm -f draw-$draw.jsonl",
+      `admissions-lots draw-$draw.pairs draw-$draw.xlsx --register reg.db --number $draw --day $day${option} > draw-$draw.jsonl &&`,
+      "    admissions-send draw-$draw.jsonl"]],
+    ["Audit before anyone is informed", AUDITED[code ? "fill" : "round"], code ? [`admissions-audit copies/before-draw-${draw}.db reg.db`] : [
       `draw=${draw} round=${round}`,
-      `admissions-audit copies/before-draw-$draw.db ${file} > audit-$round; echo $?; tail -n 1 audit-$round`,
-      `admissions round-report ${file} $round > report-$round`]]);
-  }
-  made.push(["Open the desk again", "", open(name)]);
-  return made;
+      "admissions-audit copies/before-draw-$draw.db reg.db > audit-$round; echo $?; tail -n 1 audit-$round",
+      "admissions round-report reg.db $round > report-$round"]],
+    ["Leave the folder", "Back to root.", ["exit"]],
+    ["Open the desk again", "", [`systemctl start admissions@${name}`]],
+  ];
 }
+
+const AUDITED = {
+  round: "0 and “The outcomes are stable, and the best for each child of all that are stable” must be printed.",
+  fill: "“The child is the first by class, distance and lot of all who waited there, and there was a vacancy” must be its last line.",
+};
 
 // The earliest day: that of the last draw, and not before the offer day
 function earliest() {
@@ -44,17 +52,26 @@ export function drawView([code = ""]) {
   if (register.drawnSince) throw new Shown("A round or fill was sent after the index was written: the next draw is known when the desk is next started.");
   if (code && !school(code)) throw new Shown("The register has no such school.");
   const from = earliest();
-  const on = element("input", { type: "date", id: "on", value: today() > from ? today() : from, min: from, max: register.season.last_day });
+  const last = register.season.last_day;
+  const input = dayInput("on", today() > from ? today() : from);
   const room = element("div", { id: "steps" });
-  const fill = () => room.replaceChildren(...steps({ draw: nextDraw(), on: on.value, code, round: rounds().length + 1, name: register.name,
-    file: register.register })
-    .flatMap(stepNodes));
-  on.onchange = fill;
+  const bounds = `Its day may be from ${day(from)} to ${day(last)}.`;
+  const fill = () => {
+    const on = readDay(input.value);
+    if (!on || on < from || on > last) {
+      room.replaceChildren(element("p", { className: "warning" }, `${on ? day(on) : "This"} cannot be the day of this draw. ${bounds}`));
+      return;
+    }
+    const strange = strangeness(on).join(", and ");
+    const warning = strange ? [element("p", { className: "warning", id: "strange-day" }, `${day(on)} is ${strange}. Is it right?`)] : [];
+    room.replaceChildren(...warning,
+      ...steps({ draw: nextDraw(), on, code, round: rounds().length + 1, name: register.name }).flatMap(stepNodes));
+  };
+  for (const kind of ["input", "change"]) input.addEventListener(kind, fill);
   fill();
   const title = code ? `Fill a vacancy at ${code} ${isolated(school(code).name)}` : `Round ${rounds().length + 1}`;
-  const bounds = `Its day may be from ${day(from)} to ${day(register.season.last_day)}.`;
   const about = element("p", {}, `Draw ${nextDraw()}. ${bounds} No command undoes it: the HANDBOOK has what to do on each error.`);
-  return { title, nodes: [about, element("p", { className: "screen-only" }, field("Day of the draw", on)), room],
+  return { title, nodes: [about, element("div", { className: "screen-only" }, dayField("Day of the draw", input)), room],
     status: "Paste each block into a terminal, one after another." };
 }
 

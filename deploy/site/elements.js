@@ -1,4 +1,5 @@
 // Makes elements, and shows status and progress. Every text is inserted as text, never as markup.
+import { day, readDay, weekday } from "./words.js";
 
 export const at = (id) => document.getElementById(id);
 
@@ -26,6 +27,23 @@ export function field(label, made, hint) {
   return element("div", { className: "field" }, element("label", { htmlFor: made.id }, label), made, help);
 }
 
+// A field for a day is a text: a browser's own field has a calendar among its stops, into which the next entry is typed unnoticed.
+// What is typed is shown as it is read
+export const dayInput = (id, value) => element("input", { id, value: value ? day(value) : "", required: true, autocomplete: "off" });
+
+export function dayField(label, input) {
+  const made = field(label, input, " ");
+  const hint = made.querySelector(".hint");
+  hint.setAttribute("aria-live", "polite");
+  const show = () => {
+    const on = readDay(input.value);
+    hint.textContent = on ? weekday(on) : `${input.value.trim() ? "This is no day. " : ""}Type it as 2 April 2025 or 2/4/2025.`;
+  };
+  for (const kind of ["input", "change"]) input.addEventListener(kind, show);
+  show();
+  return made;
+}
+
 // Pairs of a term and its description, for a table of facts
 export function facts(pairs) {
   const made = element("dl", { className: "facts" });
@@ -37,6 +55,12 @@ export function facts(pairs) {
 export function say(text, bad = false) {
   at("answer").textContent = text;
   at("answer").classList.toggle("bad", Boolean(bad));
+}
+
+// Reports an answer, which has the focus then
+export function report({ text, bad }) {
+  say(text, bad);
+  at("answer").focus();
 }
 
 // Shows how much of a long task is done; nothing if it is finished

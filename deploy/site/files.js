@@ -1,15 +1,21 @@
-// A file of commands: a preview with names, one confirmation, progress, and what was not done as a file.
+// A file of commands or of answers: a preview with names and with what the register has, one confirmation, progress, and what was not
+// done as a file. How far a file was sent is kept in this tab of the browser, so that it can go on after a reload.
+import { isCompared } from "./changes.js";
 import { FAULTS, Shown } from "./desk.js";
 import { at, button, childLink, download, element, field, progress, say } from "./elements.js";
-import { child, nameOf, parsed } from "./register.js";
+import { folded } from "./finding.js";
+import { child, lettersIfAny, nameOf, parsed, school, who } from "./register.js";
 import { again } from "./router.js";
 import { isBusy, isDaySure, isSure, sendAll, settle } from "./sending.js";
+import { answerOf, fieldsOf, separatorOf, titlesOf } from "./sheets.js";
 import { column, table } from "./tables.js";
-import { count, plural } from "./words.js";
+import { count, criteriaInWords, day, isDay, isolated, plural, schoolInWords } from "./words.js";
 
 const COMMANDS = ["add_school", "raise_pan", "add_child", "amend", "name_plan", "apply", "accept", "decline", "leave_list", "remind", "lapse"];
 const IN_TERMINAL = ["round", "fill"];
 const CAN_BE_REPLACED = ["amend", "accept", "add_child"];
+const WORKBOOK = "is a workbook, which this page does not read. Save it as CSV: in Excel by ‘Save as’, ‘CSV UTF-8’; in LibreOffice by ‘Save as’, "
+  + "‘Text CSV’ in UTF-8. Then choose the CSV.";
 
 // Why a line is not sent; nothing if it is
 function problem(command, text) {
@@ -29,16 +35,53 @@ function warning(command) {
   return "";
 }
 
-// The lines of a file. A row `accept,17,OAK` is an answer; empty lines are left out
+// The lines of a file: commands as JSON, and rows of answers. Empty lines are left out, and so are a row of titles and one that names
+// the separator
 export function readLines(text) {
-  const rows = text.replace(/^\ufeff/, "").split("\n").map((line, index) => ({ number: index + 1, text: line.replace(/\r$/, "") }))
-    .filter((row) => row.text.trim());
-  return rows.map((row) => {
-    const reply = /^(accept|decline),([1-9][0-9]{0,6}),([A-Z0-9]{1,8})$/.exec(row.text);
-    const sent = reply ? JSON.stringify({ cmd: reply[1], child: Number(reply[2]), school: reply[3] }) : row.text;
-    const command = parsed(sent);
-    return { ...row, sent, command, problem: problem(command, sent), warning: warning(command) };
+  const lines = text.replace(/^\ufeff/, "").split("\n").map((line, index) => ({ number: index + 1, text: line.replace(/\r$/, "") }))
+    .filter((row) => row.text.trim() && !/^"?sep=.?"?$/i.test(row.text.trim()));
+  const separator = separatorOf(lines.map((it) => it.text));
+  const isJson = (text) => text.trim().startsWith("{");
+  const titles = lines.length && !isJson(lines[0].text) ? titlesOf(fieldsOf(lines[0].text, separator)) : null;
+  const head = titles ? lines[0].text : "";
+  return (titles ? lines.slice(1) : lines).map((row) => {
+    const isRow = !isJson(row.text) && row.text.includes(separator);
+    const { command, name = "", problem: wrong } = isRow ? answerOf(fieldsOf(row.text, separator), titles || undefined)
+      : { command: parsed(row.text) };
+    const sent = isRow && command ? JSON.stringify(command) : row.text;
+    return { ...row, head, sent, command, givenName: name, problem: wrong || problem(command, sent), warning: warning(command) };
   });
+}
+
+// The text of a file that was chosen, and its digest; or why it cannot be read
+async function textOf(chosen) {
+  const bytes = await chosen.arrayBuffer();
+  const [first, second] = new Uint8Array(bytes);
+  if ((first === 0x50 && second === 0x4b) || (first === 0xd0 && second === 0xcf)) throw new Shown(`${chosen.name} ${WORKBOOK}`);
+  try {
+    const text = new TextDecoder("utf-8", { fatal: true }).decode(bytes);
+    const digest = new Uint8Array(await crypto.subtle.digest("SHA-256", bytes));
+    return { text, digest: [...digest].map((it) => it.toString(16).padStart(2, "0")).join("") };
+  } catch {
+    throw new Shown("The file is not UTF-8. Save it as UTF-8.");
+  }
+}
+
+// How far the last file was sent: its name and digest, and of each command a letter, d done, r refused, s not sent since its child has
+// changed. It is kept until all of it has an answer
+const keptAs = () => `file ${who}`;
+const LETTERS = { done: "d", refused: "r", differs: "s" };
+const OUTCOMES = { d: "done", r: "refused", s: "differs" };
+
+function keep(record) {
+  try {
+    if (record) sessionStorage.setItem(keptAs(), JSON.stringify(record));
+    else sessionStorage.removeItem(keptAs());
+  } catch { /* a browser that keeps nothing: the file is sent all the same */ }
+}
+
+function keptRecord() {
+  try { return parsed(sessionStorage.getItem(keptAs())); } catch { return null; }
 }
 
 // The result of the last file, as long as the page is open
@@ -51,25 +94,77 @@ export function fileView() {
   input.onchange = async () => {
     const chosen = input.files[0];
     if (!chosen || isBusy()) return;
-    let text;
     try {
-      text = new TextDecoder("utf-8", { fatal: true }).decode(await chosen.arrayBuffer());
+      const { text, digest } = await textOf(chosen);
+      shown = null;
+      await look(chosen.name, readLines(text), digest, room);
+    } catch (error) {
+      if (!(error instanceof Shown)) throw error;
+      say(error.message, true);
+    } finally {
       // The same file can be chosen again after it was corrected
       input.value = "";
-    } catch {
-      input.value = "";
-      say("The file is not UTF-8. Save it as UTF-8.", true);
-      return;
     }
-    shown = null;
-    preview(chosen.name, readLines(text), room);
   };
+  const record = shown || isBusy() ? null : keptRecord();
   if (shown) room.replaceChildren(...shown.nodes);
+  else if (record) room.replaceChildren(...sentInPart(record));
   return {
-    title: "Send a file of commands", status: shown ? shown.text : "Choose a file.", isBad: shown ? shown.isBad : false, nodes: [
-      element("p", {}, "One command on each line, as the HANDBOOK has them, or rows of answers such as accept,17,OAK. Nothing is sent before you confirm."),
+    title: "Send a file of commands", status: shown ? shown.text : record ? inPart(record) : "Choose a file.",
+    isBad: shown ? shown.isBad : Boolean(record), nodes: [
+      element("p", {}, "One command on each line, as the HANDBOOK has them, or rows of answers such as decline,23,ELM,Bo Bell, saved as CSV. "
+        + "Nothing is sent before you confirm."),
       element("p", { className: "screen-only" }, field("File", input)), room],
   };
+}
+
+const inPart = ({ name, outcomes, lines }) => `${name} was sent in part: ${count(outcomes.length)} of its ${plural(lines.length, "command has an answer",
+  "commands have an answer")}.`;
+
+// After a reload: how far the last file was, and how it goes on
+function sentInPart(record) {
+  const { name, outcomes, lines } = record;
+  const forget = () => { keep(null); again({ text: `${name} is forgotten. Nothing was sent.`, bad: false }); };
+  return [
+    element("h3", {}, `${name} was sent in part`),
+    element("p", { id: "sent-in-part" }, `${inPart(record)} The last of them is line ${lines[outcomes.length - 1] ?? "none"}. Line ${lines[outcomes.length]} `
+      + "may be done, and those after it were not sent. Choose the file again: it is compared with what was sent and with the register, and goes on from "
+      + "there. No line is sent twice."),
+    element("p", { className: "tools screen-only" }, button("Forget it", forget, { id: "forget-file" })),
+  ];
+}
+
+// Reads what the register has for the lines of a file, and shows both
+async function look(name, rows, digest, room) {
+  const good = rows.filter((it) => !it.problem);
+  const numbers = [...new Set(good.filter((it) => isCompared(it.command)).map((it) => it.command.child))].filter(Number.isInteger);
+  say(`Reading what the register has for ${name} …`);
+  const letters = await lettersIfAny(numbers);
+  for (const row of good) compareNames(row, letters);
+  const record = keptRecord();
+  if (record && record.digest === digest) return goOnAfterReload(name, rows, record, digest);
+  preview(name, rows, digest, room);
+  if (record && record.name === name) say(`${name} is another text than the one that was sent in part: all of it is shown. Nothing is sent yet.`, true);
+  return null;
+}
+
+// The letter of a row's child, as it is shown and as it must be when the row is sent; and its name beside the name of the row
+function compareNames(row, letters) {
+  row.shown = isCompared(row.command) ? letters.get(row.command.child) || null : null;
+  const has = row.shown ? row.shown.name : nameOf(row.command.child);
+  if (row.givenName && has && folded(row.givenName) !== folded(has)) row.problem = `the row has the name ${isolated(row.givenName)}, and the register ${isolated(has)}`;
+}
+
+// What the register has where a line would change it
+function present({ command, shown: letter }) {
+  if (!command) return "";
+  if (command.cmd === "raise_pan") return school(command.school) ? `admits ${school(command.school).pan}` : "";
+  if (!letter) return "";
+  const { place, waits } = letter;
+  if (command.cmd === "leave_list") return waits.some((it) => it.school === command.school) ? `waits at ${command.school}` : `does not wait at ${command.school}`;
+  if (!place) return "no place";
+  return `${place.school}, ${place.kind === "offered" ? `offered ${day(place.offered)}${place.reminded ? `, reminded ${day(place.reminded)}` : ""}`
+    : place.kind === "plan" ? "by a plan" : "accepted"}`;
 }
 
 const lineColumns = [
@@ -79,69 +174,123 @@ const lineColumns = [
   column("Name", (it) => nameInLine(it), { cell: (it) => element("bdi", {}, nameInLine(it)) }),
   column("School", (it) => String((it.command && it.command.school) || "")), column("Day", (it) => String((it.command && it.command.day) || "")),
 ];
-const nameInLine = ({ command }) => (command ? nameOf(command.child) || (typeof command.name === "string" ? command.name : "") : "");
+const nameInLine = ({ command, shown: letter }) => (letter ? letter.name : command ? nameOf(command.child)
+  || (typeof command.name === "string" ? command.name : "") : "");
 
-function preview(name, rows, room) {
+// A command that cannot be undone, in words, for its confirmation
+function inWords(row) {
+  const { cmd, school: code, child: number, day: on } = row.command;
+  const whom = `Child ${number}, ${isolated(nameInLine(row))}`;
+  const when = isDay(String(on)) ? day(on) : String(on);
+  if (cmd === "add_school") return schoolInWords(row.command);
+  if (cmd === "raise_pan") return `${code}: admission number from ${school(code) ? school(code).pan : "?"} to ${row.command.pan}`;
+  if (cmd === "apply") return `${whom}: applied ${when} for ${[].concat(row.command.preferences).join(", ")}`;
+  if (cmd === "name_plan") return `${whom}: a place at ${code} by a plan`;
+  if (cmd === "decline") return `${whom}: declines ${code}`;
+  if (cmd === "leave_list") return `${whom}: leaves the waiting list of ${code}`;
+  return cmd === "remind" ? `${whom}: reminded of ${code} on ${when}` : `${whom}: offer of ${code} withdrawn on ${when}`;
+}
+
+function preview(name, rows, digest, room) {
   const good = rows.filter((it) => !it.problem);
   const kinds = COMMANDS.map((cmd) => [cmd, good.filter((it) => it.command.cmd === cmd).length]).filter(([, number]) => number);
-  const inWords = kinds.map(([cmd, number]) => `${count(number)} ${cmd}`).join(", ");
+  const kindsInWords = kinds.map(([cmd, number]) => `${count(number)} ${cmd}`).join(", ");
   const bad = rows.length - good.length;
-  const send = button(`Send ${count(good.length)}`, () => confirm(name, rows, good, inWords), { id: "send-file", className: "final", disabled: !good.length });
+  const press = () => confirm({ name, rows, digest }, good, kindsInWords);
+  const send = button(`Send ${count(good.length)}`, press, { id: "send-file", className: "final", disabled: !good.length });
+  const columns = [...lineColumns, column("In the register", present), column("Note", (it) => it.problem || it.warning)];
+  const schools = good.filter((it) => it.command.cmd === "add_school");
   room.replaceChildren(
-    element("p", { id: "counts" }, `${plural(rows.length, "line", "lines")}: ${inWords || "no command"}${bad ? `, ${count(bad)} that cannot be sent` : ""}.`),
-    table({ caption: `Preview of ${name}`, file: "preview.csv", rows, columns: [...lineColumns, column("Note", (it) => it.problem || it.warning)] }).node,
-      element("p", { className: "screen-only" }, send));
+    element("p", { id: "counts" }, `${plural(rows.length, "line", "lines")}: ${kindsInWords || "no command"}${bad ? `, ${count(bad)} that cannot be sent` : ""}.`),
+    ...(schools.length ? [schoolsTable(schools)] : []), table({ caption: `Preview of ${name}`, file: "preview.csv", rows, columns }).node,
+    element("p", { className: "screen-only" }, send));
   say(`${name} is read. Nothing is sent yet.`, bad > 0);
 }
 
-async function confirm(name, rows, good, inWords) {
+// Each school that a file adds, whole: only its admission number can be changed afterwards, and only be raised
+function schoolsTable(rows) {
+  const of = (key) => (it) => (["string", "number"].includes(typeof it.command[key]) ? it.command[key] : "");
+  return table({
+    caption: "Schools that are added, which cannot be changed afterwards", file: "schools.csv", rows,
+    columns: [column("School", of("school")), column("Name", of("name"), { cell: (it) => element("bdi", {}, String(of("name")(it))) }),
+      column("Admits", of("pan"), { isFigure: true }), column("East", of("east"), { isFigure: true }), column("North", of("north"), { isFigure: true }),
+      column("Criteria", (it) => (Array.isArray(it.command.criteria) ? criteriaInWords(it.command.criteria.map(String)) : ""))],
+  }).node;
+}
+
+async function confirm(file, good, kindsInWords) {
   if (isBusy()) return;
   for (const on of new Set(good.filter((it) => ["remind", "lapse"].includes(it.command.cmd)).map((it) => it.command.day))) {
     if (typeof on === "string" && !await isDaySure(on, "Send the file")) return;
   }
-  const final = good.filter((it) => !CAN_BE_REPLACED.includes(it.command.cmd)).length;
+  const final = good.filter((it) => !CAN_BE_REPLACED.includes(it.command.cmd));
   const warned = good.filter((it) => it.warning).length;
-  const notes = `${final ? ` ${count(final)} of them cannot be undone.` : ""}${warned ? ` ${count(warned)} of them have a note.` : ""}`;
-  if (await isSure(`Send ${plural(good.length, "command", "commands")} of ${name}: ${inWords}?${notes}`, `Yes, send ${count(good.length)}`)) await run(name,
-    rows, good);
+  const notes = `${final.length ? ` ${count(final.length)} of them cannot be undone.` : ""}${warned ? ` ${count(warned)} of them have a note.` : ""}`;
+  const question = `Send ${plural(good.length, "command", "commands")} of ${file.name}: ${kindsInWords}?${notes}`;
+  if (await isSure(question, `Yes, send ${count(good.length)}`, final.map(inWords))) await run(file, good);
+  else say("Nothing was sent.");
 }
 
-async function run(name, rows, good) {
+// Sends the rows of a file, and keeps how far it is: the rows that have an answer are the first of the file's in the record
+async function run(file, rows) {
   let isStopped = false;
   at("preview").replaceChildren(element("p", {}, button("Stop after this one", () => { isStopped = true; }, { id: "stop" })));
-  say(`Sending ${count(good.length)} …`);
-  const seen = (done, all) => { progress(done, all); if (done % 10 === 0 || done === all) say(`Sent ${count(done)} of ${count(all)}.`); };
-  const results = await sendAll(good.map((it) => it.sent), seen, () => isStopped);
+  say(`Sending ${count(rows.length)} …`);
+  const before = file.rows.filter((it) => LETTERS[it.outcome]);
+  const record = { name: file.name, digest: file.digest, lines: [...before, ...rows].map((it) => it.number), outcomes: before.map((it) => LETTERS[it.outcome]).join("") };
+  const seen = (done, all, { outcome }) => {
+    progress(done, all);
+    if (done % 10 === 0 || done === all) say(`Sent ${count(done)} of ${count(all)}.`);
+    if (LETTERS[outcome]) keep(Object.assign(record, { outcomes: record.outcomes + LETTERS[outcome] }));
+  };
+  keep(record);
+  const results = await sendAll(rows.map((it) => ({ text: it.sent, shown: it.shown })), seen, () => isStopped);
   progress(1, 1);
   if (!results) return;
-  results.forEach((result, index) => Object.assign(good[index], { outcome: result.outcome, reason: result.reason }));
-  finish(name, rows);
+  results.forEach((result, index) => Object.assign(rows[index], { outcome: result.outcome, reason: result.reason }));
+  finish(file);
 }
 
 const REASONS = { unsent: "not sent", unknown: "no answer: it may be done" };
 
-function finish(name, rows) {
+function finish(file) {
+  const { name, rows } = file;
   const of = (what) => rows.filter((it) => it.outcome === what);
   const left = rows.filter((it) => it.outcome !== "done");
   const rest = [...of("unknown"), ...of("unsent")];
   const bad = rows.filter((it) => it.problem).length + of("refused").length;
+  const differ = of("differs").length;
   const text = `${plural(of("done").length, "command", "commands")} done, ${count(bad)} refused or unreadable, ${count(of("unknown")
-    .length)} without an answer, ${count(of("unsent").length)} not sent.`;
-  const reason = (it) => it.problem || REASONS[it.outcome] || it.reason.replace("Refused, and nothing has changed. ", "");
+    .length)} without an answer, ${count(of("unsent").length)} not sent${differ ? `, ${count(differ)} not sent since the child has changed` : ""}.`;
+  const reason = (it) => it.problem || it.reason?.replace("Refused, and nothing has changed. ", "") || REASONS[it.outcome];
   const nodes = [element("p", { id: "counts" }, text)];
+  if (!rest.length) keep(null);
   if (left.length) {
-    const save = () => download(`not-done-${name}`, left.map((it) => it.text + "\n").join(""));
+    const lines = [...(left[0].head ? [left[0].head] : []), ...left.map((it) => it.text)];
+    const save = () => download(`not-done-${name}`, lines.map((text) => text + "\n").join(""));
     nodes.push(element("p", { className: "screen-only" }, button("Download what was not done", save, { id: "not-done" }),
-      rest.length ? button(`Look, and go on with the remaining ${count(rest.length)}`, () => goOn(name, rows, rest), { id: "go-on" }) : null));
-    nodes.push(table({ caption: "Not done", file: "not-done.csv", rows: left, columns: [...lineColumns, column("Reason", reason)] }).node);
+      rest.length ? button(`Look, and go on with the remaining ${count(rest.length)}`, () => goOn(file, rest), { id: "go-on" }) : null));
+    nodes.push(table({ caption: "Not done", file: "not-done.csv", rows: left, columns: [...lineColumns, column("In the register", present),
+      column("Reason", reason)] }).node);
   }
   shown = { nodes, text, isBad: left.length > 0 };
   if (location.hash === "#file") again(null);
   else say(text, shown.isBad);
 }
 
+// The same file as before a reload: each line has what became of it, and the one after the last answer may be done
+function goOnAfterReload(name, rows, { lines, outcomes }, digest) {
+  const place = new Map(lines.map((number, index) => [number, index]));
+  for (const row of rows.filter((it) => !it.problem)) {
+    const index = place.get(row.number) ?? Infinity;
+    row.outcome = OUTCOMES[outcomes[index]] || (index === outcomes.length ? "unknown" : "unsent");
+    if (row.outcome === "refused" || row.outcome === "differs") row.reason = "it was not done before the page was loaded again";
+  }
+  finish({ name, rows, digest });
+}
+
 // Before the rest is sent, the register shows what is done already: nothing is sent twice
-async function goOn(name, rows, rest) {
+async function goOn(file, rest) {
   if (isBusy()) return;
   try {
     const { done } = await settle(rest.filter((it) => it.outcome === "unknown").map((it) => it.command));
@@ -151,7 +300,7 @@ async function goOn(name, rows, rest) {
     say(`Nothing was sent. ${error.message}`, true);
     return;
   }
-  const good = rest.filter((it) => it.outcome !== "done");
-  if (good.length) await run(name, rows, good);
-  else finish(name, rows);
+  const open = rest.filter((it) => it.outcome !== "done");
+  if (open.length) await run(file, open);
+  else finish(file);
 }

@@ -14,6 +14,9 @@ export const plain = (text) => text.normalize("NFKD").toLowerCase().replace(/\p{
 
 const wordsOf = (text) => plain(text).split(/[^\p{L}\p{N}]+/u).filter(Boolean);
 
+// A name as it is compared with another: its words without accents, in any order
+export const folded = (name) => wordsOf(name).sort().join(" ");
+
 // Whether each word of the query begins a word of the name, in any order
 const fits = (query, name) => query.length > 0 && query.every((part) => name.some((word) => word.startsWith(part)));
 

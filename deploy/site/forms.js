@@ -1,11 +1,12 @@
 // Forms: a new child with its application, a correction that keeps what it does not change, an application, a plan and a raised admission number.
 import { Shown } from "./desk.js";
-import { at, element, field, say } from "./elements.js";
+import { draftOf, keepFor } from "./drafts.js";
+import { at, dayField, dayInput, element, field, report, say } from "./elements.js";
 import { details, plain } from "./finding.js";
-import { child, hasIndex, register, school, update } from "./register.js";
+import { child, hasIndex, nextNumber, register, school, update } from "./register.js";
 import { again, go } from "./router.js";
 import { isSure, send } from "./sending.js";
-import { day, isDay, isolated, today } from "./words.js";
+import { day, isDay, isolated, readDay, today } from "./words.js";
 
 // The fields of a child that this page can edit. Others of a later version are shown, and sent as they are
 const KNOWN = ["child", "name", "east", "north", "looked_after", "flags", "siblings", "present"];
@@ -74,44 +75,65 @@ function readData(before) {
   };
 }
 
-// A form whose errors are shown at the field
+// A form whose errors are shown at the field, and which keeps what is typed. `submit` is called with what forgets it
 function form(id, nodes, submit, action) {
   const made = element("form", { id, className: "sheet screen-only", noValidate: true }, ...nodes,
     element("p", { className: "tools" }, element("button", {}, action)));
+  const { note, forget } = draftOf(made, id, shown);
+  made.append(note);
   made.onsubmit = async (event) => {
     event.preventDefault();
-    for (const it of made.querySelectorAll("[aria-invalid]")) it.removeAttribute("aria-invalid");
+    for (const it of made.querySelectorAll("[aria-invalid]")) setRight(it);
     try {
-      await submit();
+      await submit(forget);
     } catch (error) {
       if (!(error instanceof Wrong)) throw error;
-      say(`Nothing was sent. ${error.message}`, true);
-      at(error.id).setAttribute("aria-invalid", "true");
-      at(error.id).focus();
+      setWrong(at(error.id), error.message);
     }
   };
   return made;
 }
 
-const MEANWHILE = "Nothing was sent: somebody else has corrected this child meanwhile. The form has the data as it is now.";
+function setWrong(input, message) {
+  say(`Nothing was sent. ${message}`, true);
+  input.closest(".field").append(element("span", { className: "error", id: `${input.id}-error` }, message));
+  input.setAttribute("aria-invalid", "true");
+  input.setAttribute("aria-errormessage", `${input.id}-error`);
+  input.focus();
+}
+
+function setRight(input) {
+  at(`${input.id}-error`)?.remove();
+  input.removeAttribute("aria-invalid");
+  input.removeAttribute("aria-errormessage");
+}
+
+const MEANWHILE = "Nothing was sent: somebody else has corrected this child meanwhile. The form has the data as it is now, and "
+  + "what you typed is kept: where both differ, the present data is below it.";
 const isSame = (one, other) => JSON.stringify(one) === JSON.stringify(other);
 const shown = (value) => (Array.isArray(value) ? value.join(" ") || "none" : value === true ? "yes" : value === false ? "no" : value === "" ? "none"
   : isolated(String(value)));
 
 // #child/17/amend: every present value is in the form, and is sent again
-export function amendView(letter) {
-  const known = child(letter.number);
+export function amendView(of) {
+  const known = child(of);
   if (!known) throw new Shown("The index does not have this child, so its present data is not known and it cannot be corrected here.");
   const before = known.data;
-  const submit = async () => {
+  const submit = async (forget) => {
     const after = readData(before);
     const changes = Object.keys(after).filter((key) => !isSame(before[key], after[key]));
     if (!changes.length) throw new Wrong("name", "Nothing was changed.");
-    await update();
-    if (!isSame(child(before.child).data, before)) return again({ text: MEANWHILE, bad: true });
+    const isChanged = async () => {
+      await update();
+      return !isSame(child(before.child)?.data, before);
+    };
+    if (await isChanged()) return again({ text: MEANWHILE, bad: true });
     const list = changes.map((key) => `${key.replace("_", " ")} from ${shown(before[key])} to ${shown(after[key])}`).join("; ");
     if (!await isSure(`Correct child ${before.child}: ${list}? The child’s priorities may change with it.`, "Yes, correct it")) return null;
+    if (await isChanged()) return again({ text: MEANWHILE, bad: true });
     const reply = await send({ cmd: "amend", ...after }, `Child ${before.child} is corrected: ${list}.`);
+    if (reply && reply.isUnsent) return report(reply);
+    if (reply && !reply.bad) forget();
     return reply && go(reply.bad ? `#child/${before.child}/amend` : `#child/${before.child}`, reply);
   };
   return {
@@ -129,11 +151,11 @@ function applicationFields() {
     made.onchange = () => { if (made.value && selects[index + 1]) selects[index + 1].hidden = false; };
     return box;
   });
-  return [field("Day of the application", element("input", { type: "date", id: "applied", required: true, value: today() })), ...selects];
+  return [dayField("Day of the application", dayInput("applied", today())), ...selects];
 }
 
 function readApplication() {
-  const on = at("applied").value;
+  const on = readDay(at("applied").value);
   if (!isDay(on)) throw new Wrong("applied", "The day of the application must be from 1 January 1990 to 31 December 2110.");
   const preferences = Array.from({ length: MOST_PREFERENCES }, (_, index) => at(`preference-${index + 1}`).value).filter(Boolean);
   if (!preferences.length) throw new Wrong("preference-1", "An application has at least one school.");
@@ -142,6 +164,8 @@ function readApplication() {
   return { day: on, preferences };
 }
 
+// The schools of an application in their order, as its confirmation lists them
+const inOrder = (it) => it.preferences.map((code) => `${code} ${isolated(school(code).name)}`);
 const inWords = (it) => `applied ${day(it.day)} for ${it.preferences.join(", ")}`;
 const late = (it) => (register.season && it.day > register.season.closing_day
   ? ` The day is after the closing day, ${day(register.season.closing_day)}: it takes no part in the first round.` : "");
@@ -149,11 +173,11 @@ const late = (it) => (register.season && it.day > register.season.closing_day
 // An application of a child that has none
 export function applyForm(of, act) {
   if (!hasIndex) return null;
-  const submit = async () => {
+  const submit = async (forget) => {
     const application = readApplication();
-    if (await isSure(`Record for child ${of}: ${inWords(application)}?${late(application)} An application cannot be changed.`, "Yes, record it")) {
-      await act({ cmd: "apply", child: of, ...application }, `Child ${of}: ${inWords(application)}.`);
-    }
+    const question = `Record for child ${of}: ${inWords(application)}?${late(application)} An application cannot be changed.`;
+    if (!await isSure(question, "Yes, record it", inOrder(application))) return;
+    await act({ cmd: "apply", child: of, ...application }, `Child ${of}: ${inWords(application)}.`, forget);
   };
   return element("details", { open: true, className: "screen-only" }, element("summary", {}, "Record the application"),
     form("apply-form", applicationFields(), submit, "Send the application"));
@@ -162,9 +186,9 @@ export function applyForm(of, act) {
 // #add: a new child, and its application
 export function addView() {
   if (!hasIndex) throw new Shown("The index of the register is missing: a new child cannot be compared with the others. Inform whoever runs the desk.");
-  const next = Math.max(0, ...register.children.keys()) + 1;
+  const next = nextNumber();
   const blank = { name: "", east: "", north: "", looked_after: false, flags: [], siblings: [], present: "" };
-  const submit = async () => {
+  const submit = async (forget) => {
     const of = numberAt("child", 1, 9999999, "The number");
     if (child(of)) throw new Wrong("child", `Child ${of} is in the register already: ${isolated(child(of).data.name)}.`);
     const data = readData({ child: of });
@@ -172,7 +196,7 @@ export function addView() {
     const others = [...register.children.values()].filter((it) => plain(it.data.name) === plain(data.name));
     const alike = others.map((it) => ` There is already child ${it.data.child} of this name: ${details(it)}.`).join("");
     const question = `Add child ${of}, ${isolated(data.name)}: ${inWords(application)}?${late(application)}${alike} An application cannot be changed.`;
-    if (await isSure(question, "Yes, add it")) await add(data, application);
+    if (await isSure(question, "Yes, add it", inOrder(application))) await add(data, application, forget);
   };
   const made = form("add-form", [field("Number", textInput("child", next, { required: true, inputMode: "numeric" }), `the next free one is ${next}`),
     ...dataFields(blank), ...applicationFields()], submit, "Add the child");
@@ -180,15 +204,19 @@ export function addView() {
 }
 
 // The child first, then its application. If only the child is added, its view has the form of the application
-async function add(data, application) {
+async function add(data, application, forget) {
   const added = await send({ cmd: "add_child", ...data }, `Child ${data.child} is added.`);
   if (!added) return;
   if (added.bad) {
-    say(added.text, true);
-    at("answer").focus();
+    report(added);
     return;
   }
+  forget();
   const applied = await send({ cmd: "apply", child: data.child, ...application }, `Child ${data.child} is added: ${inWords(application)}.`);
+  if (applied.bad) {
+    const chosen = Object.fromEntries(application.preferences.map((code, index) => [`preference-${index + 1}`, code]));
+    keepFor(`#child/${data.child}`, "apply-form", { applied: day(application.day), ...chosen });
+  }
   go(`#child/${data.child}`, applied.bad ? { text: `Child ${data.child} is added, but without the application. ${applied.text}`, bad: true } : applied);
 }
 
@@ -196,14 +224,14 @@ async function add(data, application) {
 export function planForm({ number: of, name }, act) {
   if (!hasIndex) return null;
   const select = schoolSelect("plan", "", "choose a school");
-  const submit = async () => {
+  const submit = async (forget) => {
     const code = select.value;
     if (!code) throw new Wrong("plan", "Choose the school that the plan names.");
     const where = `${code} ${isolated(school(code).name)}`;
     const effect = "The child is admitted there, and the application ends. This cannot be undone.";
     const question = `Record that the EHC plan of child ${of}, ${isolated(name)}, names ${where}? ${effect}`;
     if (await isSure(question, "Yes, record the plan")) await act({ cmd: "name_plan", child: of, school: code },
-      `Child ${of} has a place at ${where} by a plan.`);
+      `Child ${of} has a place at ${where} by a plan.`, forget);
   };
   return element("details", { className: "screen-only" }, element("summary", {}, "Record an EHC plan"),
     form("plan-form", [field("School of the plan", select)], submit, "Record the plan"));
@@ -211,15 +239,22 @@ export function planForm({ number: of, name }, act) {
 
 // A raised admission number
 export function raiseForm(it) {
-  const submit = async () => {
+  const submit = async (forget) => {
     const pan = numberAt("pan", 1, 500, "The admission number");
     if (pan <= it.pan) throw new Wrong("pan", `The admission number can only be raised: it is ${it.pan}.`);
-    if (await isSure(`Raise the admission number of ${it.school} ${isolated(it.name)} from ${it.pan} to ${pan}? It cannot be lowered again.`,
-      "Yes, raise it")) {
-      const reply = await send({ cmd: "raise_pan", school: it.school, pan },
-        `The admission number of ${it.school} is ${pan}. The new places are not offered to anybody yet.`);
-      if (reply) again(reply);
+    const question = `Raise the admission number of ${it.school} ${isolated(it.name)} from ${it.pan} to ${pan}? It cannot be lowered again.`;
+    if (!await isSure(question, "Yes, raise it")) return;
+    await update();
+    const now = school(it.school)?.pan;
+    if (now !== it.pan) {
+      again({ text: `Nothing was sent: the admission number of ${it.school} was raised meanwhile, and is ${now}.`, bad: true });
+      return;
     }
+    const reply = await send({ cmd: "raise_pan", school: it.school, pan },
+      `The admission number of ${it.school} is ${pan}. The new places are not offered to anybody yet.`);
+    if (reply && !reply.bad) forget();
+    if (reply && reply.isUnsent) report(reply);
+    else if (reply) again(reply);
   };
   return element("details", { className: "screen-only" }, element("summary", {}, "Raise the admission number"),
     form("raise-form", [field("New admission number", textInput("pan", it.pan, { inputMode: "numeric" }))], submit, "Raise it"));

@@ -9,7 +9,7 @@ import { addView } from "./forms.js";
 import { beginPaper } from "./paper.js";
 import { authority, readSite, who } from "./register.js";
 import { begin } from "./router.js";
-import { roundView, schoolView } from "./schools.js";
+import { intakeView, roundView, schoolView } from "./schools.js";
 import { startView } from "./start.js";
 import { listView } from "./worklists.js";
 
@@ -18,7 +18,7 @@ at("who").textContent = who ? `Signed in: ${who}` : "";
 at("authority").textContent = authority;
 beginFinding();
 begin({
-  start: startView, child: childView, letters: lettersView, school: schoolView, round: roundView, list: listView, find: findView, answers: answersView,
+  start: startView, child: childView, letters: lettersView, school: schoolView, intake: intakeView, round: roundView, list: listView, find: findView, answers: answersView,
   add: addView, file: fileView, draw: drawView,
 });
 beginPaper();

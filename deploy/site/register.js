@@ -16,6 +16,10 @@ export let authority = "";
 // Letters by child; a child that a command has changed since has none
 const letters = new Map();
 let reading = null;
+// How a child lost a place or a list, by the commands since the index alone: the register itself does not tell them apart
+const ENDS = { decline: "declined", lapse: "offer withdrawn", leave_list: "list left" };
+const ends = new Map();
+export const endOf = (number, code) => ends.get(`${number} ${code}`) || "";
 // How often each child was changed by a command, and all of them by a draw or a new index: a letter that was read before is not kept
 const changes = new Map();
 let changesOfAll = 0;
@@ -26,6 +30,7 @@ let written = "";
 export const school = (code) => register.schools.get(code);
 export const child = (number) => register.children.get(number);
 export const nameOf = (number) => (child(number) ? child(number).data.name : "");
+export const nextNumber = () => Math.max(0, ...register.children.keys()) + 1;
 export const nextDraw = () => Math.max(0, ...register.draws.keys()) + 1;
 export const rounds = () => [...register.draws.values()].filter((draw) => draw.round > 0);
 
@@ -40,6 +45,7 @@ export function apply(command) {
   }
   if (cmd === "apply" && known) Object.assign(known, { applied: data.day, preferences: data.preferences });
   if (cmd === "name_plan" && known) Object.assign(known, { applied: null, preferences: [] });
+  if (ENDS[cmd]) ends.set(`${data.child} ${data.school}`, ENDS[cmd]);
   if (cmd === "round" || cmd === "fill") {
     const number = cmd === "round" && !register.draws.has(data.draw) ? rounds().length + 1 : 0;
     if (!register.draws.has(data.draw)) register.draws.set(data.draw, { draw: data.draw, round: number, school: data.school || null, day: data.day });
@@ -70,6 +76,7 @@ function accept(index) {
   for (const it of index.schools) register.schools.set(it.school, it);
   for (const it of index.children) register.children.set(it.data.child, it);
   for (const it of index.draws) register.draws.set(it.draw, it);
+  ends.clear();
   forgetAll();
   hasIndex = true;
 }
@@ -104,11 +111,12 @@ async function updateNow() {
   await readSince();
 }
 
-// The commands since, from where the last one ended. Without new ones the site answers 416
+// The commands since, from where the last one ended. One byte that was read before is read again: a range of no bytes would be an
+// error, which the browser reports. So the whole file is read where nothing of it was
 async function readSince() {
-  const answer = await file("/since.jsonl", { headers: { Range: `bytes=${offset}-` } });
-  if (!answer || answer.status !== 206) return;
-  const bytes = new Uint8Array(await answer.arrayBuffer());
+  const answer = await file("/since.jsonl", offset ? { headers: { Range: `bytes=${offset - 1}-` } } : {});
+  if (!answer || answer.status !== (offset ? 206 : 200)) return;
+  const bytes = new Uint8Array(await answer.arrayBuffer()).subarray(offset ? 1 : 0);
   const end = bytes.lastIndexOf(10) + 1;
   offset += end;
   for (const line of new TextDecoder().decode(bytes.subarray(0, end)).split("\n").filter(Boolean)) {
@@ -134,18 +142,34 @@ export async function letterOf(number) {
   return letter;
 }
 
+// The letter of a child as it is now; nothing if the register has no such child
+export async function letterIfAny(number) {
+  try {
+    return await letterOf(number);
+  } catch (error) {
+    if (error instanceof Shown && error.status === 404) return null;
+    throw error;
+  }
+}
+
 // The letters of some children as they are now, in the same order
-export async function lettersOf(some) {
+export async function lettersOf(some, one = letterOf) {
   const found = [];
   try {
     for (let from = 0; from < some.length; from += AT_ONCE) {
-      found.push(...await Promise.all(some.slice(from, from + AT_ONCE).map((number) => letterOf(number))));
+      found.push(...await Promise.all(some.slice(from, from + AT_ONCE).map((number) => one(number))));
       progress(found.length, some.length);
     }
   } finally {
     progress(1, 1);
   }
   return found;
+}
+
+// The letters of some children by their numbers, or nothing for those that the register does not have
+export async function lettersIfAny(some) {
+  const found = await lettersOf(some, letterIfAny);
+  return new Map(some.map((number, index) => [number, found[index]]));
 }
 
 // All letters, each read once: those that a command has changed are read again. `afresh` reads every one again

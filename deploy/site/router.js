@@ -51,13 +51,18 @@ async function render() {
     if (mine === turn) show(view, reply);
   } catch (error) {
     if (mine !== turn) return;
-    at("result").replaceChildren();
+    at("result").replaceChildren(...(error.isAway ? tryAgain() : []));
     if (!(error instanceof Shown)) reportError(error);
     const reason = error instanceof Shown ? error.message : `This view has an error: ${error.message}`;
     say(reply ? `${reply.text} It cannot be shown now.` : reason, true);
     at("answer").focus();
   }
 }
+
+// In place of a view that the desk is needed for, and is not there. What was typed into a form is shown again with it
+const tryAgain = () => [element("h2", { tabIndex: -1, id: "heading" }, "No answer of the desk"),
+  element("p", {}, "This view is shown when the desk answers again."),
+  element("p", { className: "tools screen-only" }, button("Try again", () => render(), { id: "try-again" }))];
 
 // A view has a title, its nodes, and a text that is read out
 function show({ title, nodes, status, focus, isBad }, reply) {

@@ -3,9 +3,9 @@ import { Shown, read } from "./desk.js";
 import { childLink, element, facts, link, schoolLink } from "./elements.js";
 import { raiseForm } from "./forms.js";
 import { readList, readReport } from "./reading.js";
-import { child, hasIndex, nameOf, register, school } from "./register.js";
+import { allLetters, child, hasIndex, nameOf, register, school } from "./register.js";
 import { column, table } from "./tables.js";
-import { count, criterion, day, isolated, plural, priority } from "./words.js";
+import { count, criteriaInWords, day, isolated, plural, priority, time } from "./words.js";
 
 const bdi = (text) => element("bdi", {}, text);
 const NAME = column("Name", (it) => nameOf(it.child), { cell: (it) => bdi(nameOf(it.child)) });
@@ -27,11 +27,35 @@ export async function schoolView([code = ""]) {
   });
   const about = it ? facts([
     ["Admission number", count(it.pan)],
-    ["Criteria", ["looked after", ...it.criteria.map(criterion)].map((text, index) => `${index}. ${text}`).join("; ") + "; then distance"],
+    ["Criteria", criteriaInWords(it.criteria)],
   ]) : null;
   const draw = element("p", { className: "screen-only" }, link(`#draw/${code}`, "Commands to fill a vacancy"));
-  const nodes = [about, counts, made.node, hasIndex ? draw : null, it ? raiseForm(it) : null].filter(Boolean);
+  const intake = element("p", { className: "screen-only" }, link(`#intake/${code}`, "Children with a place here"));
+  const links = hasIndex ? [intake, draw] : [];
+  const nodes = [about, counts, made.node, ...links, it ? raiseForm(it) : null].filter(Boolean);
   return { title: `${code} ${name}`, nodes, status: `The waiting list of ${code}, as it is now.` };
+}
+
+const STATES = { accepted: "accepted", offered: "offered, no answer yet", plan: "by a plan" };
+
+// #intake/OAK: who has a place at a school
+export async function intakeView([code = ""]) {
+  const it = school(code);
+  if (!it) throw new Shown("The register has no such school.");
+  const { letters, asOf } = await allLetters();
+  const rows = letters.filter((letter) => letter.place && letter.place.school === code);
+  const of = (kind) => rows.filter((letter) => letter.place.kind === kind).length;
+  const counts = `${count(of("accepted"))} accepted, ${count(of("offered"))} offered, ${count(of("plan"))} by a plan. The admission number is ${count(it.pan)}.`;
+  const made = table({
+    caption: `Children with a place at ${code} ${isolated(it.name)}, as of ${time(asOf)}`, file: `intake-${code}.csv`, rows,
+    columns: [
+      column("Child", (letter) => letter.number, { isFigure: true, cell: (letter) => childLink(letter.number) }),
+      column("Name", (letter) => letter.name, { cell: (letter) => bdi(letter.name) }),
+      column("Place", (letter) => STATES[letter.place.kind]),
+      column("Offered", (letter) => letter.place.offered, { cell: (letter) => (letter.place.offered ? day(letter.place.offered) : "") }),
+    ],
+  });
+  return { title: `Intake of ${code} ${isolated(it.name)}`, nodes: [element("p", { id: "intake" }, counts), made.node], status: counts };
 }
 
 // #round/2

@@ -1,33 +1,30 @@
-// Sends commands: one at a time, each once. What was done is told apart from what was refused, what was not sent, and what may be done.
-import { ask, describe, outcome } from "./desk.js";
-import { at, say } from "./elements.js";
-import { apply, child, letterOf, parsed, register, school, update } from "./register.js";
+// Sends commands: one at a time, each once. What was done is distinguished from what was refused, what was not sent, and what may be
+// done. Just before a command is sent, its child is read again: for one that is not as it was shown, nothing is sent.
+import { changeOf } from "./changes.js";
+import { ask, describe, isAway, outcome, Shown } from "./desk.js";
+import { at, element, say } from "./elements.js";
+import { apply, child, letterIfAny, letterOf, parsed, register, school, update } from "./register.js";
 import { day, daysBetween, isDay, today } from "./words.js";
 
 // One task at a time: a second press sends nothing
 let busy = false;
 export const isBusy = () => busy;
 
-// Asks for confirmation of what cannot be undone. The button that does nothing has the focus
-export function isSure(question, yes) {
+// Asks for confirmation of what cannot be undone, with a line for each whom it concerns. It is confirmed by its button alone: no
+// letter is a key for it, and the button that does nothing has the focus
+export function isSure(question, yes, whom = []) {
   const dialog = at("sure");
   if (dialog.open) return Promise.resolve(false);
   at("sure-question").textContent = question;
+  at("sure-whom").replaceChildren(...whom.map((text) => element("li", { dir: "auto" }, text)));
+  at("sure-whom").hidden = !whom.length;
   at("sure-yes").textContent = yes;
   dialog.returnValue = "no";
-  dialog.onkeydown = chooseByKey;
   dialog.showModal();
+  at("sure-whom").scrollTop = 0;
   at("sure-no").focus();
   // The event of an earlier close may arrive when the dialog is open again: then it is not the answer to this question
   return new Promise((resolve) => { dialog.onclose = () => dialog.open || resolve(dialog.returnValue === "yes"); });
-}
-
-// Y and N, pressed once: a key that is held down does not answer the next question too, and none is typed into the field that has the focus then
-function chooseByKey(event) {
-  const choice = { y: "sure-yes", n: "sure-no" }[event.key.toLowerCase()];
-  if (!choice || event.ctrlKey || event.altKey || event.metaKey) return;
-  event.preventDefault();
-  if (!event.repeat) at(choice).click();
 }
 
 // Sends the text of a command, and returns what became of it
@@ -38,36 +35,69 @@ async function sendText(text) {
   return { text, outcome: what, reason: what === "done" ? "" : describe(answer, true), reply: answer.body };
 }
 
-// Sends one command, and returns its answer as a text to show; nothing if another task is in progress
-export async function send(command, done) {
+// Sends a command if its child is still as it was shown. `shown` is the letter that was shown, or nothing if the command rests on
+// none: then only `isFirst` has it read anything, which shows whether the desk is open
+async function sendCompared({ text, shown }, isFirst) {
+  try {
+    if (shown) {
+      const now = await letterIfAny(shown.number);
+      const change = changeOf(shown, now, parsed(text));
+      if (change) return { text, outcome: "differs", reason: `Child ${shown.number}: ${change}. Nothing was sent.`, now };
+    } else if (isFirst) {
+      const answer = await ask("/round/0");
+      if (isAway(answer)) throw new Shown(describe(answer, false), answer.status);
+    }
+  } catch (error) {
+    if (!(error instanceof Shown)) throw error;
+    return { text, outcome: "unsent", reason: `Nothing was sent. ${error.message}` };
+  }
+  return sendText(text);
+}
+
+// Sends one command, and returns its answer as a text to show; nothing if another task is in progress. `isUnsent` is whether the
+// desk was not there, so that all is as before; `now` is the letter of a child that is not as it was shown
+export async function send(command, done, shown = null) {
   if (busy) return null;
   busy = true;
   say("Sending …");
   try {
-    const result = await sendText(JSON.stringify(command));
-    return result.outcome === "done" ? { text: `Done, and stored. ${done}`, bad: false } : { text: result.reason, bad: true };
+    const result = await sendCompared({ text: JSON.stringify(command), shown }, true);
+    if (result.outcome === "done") return { text: `Done, and stored. ${done}`, bad: false };
+    return { text: result.reason, bad: true, isUnsent: result.outcome === "unsent", now: result.now };
   } finally {
     busy = false;
   }
 }
 
-// Sends commands one after another until one has no certain answer, or the desk does nothing more. Returns a result for each of them, in order;
-// `seen` is called after each. `isStopped` is asked before each
-export async function sendAll(texts, seen, isStopped = () => false) {
+const GOES_ON = ["done", "refused", "differs"];
+
+// Sends commands one after another until one has no certain answer, or the desk does nothing more. Each item has the `text` of its
+// command, and `shown`. Returns a result for each of them, in order; `seen` is called after each. `isStopped` is asked before each
+export async function sendAll(items, seen, isStopped = () => false) {
   if (busy) return null;
   busy = true;
   const results = [];
   try {
-    for (const text of texts) {
+    for (const item of items) {
       const last = results.at(-1);
-      const isOver = last && last.outcome !== "done" && last.outcome !== "refused";
-      results.push(isOver || isStopped() ? { text, outcome: "unsent", reason: "" } : await sendText(text));
-      if (!isOver) seen(results.length, texts.length);
+      const isOver = Boolean(last) && !GOES_ON.includes(last.outcome);
+      const isUnsent = isOver || isStopped();
+      results.push(isUnsent ? { text: item.text, outcome: "unsent", reason: "" } : await sendCompared(item, !last));
+      if (results.at(-1).outcome === "done") await follow(item, items.slice(results.length));
+      if (!isOver) seen(results.length, items.length, results.at(-1));
     }
   } finally {
     busy = false;
   }
   return results;
+}
+
+// What this task has done itself to a child is no surprise to its later commands of the same child
+async function follow({ shown }, later) {
+  const same = shown ? later.filter((it) => it.shown && it.shown.number === shown.number) : [];
+  if (!same.length) return;
+  const now = await letterIfAny(shown.number).catch(() => null);
+  for (const it of same) it.shown = now || it.shown;
 }
 
 // Whether a command that may be done is done: by the child's letter, or by what the register has now. Nothing if it cannot be seen
@@ -101,21 +131,30 @@ export async function settle(commands) {
   return { done, left };
 }
 
-// Whether a day may be sent: one that the register does not accept is not, and one outside the season, or over a week from today, must be confirmed
-export async function isDaySure(on, what) {
-  if (!isDay(on)) {
-    say(`Nothing was sent: ${on ? `the year of the day is ${Number(on.split("-")[0])}`
-      : "there is no day"}. The register takes days from 1 January 1990 to 31 December 2110.`, true);
-    return false;
-  }
+// Why a day looks wrong: it is over a week from today, or outside the season
+export function strangeness(on) {
   const reasons = [];
   const distance = daysBetween(today(), on);
   if (Math.abs(distance) > 7) reasons.push(`${Math.abs(distance).toLocaleString("en-GB")} days ${distance > 0 ? "after" : "before"} today`);
   const { season } = register;
   if (season && on > season.last_day) reasons.push(`after the last day of the season, ${day(season.last_day)}`);
   if (season && on < season.offer_day) reasons.push(`before the offer day, ${day(season.offer_day)}`);
+  return reasons;
+}
+
+// Whether a day may be sent: one that the register does not accept is not, and one outside the season, or over a week from today, must be confirmed
+export async function isDaySure(on, what) {
+  if (!isDay(on)) {
+    say(`Nothing was sent: ${on ? `the year of the day is ${Number(on.split("-")[0])}`
+      : "there is no day that can be read"}. The register takes days from 1 January 1990 to 31 December 2110.`, true);
+    return false;
+  }
+  const reasons = strangeness(on);
   if (!reasons.length) return true;
-  return isSure(`${day(on)} is ${reasons.join(", and ")}. A wrong day cannot be changed afterwards. ${what} with this day?`, "Yes, this day is right");
+  const question = `${day(on)} is ${reasons.join(", and ")}. A wrong day cannot be changed afterwards. ${what} with this day?`;
+  if (await isSure(question, "Yes, this day is right")) return true;
+  say("Nothing was sent.");
+  return false;
 }
 
 window.addEventListener("beforeunload", (event) => {

@@ -6,10 +6,32 @@ export const DAY_LENGTH = 86400000;
 // A day of the register, 2025-03-03, as people read it: 3 March 2025
 export const day = (text) => new Date(text + "T00:00:00Z").toLocaleDateString("en-GB", FORM);
 
-// The days that the register accepts. A field for a day accepts years of five and six digits, too
+// The days that the register accepts
 export const FIRST_DAY = "1990-01-01";
 export const LAST_DAY = "2110-12-31";
 export const isDay = (text) => /^\d{4}-\d{2}-\d{2}$/.test(text) && text >= FIRST_DAY && text <= LAST_DAY;
+
+const MONTHS = ["january", "february", "march", "april", "may", "june", "july", "august", "september", "october", "november",
+  "december"];
+
+// A day as somebody types it, 2 April 2025, 2/4/2025 or 2025-04-02, in the form of the register; nothing if it is none
+export function readDay(text) {
+  const given = text.trim().toLowerCase();
+  const [, year, month, date] = /^(\d{4,6})-(\d\d?)-(\d\d?)$/.exec(given) || [];
+  if (year) return dayOf(year, Number(month), Number(date));
+  const [, first, second, last] = /^(\d\d?)(?:st|nd|rd|th)?[ ./-]+(\d\d?|[a-z]{3,9})[ ,./-]+(\d{4,6})$/.exec(given) || [];
+  if (!first) return "";
+  return dayOf(last, Number(second) || MONTHS.findIndex((it) => it.startsWith(second)) + 1, Number(first));
+}
+
+function dayOf(year, month, date) {
+  const made = new Date(0);
+  made.setUTCFullYear(Number(year), month - 1, date);
+  if (made.getUTCMonth() !== month - 1 || made.getUTCDate() !== date) return "";
+  return [year, String(month).padStart(2, "0"), String(date).padStart(2, "0")].join("-");
+}
+
+export const weekday = (text) => new Date(text + "T00:00:00Z").toLocaleDateString("en-GB", { timeZone: "UTC", weekday: "long" }) + " " + day(text);
 
 export const daysBetween = (from, to) => (Date.parse(to) - Date.parse(from)) / DAY_LENGTH;
 export const daysAfter = (from, count) => new Date(Date.parse(from) + count * DAY_LENGTH).toISOString().slice(0, 10);
@@ -39,6 +61,16 @@ export function criterion(text) {
   if (kind === "flag") return `flag ${value}`;
   if (kind === "feeder") return `present school ${value}`;
   return text;
+}
+
+// The criteria of a school in their order
+export const criteriaInWords = (criteria) => ["looked after", ...criteria.map(criterion)].map((text, index) => `${index}. ${text}`).join("; ")
+  + "; then distance";
+
+// A school as it is added, whole: nothing of it but its admission number can be changed afterwards
+export function schoolInWords({ school, name, pan, east, north, criteria }) {
+  const order = Array.isArray(criteria) ? criteriaInWords(criteria.map(String)) : "no criteria";
+  return `${school} ${isolated(String(name))}: admits ${pan}; at ${east} east, ${north} north; ${order}`;
 }
 
 // A class of a school in words: what the child meets. Without the school's criteria, the number

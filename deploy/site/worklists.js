@@ -1,12 +1,12 @@
 // The worklists: who is on them, and the work that is done for the rows that are ticked.
 import { Shown, read } from "./desk.js";
-import { at, button, childLink, element, field, progress, say, schoolLink } from "./elements.js";
+import { at, button, childLink, dayField, dayInput, element, progress, say, schoolLink } from "./elements.js";
 import { readList } from "./reading.js";
 import { allLetters, child, nameOf, register, rounds } from "./register.js";
 import { go } from "./router.js";
 import { isBusy, isDaySure, isSure, sendAll, settle } from "./sending.js";
 import { column, table } from "./tables.js";
-import { IS_FINAL, count, day, daysAfter, isolated, plural, time, today } from "./words.js";
+import { IS_FINAL, count, day, daysAfter, isolated, plural, readDay, time, today } from "./words.js";
 
 const WAIT = 14;
 
@@ -56,15 +56,17 @@ export const LISTS = {
   },
 };
 
-// What each command does, in words for its button, its question and its answers
+// What each command does, in words for its button, its question and its answers. `things` are what the button of the question counts
 const ACTIONS = {
-  accept: { label: "Accept for those ticked", one: "acceptance", many: "acceptances", ask: "Record that {n} accepted the offer?", yes: "Yes, accept" },
-  decline: { label: "Decline for those ticked", one: "decline", many: "declines",
-    ask: `Decline the place of {n}? ${IS_FINAL}`, yes: "Yes, decline" },
-  remind: { label: "Record reminders", one: "reminder", many: "reminders", ask: "Record a reminder of {day} for {n}? A recorded reminder cannot be changed.",
-    yes: "Yes, record", isDated: true },
-  lapse: { label: "Withdraw the offers", one: "withdrawal", many: "withdrawals",
-    ask: `Withdraw the offers of {n}, on {day}? ${IS_FINAL}`, yes: "Yes, withdraw", isDated: true },
+  accept: { label: "Accept for those ticked", one: "acceptance", many: "acceptances", ask: "Record that {n} accepted the offer?",
+    yes: "Yes, accept", things: ["offer", "offers"] },
+  decline: { label: "Decline for those ticked", one: "decline", many: "declines", ask: `Decline the place of {n}? ${IS_FINAL}`,
+    yes: "Yes, decline", things: ["place", "places"] },
+  remind: { label: "Record reminders", one: "reminder", many: "reminders",
+    ask: "Record a reminder of {day} for {n}? A recorded reminder cannot be changed.", yes: "Yes, record", things: ["reminder", "reminders"],
+    isDated: true },
+  lapse: { label: "Withdraw the offers", one: "withdrawal", many: "withdrawals", ask: `Withdraw the offers of {n}, on {day}? ${IS_FINAL}`,
+    yes: "Yes, withdraw", things: ["offer", "offers"], isDated: true },
 };
 
 function movedRows() {
@@ -101,7 +103,8 @@ export async function listView([name]) {
       && rows.length ? "Child" : null,
   });
   const room = element("div", { id: "outcome" });
-  const nodes = [noteOf(name), rows.length && isTicked ? actionsOf(name, list, made) : null, room, made.node].filter(Boolean);
+  const actions = rows.length && isTicked ? actionsOf(name, list, made) : [];
+  const nodes = [noteOf(name), actions[0], room, made.node, actions[1]].filter(Boolean);
   const last = results.get(name);
   if (last) {
     results.delete(name);
@@ -112,23 +115,29 @@ export async function listView([name]) {
     : "children")}.` };
 }
 
+// What is done for those ticked: above the list, and below it, on its own, the declines
 function actionsOf(name, list, made) {
-  const on = element("input", { type: "date", id: "on", value: today() });
-  const act = (cmd) => workOn(name, cmd, made.ticked(), on.value);
+  const on = dayInput("on", today());
+  const act = (cmd) => workOn(name, cmd, made.ticked(), readDay(on.value));
   const letters = () => {
     const chosen = made.ticked().map((it) => it.number);
     if (chosen.length) go(`#letters/${chosen.join(",")}`);
     else say("Nothing is ticked.", true);
   };
-  return element("div", { className: "actions screen-only" },
-    list.actions.some((it) => ACTIONS[it].isDated) ? field("Day", on) : null,
-    ...list.actions.map((cmd) => button(ACTIONS[cmd].label, () => act(cmd), { id: `do-${cmd}`, className: cmd === "accept" ? "" : "final" })),
-    button("Letters of those ticked", letters, { id: "do-letters" }));
+  const press = (cmd) => button(ACTIONS[cmd].label, () => act(cmd), { id: `do-${cmd}`, className: cmd === "accept" ? "" : "final" });
+  const above = list.actions.filter((it) => it !== "decline");
+  const apart = element("details", { className: "screen-only" }, element("summary", {}, "Decline several places"),
+    element("div", { className: "actions" }, press("decline")));
+  return [
+    element("div", { className: "actions screen-only" }, above.some((it) => ACTIONS[it].isDated) ? dayField("Day", on) : null,
+      ...above.map(press), button("Letters of those ticked", letters, { id: "do-letters" })),
+    list.actions.includes("decline") ? apart : null,
+  ];
 }
 
-const asked = (text, on, rows) => text.replace("{day}", isDay(on) ? day(on) : on).replace("{n}", rows.length === 1
-  ? `child ${rows[0].number}, ${isolated(rows[0].name)}` : plural(rows.length, "child", "children"));
-const isDay = (text) => /^\d{4}-\d\d-\d\d$/.test(text);
+const asked = (text, on, rows) => text.replace("{day}", on ? day(on) : "").replace("{n}", () => (rows.length === 1
+  ? `child ${rows[0].number}, ${isolated(rows[0].name)}` : plural(rows.length, "child", "children")));
+const named = ({ number, name, place }) => `Child ${number}, ${isolated(name)}: ${place.school} ${isolated(place.name)}`;
 
 // The result of the last work on each list, shown when the list is read again
 const results = new Map();
@@ -139,23 +148,28 @@ async function workOn(name, cmd, rows, on) {
   if (isBusy()) return say("Another task is in progress.", true);
   if (!rows.length) return say("Nothing is ticked.", true);
   if (action.isDated && !await isDaySure(on, "Send")) return null;
-  if (!await isSure(asked(action.ask, on, rows), `${action.yes} ${count(rows.length)}`)) return say("Nothing was sent.");
-  const commands = rows.map((it) => ({ cmd, child: it.number, school: it.place.school, ...(action.isDated ? { day: on } : {}) }));
-  return run(name, cmd, commands, { done: 0, refused: [] });
+  const yes = `${action.yes} ${plural(rows.length, ...action.things)}`;
+  if (!await isSure(asked(action.ask, on, rows), yes, rows.map(named))) return say("Nothing was sent.");
+  const tasks = rows.map((shown) => ({
+    shown, command: { cmd, child: shown.number, school: shown.place.school, ...(action.isDated ? { day: on } : {}) },
+  }));
+  return run(name, cmd, tasks, { done: 0, refused: [] });
 }
 
-async function run(name, cmd, commands, before) {
+// Sends the command of each task, for a child that is still as it was shown
+async function run(name, cmd, tasks, before) {
   let isStopped = false;
   const stop = button("Stop after this one", () => { isStopped = true; }, { id: "stop" });
   at("outcome").replaceChildren(element("p", {}, stop));
   for (const it of document.querySelectorAll(".actions button")) it.disabled = true;
   const seen = (done, all) => { progress(done, all); if (done % 10 === 0 || done === all) say(`Sent ${count(done)} of ${count(all)}.`); };
-  say(`Sending ${count(commands.length)} …`);
-  const sent = await sendAll(commands.map((it) => JSON.stringify(it)), seen, () => isStopped);
+  say(`Sending ${count(tasks.length)} …`);
+  const sent = await sendAll(tasks.map(({ command, shown }) => ({ text: JSON.stringify(command), shown })), seen, () => isStopped);
   progress(1, 1);
   if (!sent) return say("Another task is in progress.", true);
-  const of = (what) => sent.map((it, index) => ({ ...it, command: commands[index] })).filter((it) => it.outcome === what);
-  const found = { done: before.done + of("done").length, refused: [...before.refused, ...of("refused")], unknown: of("unknown"), unsent: of("unsent") };
+  const of = (...what) => sent.map((it, index) => ({ ...tasks[index], ...it })).filter((it) => what.includes(it.outcome));
+  const found = { done: before.done + of("done").length, refused: [...before.refused, ...of("refused", "differs")], unknown: of("unknown"),
+    unsent: of("unsent") };
   finish(name, cmd, found);
   return null;
 }
@@ -164,24 +178,26 @@ async function run(name, cmd, commands, before) {
 function report(name, cmd, { done, refused, unknown, unsent }) {
   const action = ACTIONS[cmd];
   const rest = unknown.length + unsent.length;
+  const differ = refused.filter((it) => it.outcome === "differs").length;
   const parts = [`${plural(done, action.one, action.many)} done`];
-  if (refused.length) parts.push(`${count(refused.length)} refused`);
+  if (refused.length > differ) parts.push(`${count(refused.length - differ)} refused`);
+  if (differ) parts.push(`${count(differ)} not sent, since the child has changed`);
   if (unknown.length) parts.push(`${count(unknown.length)} without an answer, which may be done`);
   if (unsent.length) parts.push(`${count(unsent.length)} not sent`);
   const text = `${parts.join(", ")}.`;
   const nodes = [element("h3", {}, "Result"), element("p", { id: "counts" }, text)];
-  if (unknown.length) nodes.push(element("p", { className: "warning" }, unknown[0].reason));
+  const reason = (unknown[0] || unsent.find((it) => it.reason) || {}).reason;
+  if (reason) nodes.push(element("p", { className: "warning" }, reason));
   if (refused.length) {
     nodes.push(table({
-      caption: "Refused", file: `${name}-refused.csv`, rows: refused,
+      caption: differ ? "Not done" : "Refused", file: `${name}-refused.csv`, rows: refused,
       columns: [column("Child", (it) => it.command.child, { isFigure: true, cell: (it) => childLink(it.command.child) }),
-        column("Name", (it) => nameOf(it.command.child), { cell: (it) => bdi(nameOf(it.command.child)) }),
+        column("Name", (it) => it.shown.name, { cell: (it) => bdi(it.shown.name) }),
         column("School", (it) => it.command.school), column("Reason", (it) => it.reason.replace("Refused, and nothing has changed. ", ""))],
     }).node);
   }
   if (rest) {
-    const [doubtful, open] = [unknown, unsent].map((some) => some.map((it) => it.command));
-    const again = button(`Look, and go on with the remaining ${count(rest)}`, () => goOn(name, cmd, doubtful, open, { done, refused }), { id: "go-on" });
+    const again = button(`Look, and go on with the remaining ${count(rest)}`, () => goOn(name, cmd, unknown, unsent, { done, refused }), { id: "go-on" });
     nodes.push(element("p", { className: "screen-only" }, again));
   }
   return { nodes, text, isBad: refused.length + rest > 0 };
@@ -191,9 +207,10 @@ function report(name, cmd, { done, refused, unknown, unsent }) {
 async function goOn(name, cmd, doubtful, open, before) {
   if (isBusy()) return;
   try {
-    const { done, left } = await settle(doubtful);
+    const { done, left } = await settle(doubtful.map((it) => it.command));
     const known = { ...before, done: before.done + done.length };
-    if (left.length + open.length) await run(name, cmd, [...left, ...open], known);
+    const rest = [...doubtful.filter((it) => left.includes(it.command)), ...open];
+    if (rest.length) await run(name, cmd, rest, known);
     else finish(name, cmd, { ...known, unknown: [], unsent: [] });
   } catch (error) {
     if (!(error instanceof Shown)) throw error;

@@ -71,7 +71,6 @@ class Register:
     def copy(self):
         """Makes a nightly copy, which is reg.db then."""
         if self.is_new:
-            time.sleep(1.1)  # (the copies are named by the second)
             if run("systemctl", "start", f"admissions-backup@{self.name}").returncode:
                 raise RuntimeError("the copy was not made")
             shutil.copy(max(self.copies.glob("nightly-*.db")), self.room / "reg.db")

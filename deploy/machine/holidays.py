@@ -1,0 +1,72 @@
+"""The holidays of a register that is there. A register has them from the beginning on, so it is made anew; and only while it is empty."""
+import contextlib
+import datetime
+import pathlib
+import shutil
+import tempfile
+import typing
+
+from .registers import Register, open_error, rows, season_of
+from .run import USER, Failed, call, is_booted, program, tool
+
+
+def days_of(file: pathlib.Path) -> list[str]:
+    """The holidays of a register, in rising order."""
+    text = rows(file, "SELECT holidays FROM meta")[0][0]
+    first = datetime.date(1970, 1, 1)
+    return [(first + datetime.timedelta(int(it))).isoformat() for it in text.split(";") if it]
+
+
+def content_of(file: pathlib.Path) -> str:
+    """What a register holds beside its season, as `2 school, 1 child`; an empty text where it is empty."""
+    tables = rows(file, "SELECT name FROM sqlite_master WHERE type = 'table' AND name <> 'meta' ORDER BY rowid")
+    counts = {name: rows(file, f"SELECT count(*) FROM {name}")[0][0] for (name,) in tables}
+    return ", ".join(f"{count} {name}" for name, count in counts.items() if count)
+
+
+def change_of(register: Register, days: list[str]) -> str | None:
+    """What these days change, in words; None where the register has just these."""
+    before = days_of(register.file)
+    if before == days:
+        return None
+    see_empty(register)
+    return (f"the holidays of {register.name} change from {', '.join(before) or 'none'} to {', '.join(days) or 'none'}:"
+            " it is empty, and is made anew")
+
+
+def see_empty(register: Register) -> None:
+    if content := content_of(register.file):
+        raise Failed(f"the holidays of {register.name} cannot be changed any more, since it has {content}: they decide its days, and"
+                     f" only an empty register is made anew. Its holidays are {', '.join(days_of(register.file)) or 'none'}")
+
+
+def change(register: Register, days: list[str], before: list[str]) -> str:
+    """Makes the register anew with these days, while its desk is stopped. What was there is kept as a copy beside it."""
+    season = season_of(register.file)
+    with stopped(register), tempfile.TemporaryDirectory(dir=register.folder, prefix="reg.db.part-") as room:
+        # (the file alone is the register only after the program has closed it)
+        if error := open_error(register.file, as_user=USER):
+            raise Failed(f"{register.file} does not open: {error}")
+        see_empty(register)
+        if days_of(register.file) != before:
+            raise Failed(f"the holidays of {register.name} were changed meanwhile: they are {', '.join(days_of(register.file))}")
+        shutil.chown(room, USER, USER)
+        new = pathlib.Path(room, "reg.db")
+        call(program("admissions"), "init", new, season.phase, season.year, *days, as_user=USER)
+        done = call(program("admissions-restore"), new, register.file, as_user=USER)
+    kept = done.stdout.strip().partition("; ")[2]
+    return f"made {register.file} anew, with the holidays {', '.join(days) or 'none'}; {kept}"
+
+
+@contextlib.contextmanager
+def stopped(register: Register) -> typing.Iterator[None]:
+    """The desk does not run meanwhile; if it ran before, it does afterwards."""
+    control, unit = tool("systemctl", "systemd"), f"admissions@{register.name}.service"
+    has_run = is_booted() and call(control, "is-active", unit, may_fail=True).stdout.strip() == "active"
+    if has_run:
+        call(control, "stop", unit)
+    try:
+        yield
+    finally:
+        if has_run:
+            call(control, "start", unit)
