@@ -1,7 +1,10 @@
 """What is wrong with an application beside others: rows of the same file, and a register."""
 import statistics
+from collections.abc import Iterable, Iterator
+from typing import Any
 
 from . import days, texts
+from .register import Register
 
 NEAR_METRES, FAR_METRES, FAR_DAYS = 200, 50_000, 370
 # near names are looked for at homes with at most this many children
@@ -10,7 +13,7 @@ MOST_AT_HOME = 60
 
 def repeated(rows):
     """Rows with a number that an earlier row has: (row, earlier row, whether all their fields are equal)."""
-    first = {}
+    first: dict = {}
     for row in rows:
         number = row.fields["child"]
         if number in first:
@@ -19,12 +22,13 @@ def repeated(rows):
             first[number] = row
 
 
-def alike(rows, register):
+def alike(rows: Iterable[Any], register: Register | None) -> Iterator[tuple[Any, Any]]:
     """Children with other numbers whose name and home are alike, in the file and in a register: (row, other, its name)."""
     known = [Known(it) for it in register.children.values()] if register else []
     numbers = {it.fields["child"] for it in rows}
     people = [*(it for it in known if it.fields["child"] not in numbers), *(it for it in rows if it.has_person)]
-    homes, names = {}, {}
+    homes: dict = {}
+    names: dict = {}
     for one in people:
         here = homes.setdefault(one.home, [])
         named = names.setdefault(texts.folded(one.fields["name"]), [])

@@ -1,21 +1,30 @@
-"""Audits a round or a fill from two files alone, by code that it shares with no other program.
+"""Audits a round or a fill from two files alone. It shares no code with
+`admissions`; only the locking of files with the other tools.
 
   admissions-audit BEFORE AFTER [--later] [--school CODE]
 
-BEFORE is a copy of the register from before the round or the fill, AFTER the register, or a copy, from after it. Of BEFORE it works out the problem: who
-takes part, the schools that each child wants, the places, and how each child ranks; of AFTER it takes the lots that were drawn. It needs Python alone.
+BEFORE is a copy of the register from before the round or the fill, AFTER the
+register, or a copy, from after it. Of BEFORE it works out the problem: who
+takes part, the schools that each child wants, the places, and how each child
+ranks; of AFTER it takes the lots that were drawn. It needs Python alone.
 
-A round: it allots the places itself, by deferred acceptance as Gale and Shapley described it in 1962, and compares. It reports whether the outcomes are
-stable (no child and school would both rather have each other) and best (no child has a better school in any other stable allocation), and whom each school
-turned away, by which key. A fill: it reports whether the school had a vacancy, and whether the child that was offered it is the first by criterion,
-distance and lot among all who wait there, and lists those. Of both it tests whether all else in AFTER is as in BEFORE.
+A round: it allots the places itself, by deferred acceptance as Gale and
+Shapley described it in 1962, and compares. It reports whether the outcomes are
+stable (no child and school would both rather have each other) and best (no
+child has a better school in any other stable allocation), and whom each school
+turned away, by which key. A fill: it reports whether the school had a vacancy,
+and whether the child that was offered it is the first by criterion, distance
+and lot among all who wait there, and lists those. Of both it tests whether all
+else in AFTER is as in BEFORE.
 
-It cannot judge whether the lots were drawn fairly, or whether addresses and flags are true.
+It cannot judge whether the lots were drawn fairly, or whether addresses and
+flags are true.
 
 example:
   admissions-audit copies/before-draw-1.db reg.db
 
-exit status: 0 all is right; 1 something is not, one line for each finding; 2 wrong arguments.
+exit status: 0 all is right; 1 something is not, one line for each finding; 2
+wrong arguments.
 """
 import collections
 import os
@@ -53,8 +62,8 @@ def what_else_changed(before, after, later):
         # (only those draws, outcomes and lots that are from before this draw)
         new = [it for it in after[table] if it[0] <= count] if table in ("draw", "offer", "lot") else after[table]
         wrong += differences(f"a row of {table} of BEFORE is not in AFTER", f"a row of {table} of AFTER was not in BEFORE", before[table], new, table)
-    seasons = ([it["meta"][0][:3]] for it in (before, after))
-    wrong += differences("the season of BEFORE is not that of AFTER", "the season of AFTER was not that of BEFORE", *seasons, "meta")
+    old, new = ([it["meta"][0][:3]] for it in (before, after))
+    wrong += differences("the season of BEFORE is not that of AFTER", "the season of AFTER was not that of BEFORE", old, new, "meta")
     if after["meta"][0][3] != len(after["draw"]):
         wrong.append(f"AFTER has {len(after['draw'])} draws, and counts {after['meta'][0][3]}")
     if not later and len(after["draw"]) > count + 1:
@@ -155,7 +164,7 @@ def audit_fill(before, after, later, only, wrong):
     if not waiting or not pairs <= set(lots):
         return wrong if waiting else wrong + [f"nobody waited at {school}"], False
     keys = {it: (*this.standing(school, it), lots[school, it]) for it in waiting}
-    first, *others = sorted(waiting, key=keys.get)
+    first, *others = sorted(waiting, key=keys.__getitem__)
     if outcomes != [(first, school, 1)]:
         has = ", ".join(f"child {child} {code or 'none'}{'' if fresh else ', marked as kept'}" for child, code, fresh in outcomes) or "nobody"
         wrong.append(f"not the first: child {first} is, and {has} has the place")

@@ -31,6 +31,7 @@ def rows_of(name):
             if files.has_content(path + "-wal"):
                 raise Refused(f"{name} has a log with changes that are not in the file yet: merge it first, by admissions do {name} < /dev/null")
             with contextlib.closing(sqlite3.connect(f"file:{urllib.parse.quote(path)}?mode=ro&immutable=1", uri=True)) as conn:
+                see_tables(name, conn)
                 # (a file of version 1 has no present schools)
                 is_first = conn.execute("SELECT version FROM meta").fetchone()[0] == 1
                 tables = [it for it in TABLES if not (is_first and it == "present")]
@@ -39,6 +40,13 @@ def rows_of(name):
         raise Refused(f"{name} cannot be read, or is in use: {error.strerror}") from error
     except (sqlite3.Error, TypeError) as error:
         raise Refused(f"{name} is no register: {error}") from error
+
+
+def see_tables(name: str, conn: sqlite3.Connection) -> None:
+    """Refuses a file with anything but tables: a view in place of one may be a query that does not end."""
+    odd = conn.execute("SELECT type, name FROM sqlite_master WHERE sql IS NOT NULL AND (type <> 'table' OR rootpage = 0)").fetchone()
+    if odd:
+        raise Refused(f"{name} is no register: it has the {odd[0]} {odd[1]}")
 
 
 def split(text):
@@ -108,7 +116,8 @@ class Problem:
 
     def best(self):
         """Children ask the schools of their lists in turn; a school that has too many turns away the one that ranks last."""
-        held, turn, free = {it: [] for it in self.schools}, dict.fromkeys(self.asks, 0), list(self.asks)
+        held: dict[str, list[int]] = {it: [] for it in self.schools}
+        turn, free = dict.fromkeys(self.asks, 0), list(self.asks)
         while free:
             child = free.pop()
             if turn[child] < len(self.asks[child]):

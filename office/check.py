@@ -1,30 +1,41 @@
-"""Checks a file of applications before it is imported, and reports everything that is wrong with it at once.
+"""Checks a file of applications before it is imported, and reports everything
+that is wrong with it at once.
 
   admissions-check APPLICATIONS [--register REG.db] [--fix OUT.csv]
 
-APPLICATIONS is a CSV or a workbook (.xlsx) with the columns child, name, east, north, looked_after, flags, siblings, day, preferences and, if wanted,
-present, in any order. Each line of the report has the row that the spreadsheet shows, the column, the value, and what is expected. ERROR marks what is
-wrong, and comes first; `look at` marks what import would take, and what may be wrong all the same: likely duplicates, a year far from the others.
+APPLICATIONS is a CSV or a workbook (.xlsx) with the columns child, name, east,
+north, looked_after, flags, siblings, day, preferences and, if wanted, present,
+in any order. Each line of the report has the row that the spreadsheet shows,
+the column, the value, and what is expected. ERROR marks what is wrong, and
+comes first; `look at` marks what import would take, and what may be wrong all
+the same: likely duplicates, a year far from the others.
 
-With --register the file is also compared with a register: schools that it has not, children that it knows with other data.
+With --register the file is also compared with a register: schools that it has
+not, children that it knows with other data.
 
---fix writes the CSV that import takes, and prints each thing that it changed: letter case and blanks of codes, separators, Yes and No, days with one
-possible reading, numbers as 2100.0, Windows-1252. What has two readings is asked for and never guessed; while anything is wrong nothing is written.
+--fix writes the CSV that import takes, and prints each thing that it changed:
+letter case and blanks of codes, separators, Yes and No, days with one possible
+reading, numbers as 2100.0, Windows-1252. A change that is the same in several
+rows is one line, with their number. What has two readings is asked for and
+never guessed; while anything is wrong nothing is written.
 
 example:
   admissions-check applications.xlsx --register reg.db --fix applications.csv
   admissions import reg.db applications.csv
 
-exit status: 0 nothing is wrong (with --fix: OUT.csv is written); 1 something is; 2 wrong arguments.
+exit status: 0 nothing is wrong (with --fix: OUT.csv is written); 1 something
+is; 2 wrong arguments.
 """
 import dataclasses
 
-from . import across, fields, header, register, sheet, texts
+from . import across, fields, header, inputs, register, sheet, texts
 from .run import Progress, Refused
 
 ERROR, FIXED, LOOK = "error", "fixed", "look at"
 ORDER = (ERROR, LOOK, FIXED)
 MOST_ROWS = 2000
+# so many groups of rows are named on a line
+MOST_SPANS = 4
 # a row is a total where it begins with one of these, and has neither a day nor preferences
 TOTALS = ("total", "totals", "grand total", "subtotal", "sum", "count")
 
@@ -40,9 +51,17 @@ class Finding:
     kind: str = ERROR
     written: str | None = None
 
-    def line(self, is_fixing):
-        """The finding as it is printed."""
-        where = f"row {self.row}" + (f", column {self.column}" if self.column else "")
+    @property
+    def what(self) -> tuple[object, ...]:
+        """What is said but for the row, of a change. Others are printed row by row."""
+        return (self.column, self.value, self.text, self.written) if self.kind == FIXED else (self,)
+
+    def line(self, is_fixing: bool, rows: list[int]) -> str:
+        """The finding as it is printed, of each of these rows."""
+        spans = texts.spans(rows).split(", ")
+        shown = ", ".join(spans if len(spans) <= MOST_SPANS else [*spans[: MOST_SPANS - 1], ".."])
+        where = f"row {self.row}" if len(rows) == 1 else f"{len(rows):,} rows ({shown})"
+        where += f", column {self.column}" if self.column else ""
         value = f", {texts.shown(self.value)}" if self.column else ""
         if self.kind == ERROR and not self.column:
             return f"ERROR {where}: {self.text}"
@@ -91,9 +110,12 @@ class Check:
     """The findings of one file."""
 
     def __init__(self, found, reg, is_uk):
-        self.sheet, self.register, self.findings, self.rows, self.columns, self.width = found, reg, [], [], {}, 0
+        self.sheet, self.register, self.width = found, reg, 0
+        self.findings: list[Finding] = []
+        self.rows: list[Row] = []
+        self.columns: dict[str, int] = {}
         # the cells that have an error as they are, whatever is in them
-        self.broken = set()
+        self.broken: set[tuple[int, str | None]] = set()
         self.context = Context(reg.schools if reg else {}, is_uk)
 
     def add(self, row, column, value, text, kind=ERROR, written=None):
@@ -181,7 +203,7 @@ class Check:
     def wrong_width(self, number, cells):
         """Reports a row with too few or too many fields."""
         form = f"{self.width} fields, as the header has them; the row has {len(cells)}"
-        at, more = self.columns.get("name"), len(cells) - self.width
+        at, more = self.columns.get("name", 0), len(cells) - self.width
         if self.has_split_name(cells):
             name = self.sheet.separator.join(cells[at : at + 1 + more])
             self.add(number, "name", name, f'{form} (quote a name with a comma: "{name.strip()}")')
@@ -196,13 +218,15 @@ class Check:
 
     def across(self):
         """What is wrong across the rows."""
+        again = set()
         for row, first, is_equal in across.repeated(self.rows):
             if is_equal:
                 self.add(row.number, "child", row.given["child"], f"it is the same as row {first.number}: it is left out", FIXED)
-                self.rows.remove(row)
+                again.add(row.number)
             else:
-                other = [it for it in row.fields if row.fields[it] != first.fields[it]]
-                self.add(row.number, "child", row.given["child"], f"each child once: row {first.number} has the same number with another {texts.listed(other)}")
+                columns = [it for it in row.fields if row.fields[it] != first.fields[it]]
+                self.add(row.number, "child", row.given["child"], f"each child once: row {first.number} has the same number with another {texts.listed(columns)}")
+        self.rows = [it for it in self.rows if it.number not in again]
         for row, other in across.alike(self.rows, self.register):
             where = f"{other.where}, {texts.shown(other.fields['name'])}, number {other.fields['child']}"
             self.add(row.number, "name", row.given["name"], f"is it the same child as {where}?", LOOK)
@@ -248,11 +272,15 @@ def main(given):
     """Checks, and writes."""
     reg = register.read(given.register) if given.register else None
     check = Check(sheet.read(given.applications, given.sheet, "name one that is not empty by --sheet"), reg, given.uk_days)
-    check.run()
+    with inputs.within(f"checking {given.applications}"):
+        check.run()
     shown = [it for it in check.findings if it.kind != FIXED or given.fix or not is_taken(it)]
     is_fixing = bool(given.fix) and not any(it.kind == ERROR for it in shown)
+    equal: dict[tuple[object, ...], list[Finding]] = {}
     for it in shown:
-        print(it.line(is_fixing))
+        equal.setdefault(it.what, []).append(it)
+    for them in equal.values():
+        print(them[0].line(is_fixing, [it.row for it in them]))
     return end(check, given)
 
 

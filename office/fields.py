@@ -6,6 +6,8 @@ from . import days, texts
 
 COLUMNS = ("child", "name", "east", "north", "looked_after", "flags", "siblings", "day", "preferences", "present")
 MOST_CHILD, MOST_METRES, MOST_FLAG, MOST_SIBLINGS, MOST_PREFERENCES = 9_999_999, 1_500_000, 15, 6, 10
+# a number as a spreadsheet writes it is far shorter
+MOST_DIGITS = 40
 INVISIBLE = "\u200b\u2060\ufeff"
 TRUTH = {"yes": "yes", "y": "yes", "true": "yes", "no": "no", "n": "no", "false": "no"}
 # what may stand between the items of a list: none of them can be part of a code or a number
@@ -20,22 +22,26 @@ class Field:
     expected: str = ""
 
 
-def trimmed(text):
+def trimmed(text: str) -> str:
     """A text without the blanks and invisible characters round it."""
     return text.strip().strip(INVISIBLE).strip()
 
 
-def number(text, least, most, what):
+def number(text: str, least: int, most: int, what: str) -> Field:
     """A whole number: leading zeros and a fraction of zeros are left out."""
     form = f"{what}: a whole number from {least:,} to {most:,}, in digits without commas"
-    found = re.fullmatch(r"0*([0-9]+?)(\.0*)?", trimmed(text), re.ASCII)
+    given = trimmed(text)
+    # (the length first: the time of the pattern grows with its square)
+    if len(given) > MOST_DIGITS:
+        return Field("", f"{form} (it has {len(given):,} characters)")
+    found = re.fullmatch(r"0*([0-9]+?)(\.0*)?", given, re.ASCII)
     if not found:
-        return Field("", form + hint_of_number(trimmed(text)))
+        return Field("", form + hint_of_number(given))
     value = found[1] if len(found[1]) < 11 else "9" * 11
     return Field(value) if least <= int(value) <= most else Field("", form)
 
 
-def hint_of_number(text):
+def hint_of_number(text: str) -> str:
     """Why a text may be no number."""
     if not text:
         return " (it is empty)"

@@ -106,12 +106,12 @@ def count_wish(register, school, child, got, lot):
 def published(found):
     """The counts that the page has by their keys, and the sums by which they hang together. In the first round nobody kept a place, and the page has none."""
     places = ("offers", "kept") if found.round > 1 else ("offers",)
-    counts = {("met", it): number for it, number in found.met.items()} | {("met", NONE): found.met[NONE]} | {(it,): getattr(found, it) for it in places}
+    counts: dict[tuple, int] = {("met", it): number for it, number in found.met.items()} | {("met", NONE): found.met[NONE]} | {(it,): getattr(found, it) for it in places}
     sums = [[(it, 1) for it in counts if it[0] == "met"], [(("met", NONE), 1), *(((it,), 1) for it in places)]]
     for code, it in found.schools.items():
         counts |= {("applied", code, at): it.applications[at] for at in range(1, LOWER + 1)}
         counts |= {("class", code, at): it.offers[at] for at in range(len(it.criteria) + 2)}
-        own = {("plans", code): it.plans, ("offers", code): it.offers.total()} | ({("kept", code): it.kept} if "kept" in places else {})
+        own: dict[tuple, int] = {("plans", code): it.plans, ("offers", code): it.offers.total()} | ({("kept", code): it.kept} if "kept" in places else {})
         counts |= own | {("applications", code): it.applications.total()}
         sums.append([(("applications", code), -1), *((("applied", code, at), 1) for at in range(1, LOWER + 1))])
         sums.append([(("offers", code), -1), *((("class", code, at), 1) for at in range(len(it.criteria) + 2))])

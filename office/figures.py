@@ -1,22 +1,34 @@
-"""Writes the page that an authority publishes after a round: figures without personal data, in one file that any browser shows.
+"""Writes the page that an authority publishes after a round: figures without
+personal data, in one file that any browser shows.
 
-  admissions-figures AFTER OUT.html [--copy COPY] [--before LAST_YEAR [--before-copy COPY]] [--round N] [--flags FILE]
+  admissions-figures AFTER OUT.html [--copy COPY]
+                     [--before LAST_YEAR [--before-copy COPY]] [--round N]
+                     [--flags FILE]
 
-AFTER is the register from right after the round: classes and distances are those of the data in it. Later, name the copy from right before the round by
---copy: schools and children are then taken from it, as the round saw them. Without it a register is refused that had a draw, an answer or another change
-after the round. The page has, for the last round, for round N or for that of the copy: how many children have their first, second, .. preference; for each
-school its admission number, applications by preference, offers by criterion, and the criterion and the distance of the last child that was offered a
-place; a map of schools, with homes counted in squares; and charts. With --before it is compared with the same round of last year's register; --before-copy
-is for that register what --copy is for AFTER.
+AFTER is the register from right after the round: classes and distances are
+those of the data in it. Later, name the copy from right before the round by
+--copy: schools and children are then taken from it, as the round saw them.
+Without it a register is refused that had a draw, an answer or another change
+after the round. The page has, for the last round, for round N or for that of
+the copy: how many children have their first, second, .. preference; for each
+school its admission number, applications by preference, offers by criterion,
+and the criterion and the distance of the last child that was offered a place;
+a map of schools, with homes counted in squares; and charts. With --before it
+is compared with the same round of last year's register; --before-copy is for
+that register what --copy is for AFTER.
 
-Counts from 1 to 4 are withheld, and so are others from which they could be worked out; so are squares of the map with fewer than 5 homes, and the distance
-where the last place went to a child that is or was looked after, or by a flag. --flags gives flags the office's words, by lines as `7,medical need`. The
-page has no name and no child's number. OUT.html must be new.
+Counts from 1 to 4 are withheld, and so are others from which they could be
+worked out; so are squares of the map with fewer than 5 homes, and the distance
+where the last place went to a child that is or was looked after, or by a flag.
+--flags gives flags the office's words, by lines as `7,medical need`. The page
+has no name and no child's number. OUT.html must be new.
 
 example:
-  admissions-figures reg.db figures-1.html --copy copies/before-draw-1.db --before ../2024/copies/after-draw-1.db
+  admissions-figures reg.db figures-1.html --copy copies/before-draw-1.db \\
+      --before ../2024/copies/after-draw-1.db
 
-exit status: 0 written; 1 refused or failed, and nothing was written; 2 wrong arguments.
+exit status: 0 written; 1 refused or failed, and nothing was written; 2 wrong
+arguments.
 """
 import os
 

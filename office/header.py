@@ -43,15 +43,21 @@ def read(row, add):
         elif name:
             unknown.append(cell)
     missing = [it for it in fields.COLUMNS[:-1] if it not in columns]
-    near = {it: next((cell for cell in unknown if difflib.SequenceMatcher(None, plain(cell), it).ratio() > 0.7), None) for it in missing}
+    near = {it: next((cell for cell in unknown if is_near(plain(cell), it)), None) for it in missing}
     for it in missing:
         add(row.number, it, "", "a column of this name in the header" + (f" (is it {texts.shown(near[it])}?)" if near[it] else ""))
     for it in unknown:
         if it not in near.values():
-            add(row.number, it, it, "import has no such column: it is left out", "fixed", None)
+            add(row.number, texts.cut(it), it, "import has no such column: it is left out", "fixed", None)
     if not missing:
         see_order(row, columns, add)
     return Header(columns, len(row.cells), row.number)
+
+
+def is_near(name: str, wanted: str) -> bool:
+    """Whether a name may be meant as another. One of twice the length cannot: the comparison of a
+    long text would take long."""
+    return len(name) < 2 * len(wanted) and difflib.SequenceMatcher(None, name, wanted).ratio() > 0.7
 
 
 def see_order(row, columns, add):

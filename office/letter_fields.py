@@ -115,12 +115,13 @@ class Writer:
     def __init__(self, register, before=None, flags=None, day=datetime.date.max):
         self.register, self.before, self.flags, self.day = register, before, flags, day
         # the schools that each child was offered and the days of the offers, the last one at the end
-        self.offered, draws = {}, {it.number: it.day for it in register.draws}
+        self.offered: dict[int, list[tuple[str, datetime.date]]] = {}
+        draws = {it.number: it.day for it in register.draws}
         for draw, fresh in sorted(register.fresh.items()):
             for child in (it for it, is_fresh in fresh.items() if is_fresh):
                 self.offered.setdefault(child, []).append((register.outcomes[draw][child], draws[draw]))
         self.wanted = ranking.Problem(register).wanted if register.draws else {}
-        self.queues = {}
+        self.queues: dict[str, list[tuple[int, int]]] = {}
         for child, schools in self.wanted.items():
             for code in schools:
                 self.queues.setdefault(code, []).append(self.rank(code, child))

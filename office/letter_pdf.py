@@ -3,6 +3,9 @@
 Embedding the fonts of one letter takes longer than laying it out. So letters are laid out in batches that share their fonts, by a process for each
 processor, and the pages of each child are then taken from its batch, with what they need and nothing else: no file has anything of another child.
 """
+from __future__ import annotations
+
+import datetime
 import importlib.util
 import multiprocessing
 import multiprocessing.connection
@@ -12,13 +15,29 @@ import re
 import sys
 import time
 import urllib.parse
+from collections.abc import Callable, Iterator
+from typing import TYPE_CHECKING, Any
 
 from register_files import Refused
 
-from . import days, sheet
-from .serving import ends_with
+from . import days, inputs, sheet
+from .letter_fields import Letter
+from .printed import ends_with
 
+if TYPE_CHECKING:
+    from jinja2 import Template
+
+# the objects of a file by their numbers
+Batch = dict[int, bytes]
 BATCH, STEP = 50, 100
+SECONDS_OF_LETTER, MOST_LETTER = 5, 1_000_000
+# the beginnings of the pictures and fonts that a letter shows
+FIRST_BYTES, RIFF = 4096, "RIFF"
+SHOWN = (
+    (b"\x89PNG\r\n\x1a\n", "image/png"), (b"\xff\xd8\xff", "image/jpeg"), (b"GIF8", "image/gif"), (b"RIFF", RIFF), (b"wOFF", "font/woff"),
+    (b"wOF2", "font/woff2"), (b"\0\1\0\0", "font/ttf"), (b"true", "font/ttf"), (b"OTTO", "font/otf"), (b"ttcf", "font/collection"),
+)
+SVG = re.compile(rb"(\xef\xbb\xbf)?\s*((<\?xml[^>]*>|<!DOCTYPE[^>]*>|<!--((?!-->).)*-->)\s*)*<(\w+:)?svg\b", re.DOTALL)
 TEMPLATE = os.path.join(os.path.dirname(os.path.realpath(__file__)), "templates", "letter.html")
 PRINTER = "printer.pdf"
 # the number of the list of pages in each file that WeasyPrint or pydyf makes, and how one object names another
@@ -33,7 +52,7 @@ def copy_template(name):
         sheet.write_new(name, file.read())
 
 
-def template_of(name):
+def template_of(name: str) -> Template:
     """A template, whose values are escaped for HTML, and in which a misspelt name is an error."""
     import jinja2  # pylint: disable=import-outside-toplevel
     import jinja2.sandbox  # pylint: disable=import-outside-toplevel
@@ -42,29 +61,34 @@ def template_of(name):
     made.filters["day"] = days.in_words
     made.filters["thousands"] = "{:,}".format
     try:
-        with open(name, encoding="utf-8") as file:
-            return made.from_string(file.read())
-    except OSError as error:
-        raise Refused(f"{name} cannot be read: {error.strerror}") from error
+        return made.from_string(inputs.bytes_of(name).decode("utf-8"))
     except UnicodeDecodeError as error:
         raise Refused(f"{name} is not in UTF-8") from error
     except jinja2.TemplateSyntaxError as error:
         raise Refused(f"{name}, line {error.lineno}: {error.message}") from error
 
 
-def html_of(template, name, letter, address, day):
-    """One letter as HTML."""
+def html_of(template: Template, name: str, letter: Letter, address: list[str], day: datetime.date) -> str:
+    """One letter as HTML. A template whose loops do not end, or fill the memory, is refused."""
     import jinja2  # pylint: disable=import-outside-toplevel
 
+    pieces, size = [], 0
     try:
-        return template.render(letter=letter, address=address, date=days.in_words(day))
+        with inputs.within(f"{name}: a letter by this template", SECONDS_OF_LETTER):
+            for it in template.generate(letter=letter, address=address, date=days.in_words(day)):
+                pieces.append(it)
+                size += len(it)
+                if size > MOST_LETTER:
+                    raise Refused(f"{name}: a letter by this template has over {MOST_LETTER:,} characters")
     except (jinja2.TemplateError, ArithmeticError, AttributeError, LookupError, TypeError, ValueError) as error:
         raise Refused(f"{name}: {error}") from error
+    return "".join(pieces)
 
 
-def addresses_of(name):
+def addresses_of(name: str) -> tuple[list[str], dict[int, list[str]]]:
     """The columns of a sheet of addresses but `child`, and their cells by child."""
-    columns, found = None, {}
+    columns: list[str] = []
+    found: dict[int, list[str]] = {}
     for row, number, cells in by_child(name):
         if number is None:
             columns = cells
@@ -77,7 +101,7 @@ def addresses_of(name):
     return columns, found
 
 
-def by_child(name):
+def by_child(name: str) -> Iterator[tuple[int, int | None, list[str]]]:
     """The rows of a sheet that has a column `child`: the number of the row, the child (None in the header), and the other cells in their order."""
     rows = sheet.read(name).rows
     header = [it.strip().lower() for it in rows[0].cells] if rows else []
@@ -91,42 +115,72 @@ def by_child(name):
         yield row.number, None if row is rows[0] else int(number), [it.strip() for place, it in enumerate(row.cells) if place != at]
 
 
-def fetcher(folder, missing):
-    """Reads the pictures of a template: those of its own folder alone, and nothing from a network. What it does not read it adds to a list."""
+def type_of(name: str, data: bytes) -> str | None:
+    """The type of a file that a letter may show: a picture, a font or a style sheet; else None. A style
+    sheet is a text, so its name decides too."""
+    start = data[:FIRST_BYTES]
+    if found := next((kind for mark, kind in SHOWN if start.startswith(mark)), None):
+        return "image/webp" if found == RIFF and start[8:12] == b"WEBP" else None if found == RIFF else found
+    if SVG.match(start):
+        return "image/svg+xml"
+    is_style = name.lower().endswith(".css") and b"\0" not in data and not re.match(rb"\s*<", start)
+    return "text/css" if is_style else None
+
+
+def fetcher(folder: str, refused: list[str]) -> Callable[..., dict[str, object]]:
+    """Reads the pictures, fonts and style sheets of a template: those of its own folder alone, and nothing from a network. What it does not read it adds
+    to a list, in words."""
     from weasyprint import default_url_fetcher  # pylint: disable=import-outside-toplevel
 
-    def fetch(url, *given, **named):
+    def fetch(url: str, *given: object, **named: object) -> dict[str, object]:
         parts = urllib.parse.urlsplit(url)
         path = os.path.realpath(urllib.parse.unquote(parts.path))
-        if parts.scheme == "data" or parts.scheme == "file" and os.path.commonpath((path, folder)) == folder and os.path.isfile(path):
+        name = urllib.parse.unquote(url).removeprefix(f"file://{folder}/")
+        if parts.scheme == "data":
             return default_url_fetcher(url, *given, **named)
-        missing.append(url)
+        if parts.scheme == "file" and os.path.commonpath((path, folder)) == folder and os.path.isfile(path):
+            data = inputs.bytes_of(path)
+            if kind := type_of(path, data):
+                return {"string": data, "mime_type": kind, "redirected_url": url}
+            refused.append(f"the template names {name}, which is no picture, font or style sheet")
+        else:
+            refused.append(f"the template names the picture {name}, which is no file in its folder")
         raise ValueError(f"{url} is not read")
 
     return fetch
 
 
-def laid_out(pages, folder):
+def see_links(page: Any) -> None:
+    """Refuses a template that would put another file into the letter as it is."""
+    for it in page.etree_element.iter():
+        if "attachment" in it.get("rel", "").lower().split():
+            raise Refused(f"the template attaches {it.get('href')}: a letter shows pictures, fonts and style sheets alone")
+
+
+def laid_out(pages: list[str], folder: str) -> tuple[Batch, list[list[int]]]:
     """A batch: the objects of its pages by their numbers, as bytes, and the numbers of each letter's pages. `pages` are letters as HTML."""
     from weasyprint import HTML  # pylint: disable=import-outside-toplevel
     from weasyprint.text.fonts import FontConfiguration  # pylint: disable=import-outside-toplevel
 
-    config, made, missing = FontConfiguration(), {}, []
-    fetch = fetcher(folder, missing)
-    letters = [HTML(string=it, base_url=folder + os.sep, url_fetcher=fetch).render(font_config=config) for it in pages]
-    if missing:
-        name = urllib.parse.unquote(missing[0]).removeprefix(f"file://{folder}/")
-        raise Refused(f"the template names the picture {name}, which is no file in its folder")
+    config, made, letters = FontConfiguration(), {}, []
+    refused: list[str] = []
+    kids: list[int] = []
+    fetch = fetcher(folder, refused)
+    for it in pages:
+        with inputs.within("laying out a letter"):
+            page = HTML(string=it, base_url=folder + os.sep, url_fetcher=fetch)
+            see_links(page)
+            letters.append(page.render(font_config=config))
+        if refused:
+            raise Refused(refused[0])
 
-    def finish(_, pdf):
+    def finish(_: Any, pdf: Any) -> None:
         made.update({it.number: it.data for it in pdf.objects[1:] if it.free != "f"})
-        made["kids"] = [int(it.split()[0]) for it in pdf.page_references]
+        kids.extend(int(it.split()[0]) for it in pdf.page_references)
 
     letters[0].copy([page for it in letters for page in it.pages]).write_pdf(finisher=finish)
-    kids, numbers = iter(made.pop("kids")), []
-    for it in letters:
-        numbers.append([next(kids) for _ in it.pages])
-    return made, numbers
+    rest = iter(kids)
+    return made, [[next(rest) for _ in it.pages] for it in letters]
 
 
 def head_of(data):
@@ -244,7 +298,9 @@ def done_by(processes, room, count):
         raise Refused("a process that writes the letters was ended")
 
 
-def write_letters(letters, template_name, addresses, day, room, is_double):
+def write_letters(
+    letters: list[Letter], template_name: str, addresses: dict[int, list[str]], day: datetime.date, room: str, is_double: bool,
+) -> None:
     """Writes the files of all letters into a folder, and the one for the printer."""
     if importlib.util.find_spec("weasyprint") is None:
         raise ImportError("weasyprint is not there", name="weasyprint")

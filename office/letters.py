@@ -1,33 +1,57 @@
-"""Writes the letters of all children, or of a worklist: as proved texts, as a file for a mail merge, as PDF.
+"""Writes the letters of all children, or of a worklist: as proved texts, as a
+file for a mail merge, as PDF.
 
-  admissions-letters FILE [FOLDER] [--csv OUT.csv] [--pdf FOLDER] [--only NAME [--day D] | --only SHEET | --child N]
+  admissions-letters FILE [FOLDER] [--csv OUT.csv] [--pdf FOLDER]
+                     [--only NAME [--day D] | --only SHEET | --child N]
   admissions-letters --copy-template letter.html
 
-FOLDER gets the proved text of each child, letter-0000123.txt. --csv writes one row for each child: its place in words and dates, the criterion of its
-class, and its positions on waiting lists. --pdf writes letter-0000123.pdf for each child, and printer.pdf with all of them, by the template that comes
-with the program or by --template. Folders must be new or empty; no file is overwritten. All is for its owner alone.
+FOLDER gets the proved text of each child, letter-0000123.txt. --csv writes one
+row for each child: its place in words and dates, the criterion of its class,
+and its positions on waiting lists. --pdf writes letter-0000123.pdf for each
+child, and printer.pdf with all of them, by the template that comes with the
+program or by --template. Folders must be new or empty; no file is overwritten.
+All is for its owner alone.
 
---only takes the name of a worklist of admissions-query, or a file (CSV or .xlsx, its name with a dot or a slash) with a column `child`, such as the list of
-reminders from which rows were deleted. --child N is for one child, and can be repeated.
+--only takes the name of a worklist of admissions-query, or a file (CSV or
+.xlsx, its name with a dot or a slash) with a column `child`, such as the list
+of reminders from which rows were deleted. --child N is for one child, and can
+be repeated.
 
-With --before COPY, a copy of the register from before the last round, fill or withdrawals, the PDF and the CSV name the place of a child that ended. They
-say that the family declined it where, by the date of the letters, no offer of that day can have been withdrawn.
---addresses is a CSV or .xlsx with a column `child`; its other columns are the lines of the address, and the last columns of the file for a mail merge.
+With --before COPY, a copy of the register from before the last round, fill or
+withdrawals, the PDF and the CSV name the place of a child that ended. They say
+that the family declined it where, by the date of the letters, no offer of that
+day can have been withdrawn.
+
+--addresses is a CSV or .xlsx with a column `child`; its other columns are the
+lines of the address, and the last columns of the file for a mail merge.
 --flags gives flags the office's words, by lines as `7,social or medical need`.
 
-The program opens FILE and closes it, so that the file alone is the register, and serves it on a free port of this machine while each letter is requested:
-nobody else should be logged in meanwhile. What the PDF and the CSV say is worked out from the file, and each letter must then be the program's to the
-letter; where one differs, nothing is written. At the end the program opens FILE and closes it once more. If this command is killed, delete the folder
-FOLDER.part-.. that remains.
+A template is HTML with the fields of jinja2. It may name pictures (PNG, JPEG,
+GIF, WebP, SVG), fonts and style sheets (.css) of its own folder, and nothing
+else: no other file gets into a letter, nor anything from a network.
+
+The program opens FILE and closes it, so that the file alone is the register.
+While the letters are printed no program can open FILE. They are printed from a
+copy that nobody else can read, by no port that others could use; afterwards
+FILE must be what it was, byte for byte. What the PDF and the CSV say is worked
+out from the file, and each letter must be the program's to the letter.
+Otherwise nothing is written. If this command is killed, delete the folders
+FOLDER.part-.. and FILE.part-.. that remain.
+
+The program prints all letters in a network of its own, in seconds. Where the
+system allows none, as in most containers, it is run for each letter, which
+takes minutes for 2,000.
 
 examples:
   admissions-letters reg.db letters-1
   admissions-letters --copy-template letter.html
-  admissions-letters reg.db --pdf letters-1 --template letter.html --before copies/before-draw-1.db --date 2025-03-03
+  admissions-letters reg.db --pdf letters-1 --template letter.html \\
+      --before copies/before-draw-1.db --date 2025-03-03
   admissions-letters reg.db reminders --only remind-2025-03-17.csv
 
-exit status: 0 the letters are there; 1 refused or failed, and nothing was written; 2 wrong arguments; 3 the letters are there, but FILE and its log are
-the register together, as the program did not open it at the end. The program is the one that ADMISSIONS names, or the one beside this command, or in PATH.
+exit status: 0 the letters are there; 1 refused or failed, and nothing was
+written; 2 wrong arguments. The program is the one that ADMISSIONS names, or
+the one beside this command, or in PATH.
 """
 import argparse
 import contextlib
@@ -41,12 +65,12 @@ import subprocess
 import sys
 import tempfile
 import time
+from collections.abc import Iterator
 
 import register_files as files
 from register_files import Refused
 
-from . import days, letter_fields, letter_pdf, ranking, register, sheet, texts
-from .serving import letter, serving
+from . import days, letter_fields, letter_pdf, printed, ranking, register, sheet, texts
 
 STEP = 100
 
@@ -76,7 +100,7 @@ def chosen(given, file):
         found = [(f"{given.only}, row {row}", it) for row, it, _ in letter_pdf.by_child(given.only) if it is not None]
     else:
         return children_of(file, given.only, given.day)
-    known = register.read(file).children
+    known = register.read(file, is_opened=True).children
     for where, it in found:
         if it not in known:
             raise Refused(f"{where}: {given.file} has no child {it}")
@@ -100,17 +124,32 @@ def new_folder(target):
     try:
         yield room
     finally:
-        shutil.rmtree(room, ignore_errors=True)
+        # (twice: a signal that ends this process may interrupt the first)
+        try:
+            shutil.rmtree(room, ignore_errors=True)
+        finally:
+            shutil.rmtree(room, ignore_errors=True)
 
 
-def proved_letters(program, file, name, children):
+@contextlib.contextmanager
+def copied(name: str, file: str) -> Iterator[str]:
+    """A copy of a register that nobody else can read. No program opens the register meanwhile, and at the
+    end it must be what it was, byte for byte."""
+    with files.held(name, file) as fd, files.room_beside(name, file) as room:
+        copy = os.path.join(room, "copy.db")
+        files.copy_to(fd, copy)
+        yield copy
+        if files.has_content(file + "-wal") or not files.is_equal(fd, copy):
+            raise Refused(f"{name} was changed while its letters were printed: nothing was written")
+
+
+def proved_letters(program: str, copy: str, children: list[int]) -> dict[int, bytes]:
     """The texts that the program prints, by child."""
     start, found = time.monotonic(), {}
-    with serving(program, file, name) as port:
-        for at, child in enumerate(children, 1):
-            found[child] = letter(port, child)
-            if at % STEP == 0 or at == len(children):
-                print(f"{at} of {len(children)} texts, {time.monotonic() - start:.1f} seconds", file=sys.stderr, flush=True)
+    for at, (child, text) in enumerate(zip(children, printed.letters(program, copy, children), strict=True), 1):
+        found[child] = text
+        if at % STEP == 0 or at == len(children):
+            print(f"{at} of {len(children)} texts, {time.monotonic() - start:.1f} seconds", file=sys.stderr, flush=True)
     return found
 
 
@@ -118,7 +157,7 @@ def worked_out(given, file, children):
     """The letters with all their fields, if the CSV or the PDF is wanted."""
     if not given.csv and not given.pdf:
         return []
-    now, before = register.read(file), None
+    now, before = register.read(file, is_opened=True), None
     if given.before:
         before = register.read(given.before)
         register.same_season(before, now)
@@ -163,33 +202,50 @@ def name_all(rooms):
     os.sync()
 
 
-def make(given):
-    """Writes all that is wanted, and returns the exit status."""
+def see_targets(given: argparse.Namespace) -> None:
+    """Refuses names under which something is there."""
+    for it in (given.folder, given.pdf):
+        if it:
+            see_room(it)
+    if given.csv and os.path.lexists(given.csv):
+        raise Refused(f"{given.csv} is there already: nothing was written; choose another name")
+
+
+def make(given: argparse.Namespace) -> int:
+    """Writes all that is wanted."""
     program = files.program()
     # (an absolute path, so that no name that begins with a dash is mistaken for an option)
     file = os.path.realpath(given.file)
     if not os.path.isfile(file):
         raise Refused(f"{given.file} is no file")
-    for it in filter(None, (given.folder, given.pdf)):
-        see_room(it)
-    if given.csv and os.path.lexists(given.csv):
-        raise Refused(f"{given.csv} is there already: nothing was written; choose another name")
-    failure = files.merge_log(program, file)
-    if failure:
+    see_targets(given)
+    if failure := files.merge_log(program, file):
         raise Refused(f"{given.file} does not open: {failure}")
     files.warn("letters", given.file, os.stat(file))
-    children = chosen(given, file)
-    if given.folder and children and not register.read(file).draws:
-        print(f"admissions-letters: {given.file} had no round yet, so each text says `Place: none`: do not send it as a decision", file=sys.stderr)
     columns, addresses = letter_pdf.addresses_of(given.addresses) if given.addresses else ([], {})
-    letters = worked_out(given, file, children)
+    with copied(given.file, file) as copy:
+        children = chosen(given, file)
+        if given.folder and children and not register.read(file, is_opened=True).draws:
+            print(f"admissions-letters: {given.file} had no round yet, so each text says `Place: none`: do not send it as a decision", file=sys.stderr)
+        letters = worked_out(given, file, children)
+        proved = proved_letters(program, copy, children)
+    compare(letters, proved)
+    write(given, letters, proved, columns, addresses)
+    # (if nobody reads these lines, the letters are there all the same)
+    with contextlib.suppress(OSError):
+        for it in (given.folder, given.pdf, given.csv):
+            if it:
+                print(f"{texts.count(len(children), 'letter is', 'letters are')} in {it}", flush=True)
+    return 0
+
+
+def write(
+    given: argparse.Namespace, letters: list[letter_fields.Letter], proved: dict[int, bytes],
+    columns: list[str], addresses: dict[int, list[str]],
+) -> None:
+    """Writes all that is wanted, or nothing."""
     with contextlib.ExitStack() as stack:
         rooms = [(stack.enter_context(new_folder(it)), it) for it in (given.folder, given.pdf) if it]
-        try:
-            proved = proved_letters(program, file, given.file, children)
-        finally:
-            failure = files.merge_log(program, file)
-        compare(letters, proved)
         if given.folder:
             write_texts(proved, rooms[0][0])
         if given.pdf:
@@ -197,14 +253,6 @@ def make(given):
         if given.csv:
             sheet.write_new(given.csv, csv_of(letters, columns, addresses))
         name_all(rooms)
-    # (if nobody reads these lines, the letters are there all the same)
-    with contextlib.suppress(OSError):
-        for it in filter(None, (given.folder, given.pdf, given.csv)):
-            print(f"{texts.count(len(children), 'letter is', 'letters are')} in {it}", flush=True)
-    if failure:
-        text = f"the letters are there, but {given.file} and its log are the register together, for it does not open: {failure}"
-        print(f"admissions-letters: {text}", file=sys.stderr)
-    return 3 if failure else 0
 
 
 def read_day(text):

@@ -7,7 +7,7 @@ import sys
 
 import register_files as files
 
-from . import book, kinds, sheet, texts
+from . import book, inputs, kinds, sheet, texts
 from .run import Refused
 
 MOST_LOT = 4_294_967_295
@@ -24,13 +24,12 @@ def named(name):
     return "the standard input" if name == "-" else name
 
 
-def bytes_of(name):
+def bytes_of(name: str) -> bytes:
     """The bytes of a file."""
+    if name != "-":
+        return inputs.bytes_of(name)
     try:
-        if name == "-":
-            return sys.stdin.buffer.read()
-        with open(name, "rb") as file:
-            return file.read()
+        return inputs.taken(named(name), sys.stdin.buffer)
     except OSError as error:
         raise Refused(f"{named(name)} cannot be read: {error.strerror}") from error
 
@@ -50,7 +49,7 @@ def decoded(name, data):
 
 def pairs_of(name, school):
     """The pairs in their order. A list in another order is refused: the lots of a line carry no names, so they would go to other children."""
-    found = []
+    found: list[tuple[str, int]] = []
     for at, line in enumerate(decoded(name, bytes_of(name)).splitlines(), 1):
         if not re.fullmatch(r"[A-Z0-9]{1,8} [1-9][0-9]{0,6}", line):
             raise Refused(f"line {at} of {named(name)} is no pair: a code, a blank and a child's number")
@@ -80,16 +79,17 @@ def is_named(cells):
     return names != ["school", "child", "lot"] and {"school", "child", "lot"} <= set(names)
 
 
-def csv_rows(name, text):
+def csv_rows(name: str, text: str) -> list[tuple[int, list[str]]]:
     """The rows of a CSV, each with its number. Without a header that has a name column, fields are codes and digits, so there is one kind of separator;
     where none is found, it is the blank."""
-    header = next((it for it in text.splitlines() if it.strip()), "")
-    kinds = [it for it in ",;\t" if it in text]
+    header = sheet.first_line(text)
+    marks = [it for it in ",;\t" if it in text]
     by_name = next((it for it in ",;\t" if is_named(next(csv.reader([header], delimiter=it), []))), None)
-    if by_name is None and len(kinds) > 1:
-        raise Refused(f"{named(name)} has {' and '.join(map(repr, kinds))} in it: save it with one separator")
+    if by_name is None and len(marks) > 1:
+        raise Refused(f"{named(name)} has {' and '.join(map(repr, marks))} in it: save it with one separator")
+    rows = csv.reader(io.StringIO(text, newline=""), delimiter=by_name or (marks or [","])[0], skipinitialspace=True)
     try:
-        return list(enumerate(csv.reader(io.StringIO(text, newline=""), delimiter=by_name or (kinds or [","])[0], skipinitialspace=True), 1))
+        return list(sheet.within_limits(named(name), enumerate(rows, 1)))
     except csv.Error as error:
         raise Refused(f"{named(name)} is no CSV: {error}") from error
 
@@ -98,7 +98,7 @@ def rows_of(name):
     """The rows of a sheet, each with its number, as code, number and lot, and the header if there is one. Empty rows are omitted."""
     data = bytes_of(name)
     if data.startswith(b"PK\x03\x04") and name != "-":
-        rows = [(it.number, it.cells) for it in sheet.workbook(name, data, None, "leave the one of the lots").rows]
+        rows = [(it.number, it.cells) for it in sheet.of_bytes(name, data, None, "leave the one of the lots").rows]
     else:
         rows = csv_rows(name, decoded(name, data))
     rows = [(at, cells) for at, cells in rows if without_end(cells)]

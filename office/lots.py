@@ -1,25 +1,38 @@
-"""Makes the sheet on which a supervisor enters lots, and turns the filled sheet into the command of a round or a fill.
+"""Makes the sheet on which a supervisor enters lots, and turns the filled sheet
+into the command of a round or a fill.
 
   admissions-lots PAIRS --sheet OUT.xlsx [--register REG.db [--names]]
-  admissions-lots PAIRS SHEET --number N --day YYYY-MM-DD [--school CODE] [--register REG.db]
+  admissions-lots PAIRS SHEET --number N --day YYYY-MM-DD [--school CODE]
+                  [--register REG.db]
   admissions-lots PAIRS --draw SEED
 
-PAIRS has a line for each pair for which a lot is drawn, `CODE NUMBER`, as `admissions pairs` prints it.
+PAIRS has a line for each pair for which a lot is drawn, `CODE NUMBER`, as
+`admissions pairs` prints it.
 
-The first form writes a new sheet, a workbook or by another ending a CSV: a header, and a row for each pair with an empty field for its lot; with --names
+The first form writes a new sheet, a workbook or by another ending a CSV: a
+header, and a row for each pair with an empty field for its lot; with --names
 also the child's name.
-The second form reads it back, from .xlsx or CSV, and prints the command of the draw N: of a round, or with --school of a fill there. Rows may be in any
-order, under a header or none, with commas, semicolons or tabs between the fields. Each pair must have exactly one lot. `-` for one of the two files means
-the standard input. With --register the pairs and N must be those of the register's next draw; where they are not, it prints which differ.
-The third form draws: it prints a SHEET in which the lots of each school are 1, 2, .. in the order of the SHA-256 sums of SEED, code and number, each
-followed by a line feed. Whoever has SEED and PAIRS can repeat the draw. No person supervises such a draw.
+
+The second form reads it back, from .xlsx or CSV, and prints the command of the
+draw N: of a round, or with --school of a fill there. Rows may be in any order,
+under a header or none, with commas, semicolons or tabs between the fields. Each
+pair must have exactly one lot. `-` for one of the two files means the standard
+input. With --register the pairs and N must be those of the register's next
+draw; where they are not, it prints which differ.
+
+The third form draws: it prints a SHEET in which the lots of each school are 1,
+2, .. in the order of the SHA-256 sums of SEED, code and number, each followed
+by a line feed. Whoever has SEED and PAIRS can repeat the draw. No person
+supervises such a draw.
 
 example:
   admissions pairs reg.db > draw-1.pairs
   admissions-lots draw-1.pairs --sheet draw-1.xlsx --register reg.db --names
-  admissions-lots draw-1.pairs draw-1.xlsx --number 1 --day 2025-03-03 --register reg.db > draw-1.jsonl
+  admissions-lots draw-1.pairs draw-1.xlsx --number 1 --day 2025-03-03 \\
+      --register reg.db > draw-1.jsonl
 
-exit status: 0 printed or written; 1 refused, nothing is printed, and the standard error says why; 2 wrong arguments.
+exit status: 0 printed or written; 1 refused, nothing is printed, and the
+standard error says why; 2 wrong arguments.
 """
 import datetime
 import hashlib
@@ -94,8 +107,9 @@ def drawn_by(seed, pairs):
     sums = {(code, number): hashlib.sha256(f"{seed}\n{code}\n{number}\n".encode()).hexdigest() for code, number in pairs}
     if len(set(sums.values())) < len(sums):
         raise Refused("two pairs have the same sum: take another seed")
-    lots, count = {}, {}
-    for pair in sorted(pairs, key=sums.get):
+    lots: dict[tuple[str, int], int] = {}
+    count: dict[str, int] = {}
+    for pair in sorted(pairs, key=sums.__getitem__):
         count[pair[0]] = lots[pair] = count.get(pair[0], 0) + 1
     return [(code, number, lots[code, number]) for code, number in pairs]
 
@@ -105,7 +119,7 @@ def written_sheet(given, pairs):
     reg = register.read(given.register) if given.register else None
     if reg:
         next_draw.see_sheet(reg, pairs)
-    lot_sheets.write(given.sheet, pairs, reg.children if given.names else None)
+    lot_sheets.write(given.sheet, pairs, reg.children if reg and given.names else None)
     return f"{given.sheet} has {texts.count(len(pairs), 'row')}, each for a lot\n"
 
 

@@ -1,14 +1,21 @@
-"""Prints a worklist or figures of a register as CSV, or all worklists as one workbook.
+"""Prints a worklist or figures of a register as CSV, or all worklists as one
+workbook.
 
-  admissions-query                                                the names, each with what it prints
+  admissions-query                               the names, and what each prints
   admissions-query FILE NAME [TEXT] [OPTIONS]
-  admissions-query FILE --workbook OUT.xlsx [--day YYYY-MM-DD]    a sheet for each worklist, in a form for print
+  admissions-query FILE --workbook OUT.xlsx [--day YYYY-MM-DD]
+                              a sheet for each worklist, in a form for print
 
-FILE is only read, and nothing is left beside it. It must be a register of version 2 that no program has open and whose log holds nothing; where it is
-not, one line on the standard error says what to do. While it is read no program can open it.
+FILE is only read, and nothing is left beside it. It must be a register of
+version 2 that no program has open and whose log holds nothing; where it is
+not, one line on the standard error says what to do. While it is read no
+program can open it.
 
---excel writes a byte order mark, by which a spreadsheet reads names as Tŷ, and an apostrophe before a text that a spreadsheet would take for a formula.
-A query is a file of SQL (queries/, installed as PREFIX/share/admissions/queries); `amend`, `find`, `moved` and `season` are part of this command.
+--excel writes a byte order mark, by which a spreadsheet reads names as Tŷ, and
+an apostrophe before a text that a spreadsheet would take for a formula. A
+query is a file of SQL (queries/, installed as
+PREFIX/share/admissions/queries); `amend`, `find`, `moved` and `season` are
+part of this command.
 
 example:
   admissions-query reg.db find abel
@@ -17,7 +24,8 @@ example:
   admissions-query reg.db moved --round 2 --before copies/before-draw-5.db
   admissions-query reg.db --workbook worklists.xlsx
 
-exit status: 0 printed or written; 1 refused, and nothing is printed; 2 wrong arguments.
+exit status: 0 printed or written; 1 refused, and nothing is printed; 2 wrong
+arguments.
 """
 import argparse
 import csv

@@ -4,12 +4,14 @@ import dataclasses
 import datetime
 import os
 import sqlite3
+import tempfile
 import urllib.parse
+from collections.abc import Iterator
 
 import register_files as files
 from register_files import InUse, Refused
 
-from . import days
+from . import days, inputs
 
 OFFERED, ACCEPTED, PLAN = 1, 2, 3
 
@@ -104,10 +106,21 @@ def split(text):
     return tuple(text.split(";")) if text else ()
 
 
+def see_register(name: str, fd: int) -> None:
+    """Refuses an open file that the program does not open. It opens a copy, so the file is only read."""
+    program = files.program()
+    with tempfile.TemporaryDirectory(prefix="admissions-") as room:
+        copy = os.path.join(room, "copy.db")
+        files.copy_to(fd, copy)
+        if said := files.opened(program, copy):
+            raise Refused(f"{name} is no register, or it is damaged: {said}")
+
+
 @contextlib.contextmanager
-def opened(name, tool=None):
+def opened(name: str, tool: str | None = None, is_opened: bool = False) -> Iterator[sqlite3.Connection]:
     """A connection that only reads the file, keeps every program from opening it meanwhile, and leaves nothing beside it. Where a tool is named, it warns
-    of a file that others can read."""
+    of a file that others can read. The program must take the file for a register, as a table may be a query that does not end; `is_opened` says that this
+    command let it open the file already."""
     path = os.path.realpath(name)
     with contextlib.ExitStack() as stack:
         try:
@@ -121,8 +134,12 @@ def opened(name, tool=None):
             raise Refused(f"{name} has a log with changes that are not in the file yet: merge it first, by admissions do {name} < /dev/null")
         if os.pread(fd, 16, 0) != b"SQLite format 3\0":
             raise Refused(f"{name} is no register")
+        if os.fstat(fd).st_size > inputs.MOST_REGISTER_BYTES:
+            raise Refused(f"{name} is larger than any register")
         if tool:
             files.warn(tool, name, os.fstat(fd))
+        if not is_opened:
+            see_register(name, fd)
         # (the log holds nothing, and nobody can write: so the file is whole, and no second log is needed beside it)
         with contextlib.closing(sqlite3.connect(f"file:{urllib.parse.quote(path)}?mode=ro&immutable=1", uri=True)) as conn:
             try:
@@ -131,13 +148,13 @@ def opened(name, tool=None):
                 raise Refused(f"{name} is no register, or it is damaged: {error}") from error
 
 
-def read(name):
+def read(name: str, is_opened: bool = False) -> Register:
     """The register of a file."""
-    with opened(name) as conn:
+    with opened(name, is_opened=is_opened) as conn:
         return of_connection(name, conn)
 
 
-def read_held(name):
+def read_held(name: str) -> Register:
     """The register of a file that a program has open which this command started: nobody else can change it, and that program waits for a line."""
     path = os.path.realpath(name)
     if files.has_content(path + "-wal"):
@@ -149,7 +166,7 @@ def read_held(name):
             raise Refused(f"{name} is no register, or it is damaged: {error}") from error
 
 
-def of_connection(name, conn):
+def of_connection(name: str, conn: sqlite3.Connection) -> Register:
     """The register of a connection."""
     rows = {it: conn.execute(f"SELECT * FROM {it}").fetchall() for it, in conn.execute("SELECT name FROM sqlite_master WHERE type = 'table'")}
     if rows.get("meta", [(1, 0)])[0][1] not in (1, 2):
@@ -158,11 +175,11 @@ def of_connection(name, conn):
     present = {(child, imported): school for child, imported, school in rows.get("present", [])}
     return Register(
         name=name, phase=phase, year=year, holidays=frozenset(days.of_number(int(it)) for it in split(holidays)),
-        schools={it[0]: School(*it[:5], split(it[5])) for it in sorted(rows["school"])},
+        schools={it[0]: School(it[0], it[1], it[2], it[3], it[4], split(it[5])) for it in sorted(rows["school"])},
         children={it[0]: child_of(it, present.get((it[0], 0), "")) for it in sorted(rows["child"])},
         applications={it[0]: Application(days.of_number(it[1]), split(it[2])) for it in rows["application"]},
         places={it[0]: Place(*it[1:3], *(None if day is None else days.of_number(day) for day in it[3:])) for it in rows["place"]}, left=set(rows["left_list"]),
-        draws=[Draw(*it[:3], days.of_number(it[3])) for it in sorted(rows["draw"])],
+        draws=[Draw(number, at, school, days.of_number(day)) for number, at, school, day in sorted(rows["draw"])],
         outcomes=grouped((draw, child, school) for draw, child, school, _ in rows["offer"]),
         fresh=grouped((draw, child, bool(fresh)) for draw, child, _, fresh in rows["offer"]),
         lots=grouped((draw, (school, child), lot) for draw, school, child, lot in rows["lot"]),
@@ -180,4 +197,5 @@ def grouped(triples):
 
 def child_of(row, present):
     """A child from a row of `child`."""
-    return Child(*row[:4], bool(row[4]), tuple(it for it in range(16) if row[5] >> it & 1), split(row[6]), present)
+    number, name, east, north, looked_after, flags, siblings = row
+    return Child(number, name, east, north, bool(looked_after), tuple(it for it in range(16) if flags >> it & 1), split(siblings), present)

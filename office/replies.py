@@ -2,7 +2,7 @@
 import json
 import os
 
-from . import commands, fields, kinds, sheet, texts
+from . import commands, fields, inputs, kinds, sheet, texts
 from .run import Refused
 
 # where so many rows, or more, have so small a part that is nearly right, the whole file is another
@@ -109,16 +109,14 @@ def convert(name, kind, day):
     data, names = commands_of(name, kind, day)
     stem = name.rpartition(".")[0]
     made = stem + ".jsonl"
-    try:
-        with open(made, "rb") as file:
-            had = file.read()
-        if had != data:
-            if was_sent(stem) or not is_made(had):
-                raise Refused(f"nothing was sent: {made} is there already, with other commands: rename it, or give {name} another name")
+    had = inputs.bytes_of(made) if os.path.exists(made) else None
+    if had is not None and had != data:
+        if was_sent(stem) or not is_made(had):
+            raise Refused(f"nothing was sent: {made} is there already, with other commands: rename it, or give {name} another name")
+        try:
             os.unlink(made)
-            sheet.write_new(made, data)
-    except FileNotFoundError:
+        except OSError as error:
+            raise Refused(f"{made} cannot be replaced: {error.strerror}") from error
+    if had != data:
         sheet.write_new(made, data)
-    except OSError as error:
-        raise Refused(f"{made} cannot be replaced: {error.strerror}") from error
     return made, names

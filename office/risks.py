@@ -3,6 +3,7 @@ import dataclasses
 import filecmp
 import os
 import statistics
+from typing import Any
 
 from . import across, commands, days, fields, sheet, texts
 from .register import ACCEPTED
@@ -26,10 +27,10 @@ class Line:
 
     number: int
     text: bytes
-    command: object
+    command: Any
 
     @property
-    def kind(self):
+    def kind(self) -> str | None:
         """The name of its command, where its fields are of the right kind."""
         return self.command["cmd"] if not commands.wrong_field(self.command) else None
 
@@ -70,7 +71,7 @@ def names_of(name):
     rows = sheet.read(name).rows
     header = [fields.trimmed(it).lower() for it in rows[0].cells] if rows else []
     at = (header.index("child"), header.index("name")) if {"child", "name"} <= set(header) else (1, 3)
-    found = {}
+    found: dict[int, set[str]] = {}
     for row in rows[1:] if at != (1, 3) else rows:
         number = fields.child(row.cells[at[0]], None).text if len(row.cells) > max(at) else ""
         if number and row.cells[at[1]].strip():
@@ -234,18 +235,7 @@ def backups_near(path):
 
 def grouped(risks):
     """Sentences with the numbers of their lines."""
-    found = {}
+    found: dict[str, list[int]] = {}
     for line, text in risks:
         found.setdefault(text, []).append(line.number)
-    return [f"{'line' if len(numbers) == 1 else 'lines'} {spans(numbers)}: {text}" for text, numbers in sorted(found.items(), key=lambda it: it[1])]
-
-
-def spans(numbers):
-    """Numbers in rising order, with those that follow each other as 3 to 9."""
-    parts = []
-    for it in numbers:
-        if parts and parts[-1][1] == it - 1:
-            parts[-1][1] = it
-        else:
-            parts.append([it, it])
-    return ", ".join(str(a) if a == b else f"{a} to {b}" if b > a + 1 else f"{a}, {b}" for a, b in parts)
+    return [f"{'line' if len(numbers) == 1 else 'lines'} {texts.spans(numbers)}: {text}" for text, numbers in sorted(found.items(), key=lambda it: it[1])]

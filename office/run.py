@@ -1,20 +1,34 @@
 """How a command begins and ends: its arguments, its exit status 0, 1 or 2, its errors in one line, its progress."""
 import argparse
 import os
+import shutil
 import signal
 import sys
+import textwrap
 import time
 
 from register_files import SIGNALS, VERSION, Refused
 
+from .inputs import SHEET_HELP
+
 # what takes longer than this is shown on a terminal
 SHOWN_AFTER = 1.0
+MOST_COLUMNS = 80
+# the commands that read no sheet
+NO_SHEET = ("audit", "query")
 PACKAGES = {"jinja2": "python3-jinja2", "weasyprint": "weasyprint", "pydyf": "weasyprint", "matplotlib": "python3-matplotlib", "openpyxl": "python3-openpyxl"}
 
 
-def parser_of(name, text):
+class Help(argparse.RawDescriptionHelpFormatter):
+    """Help with the lines of its text, and none over 80 columns."""
+
+    def __init__(self, prog: str) -> None:
+        super().__init__(prog, width=min(shutil.get_terminal_size().columns, MOST_COLUMNS) - 2)
+
+
+def parser_of(name: str, text: str) -> argparse.ArgumentParser:
     """The reader of a command's arguments; its help is the text of the command's module."""
-    reader = argparse.ArgumentParser(prog=f"admissions-{name}", description=text, formatter_class=argparse.RawDescriptionHelpFormatter, allow_abbrev=False)
+    reader = argparse.ArgumentParser(prog=f"admissions-{name}", description=text, formatter_class=Help, allow_abbrev=False)
     reader.add_argument("--version", action="version", version=f"admissions {VERSION}", help=argparse.SUPPRESS)
     return reader
 
@@ -44,6 +58,8 @@ def run(name, command):
     for it in SIGNALS:
         signal.signal(it, stopped)
     reader = parser_of(name, command.__doc__)
+    if name not in NO_SHEET:
+        reader.epilog = textwrap.fill(SHEET_HELP, MOST_COLUMNS - 1)
     command.arguments(reader)
     # (so that options may stand between the names)
     given = reader.parse_intermixed_args()
@@ -61,7 +77,7 @@ def run(name, command):
             forget_output()
         return failed(name, f"{error.filename}: {error.strerror}" if error.filename else f"the output cannot be written: {error.strerror or error}")
     except ImportError as error:
-        return failed(name, f"this needs the Debian package {PACKAGES.get(error.name, f'of {error.name}')}")
+        return failed(name, f"this needs the Debian package {PACKAGES.get(str(error.name), f'of {error.name}')}")
     except MemoryError:
         return failed(name, "out of memory")
     except Exception as error:  # pylint: disable=broad-except

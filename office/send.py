@@ -1,34 +1,52 @@
-"""Sends the commands of a file, and prints each that was not done: its number, the answer in words, and the line.
+"""Sends the commands of a file, and prints each that was not done: its number,
+the answer in words, and the line.
 
-  admissions-send FILE.jsonl [--register REG.db | --url URL [--user NAME]] [--names REPLIES.csv] [--today YYYY-MM-DD]
+  admissions-send FILE.jsonl [--register REG.db | --url URL [--user NAME]]
+                  [--names REPLIES.csv] [--today YYYY-MM-DD]
   admissions-send REPLIES.csv
   admissions-send WORKLIST.csv --as remind|lapse --day YYYY-MM-DD
 
-The register is reg.db in this folder, or REG.db, or the one that is served at URL. The answers are written to FILE.answers, a line for each line, and the
-lines that were not done to FILE.left.jsonl; no file is overwritten. Empty lines and a byte order mark are passed over.
+The register is reg.db in this folder, or REG.db, or the one that is served at
+URL. The answers are written to FILE.answers, a line for each line, and the
+lines that were not done to FILE.left.jsonl; neither overwrites a file. Empty
+lines and a byte order mark are passed over; a file without a command is
+refused.
 
-REPLIES.csv (or .xlsx) has rows as decline,23,ELM,Bo Bell, or columns reply, child, school and, if wanted, name. A reply is accept, decline, leave or plan.
-It is first written as REPLIES.jsonl, in place of an earlier one of which nothing was sent. With --as each row of a sheet with the columns child and school
-is such a command, as of the lists remind-due and lapse-due of admissions-query.
+REPLIES.csv (or .xlsx) has rows as decline,23,ELM,Bo Bell, or columns reply,
+child, school and, if wanted, name. A reply is accept, decline, leave or plan.
+It is first written as REPLIES.jsonl. That file alone is overwritten, where this
+command made it and nothing of it was sent.
 
-A round or a fill is sent only if the register is still as it was when it was read, before the question: if it has changed, that line and what follows it are
+With --as each row of a sheet with the columns child and school is such a
+command, as of the lists remind-due and lapse-due of admissions-query.
+
+A round or a fill is sent only if the register is still as it was when it was
+read, before the question: if it has changed, that line and what follows it are
 not sent.
 
-Before anything is sent it asks about what cannot be undone and looks wrong: a day outside the season, after today, long before it or far from the other days;
-an application from over four months before the closing date or after it; a first round on another day than the offer day; an answer to which the sheet has
-another name; a round or a fill without a copy of this very register in copies/ or beside it; an amend with another name, with a home over 20 km away, with
-another looked_after, or without the present school; an admission number that rises by over a tenth and over 5 places; a new child with name and home of
-another; a file that was sent before. Where nobody can be asked nothing is sent, unless --yes is given. On a terminal it also asks about each plan, decline
-and leave_list that has no name in a sheet, and shows the name of its child.
+Before anything is sent it asks about what cannot be undone and looks wrong: a
+day outside the season, after today, long before it or far from the other days;
+an application from over four months before the closing date or after it; a
+first round on another day than the offer day; an answer to which the sheet has
+another name; a round or a fill without a copy of this very register in copies/
+or beside it; an amend with another name, with a home over 20 km away, with
+another looked_after, or without the present school; an admission number that
+rises by over a tenth and over 5 places; a new child with name and home of
+another; a file that was sent before. Where nobody can be asked nothing is
+sent, unless --yes is given. On a terminal it also asks about each plan,
+decline and leave_list that has no name in a sheet, and shows the name of its
+child.
 
-If it is killed, FILE.answers.part-.. has the answers so far. Sent again, the file is continued after them by --continue, or begun anew by --again.
+If it is killed, FILE.answers.part-.. has the answers so far. Sent again, the
+file is continued after them by --continue, or begun anew by --again.
 
 example:
   admissions-send plans.jsonl
   admissions-send replies.csv --url http://127.0.0.1:8080
   admissions-send remind-2025-03-17.csv --as remind --day 2025-03-17
 
-exit status: 0 every line is done; 1 some are not, or nothing was sent; 2 wrong arguments.
+exit status: 0 every line is done; 1 some are not, or nothing was sent; 2 wrong
+arguments.
 """
 import argparse
 import datetime
@@ -40,7 +58,7 @@ import sys
 
 import register_files as files
 
-from . import commands, days, kinds, register, replies, risks, senders, sheet, snapshot, texts
+from . import commands, days, inputs, kinds, register, replies, risks, senders, sheet, snapshot, texts
 from .run import Progress, Refused, Stop
 
 
@@ -59,7 +77,7 @@ def arguments(reader):
     reader.add_argument("--day", metavar="YYYY-MM-DD", type=read_day, help="the day of each remind or lapse")
     where = reader.add_mutually_exclusive_group()
     where.add_argument("--register", metavar="REG.db", help="the register; reg.db by default")
-    where.add_argument("--url", metavar="URL", help="where it is served, as http://127.0.0.1:8080")
+    where.add_argument("--url", metavar="URL", help="where it is served, as https://admissions.example or http://127.0.0.1:8080")
     reader.add_argument("--user", metavar="NAME", help="sign in with this name; the password is asked for")
     reader.add_argument("--names", metavar="REPLIES.csv", help="a sheet with the children's names")
     reader.add_argument("--today", metavar="YYYY-MM-DD", type=read_day, default=datetime.date.today(), help="the day of today, where the clock is not right")
@@ -98,8 +116,7 @@ class Journal:
         self.was_sent = os.path.lexists(self.stem + ".answers")
         self.is_old = os.path.lexists(self.part)
         if self.is_old and not (given.is_continued or given.again):
-            with open(self.part, "rb") as file:
-                count = file.read().count(b"\n")
+            count = inputs.bytes_of(self.part).count(b"\n")
             raise Refused(f"{name} was sent in part: {self.part} has {texts.count(count, 'answer')}. --continue sends the lines after them, --again sends all")
         if given.is_continued and not self.is_old:
             raise Refused(f"there is no interrupted run of {name} to continue")
@@ -263,7 +280,7 @@ def report(lines, journal, stopped, doubt, reg):
     if rest and stopped and stopped.is_open:
         print(f"line {rest.pop(0)}: no answer; it may be done: look at the child, list or report first")
     if rest:
-        print(f"{'line' if len(rest) == 1 else 'lines'} {risks.spans(rest)}: not tried")
+        print(f"{'line' if len(rest) == 1 else 'lines'} {texts.spans(rest)}: not tried")
     return left
 
 
@@ -283,13 +300,13 @@ def data_of(given):
     if replies.is_sheet(given.file):
         name = given.file
         given.file, given.row_names = replies.convert(name, given.kind, str(given.day))
-    try:
-        with open(given.file, "rb") as file:
-            data = file.read()
-    except OSError as error:
-        raise Refused(f"{given.file} cannot be read: {error.strerror}") from error
+    data = inputs.bytes_of(given.file)
+    if data.count(b"\n") > inputs.MOST_LINES:
+        raise Refused(f"nothing was sent: {given.file} has over {inputs.MOST_LINES:,} lines: send it in parts")
     if said := kinds.without_commands(data):
         raise Refused(f"nothing was sent: {given.file} is {said}; commands are lines of JSON, and a sheet has a name that ends with .csv or .xlsx")
+    if not data.removeprefix(b"\xef\xbb\xbf").strip():
+        raise Refused(f"nothing was sent: there is no command in {given.file}")
     return data
 
 
@@ -298,22 +315,25 @@ def main(given):
     given.kind = replies.ANSWERS.get(given.kind, given.kind)
     see_arguments(given)
     data = data_of(given)
-    given.register = given.register or (None if given.url else "reg.db")
+    name: str = given.register or "reg.db"
+    given.register = None if given.url else name
     lines, journal, reg, was = lines_of(data), Journal(given.file, data, given), None, None
+    sender: senders.Http | senders.Do | None = None
     if given.url:
-        sender = senders.Http(given.url, given.user, getpass.getpass() if given.user else None)
+        sender = senders.Http(given.url, given.user, getpass.getpass)
     else:
-        program, path = files.program(), files.path_of(given.register, f"{given.register}: there is no such folder")
+        program, path = files.program(), files.path_of(name, f"{name}: there is no such folder")
         if said := files.merge_log(program, path):
-            raise Refused(f"nothing was sent: {given.register} does not open: {said}")
-        reg = register.read(given.register)
-        was = snapshot.Snapshot(reg, given.register, risks.backups_near(given.register)) if any(it.kind in ("round", "fill") for it in lines) else None
-    if not is_agreed(*questions(lines, reg, None if reg else sender, given, journal), given):
+            raise Refused(f"nothing was sent: {name} does not open: {said}")
+        reg = register.read(name, is_opened=True)
+        was = snapshot.Snapshot(reg, name, risks.backups_near(name)) if any(it.kind in ("round", "fill") for it in lines) else None
+    found, shown = questions(lines, reg, sender, given, journal)
+    if not is_agreed(found, shown, given):
         print("nothing was sent")
         return 1
     journal.open(given.again)
     doubt = len(journal.answers) + 1 if journal.is_old else None
-    sender = senders.Do(program, path) if reg else sender
+    sender = sender or senders.Do(program, path)
     changed = see_unchanged(was, sender, lines[len(journal.answers):])
     if changed and not any(it.text.strip() for it in lines[:changed[0].number - 1]):
         sender.close()

@@ -1,16 +1,21 @@
 """How lines reach the register, one at a time: by `admissions do`, or over HTTP."""
 import base64
 import http.client
+import ipaddress
 import os
 import signal
+import ssl
 import subprocess
 import tempfile
 import urllib.parse
+from collections.abc import Callable
 
 from . import commands
 from .run import Refused
 
 ANSWER_SECONDS = 120
+# which a browser leaves out of an origin
+PORTS = {"http": ":80", "https": ":443"}
 
 
 ENDS = {
@@ -39,66 +44,99 @@ class Ended(Exception):
 
 
 class Do:
-    """`admissions do`, which is handed a line only after the answer to the line before it. It is not ended by the signals of this command's terminal."""
+    """`admissions do`, which is handed a line only after the answer to the line before it. It is
+    not ended by the signals of this command's terminal.
+    """
 
-    def __init__(self, program, path):
+    def __init__(self, program: str, path: str) -> None:
         self.rest = b""
         self.errors = tempfile.TemporaryFile()  # pylint: disable=consider-using-with
         self.run = subprocess.Popen(  # pylint: disable=consider-using-with
             [program, "do", path], stdin=subprocess.PIPE, stdout=subprocess.PIPE, stderr=self.errors, start_new_session=True)
+        assert self.run.stdin and self.run.stdout
+        self.input, self.output = self.run.stdin, self.run.stdout
 
-    def send(self, line):
+    def send(self, line: bytes) -> bytes:
         """The answer to a line, as bytes without its end."""
         try:
-            self.run.stdin.write(line + b"\n")
-            self.run.stdin.flush()
+            self.input.write(line + b"\n")
+            self.input.flush()
         except OSError:
             pass
-        answer = self.run.stdout.readline()
+        answer = self.output.readline()
         if not answer.endswith(b"\n"):
             raise Ended(self.close() or "the program ended without an answer")
         return answer[:-1]
 
     def close(self):
         """Ends it, and waits for that. What it printed where it failed."""
-        if self.run.stdin.closed:
+        if self.input.closed:
             return ""
         try:
-            self.run.stdin.close()
+            self.input.close()
         except OSError:
             pass
-        self.rest = self.run.stdout.read()
+        self.rest = self.output.read()
         status = self.run.wait()
         self.errors.seek(0)
         said = ", ".join(it for it in os.fsdecode(self.errors.read()).split("\n") if it)
         return said or ending(status) if status in (1, 2) or status < 0 else ""
 
 
+def is_this_machine(host: str) -> bool:
+    """Whether what is sent to a host does not leave this machine."""
+    try:
+        return ipaddress.ip_address(host).is_loopback
+    except ValueError:
+        return host == "localhost"
+
+
+def refusal(status: int, said: dict[str, object]) -> tuple[str, bool]:
+    """What a site says where it passes a line on to no desk, and whether the line may be done all
+    the same.
+    """
+    if said.get("busy"):
+        return "too many requests wait at the site, and this one was not passed on", False
+    if said.get("unanswered"):
+        return "the site had no answer from the desk", True
+    reason = said.get("reason")
+    return f"the server answered with status {status}{f': {reason}' if isinstance(reason, str) else ''}", status >= 500
+
+
 class Http:
-    """A desk that serves a register: one request for each line."""
+    """A desk that serves a register, or the site before one: one request for each line. Of a site
+    the certificate must be one that this machine trusts; the variable SSL_CERT_FILE of OpenSSL
+    names another.
+    """
 
     rest = b""
 
-    def __init__(self, url, user=None, password=None):
+    def __init__(self, url: str, user: str | None = None, password: Callable[[], str] = str) -> None:
+        """The password is asked for once it is sure that it can be sent."""
         parts = urllib.parse.urlsplit(url)
-        if parts.scheme not in ("http", "https") or not parts.hostname:
-            raise Refused(f"{url} is no address as http://127.0.0.1:8080", 2)
-        kind = http.client.HTTPSConnection if parts.scheme == "https" else http.client.HTTPConnection
+        if parts.scheme not in ("http", "https") or not parts.hostname or "@" in parts.netloc:
+            raise Refused(f"{url} is no address as http://127.0.0.1:8080 or https://admissions.example", 2)
         try:
-            self.connect = lambda: kind(parts.hostname, port, timeout=ANSWER_SECONDS)
-            port = parts.port
+            self.host, self.port = parts.hostname, parts.port
         except ValueError as error:
-            raise Refused(f"{url} is no address as http://127.0.0.1:8080", 2) from error
+            raise Refused(f"{url} is no address as http://127.0.0.1:8080 or https://admissions.example", 2) from error
+        if user and parts.scheme == "http" and not is_this_machine(self.host):
+            raise Refused(f"{url} would carry the password of {user} over the network for all to read: the address of a site begins with https://", 2)
+        self.kind = http.client.HTTPSConnection if parts.scheme == "https" else http.client.HTTPConnection
         self.base = parts.path.rstrip("/")
-        self.headers = {"Content-Type": "application/json"}
+        # A site takes a POST from its own pages alone: what a browser says of them, in the form
+        # that it has there
+        self.headers = {"Content-Type": "application/json", "Origin": f"{parts.scheme}://{parts.netloc.lower().removesuffix(PORTS[parts.scheme])}"}
         if user:
-            self.headers["Authorization"] = "Basic " + base64.b64encode(f"{user}:{password}".encode()).decode()
+            self.headers["Authorization"] = "Basic " + base64.b64encode(f"{user}:{password()}".encode()).decode()
 
-    def ask(self, method, path, body=None):
+    def ask(self, method: str, path: str, body: bytes | None = None) -> tuple[int, bytes]:
         """The status and the body of a response."""
-        conn = self.connect()
+        conn = self.kind(self.host, self.port, timeout=ANSWER_SECONDS)
         try:
             conn.connect()
+        except ssl.SSLCertVerificationError as error:
+            raise Ended(f"no connection: the certificate of {self.host} is not trusted: {error.verify_message}", False) from error
         except OSError as error:
             raise Ended(f"no connection: {error.strerror or error}", False) from error
         try:
@@ -110,28 +148,32 @@ class Http:
         finally:
             conn.close()
 
-    def send(self, line):
+    def send(self, line: bytes) -> bytes:
         """The answer to a line."""
         status, body = self.ask("POST", "/command", line)
         answer = body.rstrip(b"\n")
-        known = isinstance(value := commands.read(answer), dict) and {"done", "refused", "fault", "memory", "failed"} & set(value)
-        if status in (200, 400, 409, 503) and known:
+        value = commands.read(answer)
+        said = value if isinstance(value, dict) else {}
+        if status in (200, 400, 409, 503) and {"done", "refused", "fault", "memory", "failed"} & set(said):
             return answer
-        raise Ended(f"the server answered with status {status}", status >= 500)
+        raise Ended(*refusal(status, said))
 
-    def letter(self, child):
+    def letter(self, child: int) -> list[str]:
         """The lines of a child's letter, or none."""
         try:
             status, body = self.ask("GET", f"/child/{child}/letter")
         except Ended as error:
             raise Refused(f"nothing was sent: {error}") from error
+        if status in (401, 403, 429):
+            said = commands.read(body)
+            raise Refused(f"nothing was sent: {refusal(status, said if isinstance(said, dict) else {})[0]}")
         return body.decode("utf-8", "replace").split("\n") if status == 200 else []
 
-    def name_of(self, child):
+    def name_of(self, child: int) -> str | None:
         """The name of a child, by its letter."""
         lines = self.letter(child)
         return lines[1].removeprefix(f"Child {child} ") if len(lines) > 1 else None
 
-    def close(self):
+    def close(self) -> str:
         """Nothing is open between two lines."""
         return ""

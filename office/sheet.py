@@ -1,4 +1,5 @@
-"""Sheets as an office has them: CSV or a workbook, read into rows of texts with the numbers that a spreadsheet shows; and CSV, written."""
+"""Sheets as an office has them: CSV or a workbook, read into rows of texts with the numbers that a
+spreadsheet shows; and CSV, written."""
 import csv
 import dataclasses
 import datetime
@@ -7,13 +8,20 @@ import os
 import tempfile
 import warnings
 import zipfile
+from collections.abc import Iterable, Iterator
+from typing import Any
 
 import register_files as files
 from register_files import Refused
 
-from . import kinds
+from . import inputs, kinds
 
 SEPARATORS = {",": "commas", ";": "semicolons", "\t": "tabs"}
+MAIN = "{http://schemas.openxmlformats.org/spreadsheetml/2006/main}"
+# the mark of each part in a workbook's list of its parts
+PART = b"PK\x01\x02"
+# a row, the place of a column or None, a sentence, and whether it is an error
+Problem = tuple[int, int | None, str, bool]
 
 
 @dataclasses.dataclass
@@ -21,7 +29,7 @@ class Row:
     """A row: its number in the spreadsheet, and its cells as texts."""
 
     number: int
-    cells: list
+    cells: list[str]
 
 
 @dataclasses.dataclass
@@ -29,24 +37,25 @@ class Sheet:
     """The rows of a sheet that have anything, what had to be changed to read them, each as a sentence, and problems that only a workbook has: the row, the
     place of the column or None, a sentence, and whether it is an error."""
 
-    rows: list
-    changes: list
+    rows: list[Row]
+    changes: list[str]
     separator: str = ","
     is_workbook: bool = False
     is_decoded: bool = False
-    empty: list = dataclasses.field(default_factory=list)
-    problems: list = dataclasses.field(default_factory=list)
+    empty: list[int] = dataclasses.field(default_factory=list)
+    problems: list[Problem] = dataclasses.field(default_factory=list)
 
 
-def read(name, sheet=None, advice="leave one that is not empty"):
+def read(name: str, sheet: str | None = None, advice: str = "leave one that is not empty") -> Sheet:
     """The sheet of a file, whatever its kind. `advice` is what is said of a workbook with several."""
-    try:
-        with open(name, "rb") as file:
-            data = file.read()
-    except OSError as error:
-        raise Refused(f"{name} cannot be read: {error.strerror}") from error
+    return of_bytes(name, inputs.bytes_of(name), sheet, advice)
+
+
+def of_bytes(name: str, data: bytes, sheet: str | None, advice: str) -> Sheet:
+    """The sheet of a file that was read."""
     if data.startswith(b"PK\x03\x04"):
-        return workbook(name, data, sheet, advice)
+        with inputs.within(f"reading {name}"):
+            return workbook(name, data, sheet, advice)
     if data.startswith(b"\xd0\xcf\x11\xe0"):
         raise Refused(f"{name} is a workbook of the older kind (.xls) or has a password: save it as .xlsx or as CSV UTF-8")
     if not data.startswith((b"\xff\xfe", b"\xfe\xff")) and (said := kinds.of_bytes(data)):
@@ -56,7 +65,7 @@ def read(name, sheet=None, advice="leave one that is not empty"):
     return text_sheet(name, data)
 
 
-def decoded(name, data):
+def decoded(name: str, data: bytes) -> tuple[str, list[str], bool]:
     """The text of a file, and what had to be changed for it."""
     if data.startswith((b"\xff\xfe", b"\xfe\xff")):
         return data.decode("utf-16", "replace"), ["the file is in UTF-16: it is written as UTF-8"], False
@@ -74,7 +83,15 @@ def decoded(name, data):
         raise Refused(f"{name} is neither in UTF-8 nor in Windows-1252 (line {line}): save it as CSV UTF-8") from error
 
 
-def text_sheet(name, data):
+def first_line(text: str) -> str:
+    """The first line that is not blank, which is the header."""
+    at = len(text) - len(text.lstrip())
+    start = max(text.rfind("\n", 0, at), text.rfind("\r", 0, at)) + 1
+    ends = [it for it in (text.find("\n", at), text.find("\r", at)) if it >= 0]
+    return text[start : min(ends, default=len(text))]
+
+
+def text_sheet(name: str, data: bytes) -> Sheet:
     """The sheet of a CSV."""
     text, changes, is_decoded = decoded(name, data)
     at = 0
@@ -82,27 +99,58 @@ def text_sheet(name, data):
     if first.lower().startswith("sep=") and len(first) <= 5:
         text, at = text.partition("\n")[2], 1
         changes.append("row 1 names the separator: it is left out")
-    header = next((it for it in text.splitlines() if it.strip()), "")
+    header = first_line(text)
     separator = max(SEPARATORS, key=header.count)
     if separator != "," and header.count(separator):
         changes.append(f"{SEPARATORS[separator]} are between the fields: commas are written")
     csv.field_size_limit(max(len(text), 131072))
-    rows = list(csv.reader(io.StringIO(text, newline=""), delimiter=separator if header.count(separator) else ","))
+    rows = csv.reader(io.StringIO(text, newline=""), delimiter=separator if header.count(separator) else ",")
     found = Sheet([], changes, separator, is_decoded=is_decoded)
-    keep(found, (Row(number, cells) for number, cells in enumerate(rows, at + 1)))
+    try:
+        keep(name, found, enumerate(rows, at + 1))
+    except csv.Error as error:
+        raise Refused(f"{name} is no CSV: {error}") from error
     return found
 
 
-def keep(sheet, rows):
-    """Takes rows into a sheet. Those without a cell are no rows; those with empty cells alone are named."""
-    for row in rows:
-        if any(it.strip() for it in row.cells):
-            sheet.rows.append(row)
-        elif row.cells:
-            sheet.empty.append(row.number)
+def keep(name: str, sheet: Sheet, rows: Iterable[tuple[int, list[str]]]) -> None:
+    """Takes rows into a sheet, within the limits. Those without a cell are no rows; those with empty
+    cells alone are named."""
+    for number, cells in within_limits(name, rows):
+        if any(it.strip() for it in cells):
+            sheet.rows.append(Row(number, cells))
+        elif cells:
+            sheet.empty.append(number)
 
 
-def text_of(value):
+def within_limits(
+    name: str, rows: Iterable[tuple[int, list[str]]],
+) -> Iterator[tuple[int, list[str]]]:
+    """The same rows, or a refusal as soon as they are too many. Blank cells at the end of a row and
+    blank rows at the end of the sheet are not counted, and those beyond the limits are left out."""
+    total = 0
+    for number, cells in rows:
+        used = len(cells)
+        while used and not cells[used - 1].strip():
+            used -= 1
+        total += used
+        if number > inputs.MOST_ROWS:
+            if not used:
+                continue
+            raise Refused(f"{name} has too many rows: a sheet has at most {inputs.MOST_ROWS:,} here")
+        if used > inputs.MOST_COLUMNS:
+            most = f"a sheet has at most {inputs.MOST_COLUMNS} here"
+            raise Refused(f"{name} has too many columns in row {number:,}: {most}")
+        if total > inputs.MOST_CELLS:
+            most = f"a sheet has at most {inputs.MOST_CELLS:,} here"
+            raise Refused(f"{name} has too many cells, by row {number:,}: {most}")
+        if any(len(it) > inputs.MOST_TEXT for it in cells[:used]):
+            most = f"a cell has at most {inputs.MOST_TEXT:,} characters"
+            raise Refused(f"{name}, row {number:,}: {most} (is a quote not closed?)")
+        yield number, cells[: max(used, inputs.MOST_COLUMNS)]
+
+
+def text_of(value: object) -> str:
     """A cell of a workbook as a text: a whole number without a point, a day as YYYY-MM-DD."""
     if value is None:
         return ""
@@ -118,64 +166,116 @@ def text_of(value):
     return str(value)
 
 
-def workbook(name, data, wanted, advice):
+def workbook(name: str, data: bytes, wanted: str | None, advice: str) -> Sheet:
     """The sheet of a workbook: the only one that has anything, or the one that was named."""
     try:
         import openpyxl  # pylint: disable=import-outside-toplevel
     except ImportError as error:
         raise Refused("a workbook is read by python3-openpyxl, which is not here: apt-get install python3-openpyxl, or save it as CSV UTF-8") from error
     try:
-        book = load(openpyxl, data, True)
+        see_parts(name, data)
+        book = load(openpyxl, data)
+        sheets = [it for it in book.worksheets if any(any(cells) for cells in rows_of(it))]
+        if wanted is not None:
+            sheets = [it for it in sheets if it.title == wanted]
+        if len(sheets) != 1:
+            names = ", ".join(it.title for it in book.worksheets)
+            raise Refused(f"{name} has the sheets {names}: {advice}")
+        return sheet_of(name, sheets[0])
+    except (Refused, MemoryError):
+        raise
     except Exception as error:  # pylint: disable=broad-except
         # (what openpyxl says names its own classes; it raises whatever comes of a file that no spreadsheet wrote)
         raise Refused(f"{name} is no workbook that can be read: open it in a spreadsheet and save it again as .xlsx, or as CSV UTF-8") from error
-    sheets = [it for it in book.worksheets if any(any(cell is not None for cell in row) for row in it.iter_rows(values_only=True))]
-    if wanted is not None:
-        sheets = [it for it in sheets if it.title == wanted]
-    if len(sheets) != 1:
-        names = ", ".join(it.title for it in book.worksheets)
-        raise Refused(f"{name} has the sheets {names}: {advice}")
+
+
+def see_parts(name: str, data: bytes) -> None:
+    """Refuses a workbook that is too large once it is unpacked. No part can be longer than the
+    workbook says: the reading of it ends there. Pictures are not read."""
+    if data.count(PART) > inputs.MOST_PARTS:
+        raise Refused(f"{name} is no workbook: it has over {inputs.MOST_PARTS:,} parts")
+    with zipfile.ZipFile(io.BytesIO(data)) as parts:
+        size = sum(it.file_size for it in parts.infolist() if it.filename.endswith((".xml", ".rels")))
+    if size > inputs.MOST_UNPACKED:
+        most = f"a workbook has at most {inputs.MOST_UNPACKED // inputs.MB} MB here"
+        raise Refused(f"{name} is too large once it is unpacked, {size // inputs.MB:,} MB: {most}")
+
+
+def load(openpyxl: Any, data: bytes) -> Any:
+    """A workbook whose rows are read one after another, with the values of its formulas. openpyxl
+    warns of styles and extensions that it leaves out, and they have no data."""
+    with warnings.catch_warnings():
+        warnings.simplefilter("ignore")
+        book = openpyxl.load_workbook(io.BytesIO(data), read_only=True, data_only=True)
+    for page in book.worksheets:
+        # (what a sheet says of its size may be wrong, and each row would be filled up to it)
+        page.reset_dimensions()
+    return book
+
+
+def rows_of(page: Any) -> Iterator[list[str]]:
+    """The rows of a sheet of a workbook from the first one on, each up to its last cell."""
+    with warnings.catch_warnings():
+        warnings.simplefilter("ignore")
+        for cells in page.iter_rows(values_only=True):
+            yield [text_of(it) for it in cells]
+
+
+def sheet_of(name: str, page: Any) -> Sheet:
+    """A sheet of a workbook, with what is wrong in its form."""
     found = Sheet([], [], is_workbook=True)
-    keep(found, (Row(number, [text_of(it) for it in cells]) for number, cells in enumerate(sheets[0].iter_rows(values_only=True), 1)))
+    keep(name, found, enumerate(rows_of(page), 1))
     for row in found.rows:
         while row.cells and not row.cells[-1]:
             row.cells.pop()
-    found.empty, numbers = [], {row.number for row in found.rows}
-    found.problems = [it for it in (*merged(sheets[0]), *hidden(sheets[0]), *uncalculated(openpyxl, data, sheets[0])) if it[0] in numbers]
+    widths = {row.number: len(row.cells) for row in found.rows}
+    found.empty, found.problems = [], list(problems_of(name, page, widths))
     return found
 
 
-def load(openpyxl, data, has_values):
-    """A workbook, with the values of its formulas or with themselves. openpyxl warns of styles and extensions that it leaves out, and they have no data."""
-    with warnings.catch_warnings():
-        warnings.simplefilter("ignore")
-        return openpyxl.load_workbook(io.BytesIO(data), data_only=has_values)
+def problems_of(name: str, page: Any, widths: dict[int, int]) -> Iterator[Problem]:
+    """What the values of a sheet do not show. `widths` are how many cells each row has."""
+    from openpyxl.xml.functions import iterparse  # pylint: disable=import-outside-toplevel
+
+    width, number, merged = max(widths.values(), default=0), 0, 0
+    # (openpyxl has no public way to the part of a sheet that is read row by row)
+    with page.parent._archive.open(page._worksheet_path) as part:  # pylint: disable=protected-access
+        for _, it in iterparse(part):
+            if it.tag == f"{MAIN}row":
+                number = int(it.get("r") or number + 1)
+                if number in widths:
+                    yield from problems_of_row(number, it)
+                it.clear()
+            elif it.tag == f"{MAIN}mergeCell":
+                for problem in problems_of_merge(it.get("ref"), widths, width):
+                    merged += 1
+                    if merged > inputs.MOST_MERGED:
+                        raise Refused(f"{name} has over {inputs.MOST_MERGED:,} merged cells")
+                    yield problem
 
 
-def merged(page):
+def problems_of_row(number: int, row: Any) -> Iterator[Problem]:
+    """A row that a spreadsheet does not show; and its formulas that no spreadsheet has calculated, so
+    that the file does not have their values."""
+    from openpyxl.utils.cell import coordinate_to_tuple  # pylint: disable=import-outside-toplevel
+
+    if row.get("hidden") in ("1", "true"):
+        yield number, None, "the row is hidden in the spreadsheet, and import takes it all the same", False
+    place = -1
+    for cell in row.iterfind(f"{MAIN}c"):
+        place = coordinate_to_tuple(cell.get("r"))[1] - 1 if cell.get("r") else place + 1
+        if cell.find(f"{MAIN}f") is not None and not cell.findtext(f"{MAIN}v"):
+            said = f"{cell.get('r') or 'it'} is a formula that was never calculated"
+            yield number, place, f"a value ({said}: open the file in a spreadsheet and save it)", True
+
+
+def problems_of_merge(ref: str, widths: dict[int, int], width: int) -> Iterator[Problem]:
     """Cells that are merged with others: only the first of them has the value."""
-    for it in page.merged_cells.ranges:
-        for place in range(it.min_col - 1, it.max_col):
-            yield it.min_row, place, f"a value in each cell ({it.coord} are merged: unmerge them)", True
+    from openpyxl.utils.cell import range_boundaries  # pylint: disable=import-outside-toplevel
 
-
-def hidden(page):
-    """Rows that a spreadsheet does not show."""
-    for number, it in page.row_dimensions.items():
-        if it.hidden:
-            yield number, None, "the row is hidden in the spreadsheet, and import takes it all the same", False
-
-
-def uncalculated(openpyxl, data, page):
-    """Formulas whose values the file does not have, because no spreadsheet has calculated them."""
-    with zipfile.ZipFile(io.BytesIO(data)) as parts:
-        if not any(b"<f" in parts.read(it) for it in parts.namelist() if it.startswith("xl/worksheets/")):
-            return
-    for row in load(openpyxl, data, False)[page.title].iter_rows():
-        for cell in row:
-            if cell.data_type == "f" and page[cell.coordinate].value is None:
-                advice = "open the file in a spreadsheet and save it"
-                yield cell.row, cell.column - 1, f"a value ({cell.coordinate} is a formula that was never calculated: {advice})", True
+    first, row, last, _ = range_boundaries(ref)
+    for place in range(first - 1, min(last, width)) if row in widths else ():
+        yield row, place, f"a value in each cell ({ref} are merged: unmerge them)", True
 
 
 def is_there(name):

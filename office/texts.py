@@ -3,6 +3,7 @@ import collections
 import math
 import re
 import unicodedata
+from collections.abc import Iterable
 
 LONGEST = 60
 # ends of lines, control characters, and those that turn the direction of the text around them
@@ -78,3 +79,14 @@ def listed(items):
     """Items as a sentence has them: a, b and c."""
     *first, last = items
     return f"{', '.join(first)} and {last}" if first else last
+
+
+def spans(numbers: Iterable[int]) -> str:
+    """Numbers in rising order, with those that follow each other as 3 to 9."""
+    parts: list[list[int]] = []
+    for it in numbers:
+        if parts and parts[-1][1] == it - 1:
+            parts[-1][1] = it
+        else:
+            parts.append([it, it])
+    return ", ".join(str(a) if a == b else f"{a} to {b}" if b > a + 1 else f"{a}, {b}" for a, b in parts)

@@ -1,23 +1,34 @@
-"""Tries what a change of an admission number or of criteria would have done to a round: who would have gained, and who would have lost.
+"""Tries what a change of an admission number or of criteria would have done to a
+round: who would have gained, and who would have lost.
 
-  admissions-trial BEFORE [AFTER] --pan OAK=70 .. --criteria 'OAK=sibling;within:800' .. [--html OUT.html]
-                         [--csv OUT.csv] [--flags FILE]
+  admissions-trial BEFORE [AFTER] --pan OAK=70 ..
+                   --criteria 'OAK=sibling;within:800' ..
+                   [--html OUT.html] [--csv OUT.csv] [--flags FILE]
 
-BEFORE is a copy of the register from before the round, AFTER the register, or a copy, from after it. The program itself makes two new registers in a
-folder that is deleted at the end, one as it was and one with the change, and holds the round in both by the lots that AFTER has; the one as it was must
-have the outcome of AFTER. Without AFTER both rounds have lots that are drawn by the rule of admissions-lots --draw. BEFORE and AFTER are only read.
+BEFORE is a copy of the register from before the round, AFTER the register, or
+a copy, from after it. The program itself makes two new registers in a folder
+that is deleted at the end, one as it was and one with the change, and holds
+the round in both by the lots that AFTER has; the one as it was must have the
+outcome of AFTER. Without AFTER both rounds have lots that are drawn by the
+rule of admissions-lots --draw. BEFORE and AFTER are only read.
 
-It prints a table by school, and one by school and criterion. A child gains if it would have a school that it prefers, and loses if it would have one that it
-wants less, or none; by the same lists, for nobody knows what families would have listed. --html writes the tables and a chart as a page, --csv a row for each
-child that would have another school. Both must be new. The numbers are small and not for publication.
+It prints a table by school, and one by school and criterion. A child gains if
+it would have a school that it prefers, and loses if it would have one that it
+wants less, or none; by the same lists, for nobody knows what families would
+have listed. --html writes the tables and a chart as a page, --csv a row for
+each child that would have another school. Both must be new. The numbers are
+small and not for publication.
 
-Criteria are given whole, in their order, with semicolons; 'OAK=' is none. --flags gives flags the office's words, by lines as `7,medical need`. A later round
-can be tried with raised admission numbers alone.
+Criteria are given whole, in their order, with semicolons; 'OAK=' is none.
+--flags gives flags the office's words, by lines as `7,medical need`. A later
+round can be tried with raised admission numbers alone.
 
 example:
-  admissions-trial copies/before-draw-1.db reg.db --pan OAK=70 --criteria 'ELM=sibling;within:800' --html trial.html
+  admissions-trial copies/before-draw-1.db reg.db --pan OAK=70 \\
+      --criteria 'ELM=sibling;within:800' --html trial.html
 
-exit status: 0 tried; 1 refused or failed; 2 wrong arguments. The program is the one that ADMISSIONS names, or the one beside this command, or in PATH.
+exit status: 0 tried; 1 refused or failed; 2 wrong arguments. The program is
+the one that ADMISSIONS names, or the one beside this command, or in PATH.
 """
 import argparse
 import dataclasses
@@ -200,8 +211,8 @@ def main(given):
     """Tries."""
     if not given.changes:
         raise Refused("give at least one change, by --pan or --criteria", 2)
-    for it in filter(None, (given.html, given.csv)):
-        if os.path.lexists(it):
+    for it in (given.html, given.csv):
+        if it and os.path.lexists(it):
             raise Refused(f"{it} is there already: nothing was tried; choose another name")
     flags, before, after = ranking.flags_of(given.flags), register.read(given.before), register.read(given.after) if given.after else None
     schools, words = changed_schools(before, given.changes)

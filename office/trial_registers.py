@@ -79,7 +79,8 @@ def make_later(program, path, before, schools):
 
 def drawn(pairs):
     """Lots by the published rule, from a seed that this command always takes."""
-    found, by_school = {}, {}
+    found: dict[tuple[str, int], int] = {}
+    by_school: dict[str, list[tuple[bytes, int]]] = {}
     for code, child in pairs:
         by_school.setdefault(code, []).append((hashlib.sha256(f"{SEED}\n{code}\n{child}\n".encode()).digest(), child))
     for code, them in by_school.items():
@@ -97,4 +98,4 @@ def held_round(program, path, before, schools, draw, lots):
         raise Refused(f"{before.name} is not from right before the round: the children who take part, or their schools, differ")
     number = len(before.draws) + 1
     sent(program, path, [{"cmd": "round", "draw": number, "day": draw.isoformat(), "lots": [lots[it] for it in pairs]}])
-    return register.read(path), lots
+    return register.read(path, is_opened=True), lots

@@ -1,22 +1,32 @@
-"""Says in sentences why a child got the place that it has, and none at each school that its family wanted more.
+"""Says in sentences why a child got the place that it has, and none at each
+school that its family wanted more.
 
   admissions-why BEFORE AFTER --child N [--office] [--flags FILE]
 
-BEFORE is a copy of the register from right before a round, AFTER the register, or any later copy: schools and children are taken from BEFORE, as the round
-saw them, and of AFTER only the lots and the outcome, so that admission numbers and children may have changed since. For each school above the child's place it prints how
-many places there were, how many children ranked before this one and by which criterion, and the class, the distance and, where it decided, the lot of
-the last child admitted and of this one. No other child is named. Each sentence is worked out from the two files, and each place is counted: that nobody
-was admitted who ranks after this child is tested here, and where it is not so, the command says so and ends with 1.
+BEFORE is a copy of the register from right before a round, AFTER the register,
+or any later copy: schools and children are taken from BEFORE, as the round saw
+them, and of AFTER only the lots and the outcome, so that admission numbers and
+children may have changed since. For each school above the child's place it
+prints how many places there were, how many children ranked before this one and
+by which criterion, and the class, the distance and, where it decided, the lot
+of the last child admitted and of this one. No other child is named. Each
+sentence is worked out from the two files, and each place is counted: that
+nobody was admitted who ranks after this child is tested here, and where it is
+not so, the command says so and ends with 1.
 
-What it prints is for the family: [c] is a number that is withheld by the rules of admissions-figures, and so is the distance of a last child that is or
-was looked after, or has a flag. With --office it prints all, for the office alone. --flags gives flags the office's words, by lines as `7,medical need`.
+What it prints is for the family: [c] is a number that is withheld by the rules
+of admissions-figures, and so is the distance of a last child that is or was
+looked after, or has a flag. With --office it prints all, for the office alone.
+--flags gives flags the office's words, by lines as `7,medical need`.
 
-It explains one child in a round. admissions-audit BEFORE AFTER explains a fill, and checks whether a whole round is right.
+It explains one child in a round. admissions-audit BEFORE AFTER explains a
+fill, and checks whether a whole round is right.
 
 example:
   admissions-why copies/before-draw-1.db reg.db --child 23
 
-exit status: 0 explained; 1 there is no such child or round, or the round is not right for it; 2 wrong arguments.
+exit status: 0 explained; 1 there is no such child or round, or the round is
+not right for it; 2 wrong arguments.
 """
 import dataclasses
 
@@ -143,7 +153,7 @@ def hidden_of(found):
     total = sum(found.before.values())
     counts = {("class", at): it for at, it in found.before.items()} | {"before": total, "others": found.wanted - 1}
     counts |= {it: getattr(found, it) for it in ("plans", "kept", "admitted", "elsewhere", "refused")}
-    sums = [[("before", -1), *((it, 1) for it in counts if it[0] == "class")], [("before", -1), ("elsewhere", 1), ("refused", 1), ("admitted", 1)]]
+    sums: list[list] = [[("before", -1), *((it, 1) for it in counts if it[0] == "class")], [("before", -1), ("elsewhere", 1), ("refused", 1), ("admitted", 1)]]
     # (the admission number is published, and that the school is full is why the child has no place)
     if found.admitted == found.pan:
         del counts["admitted"]

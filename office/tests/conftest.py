@@ -15,7 +15,7 @@ sys.dont_write_bytecode = True
 ROOT = pathlib.Path(__file__).resolve().parents[2]
 sys.path[:0] = [str(ROOT), str(ROOT / "tools")]
 BUILT = ROOT / "bin" / "admissions"
-PROGRAM = os.environ.get("ADMISSIONS") or (str(BUILT) if BUILT.exists() else shutil.which("admissions"))
+PROGRAM = os.environ.get("ADMISSIONS") or (str(BUILT) if BUILT.exists() else shutil.which("admissions") or "")
 HEADER = "child,name,east,north,looked_after,flags,siblings,day,preferences,present"
 
 
@@ -97,3 +97,14 @@ def season_fixture(tmp_path_factory):
     shutil.copy(reg, folder / "before-2.db")
     send("second_round.jsonl")
     return folder
+
+
+TOWN = [school("OAK", pan=1), school("ELM", pan=2, east=500), child(1, name="Ann Abel", present="PRIM7"), child(2, name="Bo Bell"), apply(1, ["OAK", "ELM"]),
+    apply(2, ["OAK", "ELM"])]
+
+
+@pytest.fixture(name="reg")
+def reg_fixture(tmp_path):
+    """A register with two schools and two children that applied."""
+    make(tmp_path / "reg.db", TOWN)
+    return tmp_path / "reg.db"

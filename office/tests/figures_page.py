@@ -14,8 +14,12 @@ class Page(html.parser.HTMLParser):
 
     def __init__(self, text):
         super().__init__()
-        self.tables, self.caption, self.row, self.open = {}, None, None, []
-        self.heads, self.tags, self.titles = 0, collections.Counter(), []
+        self.tables: dict = {}
+        self.caption: str | None = None
+        self.row: list[str] = []
+        self.open: list[str] = []
+        self.heads, self.titles = 0, []
+        self.tags: collections.Counter = collections.Counter()
         self.feed(text)
 
     def handle_starttag(self, tag, attrs):
@@ -67,9 +71,10 @@ def beside_model(text, season):
     assert rows["all"][0] == f"{wanted['children']:,}"
     by_code, later = {it[1]: it for it in table(page, "Places, applications")[1:]}, 1 < len(season.rounds)
     assert set(by_code) == set(wanted["schools"])
-    classes, code = {}, None
+    classes: dict[str, list[str]] = {}
+    code = ""
     for row in table(page, "Offers of each school")[1:]:
-        code = re.search(r"\(([A-Z0-9]+)\)$", row[0])[1] if len(row) == 3 else code
+        code = re.findall(r"\(([A-Z0-9]+)\)$", row[0])[0] if len(row) == 3 else code
         classes.setdefault(code, []).append(row[-1])
     for code, it in wanted["schools"].items():
         _, _, pan, plans, *applied, total, offers, turned, criterion, metres = [cell for at, cell in enumerate(by_code[code]) if not later or at != 9]

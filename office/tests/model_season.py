@@ -12,6 +12,7 @@ SEASON = ROOT / "examples" / "season"
 def model():
     """The module of the model."""
     spec = importlib.util.spec_from_file_location("season_model", SEASON / "model.py")
+    assert spec and spec.loader
     module = importlib.util.module_from_spec(spec)
     spec.loader.exec_module(module)
     return module

@@ -15,6 +15,7 @@ def loaded_model():
     """The module of the model."""
     path = ROOT / "examples" / "season" / "model.py"
     spec = importlib.util.spec_from_file_location("season_model", path)
+    assert spec and spec.loader
     module = importlib.util.module_from_spec(spec)
     sys.modules["season_model"] = module
     spec.loader.exec_module(module)

@@ -1,5 +1,6 @@
 """admissions-figures beside the model of the example season, which shares no code with it, and as a page that a screen reader reads."""
 import collections
+import datetime
 import re
 import shutil
 import sqlite3
@@ -106,13 +107,23 @@ def test_what_was_changed_since_needs_the_copy(office, tmp_path, commands, said)
     assert (tmp_path / "copy.html").read_bytes() == (tmp_path / "first.html").read_bytes()
 
 
+def move(path, years, *changes):
+    """Makes a register that of another year, in which all of its days are 365 days later for each, and makes these changes."""
+    days = {"application": ["day"], "imported": ["day"], "draw": ["day"], "place": ["day", "reminded"]}
+    conn = sqlite3.connect(path)
+    conn.execute("UPDATE meta SET year = year + ?", (years,))
+    for one, column in ((one, it) for one, columns in days.items() for it in columns):
+        conn.execute(f"UPDATE {one} SET {column} = {column} + ?", (365 * years,))
+    for it in changes:
+        conn.execute(it)
+    conn.commit()
+    conn.close()
+
+
 def test_last_year_needs_the_copy_too(office, season, tmp_path):
     """Last year's register from the end of its season: it is refused by itself, and compared with its copy from before the round."""
     shutil.copy(season / "after-1.db", tmp_path / "now.db")
-    conn = sqlite3.connect(tmp_path / "now.db")
-    conn.execute("UPDATE meta SET year = 2026")
-    conn.commit()
-    conn.close()
+    move(tmp_path / "now.db", 1)
     ran = office("figures", "now.db", "no.html", "--before", season / "reg.db")
     assert ran.returncode == 1 and "name the copy from right before round 1 by --before-copy\n" in ran.stderr and not (tmp_path / "no.html").exists(), ran
     assert office("figures", "now.db", "out.html", "--before", season / "reg.db", "--before-copy", season / "before-1.db").returncode == 0
@@ -151,11 +162,7 @@ print(*{round(it.width) for page in screen.pages for it in page._page_box.descen
 def test_last_year(office, season, tmp_path):
     """Last year is another register: earlier, of the same phase, with another number of a school that turned nobody away."""
     shutil.copy(season / "after-1.db", tmp_path / "last.db")
-    conn = sqlite3.connect(tmp_path / "last.db")
-    conn.execute("UPDATE meta SET year = 2024")
-    conn.execute("UPDATE school SET pan = 400 WHERE code = 'GLEA'")
-    conn.commit()
-    conn.close()
+    move(tmp_path / "last.db", -1, "UPDATE school SET pan = 400 WHERE code = 'GLEA'")
     ran = office("figures", season / "after-1.db", "out.html", "--before", "last.db")
     assert ran.returncode == 0, ran
     rows = table(Page((tmp_path / "out.html").read_text("utf-8")), "Each school in round 1 of 2025 and of 2024")
@@ -210,7 +217,7 @@ def figures(number, children, met, schools):
         one.offers.update({at: it for at, it in enumerate(offers) if it})
         town[code] = one
     total = lambda what: sum(what(it) for it in town.values())
-    return figure_counts.Figures(2025, 2, number, None, children, collections.Counter(met), total(lambda it: it.kept), total(lambda it: it.offers.total()), town, [])
+    return figure_counts.Figures(2025, 2, number, datetime.date(2025, 3, 3), children, collections.Counter(met), total(lambda it: it.kept), total(lambda it: it.offers.total()), town, [])
 
 
 def test_a_full_school_does_not_show_its_plans(tmp_path):

@@ -3,14 +3,15 @@ import csv
 import datetime
 import os
 import re
+import secrets
 import shutil
 import signal
 import subprocess
-import time
 
 import model_season
 import pytest
 from conftest import PROGRAM, apply, child, do, make, school
+from test_send import count, wait_for
 
 NAMES = {1: 'Ann "Nan" O\'Abel', 2: "<script>alert(1)</script>", 3: "Siân Tŷ Gwyn Ŵyn", 4: "محمد علي", 5: "=SUM(A1)", 6: "שרה כהן", 7: "Bo & Bell, jr."}
 
@@ -94,8 +95,8 @@ def test_pdf(office, tmp_path):
         assert path.stat().st_mode & 0o777 == 0o600 and (tmp_path / "out").stat().st_mode & 0o777 == 0o700
         for other, name in shown.items():
             assert (name in text) == (other == number), (number, other)
-        assert re.search(rb"/Title \(Letter of child ([0-9]+)\)", data)[1] == b"%d" % number
-        count = int(re.search(rb"/Count ([0-9]+)", data)[1])
+        assert re.findall(rb"/Title \(Letter of child ([0-9]+)\)", data)[0] == b"%d" % number
+        count = int(re.findall(rb"/Count ([0-9]+)", data)[0])
         pages += count + count % 2
     assert b"/Count %d\n" % pages in (tmp_path / "out" / "printer.pdf").read_bytes()
     text = text_of(tmp_path / "out" / "printer.pdf")
@@ -253,7 +254,7 @@ print("serving on 127.0.0.1:" + sys.argv[3], flush=True)
 while True:
     conn, _ = desk.accept()
     child = re.match(rb"GET /child/([0-9]+)/", conn.recv(999))[1].decode()
-    text = subprocess.run(["{PROGRAM}", "letter", "reg.db", child], capture_output=True).stdout
+    text = subprocess.run(["{PROGRAM}", "letter", sys.argv[2], child], capture_output=True).stdout
     text = text.replace(b"position 2 of", b"position 1 of")
     conn.sendall(b"HTTP/1.1 200 OK\\r\\nContent-Length: %d\\r\\n\\r\\n" % len(text) + text)
     conn.close()
@@ -305,21 +306,180 @@ def test_what_is_refused(office, tmp_path):
     assert (tmp_path / "mine.csv").read_text("utf-8") == "mine" and sorted(it.name for it in tmp_path.iterdir() if ".part-" in it.name) == []
 
 
+def running(numbers: list[str]) -> list[str]:
+    """Those of these processes that have not ended. One that has, and that nobody waited for yet, is a zombie, Z."""
+    words = ["ps", "-o", "stat=", "-p", ",".join(numbers)]
+    shown = subprocess.run(words, capture_output=True, text=True, check=False).stdout.split()
+    return [it for it in shown if not it.startswith("Z")]
+
+
 @pytest.mark.parametrize("number, is_group", [(signal.SIGTERM, False), (signal.SIGTERM, True), (signal.SIGINT, True), (signal.SIGKILL, False)])
 def test_ended_while_it_writes(tools, season, tmp_path, number, is_group):
     """Ended at some moment, alone or with its processes as by Ctrl-C: no folder has its name, no process remains, and the register opens."""
     shutil.copy(season / "after-1.db", tmp_path / "reg.db")
-    quiet = {"stdout": subprocess.DEVNULL, "stderr": subprocess.DEVNULL, "start_new_session": True}
-    command = subprocess.Popen([tools / "admissions-letters", "reg.db", "--pdf", "out"], cwd=tmp_path, **quiet)
-    deadline = time.monotonic() + 60
-    while not list(tmp_path.glob("out.part-*/letter-*.pdf")) and time.monotonic() < deadline and command.poll() is None:
-        time.sleep(0.05)
+    words, quiet = [tools / "admissions-letters", "reg.db", "--pdf", "out"], subprocess.DEVNULL
+    command = subprocess.Popen(words, cwd=tmp_path, stdout=quiet, stderr=quiet, start_new_session=True)
+    assert wait_for(lambda: list(tmp_path.glob("out.part-*/letter-*.pdf")) or command.poll() is not None, bool)
     children = subprocess.run(["pgrep", "-P", str(command.pid)], capture_output=True, text=True, check=False).stdout.split()
-    assert command.poll() is None and children
+    assert command.poll() is None and running(children)
     os.killpg(command.pid, number) if is_group else command.send_signal(number)
-    command.wait(timeout=60)
-    while time.monotonic() < deadline and subprocess.run(["ps", "-o", "pid=", "-p", ",".join(children)], capture_output=True, check=False).stdout.strip():
-        time.sleep(0.05)
-    assert not subprocess.run(["ps", "-o", "pid=", "-p", ",".join(children)], capture_output=True, check=False).stdout.strip()
+    command.wait(timeout=300)
+    assert not wait_for(lambda: running(children), lambda it: not it)
+    # (they were ended, and have not run to their end, at which there is a file for each child)
+    assert len(list(tmp_path.glob("out.part-*/letter-*.pdf"))) < count(tmp_path / "reg.db")
     assert not (tmp_path / "out").exists() and (list(tmp_path.glob("out.part-*")) == []) == (number != signal.SIGKILL)
     assert subprocess.run([PROGRAM, "do", tmp_path / "reg.db"], stdin=subprocess.DEVNULL, check=False).returncode == 0
+
+
+ATTACKER = """
+import socket, sys
+def ports():
+    found = set()
+    for name in ("/proc/net/tcp", "/proc/net/tcp6"):
+        with open(name) as file:
+            found |= {int(it.split()[1].rpartition(":")[2], 16) for it in file.readlines()[1:] if it.split()[3] == "0A"}
+    return found
+known, looks = ports(), 0
+print("ready", flush=True)
+import select
+while not select.select([sys.stdin], [], [], 0)[0]:
+    looks += 1
+    for port in ports() - known:
+        try:
+            with socket.create_connection(("127.0.0.1", port), timeout=1) as it:
+                it.sendall(b"GET /child/1/letter HTTP/1.1\\r\\n\\r\\n")
+                print(port, it.recv(4096), flush=True)
+        except OSError:
+            pass
+print("looks", looks, flush=True)
+"""
+
+
+def without_networks(words):
+    """A command where the system allows no network of its own, as in a container."""
+    return ["unshare", "--user", "--map-root-user", "bash", "-c", 'echo 0 > /proc/sys/user/max_user_namespaces && exec "$@"', "bash", *words]
+
+
+@pytest.mark.parametrize("has_network", [True, False])
+def test_no_port_is_open(tools, tmp_path, has_network):
+    """Another user of the machine, nobody where the test is root's, watches for new ports while letters are printed, of 600 children or, by a run for each, of 60; it
+    finds none by which the program answers with a letter of this register. The letters are those that the program prints, and nothing remains beside the register."""
+    count, name = 600 if has_network else 60, secrets.token_hex()[:40]
+    make(tmp_path / "reg.db", [school("OAK"), *(child(it, name=name) for it in range(1, count + 1))])
+    if not has_network and subprocess.run(without_networks(["true"]), check=False).returncode:
+        pytest.skip("no user namespace can be made here, so the other test is this one")
+    nobody = ["setpriv", "--reuid", "65534", "--regid", "65534", "--clear-groups"] if os.geteuid() == 0 else []
+    with subprocess.Popen([*nobody, "/usr/bin/python3", "-c", ATTACKER], stdin=subprocess.PIPE, stdout=subprocess.PIPE, text=True, cwd="/") as attacker:
+        assert attacker.stdout and attacker.stdout.readline() == "ready\n"
+        words = [str(tools / "admissions-letters"), "reg.db", "out"]
+        ran = subprocess.run(words if has_network else without_networks(words), cwd=tmp_path, capture_output=True, text=True, check=False)
+        said, _ = attacker.communicate("\n")
+    assert ran.returncode == 0 and ran.stdout == f"{count} letters are in out\n", ran
+    assert name not in said and int(said.splitlines()[-1].removeprefix("looks ")) > 20, said
+    for it in (1, 37, count):
+        text = subprocess.run([PROGRAM, "letter", tmp_path / "reg.db", str(it)], capture_output=True, check=True).stdout
+        assert (tmp_path / "out" / f"letter-{it:07}.txt").read_bytes() == text and text.startswith(b"Admission 2025 secondary\nChild ")
+    assert len(list((tmp_path / "out").iterdir())) == count and sorted(it.name for it in tmp_path.iterdir()) == ["out", "reg.db", "reg.db-wal"]
+
+
+@pytest.mark.parametrize("words", [["out"], ["--csv", "out"]])
+@pytest.mark.parametrize("target", ["reg.db", "$2"])
+@pytest.mark.parametrize("has_network", [True, False])
+def test_a_register_that_changes_meanwhile(tools, tmp_path, has_network, target, words):
+    """A register, or the copy of it, to which somebody writes past its lock while letters are printed: nothing is written, for texts alone too."""
+    town(tmp_path)
+    if not has_network and subprocess.run(without_networks(["true"]), check=False).returncode:
+        pytest.skip("no user namespace can be made here")
+    fake = tmp_path / "fake"
+    # (this byte of a database says which SQLite wrote it last, and nothing else)
+    fake.write_text(f'#!/bin/sh\ncase $1 in letter | serve) printf X | dd of="{target}" bs=1 seek=99 conv=notrunc status=none;; esac\nexec "{PROGRAM}" "$@"\n')
+    fake.chmod(0o700)
+    command = [str(tools / "admissions-letters"), "reg.db", *words]
+    command, environment = command if has_network else without_networks(command), {**os.environ, "ADMISSIONS": str(fake)}
+    ran = subprocess.run(command, cwd=tmp_path, capture_output=True, text=True, env=environment, check=False)
+    assert ran.returncode == 1 and "was changed while its letters were printed: nothing was written" in ran.stderr, ran
+    assert sorted(it.name for it in tmp_path.iterdir()) == ["before.db", "fake", "reg.db", "reg.db-wal"]
+
+
+def test_a_template_shows_pictures_fonts_and_styles_alone(office, tmp_path):
+    """A picture, a style sheet and a font of its folder are shown; a register is not, by whatever it is named and whatever its name is; and no file is attached."""
+    town(tmp_path)
+    shutil.copy(tmp_path / "reg.db", tmp_path / "copy.db")
+    for name in ("logo.png", "reg.css", "reg.ttf"):
+        shutil.copy(tmp_path / "reg.db", tmp_path / name)
+    (tmp_path / "list.css").write_text("<p>child,name</p>")
+    (tmp_path / "style.css").write_text("p { color: red }")
+    (tmp_path / "crest.svg").write_text('<?xml version="1.0"?>\n<!-- a crest -->\n<svg xmlns="http://www.w3.org/2000/svg" width="9" height="9"><rect width="9" height="9"/></svg>')
+    good = '<link rel="stylesheet" href="style.css"><p>{{ letter.name }}<img src="crest.svg"><a href="https://example.org">us</a>'
+    attached, named = "a letter shows pictures, fonts and style sheets alone", "which is no picture, font or style sheet"
+    bad = {
+        '<a rel="attachment" href="copy.db">x</a>': attached, '<link rel="Attachment" href="crest.svg"><p>x': attached, '<a rel="nofollow attachment" href="style.css">x</a>': attached,
+        '<object data="copy.db"></object>': named, '<embed src="copy.db">': named, '<img src="logo.png">': named, '<link rel="stylesheet" href="reg.css"><p>x': named,
+        '<style>@import "list.css";</style><p>x': named, "<style>@font-face { font-family: x; src: url(reg.ttf) } p { font-family: x }</style><p>x": named,
+        "<style>p { background: url(copy.db) }</style><p>x": named, '<style>@import "../style.css";</style><p>x': "which is no file in its folder",
+        "{% for a in range(99999) %}{% for b in range(99999) %}{% endfor %}{% endfor %}": "a letter by this template takes more than 5 seconds",
+        "{% for a in range(99999) %}{% for b in range(99999) %}many{% endfor %}{% endfor %}": "a letter by this template has over 1,000,000 characters",
+    }
+    for text, said in bad.items():
+        (tmp_path / "letter.html").write_text(text, "utf-8")
+        ran = office("letters", "reg.db", "--pdf", "out", "--template", "letter.html", "--child", "1")
+        assert ran.returncode == 1 and said in ran.stderr and "Traceback" not in ran.stderr and not (tmp_path / "out").exists(), (text, ran)
+    (tmp_path / "letter.html").write_text(good, "utf-8")
+    assert office("letters", "reg.db", "--pdf", "out", "--template", "letter.html").returncode == 0
+    files = list((tmp_path / "out").iterdir())
+    assert len(files) == 8
+    for it in files:
+        listed = subprocess.run(["pdfdetach", "-list", it], capture_output=True, text=True, check=True).stdout
+        assert listed == "0 embedded files\n", (it, listed)
+
+
+WHOLE = """
+Example County Council
+School Admissions · County Hall, 1 High Street, Exampleton EX1 1AA
+admissions@example.gov.uk · 01234 567890
+To the parents or carers of
+Ann Abel
+2 Low Lane
+3 March 2025
+Secondary school place for September 2025
+Dear parent or carer,
+A place at Elm School is offered to Ann Abel. It is the second preference of your application.
+What you need to do
+Please write to us by 17 March 2025 whether you accept or decline this place. If you accept it you remain on the waiting list named below. If you decline it, it
+cannot be offered to you again.
+How places were allotted
+A school with more applications than places ranks children by its published criteria, then by the straight-line distance from home to school, then by a lot drawn
+under independent supervision. It makes no difference to a school how high you listed it. Each child is offered the highest of its preferences at which it ranks
+high enough.
+The order at Elm School is:
+children looked after, or previously looked after
+children ranked by distance alone
+Your child ranked as a child ranked by distance alone, with a distance of 850 metres.
+Schools that you prefer to this one
+School Preference Your child there Distance Waiting list
+Oak School first meeting no criterion of the school 150 m position 1 of 1
+A waiting list follows the same order, whenever you applied. A position can rise or fall as other families apply or move.
+Your right to appeal
+You may appeal to an independent panel against the refusal of a place at this school, whether or not you accept another place. Write to the address above within 20
+school days of the date of this letter, and say for which school. Your position on a waiting list is not affected.
+Yours faithfully,
+School Admissions, Example County Council
+"""
+
+
+def test_a_whole_letter(office, tmp_path):
+    """By hand, each word: Oak's one place goes to child 2, who lives within 100 metres; child 1 was offered Elm, its second preference, and waits at Oak. A letter may be
+    answered within 14 days, and an appeal lodged within 20 school days (School Admission Appeals Code 2022, 2.1)."""
+    make(tmp_path / "reg.db", [
+        school("OAK", pan=1, criteria=["sibling", "within:100"], name="Oak School"), school("ELM", pan=1, east=1000, name="Elm School"),
+        child(1, east=150, name="Ann Abel"), child(2, east=50, name="Bo Bell"), apply(1, ["OAK", "ELM"]), apply(2, ["OAK"]),
+        {"cmd": "round", "draw": 1, "day": "2025-03-03", "lots": [1, 2, 1]},
+    ])
+    (tmp_path / "addresses.csv").write_text("child,street\n1,2 Low Lane\n", "utf-8")
+    assert office("letters", "reg.db", "--pdf", "out", "--child", "1", "--addresses", "addresses.csv", "--date", "2025-03-03").returncode == 0
+    words = text_of(tmp_path / "out" / "letter-0000001.pdf", "-raw").split()
+    # (the foot of the page, and the numbers of the list, are in the order in which they were drawn)
+    foot = "Child 1 · page 1 of 1"
+    assert " ".join(words).count(foot) == 1 and [it for it in words if it in ("1.", "2.")] == ["1.", "2."]
+    text = " ".join(it for it in words if it not in ("1.", "2."))
+    assert " ".join(text.replace(foot, "").split()) == " ".join(WHOLE.split())

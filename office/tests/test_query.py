@@ -3,8 +3,9 @@ import contextlib
 import csv
 import io
 import json
+import resource
+import shutil
 import sqlite3
-import time
 
 import openpyxl
 import pytest
@@ -222,6 +223,12 @@ def test_the_workbook(office, query, tmp_path):
     assert ran.returncode == 1 and "all.xlsx is there already" in ran.stderr
 
 
+def cpu_seconds() -> float:
+    """The CPU time of the processes that have ended; wall-clock time on a busy machine is of other processes too."""
+    used = resource.getrusage(resource.RUSAGE_CHILDREN)
+    return used.ru_utime + used.ru_stime
+
+
 def test_two_thousand_children_take_seconds(office, tmp_path):
     """The longest lists of a register that is full."""
     kids = {at: {"child": at, "name": f"Child {at}", "east": at, "north": 0, "looked_after": False, "flags": [], "siblings": []} for at in range(1, 2001)}
@@ -230,10 +237,10 @@ def test_two_thousand_children_take_seconds(office, tmp_path):
     lists = {at: [f"S{(at + 7 * it) % 200}" for it in range(10)] for at in kids}
     write(tmp_path / "reg.db", schools, kids, lists, draws=[("2025-03-03", {at: None for at in kids},
         {(it, at): at for at, them in lists.items() for it in them}, ())])
-    start = time.monotonic()
+    start = cpu_seconds()
     assert office("query", "reg.db", "list").stdout.count("\n") == 20_001
-    assert time.monotonic() - start < 20
-    assert office("query", "reg.db", "--workbook", "all.xlsx").returncode == 0 and time.monotonic() - start < 100
+    assert cpu_seconds() - start < 10
+    assert office("query", "reg.db", "--workbook", "all.xlsx").returncode == 0 and cpu_seconds() - start < 60
 
 
 @pytest.mark.parametrize("words, said", [
@@ -272,3 +279,34 @@ def test_a_day_before_the_first_round_is_refused(office, tmp_path):
         ran = office("query", "reg.db", name, "--day", "2025-03-03")
         assert ran.returncode == 0 and ran.stdout.count("\n") == 1
     assert office("query", "reg.db", "--workbook", "all.xlsx", "--day", "2025-03-02").returncode == 0
+
+
+def test_a_file_that_only_seems_a_register(office, season, tmp_path):
+    """A view that does not end in place of `draw`, a trigger, a table more: no command reads such a file, in any place that takes a register; each has the program's
+    reason. The audit, which needs no program, says what is there. Nothing is left beside the file."""
+    odd = {
+        "view": "DROP TABLE draw; CREATE VIEW draw AS WITH RECURSIVE n(draw) AS (SELECT 1 UNION ALL SELECT draw + 1 FROM n) SELECT draw, 1 AS round, NULL AS school, 20150 AS day FROM n",
+        "trigger": "CREATE TRIGGER odd AFTER INSERT ON child BEGIN DELETE FROM place; END", "table": "CREATE TABLE odd (a)",
+    }
+    shutil.copy(season / "after-1.db", tmp_path / "good.db")
+    commands = {
+        "view": (
+            "query odd.db season", "query odd.db --workbook out.xlsx", "query good.db moved --round 1 --before odd.db", "check good.csv --register odd.db",
+            "figures odd.db out.html", "why odd.db good.db --child 1", "trial odd.db good.db --pan BIRS=99", "lots pairs --sheet out.csv --register odd.db",
+        ),
+        "trigger": ("query odd.db season",), "table": ("query odd.db season",),
+    }
+    (tmp_path / "good.csv").write_text(f"{HEADER}\n1,Ann,1,1,no,,,2024-10-20,OAK,\n", "utf-8")
+    (tmp_path / "pairs").write_text("BIRS 1\n", "utf-8")
+    for kind, text in odd.items():
+        shutil.copy(tmp_path / "good.db", tmp_path / "odd.db")
+        conn = sqlite3.connect(tmp_path / "odd.db")
+        conn.executescript(text)
+        conn.close()
+        was = sorted(it.name for it in tmp_path.iterdir())
+        for words in commands[kind]:
+            ran = office(*words.split(" "))
+            assert ran.returncode == 1 and ran.stdout == "" and ran.stderr.endswith(": odd.db is no register, or it is damaged: fault: BadRow\n"), (kind, words, ran)
+        ran = office("audit", "odd.db", "good.db")
+        assert ran.returncode == 1 and ("it has the" in ran.stderr) == (kind != "table"), ran
+        assert sorted(it.name for it in tmp_path.iterdir()) == was

@@ -5,7 +5,7 @@ import os
 import openpyxl
 import pytest
 from conftest import HEADER, do
-from test_send import ROUND, TODAY, reg_fixture  # noqa: F401  pylint: disable=unused-import
+from test_send import ROUND, TODAY
 
 CHILDREN = "child,name,applied,school,place\n1,Ann Abel,2024-10-20,OAK,offered\n"
 COMMANDS = "; commands are lines of JSON, and a sheet has a name that ends with .csv or .xlsx"

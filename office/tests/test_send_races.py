@@ -5,7 +5,7 @@ import subprocess
 
 import pytest
 from conftest import apply, child, do
-from test_send import ROUND, TODAY, count, reg_fixture, text  # noqa: F401  pylint: disable=unused-import
+from test_send import ROUND, TODAY, count, text
 
 PAIRS_DIFFER = "reg.db has changed since it was compared, and the lots would go to other children: print the pairs again, make the sheet anew, and draw again"
 
@@ -16,6 +16,7 @@ def changed_while_asked(tools, folder, changes):
     run = subprocess.Popen([tools / "admissions-send", "a.jsonl", *TODAY], cwd=folder, stdin=theirs, stdout=subprocess.PIPE, stderr=subprocess.STDOUT,
                            env={**os.environ, "ADMISSIONS": str(tools / "admissions"), "PYTHONUNBUFFERED": "1"})
     os.close(theirs)
+    assert run.stdout
     out = b""
     while b"Type yes or no: " not in out and (piece := os.read(run.stdout.fileno(), 4096)):
         out += piece

@@ -55,7 +55,7 @@ def test_the_first_round_of_the_example(office, season, tmp_path, changes, words
     gains, losses = sum(it[0] for it in rows.values()), sum(not it[0] for it in rows.values())
     same = len(plain.drawn[-1][1]) - len(rows)
     assert f"{len(plain.drawn[-1][1])} children took part: {gains} would gain, {losses} would lose, {same} would have the same school\n" in ran.stdout
-    counts = collections.Counter()
+    counts: collections.Counter = collections.Counter()
     for gain, had, had_class, would, would_class in rows.values():
         counts[(would if gain else had), gain] += 1
         assert (would_class if gain else had_class) is not None

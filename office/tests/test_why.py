@@ -112,7 +112,10 @@ def test_what_is_not_right_is_said(tmp_path):
     lists, lots = {1: ["A"], 2: ["A"]}, {("A", 1): 5, ("A", 2): 3}
     write(tmp_path / "before.db", schools, children, lists)
     before = register.read(str(tmp_path / "before.db"))
-    for outcomes, faults in (({1: "A", 2: None}, []), ({1: None, 2: "A"}, ["ranks after"]), ({1: None, 2: None}, ["remained free"])):
+    cases: list[tuple[dict[int, str | None], list[str]]] = [
+        ({1: "A", 2: None}, []), ({1: None, 2: "A"}, ["ranks after"]), ({1: None, 2: None}, ["remained free"]),
+    ]
+    for outcomes, faults in cases:
         write(tmp_path / "after.db", schools, children, lists, draws=[("2025-03-03", outcomes, lots, {it for it in outcomes if outcomes[it]})])
         after = register.read(str(tmp_path / "after.db"))
         loser = 2 if outcomes[1] else 1
@@ -259,7 +262,8 @@ def test_the_example_season(tools, season, number, first, second):
     """Both rounds of the example: all that admissions-audit says of each child that a school turned away, why says too."""
     ran = subprocess.run([tools / "admissions-audit", season / first, season / second], capture_output=True, text=True, check=False)
     assert ran.returncode == 0
-    before, after, found, code, checked = register.read(str(season / first)), register.read(str(season / second)), {}, None, 0
+    before, after, code, checked = register.read(str(season / first)), register.read(str(season / second)), None, 0
+    found: dict = {}
     for line in ran.stdout.splitlines():
         if at := re.match(r"School (\w+): places ([0-9]+), children ([0-9]+)(?:, the last child [0-9]+, class ([0-9]+), ([0-9]+) metres, lot ([0-9]+))?", line):
             code, places, held, last = at[1], int(at[2]), int(at[3]), tuple(int(it) for it in at.groups()[3:] if it is not None)

@@ -32,7 +32,7 @@ def table(chance, rows, columns):
     sums += [[(("sum", column), -1), *(((row, column), 1) for row in range(rows))] for column in range(columns)]
     sums.append([(("all", 0), -1), *((("row", row), 1) for row in range(rows))])
     keys = lambda it: (str(it[0]), it[1])
-    named = {keys(key): value for key, value in counts.items()}
+    named: dict[tuple, int] = {keys(key): value for key, value in counts.items()}
     sums = [[(keys(key), sign) for key, sign in line] for line in sums]
     for line in sums:
         named[line[0][0]] = sum(named[key] for key, _ in line[1:])

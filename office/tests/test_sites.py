@@ -1,0 +1,54 @@
+"""The sites that admissions-setup makes, by the version of nginx and with or without IPv6."""
+import re
+import sys
+
+import pytest
+from conftest import ROOT
+
+sys.path.append(str(ROOT / "deploy"))
+from machine import sites  # noqa: E402
+
+MODEL = (ROOT / "deploy/nginx/admissions.conf").read_text(encoding="utf-8")
+MORE = (ROOT / "deploy/nginx/machine.conf").read_text(encoding="utf-8")
+OLD, LAST_OLD, FIRST_NEW, NEW = (1, 22, 1), (1, 25, 0), (1, 25, 1), (1, 26, 3)
+
+
+def listens(machine):
+    """The addresses of a site and of the machine's own part, and whether HTTP/2 is a directive."""
+    texts = sites.site_text(MODEL, "x-1", "x.example", machine), sites.machine_text(MODEL, MORE, machine)
+    return [re.findall(r"(?m)^ *listen (.*);", it) for it in texts], "http2 on;" in texts[0]
+
+
+@pytest.mark.parametrize("version, has_ipv6, own, machines, is_directive", [
+    (OLD, True, ["443 ssl http2", "[::]:443 ssl http2"], True, False),
+    (LAST_OLD, False, ["443 ssl http2"], False, False),
+    (FIRST_NEW, False, ["443 ssl"], False, True),
+    (NEW, True, ["443 ssl", "[::]:443 ssl"], True, True),
+])
+def test_what_a_site_listens_at(version, has_ipv6, own, machines, is_directive):
+    """HTTP/2 is named once, as the version takes it, and IPv6 only where there is some."""
+    found, has_directive = listens(sites.Machine(version, has_ipv6))
+    shared = ["80 default_server", "[::]:80 default_server", "443 ssl default_server",
+        "[::]:443 ssl default_server"]
+    assert (found, has_directive) == ([own, shared if machines else shared[::2]], is_directive)
+
+
+@pytest.mark.parametrize("before, after", [
+    ("events {\n\tworker_connections 768;\n}", "events {\n\tworker_connections 8192; # 768 before admissions-setup\n}"),
+    ("events { }", "events { }"),
+    ("\tworker_connections 9000;", "\tworker_connections 9000;"),
+    ("\t# worker_connections 768;", "\t# worker_connections 768;"),
+])
+def test_the_connections_of_nginx(before, after):
+    """They are raised once, and never lowered."""
+    assert sites.main_text(before) == sites.main_text(after) == after
+
+
+def test_a_purge_puts_the_connections_back():
+    """By the line of debian/postrm."""
+    line = re.search(r"sed -i 's/(.*)/(.*)/' /etc/nginx/nginx.conf", (ROOT / "debian/postrm").read_text())
+    assert line
+    old, new = line.groups()
+    pattern = old.replace(r"\(", "(").replace(r"\)", ")")
+    text = "events {\n\tworker_connections 768;\n\t# multi_accept on;\n}\n"
+    assert re.sub(pattern, new, sites.main_text(text)) == text
