@@ -4,15 +4,15 @@
 #   make build    the proved program, at bin/admissions
 #   make demo     the examples, run and compared with what they must print
 #   make cases    the cases, the same way; they take seconds once the program is built
-#   make test     every proof, mutants, tests, examples and cases; its last line is 'N passed, M failed'
+#   make test     every proof, mutants, tests, examples, cases and the tests of the office's commands; its last line is 'N passed, M failed'
 #   make reference     the definitions, public functions, clauses, mutants and files, as linked pages and one text, at out/reference; needs python3-jinja2, graphviz
 #   make mutants  the planted bugs that the gate does not try, each of which the proof must reject
 #   make sweep    each request of the built program for memory refused, in turn: its answers and files are judged; some minutes
 #   make refusals  the same of a script over disks in memory, judged by rules that share no code with the program, and of the calls that need none
 #   make killed-opens  an open after a crash, and opens that are refused, killed at each of their calls to the system; a minute
 #   make audits   admissions-audit on the rounds and fills of 200 random registers, on files changed by hand, and on all allocations of small ones
-#   make office   the tests of the office's commands (office/tests), with the built program; needs python3-pytest, poppler-utils, and what cases need
-#   make races    a restore beside which a program starts at 300 random moments; restore and backup with a program started before each operation, killed, failing; some minutes
+#   make office   the tests of the office's commands (office/tests) alone, with the built program; needs python3-pytest, poppler-utils, and what cases need
+#   make races    a restore beside which a program starts at 300 random moments; restore and backup with a program started before each operation, killed, failing, without power; some minutes
 #   make costs    the CPU seconds of each crate's proof in the build here, beside a unit of this hour, and the longest chain of crates
 #   make bench    the aims for the costs, beside the measured costs, as one page, which it writes to bench/RESULTS.md; some minutes once the program is built
 #   make bench-more  the costs of commands in more tables, beside a baseline in the same run
@@ -67,14 +67,14 @@ killed-opens: build
 	tools/killed-opens bin/admissions
 
 office: needs-office build
-	ADMISSIONS=$(abspath $(PROGRAM)) /usr/bin/python3 -m pytest -q -p no:cacheprovider office/tests
+	tools/office-tests $(PROGRAM)
 
 audits: build
 	bench/audit/run bin/admissions office/command
 
 races: build
 	tools/races bin/admissions tools/restore 300
-	for tool in restore backup; do for action in start kill fail; do tools/races bin/admissions tools/$$tool $$action || exit 1; done; done
+	for tool in restore backup; do for action in start kill fail; do tools/races bin/admissions tools/$$tool $$action || exit 1; done; tools/power-loss bin/admissions tools/$$tool || exit 1; done
 
 costs: build
 	tools/costs
@@ -118,6 +118,6 @@ install:
 	install -m 644 docs/pictures/*.png $(DESTDIR)$(PREFIX)/share/doc/admissions/pictures
 	deploy/manuals $(DESTDIR)$(PREFIX)
 
-# From the proved program as it is there, and the commit that is checked out
+# From the proved program as it is there, and the commit that is checked out: make package VERDICT=LOG, the log of `make test`, or VERDICT=none
 package:
-	deploy/package $(PROGRAM)
+	deploy/package $(if $(VERDICT),--verdict $(VERDICT)) $(PROGRAM)

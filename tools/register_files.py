@@ -185,7 +185,11 @@ def room_beside(name, path):
     try:
         yield room
     finally:
-        shutil.rmtree(room, ignore_errors=True)
+        # (twice: a signal that ends this process may interrupt the first)
+        try:
+            shutil.rmtree(room, ignore_errors=True)
+        finally:
+            shutil.rmtree(room, ignore_errors=True)
 
 
 def found(names):

@@ -88,7 +88,7 @@ class Season:
         own = {child: self.places[child]["school"] for child in self.lists if child in self.places}
         asks = {child: self.wanted(child) + ([own[child]] if child in own else []) for child in self.lists}
         plans = [it["school"] for it in self.places.values() if it["kind"] == "plan"]
-        kept = {school: [] for school in self.schools}
+        kept: dict[str, list] = {school: [] for school in self.schools}
         free, turn = sorted(self.lists), {child: 0 for child in self.lists}
         while free:
             child = free.pop()
@@ -177,7 +177,7 @@ class Season:
     def audit_lines(self, school):
         """What an audit of the last round reports about a school."""
         draw, at, _, day = self.draws[-1]
-        (lots, has, fresh), (asks, own, quotas) = self.drawn[-1], self.asked
+        (lots, has, _), (asks, own, quotas) = self.drawn[-1], self.asked
         key_text = lambda child: "class {}, {} metres, lot {}".format(*self.key(school, child, lots))
         there = [child for child in has if has[child] == school]
         last = max((child for child in there if own.get(child) != school), key=lambda it: self.key(school, it, lots))
@@ -322,7 +322,7 @@ def main():
         out.writerow(rows[0])
         for row in rows:
             season.children[row["child"]], season.lists[row["child"]] = row, row["preferences"]
-            out.writerow([";".join(map(str, it)) if isinstance(it, list) else {True: "yes", False: "no"}.get(it, it) if isinstance(it, bool) else it for it in row.values()])
+            out.writerow([";".join(map(str, it)) if isinstance(it, list) else ("yes" if it else "no") if isinstance(it, bool) else it for it in row.values()])
     show("import reg.db applications.csv", [compact({"added": len(rows), "done": True, "known": 0})])
     show("import reg.db applications.csv", [compact({"added": 0, "done": True, "known": len(rows)})])
 
@@ -380,7 +380,7 @@ def main():
         summer.append({"cmd": "leave_list", "child": child, "school": school})
         season.left.add((child, school))
         replies.append(done)
-    fills = []
+    fills: list = []
     for day in ["2025-04-01", "2025-04-02"]:
         school = max(sorted(season.schools), key=lambda it: (season.vacancies(it) > 0) * len(season.waiting(it)))
         lots = drawn(len(season.waiting(school)))
