@@ -32,7 +32,9 @@ class Counted:
     all that they call in turn."""
 
     def __init__(self, data):
-        self.alone, self.calls, name, callee = collections.Counter(), collections.Counter(), None, None
+        self.alone: collections.Counter = collections.Counter()
+        self.calls: collections.Counter = collections.Counter()
+        name = callee = None
         with open(data) as lines:
             for line in lines:
                 if line.startswith("fn="):
@@ -52,7 +54,7 @@ class Counted:
     def shares(self):
         """The shares of whole crates, as text. A library's is that of the calls from this repository's functions, less what it calls of these;
         so the share of `sqlite` is all that it costs, and would be there if this program took no time at all."""
-        found = collections.Counter()
+        found: collections.Counter = collections.Counter()
         for name, cost in self.alone.items():
             if OURS.match(name):
                 found[owner(name)] += cost
@@ -68,7 +70,7 @@ class Counted:
 
     def functions(self, most=8):
         """The functions that run most instructions by themselves, as text."""
-        found = collections.Counter()
+        found: collections.Counter = collections.Counter()
         for name, cost in self.alone.items():
             found[re.sub(r"<#[0-9a-f]+>|::<.*>|\(.*\)", "", name)] += cost
         return ", ".join(f"`{name}` {cost / self.whole:.0%}" for name, cost in found.most_common(most))

@@ -165,14 +165,16 @@ class Desk:
 
     def __init__(self, program, file, status=0):
         self.process = subprocess.Popen([program, "do", file], stdin=subprocess.PIPE, stdout=subprocess.PIPE, bufsize=0)
-        os.set_blocking(self.process.stdout.fileno(), False)
+        assert self.process.stdin and self.process.stdout
+        self.given, self.printed = self.process.stdin, self.process.stdout
+        os.set_blocking(self.printed.fileno(), False)
         self.status = status
 
     def __enter__(self):
         return self
 
     def __exit__(self, *_):
-        self.process.stdin.close()
+        self.given.close()
         status = self.process.wait()
         assert status == self.status, f"the program ended with {status}, and not with {self.status}"
 
@@ -187,10 +189,10 @@ class Desk:
     def answers_to(self, given):
         """The same for lines of input. Where there are several, the answers are looked for now and then: a reader that waits for them is woken by each,
         which costs the run more than to print it."""
-        self.process.stdin.write(given)
+        self.given.write(given)
         pieces, wanted = [], given.count(b"\n")
         while wanted > 0:
-            more = self.process.stdout.read(65536)
+            more = self.printed.read(65536)
             if more is None:
                 if wanted > 1:
                     time.sleep(PAUSE)

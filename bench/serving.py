@@ -60,7 +60,9 @@ class Server:
         more = [] if count is None else ["--count", str(count)]
         self.counted = count is not None
         self.process = subprocess.Popen([*arguments, str(self.port), *more], stdout=subprocess.PIPE)
-        printed = self.process.stdout.readline()
+        assert self.process.stdout
+        self.printed = self.process.stdout
+        printed = self.printed.readline()
         assert printed == f"serving on 127.0.0.1:{self.port}\n".encode(), printed
 
     def __enter__(self):
@@ -71,7 +73,7 @@ class Server:
         if not self.counted or kind is not None:
             self.process.terminate()
         status = self.process.wait()
-        self.process.stdout.close()
+        self.printed.close()
         assert not self.counted or kind is not None or status == 0, status
 
     def asked(self, requests):

@@ -82,10 +82,12 @@ def amend(conn, command):
 class Handler(http.server.BaseHTTPRequestHandler):
     protocol_version = "HTTP/1.1"
 
+    conn: sqlite3.Connection
+
     def do_GET(self):
         parts = self.path.split("/")
         if len(parts) == 3 and parts[1] == "child" and parts[2].isdigit():
-            self.say(*state(self.server.conn, int(parts[2])))
+            self.say(*state(self.conn, int(parts[2])))
         else:
             self.say(404, {"status": 404})
 
@@ -93,7 +95,7 @@ class Handler(http.server.BaseHTTPRequestHandler):
         body = self.rfile.read(int(self.headers["Content-Length"]))
         command = json.loads(body)
         if self.path == "/command" and command["cmd"] == "amend":
-            self.say(*amend(self.server.conn, command))
+            self.say(*amend(self.conn, command))
         else:
             self.say(400, {"fault": 2, "name": "UnknownCommand"})
 
@@ -111,7 +113,7 @@ class Handler(http.server.BaseHTTPRequestHandler):
 def main():
     file, port = sys.argv[1], int(sys.argv[2])
     with http.server.HTTPServer(("127.0.0.1", port), Handler) as server:
-        server.conn = opened(file)
+        Handler.conn = opened(file)
         print(f"serving on 127.0.0.1:{port}", flush=True)
         server.serve_forever()
 

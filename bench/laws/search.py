@@ -171,7 +171,7 @@ def small():
                         other = Entrant((listed, tenant, own.ranks))
                         counts.laws["another list"].count_list(entrants, quotas, replaced(entrants, 0, other), 0)
                 is_member = [groups.below(2) == 0 for _ in entrants]
-                stated = [None] * 3
+                stated: list = [None] * 3
                 for i in range(3):
                     if is_member[i]:
                         listed, tenant = options[groups.below(9)]
@@ -220,11 +220,11 @@ def drawn_group(entrants, numbers):
     """What each member of a group states: any list, and at each school that it does not truly list a rank that no other member has."""
     is_member = [numbers.below(2) == 0 for _ in entrants]
     lists = [numbers.another(own)[:2] if member else None for own, member in zip(entrants, is_member)]
-    even = [{} for _ in range(5)]
+    even: list[dict] = [{} for _ in range(5)]
     for school in "ABCD":
         for row, number in zip(even, numbers.order()):
             row[school] = 2 * number
-    return [stated and entrant(*stated, by_truth(own, even[i])) for i, (own, stated) in enumerate(zip(entrants, lists))]
+    return [stated and entrant(stated[0], stated[1], by_truth(own, even[i])) for i, (own, stated) in enumerate(zip(entrants, lists))]
 
 
 def drawn(count):
@@ -235,12 +235,13 @@ def drawn(count):
         for _ in range(length):
             listed = numbers.list()
             lists.append((listed, listed[-1:] if numbers.below(3) == 0 else ""))
-        quotas, ranks = [], [{} for _ in range(5)]
+        numbered: list = []
+        ranks: list[dict] = [{} for _ in range(5)]
         for school in "ABCD":
-            quotas.append((school, numbers.below(3)))
+            numbered.append((school, numbers.below(3)))
             for row, number in zip(ranks, numbers.order()):
                 row[school] = 2 * number + 1
-        quotas = tuple(quotas)
+        quotas = tuple(numbered)
         entrants = tuple(entrant(*lists[i], ranks[i]) for i in range(length))
         counts.problem(entrants, quotas)
         school, more = "ABCD"[numbers.below(4)], numbers.below(3)
