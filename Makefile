@@ -4,7 +4,7 @@
 #   make build    the proved program, at bin/admissions
 #   make demo     the examples, run and compared with what they must print
 #   make cases    the cases, the same way; they take seconds once the program is built
-#   make test     every proof, mutants, tests, examples, cases and the tests of the office's commands; its last line is 'N passed, M failed'
+#   make test     every proof, mutants, tests, examples, cases and the tests of the office's commands and the deployment; its last line is 'N passed, M failed'
 #   make reference     the definitions, public functions, clauses, mutants and files, as linked pages and one text, at out/reference; needs python3-jinja2, graphviz
 #   make mutants  the planted bugs that the gate does not try, each of which the proof must reject
 #   make sweep    each request of the built program for memory refused, in turn: its answers and files are judged; some minutes
@@ -67,7 +67,7 @@ killed-opens: build
 	tools/killed-opens bin/admissions
 
 office: needs-office build
-	tools/office-tests $(PROGRAM)
+	tools/python-tests office $(PROGRAM)
 
 audits: build
 	bench/audit/run bin/admissions office/command
