@@ -46,6 +46,7 @@ def check(world, see):
         stale_list(world, page, other, see)
         typing_ahead(world, page, see)
         stale_answer(world, page, see)
+        finding_ahead(world, page, see)
         replies(world, page, see)
         schools(world, page, see)
         stale_file(world, page, see)
@@ -317,6 +318,81 @@ def stale_answer(world, page, see):
         page.value("document.getElementById('offer').innerText").split("\n")[-1],
         "The child has a place at A Ysgol Tŷ Gwyn, which was accepted.",
     )
+
+
+def finding_ahead(world, page, see):
+    """A clerk who types the next name into the field at the top while the desk is slow: here it is
+    suspended until the name is typed."""
+    typed = f"[{FOCUS}.id, document.getElementById('find').value]"
+
+    def ahead(begin, text, is_complete):
+        world.stop_desk()
+        begin()
+        page.value("document.getElementById('find').focus()")
+        page.type(text)
+        world.continue_desk()
+        page.wait(is_complete)
+        return page.value(typed)
+
+    def clear():
+        page.value("document.getElementById('find').value = ''; document.activeElement.blur()")
+
+    def find_two():
+        page.value("document.getElementById('find').focus()")
+        page.type("2")
+        page.press("Enter")
+        page.wait("location.hash === '#child/2' && document.getElementById('find').value === ''")
+
+    visit(page, "#start")
+    see(
+        "a view that is complete leaves the focus to who types ahead",
+        ahead(find_two, "bel", f"{ANSWER} === 'Child 2.'"),
+        ["find", "bel"],
+    )
+    page.press("ArrowDown")
+    see("and what was found is there", page.value(f"{FOCUS}.hash"), "#child/8")
+    clear()
+    see(
+        "so does an entry of Answers that nobody has, which is in its field again",
+        (
+            visit(page, "#answers"),
+            page.type("999"),
+            ahead(lambda: page.press("Enter"), "abel", f"{ANSWER}.includes('has none')"),
+            page.value(f"{FIELD}.value"),
+        )[2:],
+        (["find", "abel"], "999"),
+    )
+    clear()
+    visit(page, "#child/12")
+    page.rule = lambda method, path: (409, '{"name":"NotOffered"}') if method == "POST" else None
+    see(
+        "so does the answer to a command",
+        ahead(
+            lambda: page.value("document.getElementById('accept').click()"),
+            "abel",
+            f"{ANSWER}.startsWith('Refused')",
+        ),
+        ["find", "abel"],
+    )
+    clear()
+    visit(page, "#child/16/amend")
+    write(page, north="16002")
+    press(page, "#amend-form button")
+    page.rule = lambda method, path: (200, '{"done":true}') if method == "POST" else None
+    see(
+        "and the view that a command leads to",
+        (
+            ahead(
+                lambda: page.value("document.getElementById('sure-yes').click()"),
+                "abel",
+                f"{ANSWER}.startsWith('Done')",
+            ),
+            page.value("location.hash"),
+        ),
+        (["find", "abel"], "#child/16"),
+    )
+    page.rule = None
+    opened(page, "/?ahead")
 
 
 def chosen(page, path):

@@ -3,7 +3,7 @@
 // nothing but the button of the child that is shown answers. What was recorded, and what was not, is listed below, as long as the
 // page is open.
 import { Shown } from "./desk.js";
-import { button, childLink, element, field, say, schoolLink } from "./elements.js";
+import { button, childLink, element, field, isFinding, say, schoolLink } from "./elements.js";
 import { matches } from "./finding.js";
 import { hasIndex, letterOf, nameOf } from "./register.js";
 import { isSure, send } from "./sending.js";
@@ -95,8 +95,10 @@ export function answersView() {
   function giveBack({ entry }) {
     if (input.value || !input.isConnected) return false;
     input.value = entry;
-    input.focus();
-    input.select();
+    if (!isFinding()) {
+      input.focus();
+      input.select();
+    }
     return true;
   }
 
