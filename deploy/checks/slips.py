@@ -46,6 +46,7 @@ def check(world, see):
         stale_list(world, page, other, see)
         typing_ahead(world, page, see)
         stale_answer(world, page, see)
+        recorded_here(world, page, see)
         finding_ahead(world, page, see)
         replies(world, page, see)
         schools(world, page, see)
@@ -317,6 +318,47 @@ def stale_answer(world, page, see):
         "and is shown as it is",
         page.value("document.getElementById('offer').innerText").split("\n")[-1],
         "The child has a place at A Ysgol Tŷ Gwyn, which was accepted.",
+    )
+
+
+def recorded_here(world, page, see):
+    """The page is loaded again while an answer is sent: here its desk is suspended until then."""
+    before = rows(page)
+    page.type("13")
+    page.press("Enter")
+    page.wait(f"{FOCUS}.id === 'accept'")
+    world.stop_desk()
+    page.press("Enter")
+    page.wait(f"{RESULT}.includes('is being sent')")
+    page.value("window.isBefore = true")
+    page.call("Page.reload")
+    page.wait(f"!window.isBefore && {FIELD} && {FOCUS} === {FIELD}")
+    world.continue_desk()
+    see(
+        "after a reload what was recorded is listed, and what had no answer as such",
+        (
+            rows(page),
+            page.value("document.getElementById('not-recorded').innerText"),
+        ),
+        (
+            [
+                before[0],
+                "13|Child of 13|accept|B|There was no answer. It may be done: look before you send it again.",
+                *[row for row in before[1:] if not row.startswith("13|")],
+            ],
+            "4 answers were not recorded: see the results.",
+        ),
+    )
+    visit(page, "#start")
+    visit(page, "#answers")
+    see("and after another view", len(rows(page)), len(before))
+    see(
+        "the list is cleared by its button, and then nothing is kept",
+        (
+            press(page, "#clear-recorded"),
+            page.value("[document.querySelectorAll('#result table').length, Object.keys(sessionStorage), document.activeElement.id]"),
+        ),
+        ("The list is cleared. The register is as before.", [0, [], "answer-child"]),
     )
 
 
