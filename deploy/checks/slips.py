@@ -338,7 +338,7 @@ def recorded_here(world, page, see):
         "after a reload what was recorded is listed, and what had no answer as such",
         (
             rows(page),
-            page.value("document.getElementById('not-recorded').innerText"),
+            page.value("document.getElementById('not-recorded')?.innerText"),
         ),
         (
             [
