@@ -95,6 +95,15 @@ def test_a_plain_setup_asks_for_holidays_and_a_role(machine: pathlib.Path, monke
     assert (named.holiday, named.authority) == ([], None)
 
 
+def test_a_copy_names_its_register_and_nothing_is_asked_that_it_has(register: registers.Register, machine: pathlib.Path, monkeypatch: pytest.MonkeyPatch) -> None:
+    monkeypatch.setattr(setup, "AUTHORITY", machine / "etc/authority")
+    copy = register.file.rename(machine / "copy.db")
+    found = completed(monkeypatch, "none\n", "--copy", str(copy), "--site", "x.example", "--user", "mary", "--role", "office")
+    assert (found.name, found.phase, found.year, found.holiday, sys.stdin.read()) == ("secondary-2025", None, None, [], "")
+    named = completed(monkeypatch, "none\n", "other", "--copy", "gone.db", "--site", "x.example", "--user", "mary", "--role", "office")
+    assert named.name == "other"
+
+
 def test_a_user_without_a_role_is_refused_and_the_roles_are_named(register: registers.Register, monkeypatch: pytest.MonkeyPatch) -> None:
     reader = argparse.ArgumentParser()
     setup.arguments(reader)
@@ -107,7 +116,8 @@ def test_a_user_without_a_role_is_refused_and_the_roles_are_named(register: regi
 
 
 @pytest.mark.parametrize("given, said", [
-    (["--copy", "reg.db", "--holiday", "2025-03-03"], "a copy has its own"), (["--role", "office"], "whose role"), (["--new-password"], "whose password"),
+    (["--copy", "reg.db", "--holiday", "2025-03-03"], "a copy has its own"), (["--copy", "reg.db", "--holiday", "none"], "a copy has its own"),
+    (["--copy", "reg.db", "--phase", "primary"], "a copy has its own"), (["--copy", "reg.db", "--year", "2025"], "a copy has its own"), (["--role", "office"], "whose role"), (["--new-password"], "whose password"),
     (["--key", "site.key"], "belong together"), (["--year", "25"], "'25' is no year"), (["--holiday", "3/4/2026"], "write YYYY-MM-DD")])
 def test_options_that_do_not_belong_together(given: list[str], said: str) -> None:
     reader = argparse.ArgumentParser()
