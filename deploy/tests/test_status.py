@@ -1,4 +1,5 @@
 """What admissions-status says of each part: well on one side of a limit, and not on the other."""
+import argparse
 import collections
 import os
 import pathlib
@@ -6,7 +7,7 @@ import shutil
 import subprocess
 
 import pytest
-from machine import certificates, registers, status
+from machine import certificates, registers, second_copy, status
 from machine.run import Failed
 
 MB = 1_000_000
@@ -31,6 +32,26 @@ def test_the_days_of_a_certificate(days: int, is_own: bool, is_well: bool, regis
     monkeypatch.setattr(certificates, "days_left", lambda _: days)
     monkeypatch.setattr(certificates, "is_self_signed", lambda _: is_own)
     assert status.certificate_of(register)[0] is is_well
+
+
+@pytest.mark.parametrize("text, is_well, said", [
+    (None, False, "no second place is named in"), ("# one line\n", False, "write `none` if there shall be none"), ("# one line\nnone\n", True, "none, as"),
+    ("/mnt/copies\n", False, "none in /mnt/copies yet"), ("none\n/mnt/copies\n", False, "must have one line")])
+def test_no_second_place_needs_attention_unless_it_is_decided(
+        text: str | None, is_well: bool, said: str, register: registers.Register, machine: pathlib.Path) -> None:
+    setting = machine / "etc/second-copy"
+    if text is not None:
+        setting.write_text(text)
+    found, shown = status.report(register)["second copy"]
+    assert (found, said in shown, str(setting) in shown or "/mnt" in shown) == (is_well, True, True)
+
+
+@pytest.mark.parametrize("text", ["", "# one line\n", "none\n"])
+def test_without_a_second_place_nothing_is_copied_there(text: str, register: registers.Register, machine: pathlib.Path, capsys: pytest.CaptureFixture[str]) -> None:
+    setting = machine / "etc/second-copy"
+    setting.write_text(text)
+    assert second_copy.main(argparse.Namespace(name=register.name)) == 0
+    assert capsys.readouterr().out == f"no second place is named in {setting}\n"
 
 
 def test_a_register_that_others_can_read(register: registers.Register) -> None:
