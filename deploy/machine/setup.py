@@ -48,7 +48,7 @@ def arguments(reader: argparse.ArgumentParser) -> None:
         help="a day that is no working day, YYYY-MM-DD; may be repeated. `none` where there is none")
     add("--copy", metavar="FILE", help="begin with this copy of a register, and with what is beside it, in place of a new one")
     add("--site", metavar="HOST", help="the site's name, by which browsers find this machine")
-    add("--user", help="who may sign in: small letters and digits")
+    add("--user", help="who may sign in: a name or a mail address, in small letters")
     add("--role", help=f"the role of that user: {people.ROLES}")
     add("--new-password", action="store_true", help="draw another password for a user who is there already")
     add("--remove", metavar="USER", help="remove a user")

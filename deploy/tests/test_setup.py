@@ -11,6 +11,7 @@ import sys
 import typing
 
 import pytest
+from conftest import ROOT
 from machine import answers, files, holidays, people, registers, setup
 from machine.run import Failed
 
@@ -27,7 +28,8 @@ class Terminal(io.StringIO):
 @pytest.mark.parametrize("take, good, bad", [
     (answers.phase, "primary", ["Primary", "", "first"]), (answers.year, "2025", ["25", "1999", "2101", "20255", "2o25", ""]),
     (answers.host, "admissions.example", ["admissions", "https://admissions.example", "Admissions.example", ""]),
-    (answers.user, "jane", ["Jane", "default", "jane@example", "a b", ""]), (answers.role, "school-A", ["admin", "school-", "school-a", "office ", ""]),
+    (answers.user, "jane", ["Jane", "default", "a b", "a:b", "a;b", "a#b", "a$b", "a\\b", 'a"b', "a{b", "~a", "@a", "+a", "ä", "a\n", "a" * 65, ""]),
+    (answers.user, "ann.lee+post_1@ysgol-x.example", []), (answers.user, "a" * 64, []), (answers.role, "school-A", ["admin", "school-", "school-a", "office ", ""]),
     (answers.authority, "Example County Council", ["", " ", "two\nlines"])])
 def test_what_is_taken_and_what_is_named(take: typing.Callable[[str], object], good: str, bad: list[str]) -> None:
     assert str(take(good)) == good
@@ -35,6 +37,11 @@ def test_what_is_taken_and_what_is_named(take: typing.Callable[[str], object], g
         with pytest.raises(Failed) as found:
             take(it)
         assert (repr(it) in str(found.value), found.value.status) == (True, 2)
+
+
+def test_the_site_logs_whole_each_name_that_is_taken() -> None:
+    site = (ROOT / "deploy/nginx/admissions.conf").read_text(encoding="utf-8")
+    assert f'"~^(?<short_name>{people.USER.pattern})$"  $short_name;' in site
 
 
 @pytest.mark.parametrize("text", ["3/4/2026", "2026-4-3", "20260403", f"{datetime.date(2026, 4, 3):%G-W%V-%u}", "2026-02-30", "Easter"])
