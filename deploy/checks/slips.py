@@ -81,19 +81,21 @@ def do(world, **command):
 
 
 def due_today(page, see):
-    """14 days after 3 March is 17 March: on that day the offers of the first round are due, and on the day
-    before none is."""
+    """14 days after 3 March is 17 March: on that day the offers of the first round are due for a reminder, and
+    on the day before none is. 14 days after the reminders of 19 March is 2 April."""
     first = [5, 6, 7, 8, 9, 10, 12, 13, 14]
-    for day, due in (
-        ("2025-03-16", []),
-        ("2025-03-17", first),
-        ("2025-03-24", sorted([1, 11, *first])),
+    for day, name, due in (
+        ("2025-03-16", "remind-due", []),
+        ("2025-03-17", "remind-due", first),
+        ("2025-03-24", "remind-due", sorted([1, 11, *first])),
+        ("2025-04-01", "lapse-due", []),
+        ("2025-04-02", "lapse-due", [2, 3, 4]),
     ):
         page.clock(day)
         opened(page)
-        visit(page, "#list/remind-due")
+        visit(page, f"#list/{name}")
         see(
-            f"who is due for a reminder on {day}, to the day",
+            f"who is on the list {name} on {day}, to the day",
             work.numbers(page) if due else rows(page)[1:],
             due,
         )

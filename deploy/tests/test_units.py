@@ -38,6 +38,14 @@ def test_systemd_reads_the_times_as_they_are_meant(unit: str, form: str) -> None
     assert re.findall(r"Normalized form: (.*)", done.stdout) == [form]
 
 
+def test_a_log_is_kept_as_long_as_the_page_says() -> None:
+    found = dict(re.findall(r"(?m)^    (\w+) (\S+)$", (ROOT / "deploy/logrotate").read_text(encoding="utf-8")))
+    page = " ".join((ROOT / "docs/DEPLOYMENT.md").read_text(encoding="utf-8").split())
+    # 1,100 days are three years, which may have a leap day, and some days more
+    assert {name: found.get(name) for name in ("rotate", "maxage", "maxsize")} == {"rotate": "-1", "maxage": "1100", "maxsize": "100M"}
+    assert "closes it each month, or on the next day at 100 MB, compresses it, and deletes a file three years later" in page
+
+
 @pytest.fixture(name="machine_root")
 def machine_root_fixture(tmp_path: pathlib.Path) -> pathlib.Path:
     """What a register leaves on a machine, below a folder."""
