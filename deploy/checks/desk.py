@@ -2,6 +2,7 @@
 
 import concurrent.futures
 import json
+import os
 import re
 import signal
 import threading
@@ -11,6 +12,8 @@ from checks.expected import headers_differ, units_differ
 from checks.world import NAME, until
 
 AMEND = '{{"cmd":"amend","child":6,"name":"Fay Ford {0}","east":0,"north":300,"looked_after":false,"flags":[],"siblings":[]}}'
+# What may be before the path of a program in a unit: - it may fail, + it runs as root, ..
+SIGNS = "[-@:+!]*"
 ROUTES = ("/child/1", "/child/2/letter", "/school/A/waiting", "/round/1")
 
 
@@ -25,10 +28,14 @@ def check(world, see):
 
 def units(world, see):
     """The units as they are installed, and as systemd reads them, with the folders of the room."""
-    folder = world.prefix / "lib/systemd/system"
-    see("the units have the lines of the list, and no others", units_differ(folder, world.installation.usr), [])
+    folder, usr = world.prefix / "lib/systemd/system", world.installation.usr
+    see("the units have the lines of the list, and no others", units_differ(folder, usr), [])
     for unit in folder.glob("admissions*"):
-        unit.write_text(re.sub(f"=(-?){world.installation.usr}/(bin|lib/admissions)/", rf"=\1{world.prefix}/\2/", unit.read_text()))
+        unit.write_text(re.sub(f"=({SIGNS}){usr}/(bin|lib/admissions)/", rf"=\1{world.prefix}/\2/", unit.read_text()))
+    # (systemd does not look for a program that may fail)
+    started = {path for unit in folder.glob("admissions*") for path in re.findall(f"(?m)^Exec\\w+={SIGNS}(\\S+)", unit.read_text())}
+    see("each program that a unit starts is there, and the product's own are in the room",
+        (bool(started), sorted(path for path in started if not os.access(path, os.X_OK) or path.startswith(f"{usr}/"))), (True, []))
     verified = world.run("systemd-analyze", "verify", *sorted(folder.glob("admissions*")))
     see("systemd accepts the units without a remark", (verified.returncode, verified.stdout + verified.stderr), (0, ""))
 

@@ -8,6 +8,7 @@ from checks.world import World, until
 
 HOST = "primary.admissions.example"
 # (child 1 is another child than that of the first register, and child 21 is there alone; school A has another name)
+MAIL = "ann.lee+post_1@ysgol-x.example"
 LINES = r"""
 {"cmd":"add_school","school":"A","name":"Ash Infants","pan":1,"east":0,"north":0,"criteria":[]}
 {"cmd":"add_child","child":1,"name":"Zoe Zeal","east":0,"north":100,"looked_after":false,"flags":[],"siblings":[]}
@@ -21,7 +22,7 @@ AMEND = '{"cmd":"amend","child":21,"name":"Yan Yew-Oak","east":0,"north":200,"lo
 
 def world(first):
     """The world of the second register, beside that of the first."""
-    return World(first.installation, first.room / "beside", name="primary-2026", host=HOST, lines=LINES, people={"mary": "office;", "alpha": "school-A;"})
+    return World(first.installation, first.room / "beside", name="primary-2026", host=HOST, lines=LINES, people={"mary": "office;", "alpha": "school-A;", MAIL: "school-A;"})
 
 
 def check(first, see):
@@ -43,6 +44,11 @@ def apart(first, other, see):
 def people(first, other, see):
     see("a user of the office at each", (first.ask("/who", "jane").body, other.ask("/who", "mary").body), ("jane", "mary"))
     see("who is nobody at the other", (other.ask("/child/1", "jane", password=first.passwords["jane"]).status, first.ask("/child/1", "mary", password=other.passwords["mary"]).status), (401, 401))
+    see("a mail address is a name too, with its role", (other.ask("/school/A/waiting", MAIL).status, other.ask("/school/B/waiting", MAIL).status), (200, 403))
+    see("but not with another password", other.ask("/school/A/waiting", MAIL, password="wrong").status, 401)
+    until(lambda: other.logged().count(',"target":"/school/') >= 3, "the three lines of the log")
+    see("and is whole in the log", [(it["who"], it["status"]) for it in map(json.loads, other.logged().splitlines()) if it["target"].startswith("/school/")],
+        [(MAIL, "200"), (MAIL, "403"), (MAIL, "401")])
     see("a password of one is none at the other, for a name that both have", other.ask("/school/A/waiting", "alpha", password=first.passwords["alpha"]).status, 401)
     see("a school reads the list of its own register", [it.ask("/school/A/waiting", "alpha").body.splitlines()[0] for it in (first, other)],
         ["Waiting list of A Alpha", "Waiting list of A Ash Infants"])

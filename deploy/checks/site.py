@@ -4,7 +4,6 @@ import base64
 import concurrent.futures
 import json
 import ssl
-import statistics
 import time
 
 from checks.expected import headers_differ
@@ -198,7 +197,7 @@ def unsigned(world, see):
         ("a target of 7,000 quotes", f"GET {long}", (basic("jane"),)), ("a long POST from elsewhere", f"POST {long}", (basic("jane"), *post)),
         ("one of another type", f"POST {long}", (basic("jane"), f"Origin: https://{NAME}", "Content-Type: x", "Content-Length: 0")),
         ("a method of 7,000 letters", f"{'G' * 7000} /", (basic("jane"),)), ("no request", f"GET {long} {long}", (basic("jane"),)), ("a long address", f"GET {long}{long}", (basic("jane"),)),
-        ("a referrer and a browser", "GET /", (basic("jane"), "Referer: " + "r" * 3000, "User-Agent: " + "u" * 3000)),
+        ("the longest plain name and a long target", f"GET /{'x' * 7000}", (basic("a" * 64),)), ("a referrer and a browser", "GET /", (basic("jane"), "Referer: " + "r" * 3000, "User-Agent: " + "u" * 3000)),
     ):
         before = size()
         status = status_of(raw(world, begin, *fields, source="127.0.0.4"))
@@ -207,7 +206,7 @@ def unsigned(world, see):
     lines = [line for line in world.logged().splitlines() if '"from":"127.0.0.4"' in line]
     see("without a name none, and with one a line without what is odd in it", [(it["who"], it["method"], it["target"], it["status"]) for it in map(json.loads, lines)],
         [("?", "GET", "/", "401"), ("?", "GET", "/", "401"), ("jane", "GET", "/", "401"), ("jane", "POST", "/", "403"), ("jane", "POST", "/", "415"), ("jane", "?", "/", "401"),
-         ("jane", "GET", "/", "401")])
+         ("a" * 64, "GET", "/" + "x" * 79, "401"), ("jane", "GET", "/", "401")])
     body = '{"cmd":"accept","child":1,"school":"\xff\xfe"}'
     raw(world, "POST /command", world.basic("jane"), f"Origin: https://{NAME}", "Content-Type: application/json", f"Content-Length: {len(body)}", source="127.0.0.4")
     see("who is signed in is logged whole", '"who":"jane","from":"127.0.0.4","method":"POST","target":"/command","status":"4' in world.logged())
@@ -232,7 +231,8 @@ def tries(world, see):
 
 
 def unknown(world, see):
-    """The time of an answer to a name that is there, with a password whose check takes a tenth of a second, and to one that is not."""
+    """The time of an answer to a name that is there, with a password whose check takes a tenth of a second, and to one that is not. Whoever else uses the
+    processors can only make an answer later: so the quickest ones are compared, and more are asked for until those are near each other."""
     hashed = world.run("perl", "-e", 'print crypt("right", "\\$6\\$rounds=100000\\$tortoise")').stdout
     with open(world.settings / "passwords", "a", encoding="ascii") as file:
         file.write(f"tortoise:{hashed}\n")
@@ -247,9 +247,15 @@ def unknown(world, see):
 
     check = min(seconds("/who", "tortoise", "right") for _ in range(5))
     for path in ("/who", "/child/1"):
-        known, other = ([seconds(path, name) for _ in range(9)] for name in ("tortoise", "nobody"))
-        apart = abs(statistics.median(known) - statistics.median(other))
-        print(f"        {path}: the check takes {check:.3f} seconds, a known name {statistics.median(known):.4f}, an unknown one {statistics.median(other):.4f}")
+        known = other = float("inf")
+        for turn in range(40):
+            known, other = min(known, seconds(path, "tortoise")), min(other, seconds(path, "nobody"))
+            apart = abs(known - other)
+            if turn >= 4 and apart < check / 4:
+                break
+        print(f"        {path}: the check takes {check:.3f} seconds, a known name {known:.4f}, an unknown one {other:.4f}")
+        # (nginx counts the second from a time that it has read some milliseconds before)
+        see(f"who signs in wrongly is not answered at once: {path}", (known > 0.5, other > 0.5), (True, True))
         see(f"the time of an answer does not tell which names there are: {path}", (check > 0.04, apart < check / 4), (True, True))
 
 

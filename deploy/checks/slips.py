@@ -46,6 +46,8 @@ def check(world, see):
         stale_list(world, page, other, see)
         typing_ahead(world, page, see)
         stale_answer(world, page, see)
+        recorded_here(world, page, see)
+        finding_ahead(world, page, see)
         replies(world, page, see)
         schools(world, page, see)
         stale_file(world, page, see)
@@ -79,19 +81,21 @@ def do(world, **command):
 
 
 def due_today(page, see):
-    """14 days after 3 March is 17 March: on that day the offers of the first round are due, and on the day
-    before none is."""
+    """14 days after 3 March is 17 March: on that day the offers of the first round are due for a reminder, and
+    on the day before none is. 14 days after the reminders of 19 March is 2 April."""
     first = [5, 6, 7, 8, 9, 10, 12, 13, 14]
-    for day, due in (
-        ("2025-03-16", []),
-        ("2025-03-17", first),
-        ("2025-03-24", sorted([1, 11, *first])),
+    for day, name, due in (
+        ("2025-03-16", "remind-due", []),
+        ("2025-03-17", "remind-due", first),
+        ("2025-03-24", "remind-due", sorted([1, 11, *first])),
+        ("2025-04-01", "lapse-due", []),
+        ("2025-04-02", "lapse-due", [2, 3, 4]),
     ):
         page.clock(day)
         opened(page)
-        visit(page, "#list/remind-due")
+        visit(page, f"#list/{name}")
         see(
-            f"who is due for a reminder on {day}, to the day",
+            f"who is on the list {name} on {day}, to the day",
             work.numbers(page) if due else rows(page)[1:],
             due,
         )
@@ -317,6 +321,122 @@ def stale_answer(world, page, see):
         page.value("document.getElementById('offer').innerText").split("\n")[-1],
         "The child has a place at A Ysgol Tŷ Gwyn, which was accepted.",
     )
+
+
+def recorded_here(world, page, see):
+    """The page is loaded again while an answer is sent: here its desk is suspended until then."""
+    before = rows(page)
+    page.type("13")
+    page.press("Enter")
+    page.wait(f"{FOCUS}.id === 'accept'")
+    world.stop_desk()
+    page.press("Enter")
+    page.wait(f"{RESULT}.includes('is being sent')")
+    page.value("window.isBefore = true")
+    page.call("Page.reload")
+    page.wait(f"!window.isBefore && {FIELD} && {FOCUS} === {FIELD}")
+    world.continue_desk()
+    see(
+        "after a reload what was recorded is listed, and what had no answer as such",
+        (
+            rows(page),
+            page.value("document.getElementById('not-recorded')?.innerText"),
+        ),
+        (
+            [
+                before[0],
+                "13|Child of 13|accept|B|There was no answer. It may be done: look before you send it again.",
+                *[row for row in before[1:] if not row.startswith("13|")],
+            ],
+            "4 answers were not recorded: see the results.",
+        ),
+    )
+    visit(page, "#start")
+    visit(page, "#answers")
+    see("and after another view", len(rows(page)), len(before))
+    see(
+        "the list is cleared by its button, and then nothing is kept",
+        (
+            press(page, "#clear-recorded"),
+            page.value("[document.querySelectorAll('#result table').length, Object.keys(sessionStorage), document.activeElement.id]"),
+        ),
+        ("The list is cleared. The register is as before.", [0, [], "answer-child"]),
+    )
+
+
+def finding_ahead(world, page, see):
+    """A clerk who types the next name into the field at the top while the desk is slow: here it is
+    suspended until the name is typed."""
+    typed = f"[{FOCUS}.id, document.getElementById('find').value]"
+
+    def ahead(begin, text, is_complete):
+        world.stop_desk()
+        begin()
+        page.value("document.getElementById('find').focus()")
+        page.type(text)
+        world.continue_desk()
+        page.wait(is_complete)
+        return page.value(typed)
+
+    def clear():
+        page.value("document.getElementById('find').value = ''; document.activeElement.blur()")
+
+    def find_two():
+        page.value("document.getElementById('find').focus()")
+        page.type("2")
+        page.press("Enter")
+        page.wait("location.hash === '#child/2' && document.getElementById('find').value === ''")
+
+    visit(page, "#start")
+    see(
+        "a view that is complete leaves the focus to who types ahead",
+        ahead(find_two, "bel", f"{ANSWER} === 'Child 2.'"),
+        ["find", "bel"],
+    )
+    page.press("ArrowDown")
+    see("and what was found is there", page.value(f"{FOCUS}.hash"), "#child/8")
+    clear()
+    see(
+        "so does an entry of Answers that nobody has, which is in its field again",
+        (
+            visit(page, "#answers"),
+            page.type("999"),
+            ahead(lambda: page.press("Enter"), "abel", f"{ANSWER}.includes('has none')"),
+            page.value(f"{FIELD}.value"),
+        )[2:],
+        (["find", "abel"], "999"),
+    )
+    clear()
+    visit(page, "#child/12")
+    page.rule = lambda method, path: (409, '{"name":"NotOffered"}') if method == "POST" else None
+    see(
+        "so does the answer to a command",
+        ahead(
+            lambda: page.value("document.getElementById('accept').click()"),
+            "abel",
+            f"{ANSWER}.startsWith('Refused')",
+        ),
+        ["find", "abel"],
+    )
+    clear()
+    visit(page, "#child/16/amend")
+    write(page, north="16002")
+    press(page, "#amend-form button")
+    page.rule = lambda method, path: (200, '{"done":true}') if method == "POST" else None
+    see(
+        "and the view that a command leads to",
+        (
+            ahead(
+                lambda: page.value("document.getElementById('sure-yes').click()"),
+                "abel",
+                f"{ANSWER}.startsWith('Done')",
+            ),
+            page.value("location.hash"),
+        ),
+        (["find", "abel"], "#child/16"),
+    )
+    page.rule = None
+    opened(page, "/?ahead")
 
 
 def chosen(page, path):

@@ -244,6 +244,7 @@ def pile(world, page, see):
     page.press(" ")
     page.wait(f"{ANSWER}.startsWith('Done')")
     see("its button does", page.value(ANSWER), "Done, and stored. Child 7, Zoë Tŷ-Owen, has declined A Ysgol Tŷ Gwyn.")
+    press(page, "#clear-recorded")
 
 
 def while_sending(world, page, see):

@@ -49,7 +49,7 @@ def host(text: str) -> str:
 
 def user(text: str) -> str:
     if not people.USER.fullmatch(text) or text in people.NO_USERS:
-        raise Failed(f"{text!r} is no name of a user: small letters and digits, and then also . _ -", 2)
+        raise Failed(f"{text!r} is no name of a user: small letters and digits, and then also . _ @ + -, 64 at most", 2)
     return text
 
 

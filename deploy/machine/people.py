@@ -9,7 +9,8 @@ from .registers import Register
 from .run import Failed, call, tool
 from .sites import share
 
-USER = re.compile("[a-z0-9][a-z0-9._-]{0,31}")
+# a mail address too; with no sign that nginx's files give a meaning to. The site logs a name of this form whole
+USER = re.compile("[a-z0-9][a-z0-9._@+-]{0,63}")
 ROLE = re.compile("office|school-[A-Z0-9]{1,8}")
 ROLES = ("office, which reads everything and sends every command, or school-CODE, which reads the"
          " waiting list of the school CODE and nothing else")

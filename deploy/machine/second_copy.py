@@ -2,8 +2,8 @@
 
   second-copy NAME
 
-/etc/admissions/second-copy names the place in one line, as rsync names it: a folder of another disk, or of another machine by ssh. The folder NAME is made in
-it. Copies that are there stay as they are; of the log, what is new is added. Then the newest copy and the archive of its settings are fetched back
+/etc/admissions/second-copy names the place in one line, as rsync names it: a folder of another disk, or of another machine by ssh; or it has the line
+`none`, by which an office has decided against a second place. The folder NAME is made in the place. Copies that are there stay as they are; of the log, what is new is added. Then the newest copy and the archive of its settings are fetched back
 and compared with the first ones byte by byte, the copy is opened by the program, and rsync compares the log by checksums.
 The result is in /var/backups/admissions/NAME/second-copy.report, which admissions-status reads. Where no place is named nothing is done.
 
@@ -24,6 +24,8 @@ from .run import USER, Failed, call, tool
 from .settings_copy import LOG
 
 REPORT = "second-copy.report"
+# what is written where there shall be no second place
+NONE = "none"
 SSH = "ssh -o BatchMode=yes -o ConnectTimeout=30"
 
 
@@ -42,16 +44,22 @@ def main(given: argparse.Namespace) -> int:
     return 0
 
 
-def place_of() -> str | None:
-    """The line that names the second place, or None."""
+def line_of() -> str:
+    """The line that names the second place, or an empty text."""
     try:
         lines = (SETTINGS / "second-copy").read_text(encoding="utf-8").splitlines()
     except FileNotFoundError:
-        return None
+        return ""
     found = [line.strip() for line in lines if line.strip() and not line.lstrip().startswith("#")]
     if len(found) > 1 or found and found[0].startswith("-"):
         raise Failed(f"{SETTINGS / 'second-copy'} must have one line that names the second place")
-    return found[0].rstrip("/") or "/" if found else None
+    return found[0] if found else ""
+
+
+def place_of() -> str | None:
+    """The second place, or None."""
+    line = line_of()
+    return None if line in ("", NONE) else line.rstrip("/") or "/"
 
 
 def is_local(place: str) -> bool:

@@ -1,14 +1,15 @@
 """Sets up a register on this machine, with its site, its users, its units and its timers.
 
   admissions-setup [NAME] [--phase PHASE --year YEAR] [--holiday DAY].. [--site HOST] [--authority TEXT] [--user USER --role ROLE]
-  admissions-setup NAME --copy FILE
+  admissions-setup [NAME] --copy FILE
   admissions-setup NAME --user USER [--role ROLE] [--new-password] | --remove USER | --users
   admissions-setup NAME --holiday DAY..
   admissions-setup --sites
 
 The first form asks on a terminal for what is not given. It makes what is missing, and changes nothing that is there: typed twice, it does nothing
 the second time. Each register has a NAME, such as secondary-2025, a HOST of its own, such as secondary.admissions.example, and users of its own.
-With --copy the register is made from a copy, and users, settings and log from what the nightly backup left beside it.
+With --copy the register is made from a copy, which has its own phase, year and holidays, and users, settings and log from what the nightly backup
+left beside it.
 The third form adds a user, changes the role of one, draws another password, removes a user, or lists them. A password is drawn, and printed once. The
 fourth form replaces the holidays of a register that is still empty. The last form makes all sites again, after a change of
 /etc/nginx/sites-available/admissions.
@@ -30,7 +31,7 @@ import typing
 from . import answers, certificates, files, holidays, people, settings_copy, sites
 from .answers import ask, confirm
 from .desk import status_of
-from .registers import COPIES, LOGS, PHASES, REGISTERS, SETTINGS, Register, known, named, season_of
+from .registers import COPIES, LOGS, PHASES, REGISTERS, SETTINGS, Register, Season, known, named, season_of
 from .run import USER, Failed, call, is_booted, program, tool
 
 NEEDED = {"nginx": "nginx", "openssl": "openssl", "systemctl": "systemd", "systemd-sysusers": "systemd", "systemd-tmpfiles": "systemd"}
@@ -47,7 +48,7 @@ def arguments(reader: argparse.ArgumentParser) -> None:
         help="a day that is no working day, YYYY-MM-DD; may be repeated. `none` where there is none")
     add("--copy", metavar="FILE", help="begin with this copy of a register, and with what is beside it, in place of a new one")
     add("--site", metavar="HOST", help="the site's name, by which browsers find this machine")
-    add("--user", help="who may sign in: small letters and digits")
+    add("--user", help="who may sign in: a name or a mail address, in small letters")
     add("--role", help=f"the role of that user: {people.ROLES}")
     add("--new-password", action="store_true", help="draw another password for a user who is there already")
     add("--remove", metavar="USER", help="remove a user")
@@ -119,18 +120,20 @@ def checked(given: argparse.Namespace) -> None:
         raise Failed("--role needs --user: whose role?", 2)
     if given.new_password and given.user is None:
         raise Failed("--new-password needs --user: whose password?", 2)
-    if given.copy and given.has_holidays:
-        raise Failed("--holiday is for a new register: a copy has its own", 2)
+    if given.copy and (given.phase or given.year or given.has_holidays):
+        raise Failed("--phase, --year and --holiday are for a new register: a copy has its own", 2)
     if bool(given.certificate) != bool(given.key):
         raise Failed("--certificate and --key belong together", 2)
 
 
 def completed(given: argparse.Namespace) -> Register:
     """The register; what is not given is asked for."""
-    if given.name is None or given.copy is None and not named(given.name).file.exists():
+    if given.copy:
+        given.name = given.name or name_of(season_of(pathlib.Path(given.copy)))
+    elif given.name is None or not named(given.name).file.exists():
         given.phase = given.phase or ask("--phase (primary or secondary)", answers.phase)
         given.year = given.year or ask("--year of entry", answers.year)
-        given.name = given.name or f"{given.phase}-{given.year}"
+        given.name = given.name or name_of(given)
         is_asked = not given.has_holidays and not named(given.name).file.exists() and sys.stdin.isatty()
         if is_asked:
             given.holiday = ask("--holiday days (YYYY-MM-DD, separated by blanks), or none",
@@ -147,6 +150,10 @@ def completed(given: argparse.Namespace) -> Register:
         given.authority = ask("--authority, the name that is printed on each sheet, or none",
                               lambda it: None if it == answers.NONE else answers.authority(it), answers.NONE)
     return register
+
+
+def name_of(season: Season | argparse.Namespace) -> str:
+    return f"{season.phase}-{season.year}"
 
 
 class Changes(typing.NamedTuple):

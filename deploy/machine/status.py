@@ -23,9 +23,9 @@ import time
 from . import certificates, copies, people
 from .desk import site_status_of, status_of
 from .drill import REPORT as DRILL
-from .registers import REGISTERS, Register, all_registers, known, season_of
+from .registers import REGISTERS, SETTINGS, Register, all_registers, known, season_of
 from .run import Failed, call, is_booted, tool
-from .second_copy import REPORT as SECOND, place_of
+from .second_copy import NONE, REPORT as SECOND, line_of, place_of
 
 # from when on something needs attention
 COPY_HOURS, DRILL_DAYS, CERTIFICATE_DAYS = 26, 35, 21
@@ -245,9 +245,12 @@ def report_of(register: Register, name: str) -> tuple[str, float] | None:
 
 
 def second_of(register: Register) -> State:
-    place = place_of()
+    """The copy at the second place. That there is none needs attention, unless it is decided."""
+    place, setting = place_of(), SETTINGS / "second-copy"
+    if line_of() == NONE:
+        return True, f"none, as {setting} says"
     if place is None:
-        return True, "no second place is named in /etc/admissions/second-copy"
+        return False, f"no second place is named in {setting}, so all copies are lost with this machine: name one there, or write `{NONE}` if there shall be none"
     found = report_of(register, SECOND)
     if found is None:
         return False, f"none in {place} yet: systemctl start admissions-second-copy@{register.name}"

@@ -1,20 +1,34 @@
 // A pile of answers: a number or a name and Enter shows the offer, and Enter again accepts it; with a - after the number, to decline.
 // An entry leaves the field with its Enter: what is typed while a child is looked up or an answer is sent is the next entry, and
-// nothing but the button of the child that is shown answers. What was recorded, and what was not, is listed below, as long as the
-// page is open.
-import { Shown } from "./desk.js";
-import { button, childLink, element, field, say, schoolLink } from "./elements.js";
+// nothing but the button of the child that is shown answers. What was recorded, and what was not, is listed below, until the list is
+// cleared or the tab is closed.
+import { MAY_BE_DONE, Shown } from "./desk.js";
+import { keepList, keptList } from "./drafts.js";
+import { button, childLink, element, field, isFinding, say, schoolLink } from "./elements.js";
 import { matches } from "./finding.js";
 import { hasIndex, letterOf, nameOf } from "./register.js";
 import { isSure, send } from "./sending.js";
 import { column, table } from "./tables.js";
 import { IS_FINAL, isolated, placeInWords, plural } from "./words.js";
 
-const recorded = [];
+// What was recorded, the last first; none before the first view
+let recorded = null;
 // The answers are sent one after another, and each child is looked up after those before
 let sending = Promise.resolve();
 // Shows what was recorded in the view as it is now
 let showNow = () => {};
+const LIST = ["#answers", "recorded"];
+
+// What was recorded before the page was loaded again. An answer that was being sent then may be done or not
+function before() {
+  return keptList(...LIST).map(({ isSending, ...it }) => (isSending ? { ...it, result: MAY_BE_DONE, isBad: true } : it));
+}
+
+// Keeps and shows the list as it is now
+function changed() {
+  keepList(...LIST, recorded);
+  showNow();
+}
 
 // The child that a number or a name means, if it is one alone
 function meant(text) {
@@ -37,7 +51,7 @@ const whoIs = ({ number, name }) => `Child ${number}, ${isolated(name)}`;
 function leave({ number, name, text }, reason) {
   settled(number);
   recorded.unshift({ number, name: name || text, cmd: "", school: "", result: `Nothing was sent: ${reason}`, isBad: true, isOpen: true });
-  showNow();
+  changed();
 }
 
 // #answers
@@ -95,8 +109,10 @@ export function answersView() {
   function giveBack({ entry }) {
     if (input.value || !input.isConnected) return false;
     input.value = entry;
-    input.focus();
-    input.select();
+    if (!isFinding()) {
+      input.focus();
+      input.select();
+    }
     return true;
   }
 
@@ -133,39 +149,47 @@ export function answersView() {
       return;
     }
     if (open === mine) open = null;
-    const entry = { number, name, cmd, school: place.school, result: "is being sent" };
+    const entry = { number, name, cmd, school: place.school, result: "is being sent", isSending: true };
     settled(number);
     recorded.unshift(entry);
     room.replaceChildren();
-    showRecorded();
+    changed();
     if (input.value === mine.entry) input.value = "";
     input.focus();
     const done = `Child ${number}, ${isolated(name)}, has ${cmd === "accept" ? "accepted" : "declined"} ${where}.`;
     sending = sending.then(() => send({ cmd, child: number, school: place.school }, done, letter)).then((reply) => {
       const { text, bad } = reply || { text: "Nothing was sent: another task is in progress.", bad: true };
-      Object.assign(entry, { result: bad ? text : "done", isBad: bad });
-      showNow();
+      Object.assign(entry, { result: bad ? text : "done", isBad: bad, isSending: false });
+      changed();
       if (reply && reply.now && !open) room.replaceChildren(element("h3", {}, whoIs(reply.now)), element("p", {}, placeInWords(reply.now.place)));
       if (list.isConnected || bad) say(`${bad && !text.startsWith("Child ") ? `${whoIs(letter)}: ` : ""}${text}`, bad);
     });
     await sending;
   }
 
+  function clear() {
+    recorded = recorded.filter((it) => it.isSending);
+    changed();
+    say("The list is cleared. The register is as before.");
+    input.focus();
+  }
+
   function showRecorded() {
-    if (!recorded.length) return;
+    if (!recorded.length) return list.replaceChildren();
     const bad = recorded.filter((it) => it.isBad).length;
     const text = `${plural(bad, "answer was", "answers were")} not recorded: see the results.`;
     const warning = bad ? element("p", { className: "warning", id: "not-recorded" }, text) : "";
-    list.replaceChildren(warning, table({
+    return list.replaceChildren(warning, table({
       caption: "Recorded here", file: "answers.csv", rows: recorded,
       columns: [
         column("Child", (it) => it.number, { isFigure: true, cell: (it) => (it.number ? childLink(it.number) : "") }),
           column("Name", (it) => it.name, { cell: (it) => element("bdi", {}, it.name) }),
         column("Answer", (it) => it.cmd), column("School", (it) => it.school, { cell: (it) => schoolLink(it.school) }), column("Result", (it) => it.result),
       ],
-    }).node);
+    }).node, element("p", { className: "tools screen-only" }, button("Clear this list", clear, { id: "clear-recorded", className: "small" })));
   }
 
+  recorded ??= before();
   showNow = showRecorded;
   showRecorded();
   return { title: "Answers to offers", nodes: [form, room, list], status: "Enter a number or a name.", focus: input };

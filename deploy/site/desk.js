@@ -33,7 +33,7 @@ export const FAULTS = {
   WrongKind: "a field is of the wrong kind", ExtraField: "there is a field too many",
 };
 
-const MAY_BE_DONE = "There was no answer. It may be done: look before you send it again.";
+export const MAY_BE_DONE = "There was no answer. It may be done: look before you send it again.";
 const ASK_AGAIN = "There was no answer. Try again; if there is still none, inform whoever runs the desk.";
 const CLOSED = "The desk is closed, perhaps for a draw. What you typed is kept here: try again when it is open.";
 

@@ -1,5 +1,5 @@
-// What is typed into a form and not sent yet. It is kept in this tab of the browser (sessionStorage) for who is signed in, until it is
-// sent, cleared or the tab is closed: so a reload, another view, a closed desk or a conflict loses none of it.
+// What is typed into a form and not sent yet, and lists of what was done. It is kept in this tab of the browser (sessionStorage) for who is
+// signed in, until it is sent, cleared or the tab is closed: so a reload, another view, a closed desk or a conflict loses none of it.
 import { button, element } from "./elements.js";
 import { parsed, who } from "./register.js";
 
@@ -23,6 +23,10 @@ function kept(key) {
 export function keepFor(hash, id, values) {
   keep(keyOf(hash, id), Object.fromEntries(Object.entries(values).map(([field, value]) => [field, { value }])));
 }
+
+// Keeps a list in place of what was kept of it before
+export const keepList = (hash, id, list) => keep(keyOf(hash, id), list);
+export const keptList = (hash, id) => Object.values(kept(keyOf(hash, id)));
 
 // Fills a form, which has the present data, with what was typed before, and keeps what is typed from now on. Where the data was
 // changed meanwhile, it is shown below what was typed. Returns what is shown below the form, and what forgets the draft

@@ -57,10 +57,18 @@ export function say(text, bad = false) {
   at("answer").classList.toggle("bad", Boolean(bad));
 }
 
+// Whether somebody types into the field at the top, or goes through what it has found
+export const isFinding = () => at("find").value.trim() !== "" && at("find-form").contains(document.activeElement);
+
+// Gives an element the focus for a view or an answer that is complete, unless somebody types ahead meanwhile
+export function focusOn(node) {
+  if (!isFinding()) node.focus();
+}
+
 // Reports an answer, which has the focus then
 export function report({ text, bad }) {
   say(text, bad);
-  at("answer").focus();
+  focusOn(at("answer"));
 }
 
 // Shows how much of a long task is done; nothing if it is finished

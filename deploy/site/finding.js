@@ -1,5 +1,5 @@
 // Finds children by name or number, and schools by name or code: as one types, and as a view of all that match.
-import { at, childLink, element, link } from "./elements.js";
+import { at, childLink, element, isFinding, link } from "./elements.js";
 import { hasIndex, register } from "./register.js";
 import { go } from "./router.js";
 import { column, table } from "./tables.js";
@@ -102,7 +102,8 @@ export function beginFinding() {
     }
   };
   list.onclick = (event) => { if (event.target.closest("a")) leave(); };
-  window.addEventListener("hashchange", leave);
+  // (the view may be one that a command has led to, while somebody types)
+  window.addEventListener("hashchange", () => isFinding() || leave());
 }
 
 // All that match: #find/abel

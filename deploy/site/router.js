@@ -1,12 +1,12 @@
 // Which view is shown: each has an address after the #, so that reload, Back and bookmarks work.
-import { at, button, element, say } from "./elements.js";
+import { at, button, element, focusOn, say } from "./elements.js";
 import { Shown } from "./desk.js";
 import { update } from "./register.js";
 
 let views = {};
 // Each view has a turn: one that is complete after a later request is not shown
 let turn = 0;
-// After a load the focus is at the top; after each later view it is on the heading
+// After a load the focus is at the top; after each later view it is on the heading, unless somebody types into the field at the top
 let isFirst = true;
 // What a command was answered, to be shown with the next view
 let answer = null;
@@ -55,7 +55,7 @@ async function render() {
     if (!(error instanceof Shown)) reportError(error);
     const reason = error instanceof Shown ? error.message : `This view has an error: ${error.message}`;
     say(reply ? `${reply.text} It cannot be shown now.` : reason, true);
-    at("answer").focus();
+    focusOn(at("answer"));
   }
 }
 
@@ -75,8 +75,8 @@ function show({ title, nodes, status, focus, isBad }, reply) {
     else entry.removeAttribute("aria-current");
   }
   say(reply ? reply.text : status, reply ? reply.bad : isBad);
-  if (focus) focus.focus();
-  else if (reply) at("answer").focus();
-  else if (!isFirst) heading.focus();
+  if (focus) focusOn(focus);
+  else if (reply) focusOn(at("answer"));
+  else if (!isFirst) focusOn(heading);
   isFirst = false;
 }

@@ -1,7 +1,4 @@
-"""What the tests of deploy/ share: the modules of deploy/machine, and a machine of folders.
-
-They need no root, no nginx and no systemd.
-"""
+"""What the tests of deploy/ share: the modules of deploy/machine, and a machine of folders in place of this one. They need no root, no nginx and no systemd."""
 import os
 import pathlib
 import sqlite3
@@ -52,8 +49,5 @@ def register_fixture(machine: pathlib.Path) -> registers.Register:
 @pytest.fixture(name="write_as_me")
 def write_as_me_fixture(monkeypatch: pytest.MonkeyPatch) -> None:
     """Files are those of whoever runs the tests."""
-    me: typing.Callable[[str, str], tuple[int, int]] = lambda user, group: (
-        os.getuid(),
-        os.getgid(),
-    )
+    me: typing.Callable[[str, str], tuple[int, int]] = lambda user, group: (os.getuid(), os.getgid())
     monkeypatch.setattr("machine.files.numbers", me)

@@ -1,4 +1,4 @@
-"""The nightly copies: their order, which are removed, what is beside them, and their times."""
+"""The nightly copies: their order, which are removed, what is beside them, and what status says of their times."""
 import datetime
 import gzip
 import os
@@ -14,9 +14,7 @@ HOUR = 3600.0
 DAY = 24 * HOUR
 
 
-def copy(
-    register: registers.Register, name: str, age: float = 0, with_settings: bool = True
-) -> pathlib.Path:
+def copy(register: registers.Register, name: str, age: float = 0, with_settings: bool = True) -> pathlib.Path:
     """A copy of this name and age, and the archive of its settings."""
     path = register.copies / name
     path.write_text("a copy")
@@ -26,15 +24,11 @@ def copy(
     return path
 
 
-def backed_up(
-    register: registers.Register, keep: int, monkeypatch: pytest.MonkeyPatch
-) -> list[str]:
+def backed_up(register: registers.Register, keep: int, monkeypatch: pytest.MonkeyPatch) -> list[str]:
     """What is there after a backup: all that admissions-backup does is to make the file."""
-
     def make(_: object, file: object, new: pathlib.Path) -> object:
         new.write_text("new")
         return type("Done", (), {"stdout": "", "stderr": ""})
-
     monkeypatch.setattr(nightly, "call", make)
     monkeypatch.setattr(nightly, "program", lambda name: name)
     given = type("Given", (), {"file": register.file, "folder": register.copies, "keep": keep})
@@ -43,21 +37,12 @@ def backed_up(
 
 
 def test_the_order_is_that_of_the_numbers(register: registers.Register) -> None:
-    for name in (
-        "nightly-000010-2025-03-01T023000.db",
-        "nightly-000009-2036-03-01T023000.db",
-        "nightly-2036-03-01T023000.db",
-        "nightly-1000000-2024-03-01T023000.db",
-        "before-round-1.db",
-        "nightly-x.db",
-    ):
+    for name in ("nightly-000010-2025-03-01T023000.db", "nightly-000009-2036-03-01T023000.db", "nightly-2036-03-01T023000.db",
+                 "nightly-1000000-2024-03-01T023000.db", "before-round-1.db", "nightly-x.db"):
         copy(register, name, with_settings=False)
     assert [it.name for it in register.nightly_copies()] == [
-        "nightly-2036-03-01T023000.db",
-        "nightly-000009-2036-03-01T023000.db",
-        "nightly-000010-2025-03-01T023000.db",
-        "nightly-1000000-2024-03-01T023000.db",
-    ]
+        "nightly-2036-03-01T023000.db", "nightly-000009-2036-03-01T023000.db", "nightly-000010-2025-03-01T023000.db",
+        "nightly-1000000-2024-03-01T023000.db"]
 
 
 def test_a_name_has_the_next_number_and_the_local_time(register: registers.Register) -> None:
@@ -69,12 +54,8 @@ def test_a_name_has_the_next_number_and_the_local_time(register: registers.Regis
     assert before <= at <= datetime.datetime.now()
 
 
-@pytest.mark.parametrize(
-    "form", ["nightly-2036-03-{:02}T023000.db", "nightly-0000{:02}-2036-03-01T023000.db"]
-)
-def test_copies_of_a_wrong_clock_do_not_remove_the_new_one(
-    form: str, register: registers.Register, monkeypatch: pytest.MonkeyPatch
-) -> None:
+@pytest.mark.parametrize("form", ["nightly-2036-03-{:02}T023000.db", "nightly-0000{:02}-2036-03-01T023000.db"])
+def test_copies_of_a_wrong_clock_do_not_remove_the_new_one(form: str, register: registers.Register, monkeypatch: pytest.MonkeyPatch) -> None:
     for day in range(1, 32):
         copy(register, form.format(day), age=-10 * 365 * DAY)
     backed_up(register, 30, monkeypatch)
@@ -82,25 +63,17 @@ def test_copies_of_a_wrong_clock_do_not_remove_the_new_one(
     assert (len(made), made[-1].read_text()) == (30, "new")
 
 
-def test_a_copy_is_removed_with_what_is_beside_it(
-    register: registers.Register, monkeypatch: pytest.MonkeyPatch
-) -> None:
+def test_a_copy_is_removed_with_what_is_beside_it(register: registers.Register, monkeypatch: pytest.MonkeyPatch) -> None:
     for number in (1, 2, 3):
         copy(register, f"nightly-00000{number}-2025-03-0{number}T023000.db")
     (register.copies / "nightly-000001-2025-03-01T023000.db-wal").write_text("")
     (register.copies / "before-round-1.db").write_text("another's")
     left = backed_up(register, 2, monkeypatch)
-    assert left[:3] == [
-        "before-round-1.db",
-        "nightly-000003-2025-03-03T023000.db",
-        "nightly-000003-2025-03-03T023000.tar",
-    ]
+    assert left[:3] == ["before-round-1.db", "nightly-000003-2025-03-03T023000.db", "nightly-000003-2025-03-03T023000.tar"]
     assert len(left) == 4 and left[3].startswith("nightly-000004-")
 
 
-@pytest.mark.parametrize(
-    "age, is_well", [(25 * HOUR, True), (27 * HOUR, False), (-1 * HOUR, True), (-3 * HOUR, False)]
-)
+@pytest.mark.parametrize("age, is_well", [(25 * HOUR, True), (27 * HOUR, False), (-1 * HOUR, True), (-3 * HOUR, False)])
 def test_the_age_of_the_last_copy(age: float, is_well: bool, register: registers.Register) -> None:
     copy(register, "nightly-000001-2025-03-01T023000.db", age)
     assert status.copy_of(register)[0] is is_well
@@ -114,11 +87,7 @@ def test_a_name_makes_no_copy_younger(register: registers.Register) -> None:
 def test_a_copy_that_is_dated_ahead_names_the_clock(register: registers.Register) -> None:
     copy(register, "nightly-000001-2025-03-01T023000.db", -10 * DAY)
     is_well, text = status.copy_of(register)
-    assert (is_well, "240 hours in the future" in text, "is the clock right?" in text) == (
-        False,
-        True,
-        True,
-    )
+    assert (is_well, "240 hours in the future" in text, "is the clock right?" in text) == (False, True, True)
 
 
 def test_so_does_an_earlier_one_and_one_by_its_name(register: registers.Register) -> None:
@@ -139,12 +108,8 @@ def test_a_copy_without_settings_is_reported(register: registers.Register) -> No
     assert (is_well, "without users, settings and log" in text) == (False, True)
 
 
-@pytest.mark.parametrize(
-    "age, is_well", [(25 * HOUR, True), (27 * HOUR, False), (-3 * HOUR, False)]
-)
-def test_the_age_of_the_second_copy(
-    age: float, is_well: bool, register: registers.Register, machine: pathlib.Path
-) -> None:
+@pytest.mark.parametrize("age, is_well", [(25 * HOUR, True), (27 * HOUR, False), (-3 * HOUR, False)])
+def test_the_age_of_the_second_copy(age: float, is_well: bool, register: registers.Register, machine: pathlib.Path) -> None:
     (machine / "etc/second-copy").write_text("/mnt/copies\n")
     report = register.copies / "second-copy.report"
     report.write_text("it is there\n")
@@ -154,10 +119,7 @@ def test_the_age_of_the_second_copy(
 
 @pytest.mark.parametrize("age, is_well", [(34 * DAY, True), (36 * DAY, False), (-3 * HOUR, False)])
 def test_the_age_of_the_last_drill(age: float, is_well: bool, register: registers.Register) -> None:
-    for path, text in (
-        (register.copies / "drill.report", "restored\n"),
-        (register.settings / "site-name", "admissions.example\n"),
-    ):
+    for path, text in ((register.copies / "drill.report", "restored\n"), (register.settings / "site-name", "admissions.example\n")):
         path.write_text(text)
         os.utime(path, (time.time() - age, time.time() - age))
     assert status.drill_of(register)[0] is is_well
@@ -166,9 +128,7 @@ def test_the_age_of_the_last_drill(age: float, is_well: bool, register: register
 
 
 @pytest.fixture(name="copied")
-def copied_fixture(
-    register: registers.Register, machine: pathlib.Path, write_as_me: None
-) -> pathlib.Path:
+def copied_fixture(register: registers.Register, machine: pathlib.Path, write_as_me: None) -> pathlib.Path:
     """A copy, with settings, a key and a log of which settings-copy has copied what it copies."""
     (register.settings / "site.key").write_text("a key")
     (register.settings / "site.crt").write_text("a certificate")
@@ -180,22 +140,16 @@ def copied_fixture(
     (register.logs / "asked.log.1").write_text('{"n":3}\n')
     (register.logs / "asked.log").write_text('{"n":4}\n{"n":5}\n{"torn')
     path = copy(register, "nightly-000001-2025-03-01T023000.db", with_settings=False)
-    given = type("Given", (), {"name": register.name})
-    assert settings_copy.main(given) == 0  # type: ignore[arg-type]
+    assert settings_copy.main(type("Given", (), {"name": register.name})) == 0  # type: ignore[arg-type]
     return path
 
 
 def lines_of(folder: pathlib.Path) -> list[str]:
     """What the copies of a log have, in their order."""
-    return [
-        gzip.decompress(it.read_bytes()).decode()
-        for it in settings_copy.copied_logs(folder).values()
-    ]
+    return [gzip.decompress(it.read_bytes()).decode() for it in settings_copy.copied_logs(folder).values()]
 
 
-def test_the_archive_of_a_night_stays_as_it_is(
-    copied: pathlib.Path, register: registers.Register
-) -> None:
+def test_the_archive_of_a_night_stays_as_it_is(copied: pathlib.Path, register: registers.Register) -> None:
     path = copies.settings_of(register.nightly_copies()[-1])
     before = path.read_bytes()
     (register.settings / "roles").write_text("ben office;\n")
@@ -205,77 +159,45 @@ def test_the_archive_of_a_night_stays_as_it_is(
 
 def test_the_archive_has_users_and_settings_and_no_key(copied: pathlib.Path) -> None:
     with tarfile.open(copied.with_suffix(".tar")) as archive:
-        assert sorted(archive.getnames()) == [
-            "authority",
-            "passwords",
-            "roles",
-            "second-copy",
-            "site-name",
-        ]
+        assert sorted(archive.getnames()) == ["authority", "passwords", "roles", "second-copy", "site-name"]
         assert archive.getmember("passwords").mode == 0o640
     assert copied.with_suffix(".tar").stat().st_mode & 0o777 == 0o600
 
 
 def test_the_log_is_copied_in_its_order_without_a_torn_line(copied: pathlib.Path) -> None:
-    assert lines_of(copied.parent / "log") == [
-        '{"n":1}\n{"n":2}\n',
-        '{"n":3}\n',
-        '{"n":4}\n{"n":5}\n',
-    ]
+    assert lines_of(copied.parent / "log") == ['{"n":1}\n{"n":2}\n', '{"n":3}\n', '{"n":4}\n{"n":5}\n']
 
 
-def test_a_log_that_was_rotated_and_goes_on_is_copied_once(
-    copied: pathlib.Path, register: registers.Register
-) -> None:
+def test_a_log_that_was_rotated_and_goes_on_is_copied_once(copied: pathlib.Path, register: registers.Register) -> None:
     (register.logs / "asked.log").write_text('{"n":4}\n{"n":5}\n{"n":6}\n')
     (register.logs / "asked.log").rename(register.logs / "asked.log.1")
     (register.logs / "asked.log").write_text('{"n":7}\n')
     settings_copy.copy_log(register)
-    assert lines_of(copied.parent / "log") == [
-        '{"n":1}\n{"n":2}\n',
-        '{"n":3}\n',
-        '{"n":4}\n{"n":5}\n{"n":6}\n',
-        '{"n":7}\n',
-    ]
+    assert lines_of(copied.parent / "log") == ['{"n":1}\n{"n":2}\n', '{"n":3}\n', '{"n":4}\n{"n":5}\n{"n":6}\n', '{"n":7}\n']
 
 
 @pytest.mark.parametrize("text", ["", '{"n":4}\n', '{"n":4}\n{"n":8}\n'])
-def test_a_log_that_was_emptied_cut_or_changed_leaves_the_copy(
-    text: str, copied: pathlib.Path, register: registers.Register
-) -> None:
+def test_a_log_that_was_emptied_cut_or_changed_leaves_the_copy(text: str, copied: pathlib.Path, register: registers.Register) -> None:
     (register.logs / "asked.log").write_text(text)
     settings_copy.copy_log(register)
-    kept = [
-        gzip.decompress(it.read_bytes()).decode()
-        for it in sorted((copied.parent / "log").iterdir())
-    ]
+    kept = [gzip.decompress(it.read_bytes()).decode() for it in sorted((copied.parent / "log").iterdir())]
     assert '{"n":4}\n{"n":5}\n' in kept
 
 
-def test_settings_and_log_come_back_where_there_are_none(
-    copied: pathlib.Path, register: registers.Register, machine: pathlib.Path
-) -> None:
+def test_settings_and_log_come_back_where_there_are_none(copied: pathlib.Path, register: registers.Register, machine: pathlib.Path) -> None:
     for path in (*register.settings.iterdir(), *register.logs.iterdir(), machine / "etc/authority"):
         path.unlink()
     (machine / "etc/second-copy").write_text("# the package's own\n")
     (register.settings / "roles").write_text("# none yet\n")
     list(settings_copy.restored(register, copied))
-    assert sorted(it.name for it in register.settings.iterdir()) == [
-        "passwords",
-        "roles",
-        "site-name",
-    ]
+    assert sorted(it.name for it in register.settings.iterdir()) == ["passwords", "roles", "site-name"]
     assert (register.settings / "passwords").read_text() == "jane:$6$x\nalpha:$6$y\n"
     assert (register.settings / "passwords").stat().st_mode & 0o777 == 0o640
     assert "jane office;" in (register.settings / "roles").read_text()
     assert (machine / "etc/second-copy").read_text() == "# where\n/mnt/copies\n"
     logs = settings_copy.log_files(register.logs)
     assert [it.name for it in logs] == ["asked.log.4.gz", "asked.log.3.gz", "asked.log.2.gz"]
-    assert [gzip.decompress(it.read_bytes()) for it in logs] == [
-        b'{"n":1}\n{"n":2}\n',
-        b'{"n":3}\n',
-        b'{"n":4}\n{"n":5}\n',
-    ]
+    assert [gzip.decompress(it.read_bytes()) for it in logs] == [b'{"n":1}\n{"n":2}\n', b'{"n":3}\n', b'{"n":4}\n{"n":5}\n']
 
 
 def test_what_is_there_stays(copied: pathlib.Path, register: registers.Register) -> None:

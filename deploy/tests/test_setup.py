@@ -1,4 +1,4 @@
-"""What admissions-setup takes, refuses and asks again; users, roles, holidays; and the lock."""
+"""What admissions-setup takes, refuses and asks again; users and their roles; the holidays of a register that is there; and the lock."""
 import argparse
 import datetime
 import io
@@ -11,6 +11,7 @@ import sys
 import typing
 
 import pytest
+from conftest import ROOT
 from machine import answers, files, holidays, people, registers, setup
 from machine.run import Failed
 
@@ -24,24 +25,13 @@ class Terminal(io.StringIO):
         return True
 
 
-@pytest.mark.parametrize(
-    "take, good, bad",
-    [
-        (answers.phase, "primary", ["Primary", "", "first"]),
-        (answers.year, "2025", ["25", "1999", "2101", "20255", "2o25", ""]),
-        (
-            answers.host,
-            "admissions.example",
-            ["admissions", "https://admissions.example", "Admissions.example", ""],
-        ),
-        (answers.user, "jane", ["Jane", "default", "jane@example", "a b", ""]),
-        (answers.role, "school-A", ["admin", "school-", "school-a", "office ", ""]),
-        (answers.authority, "Example County Council", ["", " ", "two\nlines"]),
-    ],
-)
-def test_what_is_taken_and_what_is_named(
-    take: typing.Callable[[str], object], good: str, bad: list[str]
-) -> None:
+@pytest.mark.parametrize("take, good, bad", [
+    (answers.phase, "primary", ["Primary", "", "first"]), (answers.year, "2025", ["25", "1999", "2101", "20255", "2o25", ""]),
+    (answers.host, "admissions.example", ["admissions", "https://admissions.example", "Admissions.example", ""]),
+    (answers.user, "jane", ["Jane", "default", "a b", "a:b", "a;b", "a#b", "a$b", "a\\b", 'a"b', "a{b", "~a", "@a", "+a", "ä", "a\n", "a" * 65, ""]),
+    (answers.user, "ann.lee+post_1@ysgol-x.example", []), (answers.user, "a" * 64, []), (answers.role, "school-A", ["admin", "school-", "school-a", "office ", ""]),
+    (answers.authority, "Example County Council", ["", " ", "two\nlines"])])
+def test_what_is_taken_and_what_is_named(take: typing.Callable[[str], object], good: str, bad: list[str]) -> None:
     assert str(take(good)) == good
     for it in bad:
         with pytest.raises(Failed) as found:
@@ -49,52 +39,36 @@ def test_what_is_taken_and_what_is_named(
         assert (repr(it) in str(found.value), found.value.status) == (True, 2)
 
 
-@pytest.mark.parametrize(
-    "text",
-    [
-        "3/4/2026",
-        "2026-4-3",
-        "20260403",
-        f"{datetime.date(2026, 4, 3):%G-W%V-%u}",
-        "2026-02-30",
-        "Easter",
-    ],
-)
+def test_the_site_logs_whole_each_name_that_is_taken() -> None:
+    site = (ROOT / "deploy/nginx/admissions.conf").read_text(encoding="utf-8")
+    assert f'"~^(?<short_name>{people.USER.pattern})$"  $short_name;' in site
+
+
+@pytest.mark.parametrize("text", ["3/4/2026", "2026-4-3", "20260403", f"{datetime.date(2026, 4, 3):%G-W%V-%u}", "2026-02-30", "Easter"])
 def test_a_day_in_another_form_names_the_form(text: str) -> None:
     with pytest.raises(Failed, match="is no day: write YYYY-MM-DD, as 2026-04-03"):
         answers.holidays([text])
 
 
 def test_days_are_in_order_each_once_and_forty_at_most() -> None:
-    assert answers.holidays(["2026-04-06", "2026-04-03", "2026-04-06"]) == [
-        "2026-04-03",
-        "2026-04-06",
-    ]
+    assert answers.holidays(["2026-04-06", "2026-04-03", "2026-04-06"]) == ["2026-04-03", "2026-04-06"]
     days = [f"2026-{month:02}-{day:02}" for month in (1, 2) for day in range(1, 21)]
     assert answers.holidays(days) == days
     with pytest.raises(Failed, match="41 holidays are too many"):
         answers.holidays([*days, "2026-03-01"])
 
 
-def test_an_answer_that_is_not_taken_is_named_and_asked_for_again(
-    monkeypatch: pytest.MonkeyPatch, capsys: pytest.CaptureFixture[str]
-) -> None:
+def test_an_answer_that_is_not_taken_is_named_and_asked_for_again(monkeypatch: pytest.MonkeyPatch, capsys: pytest.CaptureFixture[str]) -> None:
     monkeypatch.setattr(sys, "stdin", Terminal("Primary\n primary \n"))
     assert answers.ask("--phase", answers.phase) == "primary"
-    assert (
-        capsys.readouterr().out
-        == "--phase: 'Primary' is no phase: type primary or secondary, in small letters\n--phase: "
-    )
+    assert capsys.readouterr().out == "--phase: 'Primary' is no phase: type primary or secondary, in small letters\n--phase: "
     with pytest.raises(Failed, match="the input ended"):
         answers.ask("--phase", answers.phase)
 
 
 def test_without_a_terminal_nothing_is_asked(monkeypatch: pytest.MonkeyPatch) -> None:
     monkeypatch.setattr(sys, "stdin", io.StringIO("primary\n"))
-    for call in (
-        lambda: answers.ask("--phase", answers.phase),
-        lambda: answers.confirm("jane is removed", False),
-    ):
+    for call in (lambda: answers.ask("--phase", answers.phase), lambda: answers.confirm("jane is removed", False)):
         with pytest.raises(Failed) as found:
             call()
         assert found.value.status == 2
@@ -119,70 +93,39 @@ def completed(monkeypatch: pytest.MonkeyPatch, typed: str, *given: str) -> typin
     return space
 
 
-def test_a_plain_setup_asks_for_holidays_and_a_role(
-    machine: pathlib.Path, monkeypatch: pytest.MonkeyPatch
-) -> None:
+def test_a_plain_setup_asks_for_holidays_and_a_role(machine: pathlib.Path, monkeypatch: pytest.MonkeyPatch) -> None:
     monkeypatch.setattr(setup, "AUTHORITY", machine / "etc/authority")
-    found = completed(
-        monkeypatch,
-        "primary\n2028\n2028-04-17 2028-04-14\nprimary.admissions.example\nmary\noffice\nnone\n",
-    )
-    assert (found.name, found.phase, found.year, found.holiday) == (
-        "primary-2028",
-        "primary",
-        2028,
-        ["2028-04-14", "2028-04-17"],
-    )
-    assert (found.site, found.user, found.role, found.authority) == (
-        "primary.admissions.example",
-        "mary",
-        "office",
-        None,
-    )
-    named = completed(
-        monkeypatch,
-        "none\nnone\n",
-        "x",
-        "--phase",
-        "primary",
-        "--year",
-        "2028",
-        "--site",
-        "x.example",
-        "--user",
-        "mary",
-        "--role",
-        "office",
-    )
+    found = completed(monkeypatch, "primary\n2028\n2028-04-17 2028-04-14\nprimary.admissions.example\nmary\noffice\nnone\n")
+    assert (found.name, found.phase, found.year, found.holiday) == ("primary-2028", "primary", 2028, ["2028-04-14", "2028-04-17"])
+    assert (found.site, found.user, found.role, found.authority) == ("primary.admissions.example", "mary", "office", None)
+    named = completed(monkeypatch, "none\nnone\n", "x", "--phase", "primary", "--year", "2028", "--site", "x.example", "--user", "mary", "--role", "office")
     assert (named.holiday, named.authority) == ([], None)
 
 
-def test_a_user_without_a_role_is_refused_and_the_roles_are_named(
-    register: registers.Register, monkeypatch: pytest.MonkeyPatch
-) -> None:
+def test_a_copy_names_its_register_and_nothing_is_asked_that_it_has(register: registers.Register, machine: pathlib.Path, monkeypatch: pytest.MonkeyPatch) -> None:
+    monkeypatch.setattr(setup, "AUTHORITY", machine / "etc/authority")
+    copy = register.file.rename(machine / "copy.db")
+    found = completed(monkeypatch, "none\n", "--copy", str(copy), "--site", "x.example", "--user", "mary", "--role", "office")
+    assert (found.name, found.phase, found.year, found.holiday, sys.stdin.read()) == ("secondary-2025", None, None, [], "")
+    named = completed(monkeypatch, "none\n", "other", "--copy", "gone.db", "--site", "x.example", "--user", "mary", "--role", "office")
+    assert named.name == "other"
+
+
+def test_a_user_without_a_role_is_refused_and_the_roles_are_named(register: registers.Register, monkeypatch: pytest.MonkeyPatch) -> None:
     reader = argparse.ArgumentParser()
     setup.arguments(reader)
     monkeypatch.setattr(sys, "stdin", io.StringIO(""))
     space = reader.parse_args([register.name, "--user", "mary"])
     setup.checked(space)
-    with pytest.raises(
-        Failed, match="not given: --role of mary: office, which .*, or school-CODE, which"
-    ) as found:
+    with pytest.raises(Failed, match="not given: --role of mary: office, which .*, or school-CODE, which") as found:
         setup.completed(space)
     assert found.value.status == 2
 
 
-@pytest.mark.parametrize(
-    "given, said",
-    [
-        (["--copy", "reg.db", "--holiday", "2025-03-03"], "a copy has its own"),
-        (["--role", "office"], "whose role"),
-        (["--new-password"], "whose password"),
-        (["--key", "site.key"], "belong together"),
-        (["--year", "25"], "'25' is no year"),
-        (["--holiday", "3/4/2026"], "write YYYY-MM-DD"),
-    ],
-)
+@pytest.mark.parametrize("given, said", [
+    (["--copy", "reg.db", "--holiday", "2025-03-03"], "a copy has its own"), (["--copy", "reg.db", "--holiday", "none"], "a copy has its own"),
+    (["--copy", "reg.db", "--phase", "primary"], "a copy has its own"), (["--copy", "reg.db", "--year", "2025"], "a copy has its own"), (["--role", "office"], "whose role"), (["--new-password"], "whose password"),
+    (["--key", "site.key"], "belong together"), (["--year", "25"], "'25' is no year"), (["--holiday", "3/4/2026"], "write YYYY-MM-DD")])
 def test_options_that_do_not_belong_together(given: list[str], said: str) -> None:
     reader = argparse.ArgumentParser()
     setup.arguments(reader)
@@ -192,9 +135,7 @@ def test_options_that_do_not_belong_together(given: list[str], said: str) -> Non
 
 
 @pytest.fixture(name="users")
-def users_fixture(
-    register: registers.Register, write_as_me: None, monkeypatch: pytest.MonkeyPatch
-) -> registers.Register:
+def users_fixture(register: registers.Register, write_as_me: None, monkeypatch: pytest.MonkeyPatch) -> registers.Register:
     return register
 
 
@@ -202,14 +143,9 @@ def test_a_role_is_changed_in_its_line(users: registers.Register) -> None:
     roles = users.settings / "roles"
     roles.write_text("# who\n  jane\toffice ; # the first\njane2 office;\n")
     assert people.set_role(users, "jane", "office") is None
-    assert (
-        people.set_role(users, "jane", "school-A")
-        == "jane has the role school-A, and no longer office"
-    )
+    assert people.set_role(users, "jane", "school-A") == "jane has the role school-A, and no longer office"
     assert people.set_role(users, "ben", "office") == "ben has the role office"
-    assert (
-        roles.read_text() == "# who\n  jane\tschool-A ; # the first\njane2 office;\nben office;\n"
-    )
+    assert roles.read_text() == "# who\n  jane\tschool-A ; # the first\njane2 office;\nben office;\n"
 
 
 def test_a_user_is_removed_from_both_files(users: registers.Register) -> None:
@@ -218,14 +154,10 @@ def test_a_user_is_removed_from_both_files(users: registers.Register) -> None:
     assert (users.settings / "roles").read_text() == "# who may do what\nalpha school-A;\n"
 
 
-@pytest.mark.parametrize(
-    "line", ["carol office", "carol;", "office carol jane;", "carol office; dave office;"]
-)
+@pytest.mark.parametrize("line", ["carol office", "carol;", "office carol jane;", "carol office; dave office;"])
 def test_a_broken_line_is_named(line: str, users: registers.Register) -> None:
     (users.settings / "roles").write_text(f"# who\n\njane office; # all\n{line}\n")
-    with pytest.raises(
-        Failed, match=f"^{users.settings}/roles, line 4: {line!r} is not of the form 'USER ROLE;'$"
-    ):
+    with pytest.raises(Failed, match=f"^{users.settings}/roles, line 4: {line!r} is not of the form 'USER ROLE;'$"):
         people.roles_of(users)
 
 
@@ -246,9 +178,7 @@ def add_to(path: pathlib.Path, turns: int) -> None:
             path.write_text(str(count + 1))
 
 
-def test_the_lock_lets_one_change_at_a_time(
-    tmp_path: pathlib.Path, monkeypatch: pytest.MonkeyPatch
-) -> None:
+def test_the_lock_lets_one_change_at_a_time(tmp_path: pathlib.Path, monkeypatch: pytest.MonkeyPatch) -> None:
     monkeypatch.setattr(files, "LOCK", tmp_path / "lock")
     (tmp_path / "count").write_text("0")
     context = multiprocessing.get_context("fork")
@@ -267,18 +197,12 @@ def test_the_holidays_of_an_empty_register_and_no_other(register: registers.Regi
     file.close()
     assert holidays.days_of(register.file) == ["2025-04-03", "2025-04-04"]
     assert holidays.change_of(register, ["2025-04-03", "2025-04-04"]) is None
-    assert holidays.change_of(register, []) == (
-        "the holidays of secondary-2025 change from 2025-04-03, 2025-04-04 to none: it is empty,"
-        " and is made anew"
-    )
+    assert holidays.change_of(register, []) == ("the holidays of secondary-2025 change from 2025-04-03, 2025-04-04 to none: it is empty,"
+                                                " and is made anew")
     with sqlite3.connect(register.file) as file:
         file.execute("INSERT INTO school VALUES ('A')")
     file.close()
-    with pytest.raises(
-        Failed,
-        match="cannot be changed any more, since it has 1 school: .*"
-        " Its holidays are 2025-04-03, 2025-04-04$",
-    ):
+    with pytest.raises(Failed, match="cannot be changed any more, since it has 1 school: .* Its holidays are 2025-04-03, 2025-04-04$"):
         holidays.change_of(register, [])
 
 
@@ -286,11 +210,5 @@ def test_openssl_takes_a_drawn_password(users: registers.Register) -> None:
     password = people.set_password(users, "mary")
     stored = people.hashes_of(users)["mary"].removeprefix("mary:")
     salt = stored.rpartition("$")[0].removeprefix("$6$")
-    again = subprocess.run(
-        ["openssl", "passwd", "-6", "-salt", salt, "-stdin"],
-        input=password,
-        text=True,
-        capture_output=True,
-        check=True,
-    ).stdout.strip()
+    again = subprocess.run(["openssl", "passwd", "-6", "-salt", salt, "-stdin"], input=password, text=True, capture_output=True, check=True).stdout.strip()
     assert (again, len(password), shutil.which("openssl") is not None) == (stored, 24, True)
