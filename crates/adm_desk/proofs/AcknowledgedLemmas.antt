@@ -1,35 +1,26 @@
 -- A run keeps what it acknowledged.
-use Rattle.std.proofs.Common.{◌≡◌, ◌∙◌, ℕ, List, [], ◌∷◌, true, false, Result, Ok, refl, sym, ap, subst, zip}
+use Rattle.std.proofs.Common.{◌≡◌, ◌∙◌, ℕ, List, [], ◌∷◌, true, false, Result, refl, sym, ap, subst}
 use Rattle.sqlite.specs.State.{State as Disk}
 use Rattle.std.proofs.lemmas.Bool.{true≢false}
 use Rattle.adm_types.specs.declared.commands.Command.{Command}
 use Rattle.adm_wire.specs.declared.fault.WireFault.{WireFault}
 use Rattle.adm_wire.specs.declared.fault.WireFault.TheVariants as fault
 use Rattle.adm_register.specs.State.{State as Register}
-use Rattle.adm_commands.specs.Steps.{OneStep}
 use Rattle.adm_rows.specs.Represents.{LeavesOnly}
 use Rattle.adm_desk.specs.declared.answer.Answer.{Answer}
 use Rattle.adm_desk.specs.declared.answer.Answer.TheVariants.{Done, Refused, Memory, Failed}
 use Rattle.adm_desk.specs.declared.answer.LineAnswer.{LineAnswer}
 use Rattle.adm_desk.specs.declared.answer.LineAnswer.TheVariants.{Handled, Faulty, Queried}
-use Rattle.adm_desk.specs.Steps.{IsRun}
 use Rattle.adm_desk.specs.Lines.{AnswersLine, AnswersLines}
 use Rattle.adm_desk.specs.DeskState.{DeskState, Handles, InFlight}
 use Rattle.adm_commands.specs.Imports.{Reaches}
-use Rattle.adm_desk.specs.Acknowledged.{OneAfter, KeepsAcknowledged, acknowledged, handled, with_command}
+use Rattle.adm_desk.specs.Acknowledged.{KeepsAcknowledged, acknowledged, handled, with_command}
 
 -- ---- a run over commands with their answers
 
 abbrev pub RunsOver : {D : Type 0} → (D → Command → Answer → D → Type 0) → D → List (Command × Answer) → D → Type 0
 RunsOver step old [] new = new ≡ old
 RunsOver {D} step old ((command, answer) ∷ more) new = (mid : D) × step old command answer mid × RunsOver step mid more new
-
-over_commands : {D : Type 0} (step : D → Command → Answer → D → Type 0) (old new : D) (commands : List Command) (answers : List Answer)
-    → IsRun step old commands answers new → RunsOver step old (zip commands answers) new
-over_commands step old new [] [] run = run
-over_commands step old new [] (a ∷ answers) run = absurd run
-over_commands step old new (c ∷ commands) [] run = absurd run
-over_commands step old new (c ∷ commands) (a ∷ answers) run = (run.0, run.1, over_commands step run.0 new commands answers run.2)
 
 from_same : {D : Type 0} (step : D → Command → Answer → D → Type 0) (old mid new : D) (more : List (Command × Answer)) → mid ≡ old → RunsOver step mid more new → RunsOver step old more new
 from_same {D} step old mid new more same run = let P : D → Type 0 = λ h. RunsOver step h more new in subst P same run
@@ -100,18 +91,6 @@ module _ {C : Type 0} (disk : C → Disk) where
       record { run = rest.run; failed = rest.failed; leaves = rest.leaves }
   keeps old new ((c, Failed) ∷ more) alive leaves run = after_work old run.0 new c more run.1 alive run.2
 
-  pub keeps_commands : (old new : DeskState C) (commands : List Command) (answers : List Answer) → old.failed ≡ false → LeavesOnly old.register (disk old.conn)
-      → IsRun (Handles disk) old commands answers new → KeepsAcknowledged disk old new (zip commands answers)
-  keeps_commands old new commands answers alive leaves run = keeps old new (zip commands answers) alive leaves (over_commands (Handles disk) old new commands answers run)
-
   pub keeps_lines : (old new : DeskState C) (lines : List (List ℕ)) (answers : List LineAnswer) → old.failed ≡ false → LeavesOnly old.register (disk old.conn)
       → AnswersLines (AnswersLine (Handles disk)) old lines answers new → KeepsAcknowledged disk old new (handled lines answers)
   keeps_lines old new lines answers alive leaves run = keeps old new (handled lines answers) alive leaves (over_lines (Handles disk) old new lines answers run)
-
--- ---- which register that is
-
-pub one_after_lem : OneStep → OneAfter
-one_after_lem step old a b [] one other = one ∙ sym other
-one_after_lem step old a b (c ∷ commands) one other =
-    let same = (step old one.0 other.0 c (Ok one.1.0) (Ok other.1.0) one.1.1 other.1.1).1 in
-    one_after_lem step one.0 a b commands one.2 (subst (λ (r : Register). Reaches r commands b) (sym same) other.2)

@@ -3,9 +3,6 @@ pub mod AnswerLemmas
 pub mod CutLemmas
 pub mod Known
 pub mod OpenLemmas
-pub mod FoundLemmas
 pub mod RunLemmas
-pub mod Runs
 pub mod DeskStateLemmas
-pub mod RoundLemmas
 pub mod CrashLemmas

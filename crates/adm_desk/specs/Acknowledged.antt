@@ -15,12 +15,6 @@ use Rattle.adm_desk.specs.declared.answer.LineAnswer.TheVariants.{Handled, Fault
 use Rattle.adm_desk.specs.Lines.{AnswersLines}
 use Rattle.adm_desk.specs.DeskState.{DeskState, InFlight}
 
--- ---- registers
-
--- accepted commands, one after another, leave one register
-abbrev pub OneAfter : Type 0
-OneAfter = (old a b : Register) (commands : List Command) → Reaches old commands a → Reaches old commands b → a ≡ b
-
 -- ---- commands with their answers
 
 -- the acknowledged commands: those that were answered Done, in their order

@@ -1,7 +1,7 @@
 -- The state of a desk, and what a command may be answered.
 use Rattle.std.specs.Prelude.{◌≡◌, Bool, true, false, Ok, Err, refl}
 use Rattle.std.specs.Coded.{Coded, code_by, coded×, coded_bool}
-use Rattle.sqlite.specs.State.{State as Disk, HasCleanDisk}
+use Rattle.sqlite.specs.State.{State as Disk}
 use Rattle.adm_types.specs.declared.commands.Command.{Command}
 use Rattle.adm_types.specs.declared.commands.Reply.{Reply}
 use Rattle.adm_register.specs.State.{State as Register}
@@ -44,10 +44,6 @@ Handles disk old command Memory new = (old.failed ≡ false) × (new ≡ old)
 Handles disk old command Failed new = (new.failed ≡ true) × (new.register ≡ old.register) × (old.failed ≡ true → new ≡ old) × (old.failed ≡ false → InFlight old.register command (disk new.conn))
 
 -- ---- for private clauses
-
--- the command is answered, and the disk was clean before where it is clean now
-abbrev pub HandlesOnDisk : {C : Type 0} → (C → Disk) → DeskState C → Command → Answer → DeskState C → Type 0
-HandlesOnDisk disk old command answer new = Handles disk old command answer new × (HasCleanDisk (disk new.conn) → HasCleanDisk (disk old.conn))
 
 -- the new register was written, or memory ran out before, or the commit failed
 abbrev pub Keeps : {C : Type 0} → (C → Disk) → DeskState C → Register → Reply → Answer → DeskState C → Type 0

@@ -1,5 +1,5 @@
 // The desk: one register and its file.
-ghost use Rattle.std.specs.Prelude.{◌≡◌, ◌≢◌, ◌⊎◌, ◌^◌, ◌<◌, ◌-◌, ℕ, List, length, zip, true, false, if◌then◌else◌, IfOk, IfErr, IfSome, OnOk, OnErr, IsErrOf, Some, None, option_copied};
+ghost use Rattle.std.specs.Prelude.{◌≡◌, ◌≢◌, ◌⊎◌, ◌^◌, ◌<◌, ◌-◌, ℕ, List, length, true, false, if◌then◌else◌, IfOk, IfErr, IfSome, OnOk, IsErrOf, Some, None, option_copied};
 ghost use Rattle.adm_wire.specs.Streams.{reader, writer};
 ghost use Rattle.sqlite.specs.Held.{state};
 ghost use Rattle.sqlite.specs.State.{HasCleanDisk, Survives};
@@ -14,14 +14,12 @@ ghost use Rattle.adm_rows.specs.Faults.{IsNoRegister};
 ghost use Rattle.adm_rows.specs.FirstFault.{IsFirstFault};
 ghost use Rattle.adm_rows.specs.Represents.{IsStarted, LeavesOnly, LeavesNone};
 ghost use Rattle.adm_store.specs.Migration.{IsMigrated};
-ghost use Rattle.adm_desk.specs.Steps.{IsRun};
 ghost use Rattle.adm_desk.specs.DeskState.{Handles, Keeps, DeskState};
 ghost use Rattle.adm_desk.specs.Lines.{AnswersLine};
-ghost use Rattle.adm_desk.specs.Acknowledged.{KeepsAcknowledged, KeepsLines};
+ghost use Rattle.adm_desk.specs.Acknowledged.{KeepsLines};
 ghost use Rattle.adm_desk.specs.Questions.{AnswersQuestionLine};
 ghost use Rattle.adm_desk.specs.Written.{EndsAs, ReaderFailsBy, WriterFailsBy};
 
-use crate::handler::{self, Handler};
 use crate::lines::LineHandler;
 use crate::questions::QuestionHandler;
 use crate::{Answer, LineAnswer, Run, RunFault, lines};
@@ -32,7 +30,7 @@ use adm_store::{Changes, Store, changes};
 use adm_types::{Command, Reply};
 use adm_wire::{Input, Output, read_command};
 use sqlite::{Alter, Connection};
-use std::alloc::{AllocError, Global};
+use std::alloc::Global;
 use std::marker::Model;
 
 /// One register, and the connection to the file that keeps it.
@@ -187,17 +185,6 @@ impl<S: Alter> Desk<S> {
         }
     }
 
-    /// Answers the commands in order. Room for all answers is made first, so after an `Err` no
-    /// command was handled.
-    pub fn handle_all(&mut self, commands: &[Command]) -> Result<Vec<Answer>, AllocError>
-        ensures run { IfOk result (λ answers. IsRun (Handles (state S.Store)) self.old commands.now answers.items self.new) }
-        ensures kept { IfOk result (λ answers. self.old.failed ≡ false → KeepsAcknowledged (state S.Store) self.old self.new (zip commands.now answers.items)) }
-        ensures err { OnErr result (self.new ≡ self.old) }
-        ensures clean { HasCleanDisk (state S.Store self.new.conn) → HasCleanDisk (state S.Store self.old.conn) }
-    {
-        handler::handle_all(self.alloc, self, commands)
-    }
-
     /// Answers the lines that the reader gives, to its end, and writes an answer for each as soon
     /// as its command is acknowledged. Lines end with LF; a last line without one counts where it
     /// is not empty.
@@ -250,20 +237,5 @@ impl<S: Alter> LineHandler for Desk<S> {
             Ok(command) => LineAnswer::Handled(Desk::handle(self, &command)),
             Err(fault) => LineAnswer::Faulty(fault),
         }
-    }
-}
-
-impl<S: Alter> Handler for Desk<S> {
-    ghost use Rattle.sqlite.specs.Held.{Held, state};
-    ghost use Rattle.adm_desk.specs.DeskState.{HandlesOnDisk, DeskState};
-
-    ghost View = { DeskState (Held S) };
-
-    ghost view = { λ d. d };
-
-    ghost step = { HandlesOnDisk (state S.Store) };
-
-    fn handle(&mut self, command: &Command) -> Answer {
-        Desk::handle(self, command)
     }
 }

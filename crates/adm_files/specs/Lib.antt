@@ -4,4 +4,3 @@ pub mod Reports
 pub mod Texts
 pub mod Imports
 pub mod Runs
-pub mod NextRun

@@ -8,12 +8,12 @@ ghost use Rattle.adm_files.specs.Runs.{Creates, CreatesIn};
 
 use crate::cause::Cause;
 use crate::connecting::{OpenError, before_open, changed, open_file};
-use crate::ended::Ended;
+use crate::ended::{Ended, before_close};
 use crate::exit::Exit;
 use crate::fault::Fault;
 use crate::found::{Found, Head, is_reserved, make_empty};
 use crate::trial::Trial;
-use adm_store::{CreateFault, create};
+use adm_store::create;
 use adm_types::Season;
 use sqlite::{Connection, FileFrom, FileStore, Start, Unknown};
 use sqlite_disk::Disk;
@@ -106,15 +106,16 @@ fn is_taken(rt: &HostRuntime, trial: &Trial, season: &Season) -> Result<bool, Fa
     ensures { IfErr result IsOpenFault }
 {
     trial.make_copies(rt)?;
-    let mut conn = match open_file(rt, trial.copy(), Unknown) {
-        Ok(conn) => conn,
+    let ended = match create_at(rt, trial.copy(), Unknown, season) {
+        Ok(ended) => ended,
         Err(error) => return Err(error.fault),
     };
-    match create(rt.alloc(), &mut conn, season) {
-        Ok(()) => Ok(false),
-        Err(CreateFault::InUse) => Ok(true),
-        Err(CreateFault::Disk) => Err(Fault::Disk(None)),
-        Err(CreateFault::Memory) => Err(Fault::Memory),
+    match before_close(ended) {
+        Ok(_exit) => Ok(false),
+        Err(Fault::InUse) => Ok(true),
+        Err(Fault::Memory) => Err(Fault::Memory),
+        // the one other error of a create
+        Err(_) => Err(Fault::Disk(None)),
     }
 }
 

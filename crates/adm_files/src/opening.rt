@@ -6,12 +6,12 @@ ghost use Rattle.adm_files.specs.Opened.{IsOpened, LeavesAsFound, OpensAs};
 
 use crate::cause::Cause;
 use crate::connecting::{OpenError, before_open, changed, open_file};
-use crate::ended::Ended;
+use crate::ended::{Ended, before_close, close, connection_of};
+use crate::exit::Exit;
 use crate::fault::Fault;
 use crate::found::{Found, Head, is_reserved};
 use crate::trial::Trial;
 use adm_desk::Desk;
-use adm_rows::OpenFault;
 use sqlite::{FileFrom, FileStore, Start, Unknown};
 
 /// A desk over the register in a file, or how the line ended without one.
@@ -94,15 +94,17 @@ fn is_refused(rt: &HostRuntime, trial: &Trial) -> Result<bool, Fault>
     ensures { IfErr result IsOpenFault }
 {
     trial.make_copies(rt)?;
-    let conn = match open_file(rt, trial.copy(), Unknown) {
-        Ok(conn) => conn,
+    let ended = match open_at(rt, trial.copy(), Unknown) {
+        Ok(Ok(desk)) => close(desk, Ok(Exit::Done)),
+        Ok(Err(ended)) => ended,
         Err(error) => return Err(error.fault),
     };
-    match Desk::open(rt.alloc(), conn) {
-        Ok(_desk) => Ok(false),
-        Err((OpenFault::Disk, _conn)) => Err(Fault::Disk(None)),
-        Err((OpenFault::Memory, _conn)) => Err(Fault::Memory),
-        Err((OpenFault::NotOurs | OpenFault::Version | OpenFault::BadRow, _conn)) => Ok(true),
+    match before_close(ended) {
+        Ok(_exit) => Ok(false),
+        Err(Fault::NotOurs | Fault::Version | Fault::BadRow) => Ok(true),
+        Err(Fault::Memory) => Err(Fault::Memory),
+        // the one other error of an open
+        Err(_) => Err(Fault::Disk(None)),
     }
 }
 
@@ -132,7 +134,7 @@ fn changed_meanwhile<S: Start>(desk: Desk<FileStore<FileFrom<S>>>) -> OpenError<
     ensures err { IsOpenFault result.fault }
     ensures left { LeavesAsFound (image_at S.Start) result.remains }
 {
-    changed(desk.into_connection())
+    changed(connection_of(desk))
 }
 
 /// Opens the register in the file at the path.

@@ -2,4 +2,3 @@ pub mod Served
 pub mod Does
 pub mod Logged
 pub mod Arguments
-pub mod SuccessiveRuns

@@ -1,9 +1,7 @@
 // What each line of the command line does, over files that can be started, a reader and writers.
 #![tactic(auto)]
 
-mod laws;
 mod run;
 mod serving;
 
-pub use laws::runs_in_order;
 pub use run::run_arguments;

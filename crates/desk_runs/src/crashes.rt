@@ -1,6 +1,7 @@
 // A run of commands over disks that stop, a crash of both, and what the start after it finds.
 
-use adm_desk::{Answer, NotHandled, Restarted, run_until_crash};
+use adm_crashes::{NotHandled, Restarted, run_until_crash};
+use adm_desk::Answer;
 use adm_register::{Register, Rows};
 use adm_rows::OpenFault;
 use adm_types::Command;

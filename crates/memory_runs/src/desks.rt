@@ -5,6 +5,7 @@ ghost use Rattle.adm_rows.specs.Represents.{IsStarted};
 
 use crate::script::Script;
 use crate::trace::{Event, Trace};
+use adm_crashes::handle_all;
 use adm_desk::{Answer, Desk, Run, RunFault};
 use adm_store::create;
 use adm_types::{Command, Phase, Season};
@@ -203,10 +204,11 @@ pub(crate) fn asked(desk: &mut MemoryDesk, command: &Command) -> Answer {
 
 /// The answers to commands.
 pub(crate) fn all_asked(
+    alloc: Global,
     desk: &mut MemoryDesk,
     commands: &[Command],
 ) -> Result<Vec<Answer>, AllocError> {
-    desk.handle_all(commands)
+    handle_all(alloc, desk, commands)
 }
 
 /// The lines of a reader, answered to a writer.

@@ -6,5 +6,5 @@ use Rattle.adm_files.proofs.ended.close.Goals as goal
 
 pub returns-clause-closes : goal.returns-clause-closes
 returns-clause-closes g c =
-    subst (λ (h : Held _). Closes h c.close_files.result) c.into_connection.ensures.same
-    (closes c.into_connection.result c.close_files.result _ c.close_files.ensures.copied c.close_files.ensures.err)
+    subst (λ (h : Held _). Closes h c.close_files.result) c.connection_of.ensures.same
+    (closes c.connection_of.result c.close_files.result _ c.close_files.ensures.copied c.close_files.ensures.err)

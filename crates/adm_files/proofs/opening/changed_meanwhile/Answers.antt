@@ -12,5 +12,5 @@ returns-clause-err g c = rw c.changed.ensures (inr (_, refl))
 pub returns-clause-left : goal.returns-clause-left
 returns-clause-left g c =
     let opened = c.requires in
-    let kept = subst (λ (h : Held _). Survives (file_state opened.found) (file_state h) (IsMigrated (file_state opened.found))) (sym c.into_connection.ensures.same) opened.kept in
-    left_found _ c.into_connection.result c.changed.result _ c.changed.ensures opened.found opened.is_found kept
+    let kept = subst (λ (h : Held _). Survives (file_state opened.found) (file_state h) (IsMigrated (file_state opened.found))) (sym c.connection_of.ensures.same) opened.kept in
+    left_found _ c.connection_of.result c.changed.result _ c.changed.ensures opened.found opened.is_found kept

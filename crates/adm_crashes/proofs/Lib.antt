@@ -1,0 +1,5 @@
+pub mod RoundLemmas
+pub mod FoundLemmas
+pub mod CommandLemmas
+pub mod StartLemmas
+pub mod Runs

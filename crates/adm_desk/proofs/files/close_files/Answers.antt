@@ -1,7 +1,0 @@
-use Rattle.std.proofs.lemmas.Result.{IfOk-weaker}
-use Rattle.adm_desk.proofs.CrashLemmas.{closed_files}
-use Rattle.adm_desk.proofs.files.close_files.Goals as goal
-
-pub returns-clause-disks : goal.returns-clause-disks
-returns-clause-disks g c r work leaves = IfOk-weaker c.close_files.result _ _
-    (λ files copied clean. closed_files {g = g.D.Disk} g.met.D.Disk.seen_may_stay r work c.args.conn leaves files (copied clean)) c.close_files.ensures.copied

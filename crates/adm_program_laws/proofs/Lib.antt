@@ -1,0 +1,4 @@
+pub mod NextRunLemmas
+pub mod Keeping
+pub mod Remaining
+pub mod RunLemmas

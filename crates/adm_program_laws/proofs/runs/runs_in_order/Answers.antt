@@ -1,0 +1,18 @@
+use Rattle.adm_program_laws.proofs.Remaining.{creates_file}
+use Rattle.adm_program_laws.proofs.RunLemmas.{one_more_run, all_runs, opens_after_runs, never_no_register}
+use Rattle.adm_program_laws.proofs.runs.runs_in_order.Goals as goal
+
+pub returns-clause-init : goal.returns-clause-init
+returns-clause-init g c = creates_file {g = g.D.Disk} g.met.D.Disk.seen_may_stay
+
+pub returns-clause-run : goal.returns-clause-run
+returns-clause-run g c = one_more_run g.D.Disk g.met.D.Disk.seen_may_stay c.one_register.ensures c.bodies_are_commands.ensures
+
+pub returns-clause-runs : goal.returns-clause-runs
+returns-clause-runs g c = all_runs g.D.Disk g.met.D.Disk.seen_may_stay c.one_register.ensures c.bodies_are_commands.ensures
+
+pub returns-clause-opened : goal.returns-clause-opened
+returns-clause-opened g c = opens_after_runs g.D.Disk g.met.D.Disk.seen_may_stay c.one_register.ensures c.bodies_are_commands.ensures
+
+pub returns-clause-never : goal.returns-clause-never
+returns-clause-never g c = never_no_register g.D.Disk g.met.D.Disk.seen_may_stay c.one_register.ensures c.bodies_are_commands.ensures

@@ -1,0 +1,181 @@
+-- Runs of the program, one after another, each over what a crash may have left of the same two files.
+use Rattle.std.specs.Prelude.{◌≡◌, ◌≤◌, ◌⊎◌, ⊤, ℕ, List, [], ◌∷◌, ◌++◌, length, take, Some, Result, Ok, Err}
+use Rattle.std.specs.Io.KnownBytes.{Appends, Consumes}
+use Rattle.std.proofs.Common.{inl, inr}
+use Rattle.sqlite_disk.specs.declared.Disk as disk
+use Rattle.sqlite_disk.specs.declared.Files.{Files}
+use Rattle.sqlite_wal.specs.Recovery.{Image}
+use Rattle.sqlite_wal.specs.Files.{outcomes}
+use Rattle.sqlite_wal.specs.Reads.{AreClean}
+use Rattle.sqlite_trees.specs.View.{IsClean}
+use Rattle.sqlite_store.specs.declared.store.FileStore.{FileStore}
+use Rattle.sqlite_store.specs.FileStore.{view, recovers}
+use Rattle.sqlite.specs.declared.error.Error.{Error}
+use Rattle.sqlite.specs.State.{HasCleanDisk}
+use Rattle.sqlite.specs.Held.{Held}
+use Rattle.sqlite.specs.Files.{HoldsDatabase, file_state}
+use Rattle.sqlite.specs.Tree.{Trees}
+use Rattle.adm_types.specs.Seasons.{SeasonFacts}
+use Rattle.adm_types.specs.declared.commands.Command.{Command}
+use Rattle.adm_types.specs.declared.commands.Command.TheVariants.{Import}
+use Rattle.adm_types.specs.declared.rows.ImportRow.{ImportRow}
+use Rattle.adm_register.specs.State.{only_season, State as Register}
+use Rattle.adm_commands.specs.Imports.{Reaches}
+use Rattle.adm_rows.specs.Faults.{IsNoRegister}
+use Rattle.adm_words.specs.declared.actions.Action.{Action}
+use Rattle.adm_words.specs.declared.actions.Action.TheVariants as action
+use Rattle.adm_wire.specs.Streams.{Stream}
+use Rattle.adm_desk.specs.Acknowledged.{acknowledged, in_flight, handled}
+use Rattle.adm_desk.specs.Files.{IsFileOf}
+use Rattle.adm_desk.specs.DeskState.{DeskState}
+use Rattle.adm_desk.specs.Lines.{answer_text, lines_of}
+use Rattle.adm_desk.specs.Written.{IsBeginning}
+use Rattle.adm_desk.specs.declared.answer.Answer.{Answer}
+use Rattle.adm_desk.specs.declared.answer.LineAnswer.{LineAnswer}
+use Rattle.adm_files.specs.Imports.{FileGives}
+use Rattle.adm_files.specs.Opened.{IsNotOpened, IsOpened}
+use Rattle.adm_files.specs.Runs.{Creates}
+use Rattle.adm_files.specs.Texts.{Puts}
+use Rattle.adm_files.specs.declared.exit.Exit.{Exit}
+use Rattle.adm_files.specs.declared.exit.Exit.TheVariants as exit
+use Rattle.adm_files.specs.declared.fault.Fault.{Fault}
+use Rattle.adm_program.specs.Arguments.{Acts}
+use Rattle.adm_program.specs.Does.{Does}
+
+-- a run: its subcommand, the streams before and after it, and its exit status
+pub record ProgramRun : Type 0 where
+  pub action : Action
+  pub rows : List ℕ → Stream
+  pub input : Stream
+  pub output : Stream
+  pub errors : Stream
+  pub status : ℕ
+
+-- ---- the commands of a run, with their answers
+
+-- the commands in the first lines that were read, and their answers, which were written but for a part of the last one
+pub record AnswersInput (input output : Stream) (answered : List (Command × Answer)) : Type 0 where
+  pub bytes : List ℕ
+  pub read : Consumes input.old input.new bytes
+  pub count : ℕ
+  pub answers : List LineAnswer
+  pub commands : answered ≡ handled (take count (lines_of bytes)) answers
+  pub text : List ℕ
+  pub beginning : IsBeginning answers text
+  pub written : Appends output.old output.new text
+
+-- all rows of the file as one command, and its answer, which was written, or a beginning of it
+pub record AnswersRows (file output : Stream) (answered : List (Command × Answer)) : Type 0 where
+  pub rows : List ImportRow
+  pub given : FileGives file (Ok rows)
+  pub answer : Answer
+  pub command : answered ≡ (Import rows, answer) ∷ []
+  pub result : Result Exit Fault
+  pub written : Puts (answer_text answer ++ 10 ∷ []) output result
+
+-- no command was answered, and nothing was written
+abbrev pub AnswersNone : Stream → List (Command × Answer) → Type 0
+AnswersNone output answered = (answered ≡ []) × (output.new ≡ output.old)
+
+-- `do` answers commands in its lines or none, `import` one of all rows or none, `serve` those in at most as many lines as it serves requests, and the others none
+abbrev pub AnswersBy : Action → (List ℕ → Stream) → Stream → Stream → List (Command × Answer) → Type 0
+AnswersBy (action.Do file) rows input output answered = AnswersNone output answered ⊎ AnswersInput input output answered
+AnswersBy (action.Import file csv) rows input output answered = AnswersNone output answered ⊎ AnswersRows (rows csv.now) output answered
+AnswersBy (action.Serve file port count) rows input output answered =
+    (lines : List (List ℕ)) × (answers : List LineAnswer) × (length lines ≤ count) × (answered ≡ handled lines answers)
+AnswersBy other rows input output answered = answered ≡ []
+
+-- these are the commands of each run, with their answers
+abbrev pub AreAnswered : List ProgramRun → List (List (Command × Answer)) → Type 0
+AreAnswered [] [] = ⊤
+AreAnswered (run ∷ runs) (answered ∷ more) = AnswersBy run.action run.rows run.input run.output answered × AreAnswered runs more
+AreAnswered [] (answered ∷ more) = ⊥
+AreAnswered (run ∷ runs) [] = ⊥
+
+-- ---- the commands that took effect
+
+-- of one run: those that were acknowledged, and after them the one in flight or none
+abbrev pub IsEffect : List (Command × Answer) → List Command → Type 0
+IsEffect answered done =
+    (done ≡ acknowledged answered) ⊎ ((command : Command) × (in_flight answered ≡ Some command) × (done ≡ acknowledged answered ++ command ∷ []))
+
+-- of runs, one after another
+abbrev pub AreEffects : List (List (Command × Answer)) → List Command → Type 0
+AreEffects [] done = done ≡ []
+AreEffects (answered ∷ runs) done = (first : List Command) × (later : List Command) × IsEffect answered first × AreEffects runs later × (done ≡ first ++ later)
+
+-- The two files hold the register to which the commands that took effect in these runs, each accepted, lead from the first one.
+abbrev pub HoldsAfterRuns : Register → List (List (Command × Answer)) → Image → Type 0
+HoldsAfterRuns first runs image = ∥ ((done : List Command) × (found : Register) × AreEffects runs done × Reaches first done found × IsFileOf found image) ∥₁
+
+-- ---- runs over the files
+
+module _ {D : Type 0} {g : disk.Ghosts D} where
+  -- On disks that returned what was written to them, a crash at the end of the run may leave this of the two files: what it may leave of the files that were closed; or,
+  -- where the close failed, as it does on disks that fail from some call on, files that hold a database which an open after a crash may find.
+  abbrev pub MayRemain : Result (Files D) (Error × FileStore D g) → Image → Type 0
+  MayRemain (Ok files) image = AreClean g files.log files.db × outcomes g files.log files.db image
+  MayRemain (Err (error, store)) image = IsClean (view store) × (db : Trees) × recovers store db × HoldsDatabase image db
+
+  -- where the register was opened, the disks had returned what was written to them
+  abbrev pub OpensClean : {X : Type 0} {P Q : DeskState (Held (FileStore D g)) → Type 0} → X ⊎ ((desk : DeskState (Held (FileStore D g))) × P desk × Q desk) → Type 0
+  OpensClean (inl it) = ⊤
+  OpensClean (inr it) = HasCleanDisk (file_state it.0.conn)
+
+  -- the same of each subcommand, as it opened the files
+  abbrev pub StartsClean : (image : Image) (a : Action) (rows : List ℕ → Stream) (input output : Stream) (e : Result Exit Fault) (closed : Result (Files D) (Error × FileStore D g))
+      → Does image a rows input output e closed → Type 0
+  StartsClean image (action.Init file phase year days) rows input output e closed did = HasCleanDisk (file_state did.6.found)
+  StartsClean image (action.Do file) rows input output e closed did = OpensClean did
+  StartsClean image (action.WhatIf file) rows input output e closed did = OpensClean did
+  StartsClean image (action.Import file csv) rows input output e closed did = OpensClean did.1
+  StartsClean image (action.Serve file port count) rows input output e closed did = OpensClean did.1
+  StartsClean image (action.Letter file child) rows input output e closed did = OpensClean did.1
+  StartsClean image (action.List file school) rows input output e closed did = OpensClean did.1
+  StartsClean image (action.RoundReport file round) rows input output e closed did = OpensClean did.1
+  StartsClean image (action.Pairs file school) rows input output e closed did = OpensClean did.1
+
+module _ {D : Type 0} (g : disk.Ghosts D) where
+  -- One run, as `run_arguments` says of it, over files that held `before`, after which they hold `after`, whether it ended or a crash came.
+  pub record RunsOver (before : Image) (run : ProgramRun) (after : Image) : Type 0 where
+    pub acts : Acts g before run.action run.rows run.input run.output run.errors run.status
+    pub clean : StartsClean before run.action run.rows run.input run.output acts.ended acts.closed acts.does
+    pub left : MayRemain acts.closed after
+
+  -- runs, one after another
+  abbrev pub RunInOrder : Image → List ProgramRun → Image → Type 0
+  RunInOrder before [] after = after ≡ before
+  RunInOrder before (run ∷ runs) after = (mid : Image) × RunsOver before run mid × RunInOrder mid runs after
+
+  -- ---- laws
+
+  -- `init` that succeeds leaves files of the register of its season.
+  abbrev pub InitMakesFile : Type 0
+  InitMakesFile =
+      (before after : Image) (season : SeasonFacts) (closed : Result (Files D) (Error × FileStore D g)) → Creates before season (Ok exit.Done) closed → MayRemain closed after
+      → IsFileOf (only_season season) after
+
+  -- Where the files hold the register after some runs, they hold it after one more.
+  abbrev pub OneMoreRun : Type 0
+  OneMoreRun =
+      (first : Register) (runs : List (List (Command × Answer))) (before after : Image) (run : ProgramRun) → HoldsAfterRuns first runs before → RunsOver before run after
+      → (answered : List (Command × Answer)) × AnswersBy run.action run.rows run.input run.output answered × HoldsAfterRuns first (runs ++ answered ∷ []) after
+
+  -- Any number of runs over files of a register leave files of the one after all their commands that took effect.
+  abbrev pub AllRuns : Type 0
+  AllRuns =
+      (first : Register) (before after : Image) (runs : List ProgramRun) → IsFileOf first before → RunInOrder before runs after
+      → (answered : List (List (Command × Answer))) × AreAnswered runs answered × HoldsAfterRuns first answered after
+
+  -- A run that opens such files finds that register.
+  abbrev pub OpensAfterRuns : Type 0
+  OpensAfterRuns =
+      (first : Register) (runs : List (List (Command × Answer))) (image : Image) → HoldsAfterRuns first runs image
+      → (desk : DeskState (Held (FileStore D g))) → IsOpened image desk → HasCleanDisk (file_state desk.conn)
+      → ∥ ((done : List Command) × AreEffects runs done × Reaches first done desk.register) ∥₁
+
+  -- No run reports that such files hold none.
+  abbrev pub NeverNoRegister : Type 0
+  NeverNoRegister =
+      (first : Register) (runs : List (List (Command × Answer))) (image : Image) → HoldsAfterRuns first runs image
+      → (e : Result Exit Fault) (closed : Result (Files D) (Error × FileStore D g)) (it : IsNotOpened image e closed) → HasCleanDisk (file_state it.left) → ¬ IsNoRegister it.cause

@@ -1,0 +1,6 @@
+// Laws of runs of the program, one after another. The program calls none of them.
+#![tactic(auto)]
+
+mod runs;
+
+pub use runs::{next_run, runs_in_order};
