@@ -403,11 +403,14 @@ def test_what_a_site_refuses(office, site, tmp_path, user, said, may_be_done):
     assert ("line 1: no answer; it may be done" in ran.stdout) == may_be_done and ("lines 1, 2: not tried" in ran.stdout) != may_be_done
 
 
-@pytest.mark.parametrize("name, text_of_file", [("a.csv", "decline,23,ELM,Somebody Else\n"), ("a.jsonl", text([{"cmd": "name_plan", "child": 23, "school": "ELM"}]))])
-@pytest.mark.parametrize("user, said", [*(it[:2] for it in REFUSALS), ("jane", "the server answered with status 200, and no letter of this child"), ("lost", "")])
-def test_a_name_that_cannot_be_read(office, site, tmp_path, user, said, name, text_of_file):
+UNNAMED = [*(it[:2] for it in REFUSALS), ("jane", "the server answered with status 200, and no letter of this child"), ("lost", "")]
+
+
+@pytest.mark.parametrize("name, lines", [("a.csv", "decline,23,ELM,Somebody Else\n"), ("a.jsonl", text([{"cmd": "name_plan", "child": 23, "school": "ELM"}]))])
+@pytest.mark.parametrize("user, said", UNNAMED)
+def test_a_name_that_cannot_be_read(office, site, tmp_path, user, said, name, lines):
     """Nothing is sent of a file with a child whose name cannot be compared or shown. A child that the register does not have (404) stops nothing."""
-    (tmp_path / name).write_text(text_of_file)
+    (tmp_path / name).write_text(lines)
     ran = office("send", name, *TODAY, "--url", f"http://127.0.0.1:{site}", "--user", user, stdin="secret\n")
     assert ran.returncode == 1 and len(Site.seen) == (not said) == len(list(tmp_path.glob("a.answers*"))), ran
     assert not said or ran.stderr.endswith(f"admissions-send: nothing was sent: the name of child 23 cannot be read: {said}\n"), ran
@@ -611,7 +614,8 @@ def test_what_cannot_be_read(office, reg, tmp_path):
     assert office("send", "none.jsonl").stderr == "admissions-send: none.jsonl cannot be read: No such file or directory\n"
     (tmp_path / "a.jsonl").write_text(text([child(3)]))
     for given in (["--register", "none.db"], ["--register", "no/reg.db"], ["--url", "ftp://x"], ["--url", "http://127.0.0.1:1"], ["--names", "none.csv"],
-        ["--user", "x"], ["--continue"], ["--url", "http://[::1"], ["--url", "http://127.0.0.1:x"], ["--url", "http://t\u0177.example"], ["--url", f"https://{'a' * 70}.example"]):
+        ["--user", "x"], ["--continue"], ["--url", "http://[::1"], ["--url", "http://127.0.0.1:x"], ["--url", "http://t\u0177.example"],
+        ["--url", f"https://{'a' * 70}.example"]):
         ran = office("send", "a.jsonl", *given)
         assert ran.returncode in (1, 2) and ran.stderr.startswith("admissions-send: ") and ran.stderr.count("\n") == 1 and "error in this command" not in ran.stderr, ran
         assert not list(tmp_path.glob("*.part-*")), ran

@@ -126,7 +126,9 @@ def test_the_files_are_read_in_their_order(logs):
     assert sent(logs) == (0, b"".join((CHILD % (it, "Ann")).encode() + b"\n" for it in (1, 2, 3, 4, 5)), "")
 
 
-@pytest.mark.parametrize("damage, least", [(lambda it: it[:-20], 30), (lambda it: it[:40], 0), (lambda it: b"no gzip", 0), (lambda it: it[:60] + bytes(40) + it[100:], 0)])
+@pytest.mark.parametrize("damage, least", [
+    (lambda it: it[:-20], 30), (lambda it: it[:40], 0), (lambda it: b"no gzip", 0), (lambda it: it[:60] + bytes(40) + it[100:], 0),
+])
 def test_a_damaged_file_costs_what_cannot_be_read_of_it(logs, damage, least):
     """`least` is how many of its entries are printed at least."""
     commands = [CHILD % (it, f"Ann {it * 7919 % 1000}") for it in range(1, 40)]
