@@ -438,8 +438,8 @@ def test_a_register_of_another_user(who, record_property):
         (room / "tools").mkdir()
         shutil.copy(ROOT / "tools" / "register_files.py", room / "tools")
         shutil.copy(PROGRAM, room / "real")
-        for it in ("letters", "query"):
-            (room / f"admissions-{it}").symlink_to("office/command")
+        for command in ("letters", "query"):
+            (room / f"admissions-{command}").symlink_to("office/command")
         (room / "own").mkdir(0o700)
         make(room / "own" / "reg.db", [school("OAK"), child(1, name="Ann Abel")])
         environment = noting(room / "program", f'exec "{room}/real" "$@"')
@@ -448,9 +448,10 @@ def test_a_register_of_another_user(who, record_property):
         for it in (room / "own", *(room / "own").iterdir()):
             os.chown(it, owner, owner if os.geteuid() == 0 else -1)
         user = ["setpriv", "--reuid", str(owner), "--regid", str(owner), "--clear-groups"] if os.geteuid() == 0 else []
-        words = {"root": [], "root without its right": NO_RIGHT, "owner": user}[who]
-        command = [*words, str(room / "admissions-letters"), "own/reg.db", "own/out"]
-        ran = subprocess.run(command, cwd=room, env=environment, capture_output=True, text=True, check=False)
+        before_it: dict[str, list[str]] = {"root": [], "root without its right": NO_RIGHT, "owner": user}
+        words = before_it[who]
+        ran = subprocess.run([*words, str(room / "admissions-letters"), "own/reg.db", "own/out"],
+            cwd=room, env=environment, capture_output=True, text=True, check=False)
         assert (ran.returncode, ran.stdout) == (0, "1 letter is in own/out\n"), ran
         assert b"Child 1 Ann Abel\n" in (room / "own" / "out" / "letter-0000001.txt").read_bytes()
         way = RUN_FOR_EACH if who == "root without its right" and words else way_in(words)
