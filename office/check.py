@@ -52,9 +52,9 @@ class Finding:
     written: str | None = None
 
     @property
-    def what(self) -> tuple[object, ...]:
-        """What is said but for the row, of a change. Others are printed row by row."""
-        return (self.column, self.value, self.text, self.written) if self.kind == FIXED else (self,)
+    def change(self) -> tuple[object, ...] | None:
+        """What is said of a change but for its row, or None: others are printed one by one."""
+        return (self.column, self.value, self.text, self.written) if self.kind == FIXED else None
 
     def line(self, is_fixing: bool, rows: list[int]) -> str:
         """The finding as it is printed, of each of these rows."""
@@ -276,11 +276,11 @@ def main(given):
         check.run()
     shown = [it for it in check.findings if it.kind != FIXED or given.fix or not is_taken(it)]
     is_fixing = bool(given.fix) and not any(it.kind == ERROR for it in shown)
-    equal: dict[tuple[object, ...], list[Finding]] = {}
-    for it in shown:
-        equal.setdefault(it.what, []).append(it)
+    equal: dict[object, list[Finding]] = {}
+    for at, it in enumerate(shown):
+        equal.setdefault(it.change or at, []).append(it)
     for them in equal.values():
-        print(them[0].line(is_fixing, [it.row for it in them]))
+        print(them[0].line(is_fixing, list(dict.fromkeys(it.row for it in them))))
     return end(check, given)
 
 

@@ -19,7 +19,7 @@ SECONDS = 20
 SHEET_HELP = (
     f"limits of a sheet: {MOST_BYTES // MB} MB, a workbook unpacked {MOST_UNPACKED // MB} MB;"
     f" {MOST_ROWS:,} rows, {MOST_COLUMNS} columns, {MOST_CELLS:,} cells, {MOST_TEXT:,} characters in a cell."
-    " What has formats alone, and no text, is not counted. A pipe or a device is refused."
+    " Rows, columns and cells that have formats alone, and no text, are not counted. A pipe or a device is refused."
 )
 
 
@@ -51,15 +51,21 @@ def bytes_of(name: str) -> bytes:
 
 @contextlib.contextmanager
 def within(what: str, seconds: int = SECONDS) -> Iterator[None]:
-    """Refuses what takes more CPU time than these seconds."""
+    """Refuses what takes more CPU time than these seconds. A library may catch the error, so it is raised again
+    after each further second, and at the end."""
+    error, is_late = Refused(f"{what} takes more than {seconds} seconds"), False
 
     def late(_number: int, _frame: FrameType | None) -> None:
-        raise Refused(f"{what} takes more than {seconds} seconds")
+        nonlocal is_late
+        is_late = True
+        raise error
 
     before = signal.signal(signal.SIGPROF, late)
-    signal.setitimer(signal.ITIMER_PROF, seconds)
+    signal.setitimer(signal.ITIMER_PROF, seconds, 1)
     try:
         yield
     finally:
         signal.setitimer(signal.ITIMER_PROF, 0)
         signal.signal(signal.SIGPROF, before)
+    if is_late:
+        raise error

@@ -5,8 +5,10 @@ processor, and the pages of each child are then taken from its batch, with what 
 """
 from __future__ import annotations
 
+import contextlib
 import datetime
 import importlib.util
+import logging
 import multiprocessing
 import multiprocessing.connection
 import os
@@ -20,7 +22,7 @@ from typing import TYPE_CHECKING, Any
 
 from register_files import Refused
 
-from . import days, inputs, sheet
+from . import days, inputs, sheet, texts
 from .letter_fields import Letter
 from .printed import ends_with
 
@@ -31,6 +33,7 @@ if TYPE_CHECKING:
 Batch = dict[int, bytes]
 BATCH, STEP = 50, 100
 SECONDS_OF_LETTER, MOST_LETTER = 5, 1_000_000
+TOO_DEEP = ": it is nested too deeply, or a macro calls itself"
 # the beginnings of the pictures and fonts that a letter shows
 FIRST_BYTES, RIFF = 4096, "RIFF"
 SHOWN = (
@@ -64,6 +67,9 @@ def template_of(name: str) -> Template:
         return made.from_string(inputs.bytes_of(name).decode("utf-8"))
     except UnicodeDecodeError as error:
         raise Refused(f"{name} is not in UTF-8") from error
+    except (RecursionError, SyntaxError) as error:
+        # (a SyntaxError is one of the Python code that jinja2 makes)
+        raise Refused(f"{name}{TOO_DEEP}") from error
     except jinja2.TemplateSyntaxError as error:
         raise Refused(f"{name}, line {error.lineno}: {error.message}") from error
 
@@ -80,6 +86,8 @@ def html_of(template: Template, name: str, letter: Letter, address: list[str], d
                 size += len(it)
                 if size > MOST_LETTER:
                     raise Refused(f"{name}: a letter by this template has over {MOST_LETTER:,} characters")
+    except RecursionError as error:
+        raise Refused(f"{name}{TOO_DEEP}") from error
     except (jinja2.TemplateError, ArithmeticError, AttributeError, LookupError, TypeError, ValueError) as error:
         raise Refused(f"{name}: {error}") from error
     return "".join(pieces)
@@ -133,9 +141,13 @@ def fetcher(folder: str, refused: list[str]) -> Callable[..., dict[str, object]]
     from weasyprint import default_url_fetcher  # pylint: disable=import-outside-toplevel
 
     def fetch(url: str, *given: object, **named: object) -> dict[str, object]:
-        parts = urllib.parse.urlsplit(url)
-        path = os.path.realpath(urllib.parse.unquote(parts.path))
-        name = urllib.parse.unquote(url).removeprefix(f"file://{folder}/")
+        name = texts.visible(urllib.parse.unquote(url).removeprefix(f"file://{folder}/"))
+        try:
+            parts = urllib.parse.urlsplit(url)
+            path = os.path.realpath(urllib.parse.unquote(parts.path))
+        except ValueError:
+            refused.append(f"the template names {name}, which is no name of a file")
+            raise
         if parts.scheme == "data":
             return default_url_fetcher(url, *given, **named)
         if parts.scheme == "file" and os.path.commonpath((path, folder)) == folder and os.path.isfile(path):
@@ -157,6 +169,24 @@ def see_links(page: Any) -> None:
             raise Refused(f"the template attaches {it.get('href')}: a letter shows pictures, fonts and style sheets alone")
 
 
+@contextlib.contextmanager
+def all_shown(refused: list[str]) -> Iterator[None]:
+    """Refuses a letter without something that it names: what was not read, or what WeasyPrint could not load, which it only logs."""
+
+    def note(record: logging.LogRecord) -> bool:
+        if (said := record.getMessage()).startswith("Failed to load"):
+            refused.append(f"the template names what cannot be shown: {said}")
+        return True
+
+    logging.getLogger("weasyprint").addFilter(note)
+    try:
+        yield
+    finally:
+        logging.getLogger("weasyprint").removeFilter(note)
+    if refused:
+        raise Refused(refused[0])
+
+
 def laid_out(pages: list[str], folder: str) -> tuple[Batch, list[list[int]]]:
     """A batch: the objects of its pages by their numbers, as bytes, and the numbers of each letter's pages. `pages` are letters as HTML."""
     from weasyprint import HTML  # pylint: disable=import-outside-toplevel
@@ -167,18 +197,18 @@ def laid_out(pages: list[str], folder: str) -> tuple[Batch, list[list[int]]]:
     kids: list[int] = []
     fetch = fetcher(folder, refused)
     for it in pages:
-        with inputs.within("laying out a letter"):
+        with all_shown(refused), inputs.within("laying out a letter"):
             page = HTML(string=it, base_url=folder + os.sep, url_fetcher=fetch)
             see_links(page)
             letters.append(page.render(font_config=config))
-        if refused:
-            raise Refused(refused[0])
 
     def finish(_: Any, pdf: Any) -> None:
         made.update({it.number: it.data for it in pdf.objects[1:] if it.free != "f"})
         kids.extend(int(it.split()[0]) for it in pdf.page_references)
 
-    letters[0].copy([page for it in letters for page in it.pages]).write_pdf(finisher=finish)
+    # (pictures within pictures are loaded here)
+    with all_shown(refused):
+        letters[0].copy([page for it in letters for page in it.pages]).write_pdf(finisher=finish)
     rest = iter(kids)
     return made, [[next(rest) for _ in it.pages] for it in letters]
 

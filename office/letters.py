@@ -31,10 +31,10 @@ GIF, WebP, SVG), fonts and style sheets (.css) of its own folder, and nothing
 else: no other file gets into a letter, nor anything from a network.
 
 The program opens FILE and closes it, so that the file alone is the register.
-While the letters are printed no program can open FILE. They are printed from a
-copy that nobody else can read, by no port that others could use; afterwards
-FILE must be what it was, byte for byte. What the PDF and the CSV say is worked
-out from the file, and each letter must be the program's to the letter.
+While it prints the texts no other program can open FILE. They are printed from
+a copy that nobody else can read, by no port that others could use; afterwards
+FILE must be what it was, byte for byte. The PDF and the CSV are made of the
+register as it was then, and each letter must be the program's to the letter.
 Otherwise nothing is written. If this command is killed, delete the folders
 FOLDER.part-.. and FILE.part-.. that remain.
 

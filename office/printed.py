@@ -46,11 +46,14 @@ def ends_with(parent: int) -> Callable[[], None]:
 
 
 def has_own_network() -> bool:
-    """Moves this process into a network of its own with 127.0.0.1 alone, where the system allows it."""
+    """Moves this process into a network of its own with 127.0.0.1 alone, where the system allows it. Who may make one
+    without a user namespace, as root, needs none: in it root has no rights to the files of other users."""
     user, group = os.geteuid(), os.getegid()
-    if ctypes.CDLL(None).unshare(CLONE_NEWUSER | CLONE_NEWNET) != 0:
-        return False
-    maps = {"setgroups": "deny", "uid_map": f"{user} {user} 1", "gid_map": f"{group} {group} 1"}
+    maps: dict[str, str] = {}
+    if ctypes.CDLL(None).unshare(CLONE_NEWNET) != 0:
+        if ctypes.CDLL(None).unshare(CLONE_NEWUSER | CLONE_NEWNET) != 0:
+            return False
+        maps = {"setgroups": "deny", "uid_map": f"{user} {user} 1", "gid_map": f"{group} {group} 1"}
     try:
         for name, text in maps.items():
             with open(f"/proc/self/{name}", "w", encoding="ascii") as file:
@@ -70,10 +73,12 @@ def serving(program: str, copy: str) -> Iterator[None]:
         with subprocess.Popen(words, stdin=subprocess.DEVNULL, stdout=subprocess.PIPE, stderr=errors, text=True, preexec_fn=start) as desk:
             assert desk.stdout
             try:
-                if desk.stdout.readline() != f"serving on 127.0.0.1:{PORT}\n":
+                if (first := desk.stdout.readline()) != f"serving on 127.0.0.1:{PORT}\n":
+                    # (it may have printed another line, and go on)
+                    desk.terminate()
                     desk.wait()
                     errors.seek(0)
-                    said = ", ".join(errors.read().split("\n")).strip(", ")
+                    said = ", ".join(errors.read().split("\n")).strip(", ") or f"it prints {first!r}"
                     raise Refused(f"the program does not serve: {said}")
                 yield
             finally:
@@ -101,14 +106,16 @@ def serve_alone(answers: multiprocessing.connection.Connection, program: str, co
     """What a process in a network of its own does: it sends each letter, or why there is none."""
     ends_with(parent)()
     try:
-        if not has_own_network():
+        if not has_own_network() or not os.access(copy, os.R_OK | os.W_OK):
             answers.send(NO_NETWORK)
             return
         with serving(program, copy):
             for it in children:
                 answers.send(served(it))
-    except Refused as error:
-        answers.send(error)
+    except (Refused, OSError) as error:
+        # (the one that reads may have ended)
+        with contextlib.suppress(OSError):
+            answers.send(error if isinstance(error, Refused) else Refused(f"the program does not serve: {error.strerror or error}"))
 
 
 def from_own_network(program: str, copy: str, children: list[int]) -> Iterator[bytes | str]:

@@ -31,6 +31,7 @@ import argparse
 import csv
 import datetime
 import io
+import os
 
 from . import answers, book, days, queries, sheet, texts
 from .run import Progress, Refused, put
@@ -149,7 +150,7 @@ def main(given):
     if given.name is None and not given.workbook:
         put("".join(f"{name:16} {it}\n" for name, it in purposes().items()))
         return 0
-    if given.workbook and sheet.is_there(given.workbook):
+    if given.workbook and os.path.lexists(given.workbook):
         raise Refused(f"{given.workbook} is there already: nothing was written; choose another name")
     with queries.opened(given.file) as conn:
         if given.workbook:

@@ -109,11 +109,15 @@ def split(text):
 def see_register(name: str, fd: int) -> None:
     """Refuses an open file that the program does not open. It opens a copy, so the file is only read."""
     program = files.program()
-    with tempfile.TemporaryDirectory(prefix="admissions-") as room:
-        copy = os.path.join(room, "copy.db")
-        files.copy_to(fd, copy)
-        if said := files.opened(program, copy):
-            raise Refused(f"{name} is no register, or it is damaged: {said}")
+    try:
+        with tempfile.TemporaryDirectory(prefix="admissions-") as room:
+            copy = os.path.join(room, "copy.db")
+            files.copy_to(fd, copy)
+            said = files.opened(program, copy)
+    except OSError as error:
+        raise Refused(f"{name} cannot be copied to {tempfile.tempdir or '/tmp'}, where the program tests it: {error.strerror}") from error
+    if said:
+        raise Refused(f"{name} is no register, or it is damaged: {said}")
 
 
 @contextlib.contextmanager

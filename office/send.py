@@ -55,6 +55,7 @@ import getpass
 import hashlib
 import os
 import sys
+import warnings
 
 import register_files as files
 
@@ -85,6 +86,16 @@ def arguments(reader):
     anew = reader.add_mutually_exclusive_group()
     anew.add_argument("--continue", dest="is_continued", action="store_true", help="go on after the answers of an interrupted run")
     anew.add_argument("--again", action="store_true", help="send every line, though the file was sent before, wholly or in part")
+
+
+def password():
+    """The password, typed where nobody sees it; where there is no terminal, the first line of the standard input."""
+    try:
+        with warnings.catch_warnings():
+            warnings.simplefilter("ignore", getpass.GetPassWarning)
+            return getpass.getpass()
+    except EOFError as error:
+        raise Refused("nothing was sent: no password was given") from error
 
 
 def stem_of(name):
@@ -320,7 +331,7 @@ def main(given):
     lines, journal, reg, was = lines_of(data), Journal(given.file, data, given), None, None
     sender: senders.Http | senders.Do | None = None
     if given.url:
-        sender = senders.Http(given.url, given.user, getpass.getpass)
+        sender = senders.Http(given.url, given.user, password)
     else:
         program, path = files.program(), files.path_of(name, f"{name}: there is no such folder")
         if said := files.merge_log(program, path):

@@ -3,6 +3,7 @@ import base64
 import http.client
 import ipaddress
 import os
+import re
 import signal
 import ssl
 import subprocess
@@ -95,12 +96,27 @@ def refusal(status: int, said: dict[str, object]) -> tuple[str, bool]:
     """What a site says where it passes a line on to no desk, and whether the line may be done all
     the same.
     """
+    reason, may_be_done = said.get("reason"), status >= 500
     if said.get("busy"):
-        return "too many requests wait at the site, and this one was not passed on", False
-    if said.get("unanswered"):
-        return "the site had no answer from the desk", True
-    reason = said.get("reason")
-    return f"the server answered with status {status}{f': {reason}' if isinstance(reason, str) else ''}", status >= 500
+        reason, may_be_done = "too many requests wait at the site, and this one was not passed on", False
+    elif said.get("unanswered"):
+        reason = "the site had no answer from the desk"
+    return f"the server answered with status {status}{f': {reason}' if isinstance(reason, str) else ''}", may_be_done
+
+
+def address_of(url: str) -> urllib.parse.SplitResult:
+    """The parts of an address that requests can be sent to."""
+    refused = Refused(f"{url} is no address as http://127.0.0.1:8080 or https://admissions.example", 2)
+    if not re.fullmatch("[!-~]+", url):
+        raise refused
+    try:
+        parts = urllib.parse.urlsplit(url)
+        is_address = parts.scheme in PORTS and parts.hostname and parts.port != 0 and "@" not in parts.netloc
+    except ValueError as error:
+        raise refused from error
+    if not is_address:
+        raise refused
+    return parts
 
 
 class Http:
@@ -113,13 +129,8 @@ class Http:
 
     def __init__(self, url: str, user: str | None = None, password: Callable[[], str] = str) -> None:
         """The password is asked for once it is sure that it can be sent."""
-        parts = urllib.parse.urlsplit(url)
-        if parts.scheme not in ("http", "https") or not parts.hostname or "@" in parts.netloc:
-            raise Refused(f"{url} is no address as http://127.0.0.1:8080 or https://admissions.example", 2)
-        try:
-            self.host, self.port = parts.hostname, parts.port
-        except ValueError as error:
-            raise Refused(f"{url} is no address as http://127.0.0.1:8080 or https://admissions.example", 2) from error
+        parts = address_of(url)
+        self.host, self.port = parts.hostname or "", parts.port or int(PORTS[parts.scheme][1:])
         if user and parts.scheme == "http" and not is_this_machine(self.host):
             raise Refused(f"{url} would carry the password of {user} over the network for all to read: the address of a site begins with https://", 2)
         self.kind = http.client.HTTPSConnection if parts.scheme == "https" else http.client.HTTPConnection
@@ -137,8 +148,9 @@ class Http:
             conn.connect()
         except ssl.SSLCertVerificationError as error:
             raise Ended(f"no connection: the certificate of {self.host} is not trusted: {error.verify_message}", False) from error
-        except OSError as error:
-            raise Ended(f"no connection: {error.strerror or error}", False) from error
+        except (OSError, UnicodeError) as error:
+            # (a host of a label that is too long for a name is a UnicodeError)
+            raise Ended(f"no connection: {getattr(error, 'strerror', None) or error}", False) from error
         try:
             conn.request(method, self.base + path, body, self.headers)
             response = conn.getresponse()
@@ -158,21 +170,22 @@ class Http:
             return answer
         raise Ended(*refusal(status, said))
 
-    def letter(self, child: int) -> list[str]:
-        """The lines of a child's letter, or none."""
+    def name_of(self, child: int) -> str | None:
+        """The name of a child by its letter, or None where there is no such child."""
+        failed = f"nothing was sent: the name of child {child} cannot be read"
         try:
             status, body = self.ask("GET", f"/child/{child}/letter")
         except Ended as error:
-            raise Refused(f"nothing was sent: {error}") from error
-        if status in (401, 403, 429):
+            raise Refused(f"{failed}: {error}") from error
+        if status == 404:
+            return None
+        if status != 200:
             said = commands.read(body)
-            raise Refused(f"nothing was sent: {refusal(status, said if isinstance(said, dict) else {})[0]}")
-        return body.decode("utf-8", "replace").split("\n") if status == 200 else []
-
-    def name_of(self, child: int) -> str | None:
-        """The name of a child, by its letter."""
-        lines = self.letter(child)
-        return lines[1].removeprefix(f"Child {child} ") if len(lines) > 1 else None
+            raise Refused(f"{failed}: {refusal(status, said if isinstance(said, dict) else {})[0]}")
+        found = re.match(rf"[^\n]*\nChild {child} ([^\n]*)\n", body.decode("utf-8", "replace"))
+        if not found:
+            raise Refused(f"{failed}: the server answered with status 200, and no letter of this child")
+        return found[1]
 
     def close(self) -> str:
         """Nothing is open between two lines."""

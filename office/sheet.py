@@ -147,7 +147,7 @@ def within_limits(
         if any(len(it) > inputs.MOST_TEXT for it in cells[:used]):
             most = f"a cell has at most {inputs.MOST_TEXT:,} characters"
             raise Refused(f"{name}, row {number:,}: {most} (is a quote not closed?)")
-        yield number, cells[: max(used, inputs.MOST_COLUMNS)]
+        yield number, cells[: inputs.MOST_COLUMNS]
 
 
 def text_of(value: object) -> str:
@@ -191,14 +191,14 @@ def workbook(name: str, data: bytes, wanted: str | None, advice: str) -> Sheet:
 
 def see_parts(name: str, data: bytes) -> None:
     """Refuses a workbook that is too large once it is unpacked. No part can be longer than the
-    workbook says: the reading of it ends there. Pictures are not read."""
+    workbook says: the reading of it ends there. A part of any name may be one that is read."""
     if data.count(PART) > inputs.MOST_PARTS:
         raise Refused(f"{name} is no workbook: it has over {inputs.MOST_PARTS:,} parts")
     with zipfile.ZipFile(io.BytesIO(data)) as parts:
-        size = sum(it.file_size for it in parts.infolist() if it.filename.endswith((".xml", ".rels")))
+        size = sum(it.file_size for it in parts.infolist())
     if size > inputs.MOST_UNPACKED:
         most = f"a workbook has at most {inputs.MOST_UNPACKED // inputs.MB} MB here"
-        raise Refused(f"{name} is too large once it is unpacked, {size // inputs.MB:,} MB: {most}")
+        raise Refused(f"{name} is too large once it is unpacked, {size // inputs.MB:,} MB: {most}; delete the empty rows below the data")
 
 
 def load(openpyxl: Any, data: bytes) -> Any:
@@ -256,7 +256,7 @@ def problems_of(name: str, page: Any, widths: dict[int, int]) -> Iterator[Proble
 
 def problems_of_row(number: int, row: Any) -> Iterator[Problem]:
     """A row that a spreadsheet does not show; and its formulas that no spreadsheet has calculated, so
-    that the file does not have their values."""
+    that the file does not have their values. The value of a formula that gives a text may be empty."""
     from openpyxl.utils.cell import coordinate_to_tuple  # pylint: disable=import-outside-toplevel
 
     if row.get("hidden") in ("1", "true"):
@@ -264,7 +264,7 @@ def problems_of_row(number: int, row: Any) -> Iterator[Problem]:
     place = -1
     for cell in row.iterfind(f"{MAIN}c"):
         place = coordinate_to_tuple(cell.get("r"))[1] - 1 if cell.get("r") else place + 1
-        if cell.find(f"{MAIN}f") is not None and not cell.findtext(f"{MAIN}v"):
+        if cell.find(f"{MAIN}f") is not None and cell.get("t") != "str" and not cell.findtext(f"{MAIN}v"):
             said = f"{cell.get('r') or 'it'} is a formula that was never calculated"
             yield number, place, f"a value ({said}: open the file in a spreadsheet and save it)", True
 
@@ -276,11 +276,6 @@ def problems_of_merge(ref: str, widths: dict[int, int], width: int) -> Iterator[
     first, row, last, _ = range_boundaries(ref)
     for place in range(first - 1, min(last, width)) if row in widths else ():
         yield row, place, f"a value in each cell ({ref} are merged: unmerge them)", True
-
-
-def is_there(name):
-    """Whether a file has this name."""
-    return os.path.lexists(name)
 
 
 def write_new(name, data):

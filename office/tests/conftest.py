@@ -25,6 +25,13 @@ def pytest_sessionstart(session):
         pytest.exit("there is no program: build it, or name it by ADMISSIONS", 2)
 
 
+def pytest_terminal_summary(terminalreporter):
+    """Prints what a test that passed has recorded: what it took, where this machine may not have another."""
+    for it in terminalreporter.getreports("passed"):
+        for name, value in it.user_properties:
+            terminalreporter.write_line(f"{it.nodeid.rpartition('::')[2]}: {name}: {value}")
+
+
 @pytest.fixture(scope="session", name="tools")
 def tools_fixture(tmp_path_factory):
     """A folder with the program and the commands under their names."""

@@ -16,16 +16,17 @@ def row_of(number: int, cells: list[str]) -> str:
     return f'<row r="{number}">{"".join(texts)}</row>'
 
 
+SHARED = '<Override PartName="/xl/s.bin" ContentType="application/vnd.openxmlformats-officedocument.spreadsheetml.sharedStrings+xml"/></Types>'
 GOOD = row_of(1, HEADER.strip().split(",")) + row_of(2, ROW.strip().split(","))
 
 
-def workbook(path: pathlib.Path, rows: str, after: str = "", more: dict[str, str] | None = None) -> None:
-    """A workbook of one sheet with these rows."""
+def workbook(path: pathlib.Path, rows: str, after: str = "", more: dict[str, str] | None = None, types: str = "</Types>") -> None:
+    """A workbook of one sheet with these rows. `types` ends the list of the kinds of its parts."""
     parts = {
         "[Content_Types].xml": f'<Types xmlns="{PACKAGE}/content-types"><Default Extension="rels" ContentType="application/vnd.openxmlformats-package.relationships+xml"/>'
         '<Default Extension="xml" ContentType="application/xml"/>'
         '<Override PartName="/xl/workbook.xml" ContentType="application/vnd.openxmlformats-officedocument.spreadsheetml.sheet.main+xml"/>'
-        '<Override PartName="/xl/worksheets/sheet1.xml" ContentType="application/vnd.openxmlformats-officedocument.spreadsheetml.worksheet+xml"/></Types>',
+        '<Override PartName="/xl/worksheets/sheet1.xml" ContentType="application/vnd.openxmlformats-officedocument.spreadsheetml.worksheet+xml"/>' + types,
         "_rels/.rels": f'<Relationships xmlns="{PACKAGE}/relationships"><Relationship Id="a" Type="{OFFICE}/officeDocument" Target="xl/workbook.xml"/></Relationships>',
         "xl/workbook.xml": f'<workbook {MAIN} xmlns:r="{OFFICE}"><sheets><sheet name="S" sheetId="1" r:id="a"/></sheets></workbook>',
         "xl/_rels/workbook.xml.rels": f'<Relationships xmlns="{PACKAGE}/relationships">'
@@ -59,7 +60,14 @@ SHEETS: dict[str, tuple[Callable[[pathlib.Path], object], str]] = {
     "corner.xlsx": (lambda it: workbook(it, GOOD + empty_cell("XFD1048576", 1048576)), ""),
     "merged.xlsx": (lambda it: workbook(it, GOOD, '<mergeCells count="1"><mergeCell ref="A3:XFD1048576"/></mergeCells>'), ""),
     "formats.xlsx": (lambda it: workbook(it, GOOD + many_rows(30_000, ' s="0"/>')), ""),
-    "blanks.xlsx": (lambda it: workbook(it, GOOD, " " * 500_000_000), "blanks.xlsx is too large once it is unpacked, 500 MB"),
+    "blanks.xlsx": (
+        lambda it: workbook(it, GOOD, " " * 500_000_000),
+        "blanks.xlsx is too large once it is unpacked, 500 MB: a workbook has at most 16 MB here; delete the empty rows below the data",
+    ),
+    "shared.xlsx": (
+        lambda it: workbook(it, GOOD, more={"xl/s.bin": f"<sst {MAIN}>" + " " * 100_000_000 + "</sst>"}, types=SHARED),
+        "shared.xlsx is too large once it is unpacked, 100 MB",
+    ),
     "million.xlsx": (lambda it: workbook(it, GOOD + many_rows(1_000_000, "><v>1</v></c>")), "million.xlsx is too large once it is unpacked"),
     "rows.xlsx": (lambda it: workbook(it, GOOD + many_rows(25_000, "><v>1</v></c>")), "rows.xlsx has too many rows: a sheet has at most 25,000"),
     "merges.xlsx": (

@@ -7,6 +7,7 @@ import re
 import subprocess
 import zipfile
 
+import hostile
 import openpyxl
 import pytest
 from conftest import HEADER, PROGRAM, child, do, make, school
@@ -174,6 +175,25 @@ def test_fixed_files_are_imported(office, town, tmp_path):
     got = list(csv.DictReader(io.StringIO(one.decode())))
     for column, value in want.items():
         assert value in {it[column] for it in got}, column
+
+
+@pytest.mark.parametrize("cell, is_value", [('t="str"><f>IF(A2=1,"","3")</f><v></v>', True), ("><f>A2</f><v></v>", False), ("><f>A2</f>", False)])
+def test_a_formula_whose_value_is_an_empty_text(office, tmp_path, cell, is_value):
+    """As Excel and LibreOffice write it; without its type the formula was never calculated."""
+    cells = [hostile.row_of(2, ["1", "Ann", "1", "1", "no"]).removesuffix("</row>"), f'<c r="F2" {cell}</c>',
+        '<c r="H2" t="inlineStr"><is><t>2024-10-20</t></is></c><c r="I2" t="inlineStr"><is><t>OAK</t></is></c></row>']
+    hostile.workbook(tmp_path / "w.xlsx", hostile.GOOD.split('<row r="2">')[0] + "".join(cells))
+    ran = office("check", "w.xlsx", "--fix", "out.csv")
+    assert ("F2 is a formula that was never calculated" in ran.stdout) == (ran.returncode == 1) == (not is_value), ran
+    assert not is_value or (tmp_path / "out.csv").read_text().splitlines()[1] == "1,Ann,1,1,no,,,2024-10-20,OAK"
+
+
+def test_what_is_equal_in_one_row(office, tmp_path):
+    """Two equal errors of a row are two lines, and two equal changes one; neither is said of two rows."""
+    (tmp_path / "a.csv").write_text(f"{HEADER},name,name,phone,phone\n1,Ann,0,0,no,,,2024-10-20,OAK,,,,,\n")
+    ran = office("check", "a.csv")
+    assert ran.stdout.count('ERROR row 1, column name, "name": expected each column once\n') == 2, ran
+    assert ran.stdout.count('\nrow 1, column phone, "phone": ') == 1 and "2 rows" not in ran.stdout, ran
 
 
 def test_windows_letters_are_kept_and_shown(office, tmp_path):

@@ -5,9 +5,12 @@ import resource
 import shutil
 import socket
 import subprocess
+import time
 
 import hostile
 import pytest
+
+from office import inputs
 
 # in CPU time, on a machine at work; kilobytes of address space
 SECONDS, KILOBYTES = 8, 300_000
@@ -27,6 +30,28 @@ def test_a_sheet_that_is_too_large(tools, tmp_path, name):
     assert said in printed and "Traceback" not in printed and "error in this command" not in printed, printed[:2000]
     assert status == 1 if said else "1 row, 0 errors" in printed, (status, printed[:2000])
     assert after.ru_utime + after.ru_stime - before.ru_utime - before.ru_stime < SECONDS
+
+
+def test_a_limit_of_time_that_a_library_catches():
+    """It is raised after each further second, and at the end where what was limited has caught it."""
+    start, caught = time.process_time(), 0
+    with pytest.raises(inputs.Refused, match="a letter takes more than 1 seconds"), inputs.within("a letter", 1):
+        while caught < 2 and time.process_time() - start < SECONDS:
+            with contextlib.suppress(inputs.Refused):
+                caught += 1
+                while time.process_time() - start < SECONDS:
+                    pass
+    assert 1.5 < time.process_time() - start < SECONDS
+
+
+def test_a_register_for_whose_copy_there_is_no_room(tools, reg):
+    """The command names it, and the folder of the copy in which the program opens it, where it leaves nothing."""
+    room = reg.parent / "room"
+    room.mkdir()
+    words = ["bash", "-c", f"ulimit -f 16; exec {tools}/admissions-query reg.db season"]
+    ran = subprocess.run(words, cwd=reg.parent, env={**os.environ, "TMPDIR": str(room)}, capture_output=True, text=True, check=False)
+    said = f"admissions-query: reg.db cannot be copied to {room}, where the program tests it: File too large\n"
+    assert (ran.returncode, ran.stdout, ran.stderr) == (1, "", said) and not list(room.iterdir()), ran
 
 
 def test_limits_of_other_files(office, tmp_path):

@@ -1,16 +1,20 @@
 """admissions-letters: the proved texts, the file for a mail merge and the PDF, beside the model of the example season and by hand."""
+import contextlib
 import csv
 import datetime
 import os
+import pathlib
 import re
 import secrets
 import shutil
 import signal
 import subprocess
+import tempfile
+import time
 
 import model_season
 import pytest
-from conftest import PROGRAM, apply, child, do, make, school
+from conftest import PROGRAM, ROOT, apply, child, do, make, school
 from test_send import count, wait_for
 
 NAMES = {1: 'Ann "Nan" O\'Abel', 2: "<script>alert(1)</script>", 3: "Siân Tŷ Gwyn Ŵyn", 4: "محمد علي", 5: "=SUM(A1)", 6: "שרה כהן", 7: "Bo & Bell, jr."}
@@ -323,10 +327,14 @@ def test_ended_while_it_writes(tools, season, tmp_path, number, is_group):
     children = subprocess.run(["pgrep", "-P", str(command.pid)], capture_output=True, text=True, check=False).stdout.split()
     assert command.poll() is None and running(children)
     os.killpg(command.pid, number) if is_group else command.send_signal(number)
-    command.wait(timeout=300)
-    assert not wait_for(lambda: running(children), lambda it: not it)
+    most, deadline = 0, time.monotonic() + 300
+    while command.poll() is None and time.monotonic() < deadline:
+        # (the folder is removed meanwhile)
+        with contextlib.suppress(FileNotFoundError):
+            most = max(most, len(list(tmp_path.glob("out.part-*/letter-*.pdf"))))
+    assert command.poll() is not None and not wait_for(lambda: running(children), lambda it: not it)
     # (they were ended, and have not run to their end, at which there is a file for each child)
-    assert len(list(tmp_path.glob("out.part-*/letter-*.pdf"))) < count(tmp_path / "reg.db")
+    assert max(most, len(list(tmp_path.glob("out.part-*/letter-*.pdf")))) < count(tmp_path / "reg.db")
     assert not (tmp_path / "out").exists() and (list(tmp_path.glob("out.part-*")) == []) == (number != signal.SIGKILL)
     assert subprocess.run([PROGRAM, "do", tmp_path / "reg.db"], stdin=subprocess.DEVNULL, check=False).returncode == 0
 
@@ -355,50 +363,130 @@ print("looks", looks, flush=True)
 """
 
 
-def without_networks(words):
-    """A command where the system allows no network of its own, as in a container."""
-    return ["unshare", "--user", "--map-root-user", "bash", "-c", 'echo 0 > /proc/sys/user/max_user_namespaces && exec "$@"', "bash", *words]
+# a network of its own, and what a system without any refuses
+NETWORKS = (["unshare", "--net"], ["unshare", "--user", "--map-root-user", "--net"])
+NO_NETWORKS = ["unshare", "--user", "--map-root-user", "bash", "-c",
+    'for it in user net; do echo 0 > /proc/sys/user/max_"$it"_namespaces || exit; done; exec "$@"', "bash"]
+# what takes from root the right to make a network, so that it must be in a user namespace of its own, as of any other user
+NO_RIGHT = ["setpriv", "--bounding-set", "-sys_admin"] if os.geteuid() == 0 else []
+SERVED, RUN_FOR_EACH = "one program in a network of its own", "a run of the program for each letter"
+
+
+def can(words):
+    """Whether these words can come before a command here."""
+    return subprocess.run([*words, "true"], capture_output=True, check=False).returncode == 0
+
+
+def way_in(words, has_network=True):
+    """How the letters must be printed by a command with these words before it."""
+    return SERVED if has_network and any(can([*words, *it]) for it in NETWORKS) else RUN_FOR_EACH
+
+
+def before(has_network):
+    """Words before a command, so that it can have no network of its own, as in a container. Root loses its right where no user namespace can be made."""
+    return [] if has_network else NO_NETWORKS if can(NO_NETWORKS) else NO_RIGHT
+
+
+def noting(folder, line=""):
+    """A program in the place of the real one that notes its subcommands in a file beside it. `line` is what else it does."""
+    folder.mkdir(exist_ok=True)
+    (folder / "subcommands").touch(0o666)
+    (folder / "admissions").write_text(f'#!/bin/sh\nprintf "%s\\n" "$1" >> "{folder}/subcommands"\n{line}\nexec "{PROGRAM}" "$@"\n')
+    (folder / "admissions").chmod(0o755)
+    return {**os.environ, "ADMISSIONS": str(folder / "admissions")}
+
+
+def way_of(folder):
+    """How the letters were printed."""
+    return {frozenset(["serve"]): SERVED, frozenset(["letter"]): RUN_FOR_EACH}[frozenset((folder / "subcommands").read_text().split()) & {"serve", "letter"}]
 
 
 @pytest.mark.parametrize("has_network", [True, False])
-def test_no_port_is_open(tools, tmp_path, has_network):
+def test_no_port_is_open(tools, tmp_path, has_network, record_property):
     """Another user of the machine, nobody where the test is root's, watches for new ports while letters are printed, of 600 children or, by a run for each, of 60; it
     finds none by which the program answers with a letter of this register. The letters are those that the program prints, and nothing remains beside the register."""
-    count, name = 600 if has_network else 60, secrets.token_hex()[:40]
+    way, name = way_in([], has_network), secrets.token_hex()[:40]
+    count = 600 if way == SERVED else 60
     make(tmp_path / "reg.db", [school("OAK"), *(child(it, name=name) for it in range(1, count + 1))])
-    if not has_network and subprocess.run(without_networks(["true"]), check=False).returncode:
-        pytest.skip("no user namespace can be made here, so the other test is this one")
+    environment = noting(tmp_path / "program")
     nobody = ["setpriv", "--reuid", "65534", "--regid", "65534", "--clear-groups"] if os.geteuid() == 0 else []
     with subprocess.Popen([*nobody, "/usr/bin/python3", "-c", ATTACKER], stdin=subprocess.PIPE, stdout=subprocess.PIPE, text=True, cwd="/") as attacker:
         assert attacker.stdout and attacker.stdout.readline() == "ready\n"
-        words = [str(tools / "admissions-letters"), "reg.db", "out"]
-        ran = subprocess.run(words if has_network else without_networks(words), cwd=tmp_path, capture_output=True, text=True, check=False)
+        words = [*before(has_network), str(tools / "admissions-letters"), "reg.db", "out"]
+        ran = subprocess.run(words, cwd=tmp_path, env=environment, capture_output=True, text=True, check=False)
         said, _ = attacker.communicate("\n")
     assert ran.returncode == 0 and ran.stdout == f"{count} letters are in out\n", ran
     assert name not in said and int(said.splitlines()[-1].removeprefix("looks ")) > 20, said
     for it in (1, 37, count):
         text = subprocess.run([PROGRAM, "letter", tmp_path / "reg.db", str(it)], capture_output=True, check=True).stdout
         assert (tmp_path / "out" / f"letter-{it:07}.txt").read_bytes() == text and text.startswith(b"Admission 2025 secondary\nChild ")
-    assert len(list((tmp_path / "out").iterdir())) == count and sorted(it.name for it in tmp_path.iterdir()) == ["out", "reg.db", "reg.db-wal"]
+    assert len(list((tmp_path / "out").iterdir())) == count and sorted(it.name for it in tmp_path.iterdir()) == ["out", "program", "reg.db", "reg.db-wal"]
+    assert way_of(tmp_path / "program") == way
+    record_property("letters", way)
+
+
+@pytest.mark.parametrize("who", ["root", "root without its right", "owner"])
+def test_a_register_of_another_user(who, record_property):
+    """Root prints the letters of a register in a folder that is another user's alone, also where it may make no network without a user namespace; and so does
+    the owner. This needs root; any other user tests a register of its own three times. All is in a folder that the owner reaches."""
+    owner = 65534 if os.geteuid() == 0 else os.geteuid()
+    with tempfile.TemporaryDirectory() as name:
+        room = pathlib.Path(name)
+        room.chmod(0o755)
+        shutil.copytree(ROOT / "office", room / "office", ignore=shutil.ignore_patterns("tests"))
+        shutil.copytree(ROOT / "queries", room / "queries")
+        (room / "tools").mkdir()
+        shutil.copy(ROOT / "tools" / "register_files.py", room / "tools")
+        shutil.copy(PROGRAM, room / "real")
+        for command in ("letters", "query"):
+            (room / f"admissions-{command}").symlink_to("office/command")
+        (room / "own").mkdir(0o700)
+        make(room / "own" / "reg.db", [school("OAK"), child(1, name="Ann Abel")])
+        environment = noting(room / "program", f'exec "{room}/real" "$@"')
+        subprocess.run(["chmod", "-R", "a+rX", "office", "queries", "tools", "real", "program"], cwd=room, check=True)
+        os.chmod(room / "program" / "subcommands", 0o666)
+        for it in (room / "own", *(room / "own").iterdir()):
+            os.chown(it, owner, owner if os.geteuid() == 0 else -1)
+        user = ["setpriv", "--reuid", str(owner), "--regid", str(owner), "--clear-groups"] if os.geteuid() == 0 else []
+        before_it: dict[str, list[str]] = {"root": [], "root without its right": NO_RIGHT, "owner": user}
+        words = before_it[who]
+        ran = subprocess.run([*words, str(room / "admissions-letters"), "own/reg.db", "own/out"],
+            cwd=room, env=environment, capture_output=True, text=True, check=False)
+        assert (ran.returncode, ran.stdout) == (0, "1 letter is in own/out\n"), ran
+        assert b"Child 1 Ann Abel\n" in (room / "own" / "out" / "letter-0000001.txt").read_bytes()
+        way = RUN_FOR_EACH if who == "root without its right" and words else way_in(words)
+        assert way_of(room / "program") == way
+        record_property("letters", way)
 
 
 @pytest.mark.parametrize("words", [["out"], ["--csv", "out"]])
 @pytest.mark.parametrize("target", ["reg.db", "$2"])
 @pytest.mark.parametrize("has_network", [True, False])
-def test_a_register_that_changes_meanwhile(tools, tmp_path, has_network, target, words):
+def test_a_register_that_changes_meanwhile(tools, tmp_path, has_network, target, words, record_property):
     """A register, or the copy of it, to which somebody writes past its lock while letters are printed: nothing is written, for texts alone too."""
     town(tmp_path)
-    if not has_network and subprocess.run(without_networks(["true"]), check=False).returncode:
-        pytest.skip("no user namespace can be made here")
-    fake = tmp_path / "fake"
     # (this byte of a database says which SQLite wrote it last, and nothing else)
-    fake.write_text(f'#!/bin/sh\ncase $1 in letter | serve) printf X | dd of="{target}" bs=1 seek=99 conv=notrunc status=none;; esac\nexec "{PROGRAM}" "$@"\n')
-    fake.chmod(0o700)
-    command = [str(tools / "admissions-letters"), "reg.db", *words]
-    command, environment = command if has_network else without_networks(command), {**os.environ, "ADMISSIONS": str(fake)}
+    environment = noting(tmp_path / "program", f'case $1 in letter | serve) printf X | dd of="{target}" bs=1 seek=99 conv=notrunc status=none;; esac')
+    command = [*before(has_network), str(tools / "admissions-letters"), "reg.db", *words]
     ran = subprocess.run(command, cwd=tmp_path, capture_output=True, text=True, env=environment, check=False)
     assert ran.returncode == 1 and "was changed while its letters were printed: nothing was written" in ran.stderr, ran
-    assert sorted(it.name for it in tmp_path.iterdir()) == ["before.db", "fake", "reg.db", "reg.db-wal"]
+    assert sorted(it.name for it in tmp_path.iterdir()) == ["before.db", "program", "reg.db", "reg.db-wal"]
+    assert way_of(tmp_path / "program") == way_in([], has_network)
+    record_property("letters", way_of(tmp_path / "program"))
+
+
+@pytest.mark.parametrize("line, said", [
+    ('[ "$1" != serve ] || { echo serving elsewhere; exec sleep 600; }', "the program does not serve: it prints 'serving elsewhere\\n'"),
+    ('[ "$1" != do ] || chmod 0 "$0"', "the program does not serve: Permission denied"),
+])
+def test_a_program_that_does_not_serve(tools, tmp_path, line, said):
+    """One that prints another line and goes on is ended; one that cannot be started any more is named, in one line."""
+    town(tmp_path)
+    environment = noting(tmp_path / "program", line)
+    command = [str(tools / "admissions-letters"), "reg.db", "out", "--child", "1"]
+    ran = subprocess.run(command, cwd=tmp_path, capture_output=True, text=True, env=environment, check=False, timeout=300)
+    assert (ran.returncode, ran.stderr.splitlines()[-1]) == (1, f"admissions-letters: {said}") and "Traceback" not in ran.stderr, ran
+    assert not (tmp_path / "out").exists()
 
 
 def test_a_template_shows_pictures_fonts_and_styles_alone(office, tmp_path):
@@ -410,13 +498,24 @@ def test_a_template_shows_pictures_fonts_and_styles_alone(office, tmp_path):
     (tmp_path / "list.css").write_text("<p>child,name</p>")
     (tmp_path / "style.css").write_text("p { color: red }")
     (tmp_path / "crest.svg").write_text('<?xml version="1.0"?>\n<!-- a crest -->\n<svg xmlns="http://www.w3.org/2000/svg" width="9" height="9"><rect width="9" height="9"/></svg>')
+    for name, link in (("outer", "none.png"), ("outside", "/etc/hostname")):
+        (tmp_path / f"{name}.svg").write_text(f'<svg xmlns="http://www.w3.org/2000/svg" width="9" height="9"><image href="{link}" width="9" height="9"/></svg>')
+    (tmp_path / "cut.png").write_bytes(b"\x89PNG\r\n\x1a\n" + bytes(99))
+    (tmp_path / "cut.svg").write_text('<svg xmlns="http://www.w3.org/2000/svg"><rect')
     good = '<link rel="stylesheet" href="style.css"><p>{{ letter.name }}<img src="crest.svg"><a href="https://example.org">us</a>'
     attached, named = "a letter shows pictures, fonts and style sheets alone", "which is no picture, font or style sheet"
+    unshown = "the template names what cannot be shown: Failed to load image"
     bad = {
         '<a rel="attachment" href="copy.db">x</a>': attached, '<link rel="Attachment" href="crest.svg"><p>x': attached, '<a rel="nofollow attachment" href="style.css">x</a>': attached,
         '<object data="copy.db"></object>': named, '<embed src="copy.db">': named, '<img src="logo.png">': named, '<link rel="stylesheet" href="reg.css"><p>x': named,
         '<style>@import "list.css";</style><p>x': named, "<style>@font-face { font-family: x; src: url(reg.ttf) } p { font-family: x }</style><p>x": named,
         "<style>p { background: url(copy.db) }</style><p>x": named, '<style>@import "../style.css";</style><p>x': "which is no file in its folder",
+        '<img src="outer.svg">': "the picture none.png, which is no file in its folder",
+        '<img src="outside.svg">': "the picture file:///etc/hostname, which is no file in its folder",
+        '<img src="cut.png">': unshown, '<img src="cut.svg">': unshown,
+        '<img src="gone%00.png">': "the template names gone\\u0000.png, which is no name of a file",
+        "{% macro a() %}{{ a() }}{% endmacro %}{{ a() }}": "nested too deeply, or a macro calls itself",
+        "{{ " + "(" * 999 + "1" + ")" * 999 + " }}": "nested too deeply", "{{ " + "not " * 300 + "letter }}": "nested too deeply",
         "{% for a in range(99999) %}{% for b in range(99999) %}{% endfor %}{% endfor %}": "a letter by this template takes more than 5 seconds",
         "{% for a in range(99999) %}{% for b in range(99999) %}many{% endfor %}{% endfor %}": "a letter by this template has over 1,000,000 characters",
     }

@@ -349,16 +349,23 @@ class Site(http.server.BaseHTTPRequestHandler):
 
     answers: ClassVar[dict[str, tuple[int, str]]] = {
         "jane": (200, '{"done":true}'), "busy": (503, '{"busy":true}'), "gone": (502, '{"unanswered":true}'), "full": (429, '{"reason":"wait","status":429}'),
-        "none": (401, '{"reason":"sign in","status":401}'), "page": (500, "<html>"),
+        "none": (401, '{"reason":"sign in","status":401}'), "page": (500, "<html>"), "lost": (404, "<html>"),
     }
     seen: ClassVar[list[tuple[str, str, str, str]]] = []
 
     def do_POST(self):
-        """Answers by the name."""
-        name, _, password = base64.b64decode(self.headers["Authorization"].removeprefix("Basic ")).decode().partition(":")
+        """Notes what is sent."""
         body = self.rfile.read(int(self.headers["Content-Length"])).decode()
-        self.seen.append((self.headers["Origin"], self.headers["Content-Type"], password, body))
-        status, said = self.answers[name]
+        self.seen.append((self.headers["Origin"], self.headers["Content-Type"], self.user()[1], body))
+        self.do_GET()
+
+    def user(self):
+        """The name and the password."""
+        return base64.b64decode(self.headers["Authorization"].removeprefix("Basic ")).decode().split(":")
+
+    def do_GET(self):
+        """Answers by the name."""
+        status, said = self.answers[self.user()[0]]
         self.send_response(status)
         self.end_headers()
         self.wfile.write(said.encode())
@@ -380,17 +387,39 @@ def site_fixture():
     server.server_close()
 
 
-@pytest.mark.parametrize("user, said, may_be_done", [
-    ("busy", "too many requests wait at the site, and this one was not passed on", False), ("gone", "the site had no answer from the desk", True),
-    ("full", "the server answered with status 429: wait", False), ("none", "the server answered with status 401: sign in", False),
-    ("page", "the server answered with status 500", True),
-])
+REFUSALS = [
+    ("busy", "the server answered with status 503: too many requests wait at the site, and this one was not passed on", False),
+    ("gone", "the server answered with status 502: the site had no answer from the desk", True), ("full", "the server answered with status 429: wait", False),
+    ("none", "the server answered with status 401: sign in", False), ("page", "the server answered with status 500", True),
+]
+
+
+@pytest.mark.parametrize("user, said, may_be_done", REFUSALS)
 def test_what_a_site_refuses(office, site, tmp_path, user, said, may_be_done):
     """It stops at the first line, with the reason that the site gives."""
     (tmp_path / "a.jsonl").write_text(text([child(3), child(4)]))
     ran = office("send", "a.jsonl", *TODAY, "--url", f"http://127.0.0.1:{site}", "--user", user, stdin="secret\n")
     assert ran.returncode == 1 and ran.stderr.endswith(f"admissions-send: stopped: {said}\n") and len(Site.seen) == 1, ran
     assert ("line 1: no answer; it may be done" in ran.stdout) == may_be_done and ("lines 1, 2: not tried" in ran.stdout) != may_be_done
+
+
+UNNAMED = [*(it[:2] for it in REFUSALS), ("jane", "the server answered with status 200, and no letter of this child"), ("lost", "")]
+
+
+@pytest.mark.parametrize("name, lines", [("a.csv", "decline,23,ELM,Somebody Else\n"), ("a.jsonl", text([{"cmd": "name_plan", "child": 23, "school": "ELM"}]))])
+@pytest.mark.parametrize("user, said", UNNAMED)
+def test_a_name_that_cannot_be_read(office, site, tmp_path, user, said, name, lines):
+    """Nothing is sent of a file with a child whose name cannot be compared or shown. A child that the register does not have (404) stops nothing."""
+    (tmp_path / name).write_text(lines)
+    ran = office("send", name, *TODAY, "--url", f"http://127.0.0.1:{site}", "--user", user, stdin="secret\n")
+    assert ran.returncode == 1 and len(Site.seen) == (not said) == len(list(tmp_path.glob("a.answers*"))), ran
+    assert not said or ran.stderr.endswith(f"admissions-send: nothing was sent: the name of child 23 cannot be read: {said}\n"), ran
+
+
+def test_no_password(office, tmp_path):
+    (tmp_path / "a.jsonl").write_text(text([child(3)]))
+    ran = office("send", "a.jsonl", *TODAY, "--url", "http://127.0.0.1:1", "--user", "jane", stdin="")
+    assert ran.returncode == 1 and ran.stderr.endswith("admissions-send: nothing was sent: no password was given\n") and "GetPassWarning" not in ran.stderr, ran
 
 
 def test_over_a_site(office, site, tmp_path):
@@ -585,9 +614,11 @@ def test_what_cannot_be_read(office, reg, tmp_path):
     assert office("send", "none.jsonl").stderr == "admissions-send: none.jsonl cannot be read: No such file or directory\n"
     (tmp_path / "a.jsonl").write_text(text([child(3)]))
     for given in (["--register", "none.db"], ["--register", "no/reg.db"], ["--url", "ftp://x"], ["--url", "http://127.0.0.1:1"], ["--names", "none.csv"],
-        ["--user", "x"], ["--continue"]):
+        ["--user", "x"], ["--continue"], ["--url", "http://[::1"], ["--url", "http://127.0.0.1:x"], ["--url", "http://t\u0177.example"],
+        ["--url", f"https://{'a' * 70}.example"]):
         ran = office("send", "a.jsonl", *given)
         assert ran.returncode in (1, 2) and ran.stderr.startswith("admissions-send: ") and ran.stderr.count("\n") == 1 and "error in this command" not in ran.stderr, ran
+        assert not list(tmp_path.glob("*.part-*")), ran
         for it in tmp_path.glob("a.*s*"):
             if it.name != "a.jsonl":
                 it.unlink()

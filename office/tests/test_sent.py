@@ -126,12 +126,17 @@ def test_the_files_are_read_in_their_order(logs):
     assert sent(logs) == (0, b"".join((CHILD % (it, "Ann")).encode() + b"\n" for it in (1, 2, 3, 4, 5)), "")
 
 
-@pytest.mark.parametrize("damage", [lambda it: it[:-20], lambda it: it[:40], lambda it: b"no gzip", lambda it: it[:60] + bytes(40) + it[100:]])
-def test_a_damaged_file_costs_what_cannot_be_read_of_it(logs, damage):
-    data = b"".join(entry(it % 60, CHILD % (it, f"Ann {it * 7919 % 1000}")) + b"\n" for it in range(1, 40))
+@pytest.mark.parametrize("damage, least", [
+    (lambda it: it[:-20], 30), (lambda it: it[:40], 0), (lambda it: b"no gzip", 0), (lambda it: it[:60] + bytes(40) + it[100:], 0),
+])
+def test_a_damaged_file_costs_what_cannot_be_read_of_it(logs, damage, least):
+    """`least` is how many of its entries are printed at least."""
+    commands = [CHILD % (it, f"Ann {it * 7919 % 1000}") for it in range(1, 40)]
+    data = b"".join(entry(at, it) + b"\n" for at, it in enumerate(commands, 1))
     (logs / "asked.log.2.gz").write_bytes(damage(gzip.compress(data)))
     (logs / "asked.log").write_bytes(entry(59, CHILD % (50, "Bo")) + b"\n")
     status, out, errors = sent(logs)
+    assert out.startswith("".join(f"{it}\n" for it in commands[:least]).encode())
     assert status == 1 and out.endswith((CHILD % (50, "Bo")).encode() + b"\n") and f"{logs}/asked.log.2.gz" in errors and "Traceback" not in errors
 
 
