@@ -84,19 +84,19 @@ def problems_of(register: Register) -> list[str]:
     return out
 
 
-def write_roles(register: Register, text: str) -> None:
-    files.write(roles_path(register), text, 0o640, group=GROUP)
+def write(path: pathlib.Path, text: str) -> bool:
+    """Gives a file of users this text, for root and nginx alone. Returns whether it had another."""
+    return files.write(path, text, 0o640, group=GROUP)
 
 
 def write_hashes(register: Register, hashes: dict[str, str]) -> None:
-    text = "".join(f"{line}\n" for line in hashes.values())
-    files.write(passwords_path(register), text, 0o640, group=GROUP)
+    write(passwords_path(register), "".join(f"{line}\n" for line in hashes.values()))
 
 
 def make_files(register: Register) -> None:
     """Makes the two files, without users, where they are not there."""
     if not roles_path(register).exists():
-        write_roles(register, read(share() / "roles"))
+        write(roles_path(register), read(share() / "roles"))
     if not passwords_path(register).exists():
         write_hashes(register, {})
 
@@ -107,10 +107,10 @@ def set_role(register: Register, user: str, role: str) -> str | None:
     if before == role:
         return None
     if before is None:
-        write_roles(register, text + ("" if not text or text.endswith("\n") else "\n") + f"{user} {role};\n")
+        write(roles_path(register), text + ("" if not text or text.endswith("\n") else "\n") + f"{user} {role};\n")
         return f"{user} has the role {role}"
     line = rf"(?m)^(\s*{re.escape(user)}\s+){re.escape(before)}(?=\s*;)"
-    write_roles(register, re.sub(line, rf"\g<1>{role}", text))
+    write(roles_path(register), re.sub(line, rf"\g<1>{role}", text))
     return f"{user} has the role {role}, and no longer {before}"
 
 
@@ -128,7 +128,7 @@ def remove(register: Register, user: str) -> None:
     write_hashes(register, {name: line for name, line in hashes_of(register).items() if name != user})
     lines = read(roles_path(register)).splitlines(keepends=True)
     others = [it for it in lines if not ((found := LINE.fullmatch(it.rstrip("\n"))) and found["user"] == user)]
-    write_roles(register, "".join(others))
+    write(roles_path(register), "".join(others))
 
 
 def role_of(register: Register, user: str) -> str | None:

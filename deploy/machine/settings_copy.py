@@ -2,9 +2,8 @@
 
   settings-copy NAME
 
-It is called as root after each nightly backup. Beside the newest nightly copy, as an archive (tar) of the same name, are the files of
-/etc/admissions/NAME, and /etc/admissions/authority and second-copy, with owners and modes. The key and the certificate of the site are not
-copied. An archive that is there stays as it is, as the copy does. The files of the log are in the folder `log` beside the copies, each under a
+It is called as root after each nightly backup. Beside the newest nightly copy, as an archive (tar) of the same name, are roles, passwords and
+site-name of /etc/admissions/NAME, and /etc/admissions/authority and second-copy, with owners and modes. Nothing else is copied, and so no key. An archive that is there stays as it is, as the copy does. The files of the log are in the folder `log` beside the copies, each under a
 number, compressed: a file that was copied is only ever made longer, so the copy outlives a log that was emptied or removed. All copies are of the
 user admissions alone.
 
@@ -25,14 +24,12 @@ import tarfile
 import tempfile
 import typing
 
-from . import copies, files
+from . import copies, files, people
 from .registers import SETTINGS, Register, known
 from .run import USER, Failed
 
-# of the site: another machine makes others, and whoever has the second place shall not have them
-NOT_COPIED = ("site.key", "site.crt", "site.csr")
-SHARED = ("authority", "second-copy")
-PLAIN = re.compile(r"[A-Za-z0-9][A-Za-z0-9._-]*")
+# What is copied, of a register and of all: a key under whatever name is not, since whoever has the second place shall not have it
+OWN, SHARED = ("passwords", "roles", "site-name"), ("authority", "second-copy")
 LOG = "log"
 LOG_COPY = re.compile(r"asked-(\d{6,})-([0-9a-f]{16})\.gz")
 
@@ -59,9 +56,8 @@ def archive_of(register: Register) -> bytes:
     """The settings of a register, and those of all registers, as an archive."""
     out = io.BytesIO()
     with tarfile.open(fileobj=out, mode="w") as archive:
-        own = [it for it in sorted(register.settings.iterdir()) if it.is_file() and it.name not in NOT_COPIED]
-        for path in (*own, *(SETTINGS / it for it in SHARED)):
-            if path.is_file() and PLAIN.fullmatch(path.name):
+        for path in (*(register.settings / it for it in OWN), *(SETTINGS / it for it in SHARED)):
+            if path.is_file():
                 archive.add(path, path.name, recursive=False)
     return out.getvalue()
 
@@ -142,16 +138,16 @@ def write_as_desk(path: pathlib.Path, data: bytes, modified: int | None = None) 
             raise
 
 
-def members_of(copy: pathlib.Path) -> dict[str, tuple[tarfile.TarInfo, str]]:
-    """The files of the archive beside a copy, each with its text."""
+def members_of(copy: pathlib.Path) -> dict[str, str]:
+    """The files of the archive beside a copy that are copied, each with its text."""
     out = {}
     path = copies.settings_of(copy)
     try:
         with tarfile.open(path) as archive:
             for it in archive:
-                file = archive.extractfile(it) if it.isreg() and PLAIN.fullmatch(it.name) else None
-                if file and it.name not in NOT_COPIED:
-                    out[it.name] = it, file.read().decode("utf-8")
+                file = archive.extractfile(it) if it.isreg() and it.name in OWN + SHARED else None
+                if file:
+                    out[it.name] = file.read().decode("utf-8")
     except FileNotFoundError:
         return {}
     except (tarfile.TarError, UnicodeDecodeError) as error:
@@ -161,19 +157,21 @@ def members_of(copy: pathlib.Path) -> dict[str, tuple[tarfile.TarInfo, str]]:
 
 def names_of(copy: str) -> dict[str, str]:
     """What the archive beside a copy has: the text of each file, without blanks around it."""
-    return {name: text.strip() for name, (_, text) in members_of(pathlib.Path(copy)).items()}
+    return {name: text.strip() for name, text in members_of(pathlib.Path(copy)).items()}
 
 
 def restored(register: Register, copy: pathlib.Path) -> typing.Iterator[str]:
-    """Brings back the settings and the log that are beside a copy, where this machine has none of them. Returns a line for each."""
+    """Brings back the settings and the log that are beside a copy, where this machine has none of them. Returns a line for each. The site's name
+    is set up as if it were given, and owners and modes are those that this program gives: whoever has the second place could write others."""
     found = members_of(copy)
     if not found:
         yield f"there is no archive of settings beside {copy}: users and settings are not brought back"
-    for name, (member, text) in found.items():
+    found.pop("site-name", None)
+    for name, text in found.items():
         path = (SETTINGS if name in SHARED else register.settings) / name
         if has_content(path):
             yield f"{path} is there already, and stays as it is"
-        elif files.write(path, text, member.mode, member.uname, member.gname):
+        elif files.write(path, text, 0o644) if name in SHARED else people.write(path, text):
             yield f"took {path} from the archive"
     logs = copied_logs(copy.parent / LOG)
     if any(it.stat().st_size for it in log_files(register.logs)):

@@ -137,7 +137,7 @@ def completed(given: argparse.Namespace) -> Register:
                                 lambda it: answers.holidays([] if it == answers.NONE else it.split()), answers.NONE)
     register = named(given.name)
     copied = settings_copy.names_of(given.copy) if given.copy else {}
-    given.site = given.site or register.host or copied.get("site-name") \
+    given.site = given.site or register.host or copied.get("site-name") and answers.host(copied["site-name"]) \
         or ask("--site, the name by which browsers find it", answers.host)
     if not given.user and "passwords" not in copied and not people.passwords_path(register).exists():
         given.user = ask("--user, who signs in first", answers.user)

@@ -132,7 +132,11 @@ def share():
 def registers_with_site():
     """The registers that have a site name, by name."""
     names = [path.parent.name for path in sorted(SETTINGS.glob("*/site-name"))]
-    return [it for it in map(Register, filter(NAME.fullmatch, names)) if it.host]
+    found = [it for it in map(Register, filter(NAME.fullmatch, names)) if it.host]
+    for it in found:
+        if not HOST.fullmatch(it.host):
+            raise Failed(f"{it.settings / 'site-name'}: {it.host!r} is no name of a site")
+    return found
 
 
 def make_all():

@@ -1,13 +1,15 @@
 """The nightly copies: their order, which are removed, what is beside them, and what status says of their times."""
+import argparse
 import datetime
 import gzip
+import io
 import os
 import pathlib
 import tarfile
 import time
 
 import pytest
-from machine import copies, nightly, registers, settings_copy, status
+from machine import certificates, copies, nightly, registers, settings_copy, setup, sites, status
 from machine.run import Failed
 
 HOUR = 3600.0
@@ -130,7 +132,8 @@ def test_the_age_of_the_last_drill(age: float, is_well: bool, register: register
 @pytest.fixture(name="copied")
 def copied_fixture(register: registers.Register, machine: pathlib.Path, write_as_me: None) -> pathlib.Path:
     """A copy, with settings, a key and a log of which settings-copy has copied what it copies."""
-    (register.settings / "site.key").write_text("a key")
+    for name in ("site.key", "site.key.old", "notes"):
+        (register.settings / name).write_text("a key")
     (register.settings / "site.crt").write_text("a certificate")
     (register.settings / "passwords").chmod(0o640)
     (machine / "etc/authority").write_text("Example County Council\n")
@@ -142,6 +145,14 @@ def copied_fixture(register: registers.Register, machine: pathlib.Path, write_as
     path = copy(register, "nightly-000001-2025-03-01T023000.db", with_settings=False)
     assert settings_copy.main(type("Given", (), {"name": register.name})) == 0  # type: ignore[arg-type]
     return path
+
+
+def given_to_setup(*words: str) -> argparse.Namespace:
+    reader = argparse.ArgumentParser()
+    setup.arguments(reader)
+    space = reader.parse_args(words)
+    setup.checked(space)
+    return space
 
 
 def lines_of(folder: pathlib.Path) -> list[str]:
@@ -190,7 +201,7 @@ def test_settings_and_log_come_back_where_there_are_none(copied: pathlib.Path, r
     (machine / "etc/second-copy").write_text("# the package's own\n")
     (register.settings / "roles").write_text("# none yet\n")
     list(settings_copy.restored(register, copied))
-    assert sorted(it.name for it in register.settings.iterdir()) == ["passwords", "roles", "site-name"]
+    assert sorted(it.name for it in register.settings.iterdir()) == ["passwords", "roles"]
     assert (register.settings / "passwords").read_text() == "jane:$6$x\nalpha:$6$y\n"
     assert (register.settings / "passwords").stat().st_mode & 0o777 == 0o640
     assert "jane office;" in (register.settings / "roles").read_text()
@@ -208,14 +219,56 @@ def test_what_is_there_stays(copied: pathlib.Path, register: registers.Register)
     assert lines[-1].startswith(f"{register.logs} has a log already")
 
 
-def test_an_archive_brings_nothing_but_plain_names(copied: pathlib.Path) -> None:
+def test_an_archive_brings_what_is_copied_and_no_owner_or_mode(copied: pathlib.Path, register: registers.Register, machine: pathlib.Path) -> None:
     with tarfile.open(copied.with_suffix(".tar"), "w") as archive:
-        for name in ("../above", "/etc/passwd", "site.key", "roles"):
-            archive.addfile(tarfile.TarInfo(name))
+        for name in ("../above", "/etc/passwd", "site.key", "site.crt", "more", "roles", "authority"):
+            member = tarfile.TarInfo(name)
+            member.mode, member.uname, member.gname, member.size = 0o4777, "daemon", "daemon", 7
+            archive.addfile(member, io.BytesIO(b"a text\n"))
         link = tarfile.TarInfo("passwords")
         link.type, link.linkname = tarfile.SYMTYPE, "/etc/shadow"
         archive.addfile(link)
-    assert list(settings_copy.members_of(copied)) == ["roles"]
+    assert list(settings_copy.members_of(copied)) == ["roles", "authority"]
+    made = (register.settings / "roles", 0o640), (machine / "etc/authority", 0o644)
+    for path, _ in made:
+        path.unlink()
+    list(settings_copy.restored(register, copied))
+    assert [(path.read_text(), path.stat().st_mode & 0o7777) for path, _ in made] == [("a text\n", mode) for _, mode in made]
+
+
+def with_site_name(copied: pathlib.Path, text: str) -> None:
+    with tarfile.open(copied.with_suffix(".tar"), "w") as archive:
+        for name, content in {"site-name": text, "passwords": "jane:$6$x\n"}.items():
+            member = tarfile.TarInfo(name)
+            member.size = len(content)
+            archive.addfile(member, io.BytesIO(content.encode()))
+
+
+@pytest.mark.parametrize("given, host", [(["--site", "trial.example"], "trial.example"), ([], "admissions.example")])
+def test_a_copy_is_set_up_under_the_name_that_is_given_or_its_own(given: list[str], host: str, copied: pathlib.Path, machine: pathlib.Path,
+                                                                  monkeypatch: pytest.MonkeyPatch) -> None:
+    with_site_name(copied, "admissions.example\n")
+    monkeypatch.setattr(setup, "AUTHORITY", machine / "etc/authority")
+    monkeypatch.setattr(certificates, "make", lambda *_: iter(()))
+    trial = registers.Register("trial")
+    for path in (trial.settings, trial.logs):
+        path.mkdir()
+    space = given_to_setup("trial", "--copy", str(copied), *given)
+    setup.completed(space)
+    for step in (setup.take_settings, setup.make_settings):
+        list(step(trial, space))
+    assert (trial.host, (trial.settings / "passwords").read_text()) == (host, "jane:$6$x\n")
+
+
+@pytest.mark.parametrize("name", ["x.example; } server { listen 8081; root /etc", "x.example\nroot /etc;", "example"])
+def test_no_site_has_a_name_that_is_none(name: str, copied: pathlib.Path, register: registers.Register) -> None:
+    with_site_name(copied, name)
+    with pytest.raises(Failed, match="is no name of a site"):
+        setup.completed(given_to_setup("trial", "--copy", str(copied)))
+    assert sites.registers_with_site() == [register]
+    (register.settings / "site-name").write_text(name)
+    with pytest.raises(Failed, match=f"^{register.settings}/site-name: .* is no name of a site"):
+        sites.registers_with_site()
 
 
 def test_an_archive_that_is_none_is_an_error(copied: pathlib.Path) -> None:
