@@ -33,6 +33,15 @@ def test_what_a_site_listens_at(version, has_ipv6, own, machines, is_directive):
     assert (found, has_directive) == ([own, shared if machines else shared[::2]], is_directive)
 
 
+def test_the_machines_own_part_needs_no_site():
+    """Each variable of it is its own or nginx's, so nginx starts where the last register is retired."""
+    text = re.sub(r"(?m)^ *#.*", "", sites.machine_text(MODEL, MORE, sites.Machine(NEW, True)))
+    own = set(re.findall(r"(?m)^map .*\$(\w+) \{$|\bset \$(\w+) |\(\?<(\w+)>", text))
+    others = set(re.findall(r"\$(\w+)", text)) - {name for it in own for name in it}
+    assert sorted(others) == ["binary_remote_addr", "host", "remote_addr", "remote_user", "request_id", "request_method", "request_uri", "status", "time_iso8601",
+        "upstream_addr"]
+
+
 @pytest.mark.parametrize("before, after", [
     ("events {\n\tworker_connections 768;\n}", "events {\n\tworker_connections 8192; # 768 before admissions-setup\n}"),
     ("events { }", "events { }"),
