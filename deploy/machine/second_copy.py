@@ -18,10 +18,10 @@ import os
 import pathlib
 import tempfile
 
-from . import copies
+from . import copies, files
+from .log_copies import FOLDER as LOG
 from .registers import SETTINGS, Register, known, open_error
 from .run import USER, Failed, call, tool
-from .settings_copy import LOG
 
 REPORT = "second-copy.report"
 SSH = "ssh -o BatchMode=yes -o ConnectTimeout=30"
@@ -97,7 +97,7 @@ def copied(register: Register, place: str) -> str:
         raise Failed(f"{there}{LOG} is not equal to {register.copies / LOG}: {' '.join(differs.split())}")
     is_same = is_local(place) and os.stat(place).st_dev == os.stat(register.copies).st_dev
     return (f"{now()} {made[-1].name} is in {place}/{register.name}, equal to the first copy, and opens"
-            + ("" if settings.exists() else "; WARNING: without users, settings and log")
+            + ("" if settings.exists() else "; WARNING: without users and settings")
             + ("; WARNING: on the same disk as the first copies" if is_same else ""))
 
 
@@ -113,7 +113,4 @@ def now() -> str:
 
 def write_report(register: Register, name: str, text: str) -> None:
     """A report beside the copies, in one step."""
-    new = register.copies / f".{name}.new"
-    new.write_text(text, encoding="utf-8")
-    new.chmod(0o600)
-    os.replace(new, register.copies / name)
+    files.write_as_desk(register.copies / name, text.encode())

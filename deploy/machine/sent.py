@@ -21,18 +21,15 @@ arguments.
 """
 import argparse
 import datetime
-import gzip
 import json
 import pathlib
-import re
 import sys
-import zlib
 from collections.abc import Iterator
 
+from . import logs
 from .registers import named
 from .run import Failed
 
-LOG = re.compile(r"asked\.log(?:\.([0-9]+)(?:\.gz)?)?")
 # How each entry begins. nginx escapes the quotation marks within its values, so these bytes are
 # nowhere else in a log, whatever was sent
 BEGIN = b'{"at":"'
@@ -49,14 +46,14 @@ def arguments(reader: argparse.ArgumentParser) -> None:
 
 
 def main(given: argparse.Namespace) -> int:
-    logs = named(given.name).logs
+    folder = named(given.name).logs
     try:
         since = datetime.datetime.fromisoformat(given.since).astimezone()
     except ValueError as error:
         raise Failed(f"{given.since!r} is no moment: YYYY-MM-DD or YYYY-MM-DDTHH:MM", 2) from error
-    files = in_order(logs)
+    files = logs.in_order(folder)
     if not files:
-        raise Failed(f"{logs} has no asked.log")
+        raise Failed(f"{folder} has no asked.log")
     doubtful: list[str] = []
     count = 0
     for path in files:
@@ -89,27 +86,18 @@ def report(doubtful: list[str]) -> int:
     return count
 
 
-def in_order(logs: pathlib.Path) -> list[pathlib.Path]:
-    """The files of a log, the oldest first: .., asked.log.2.gz, asked.log.1, asked.log."""
-    # (while logrotate compresses a file, it is there in both forms, and the last one taken is
-    # whole)
-    paths = sorted(logs.glob("asked.log*"), reverse=True)
-    found = {int(name[1] or 0): it for it in paths if (name := LOG.fullmatch(it.name))}
-    return [found[number] for number in sorted(found, reverse=True)]
-
-
 def entries(path: pathlib.Path) -> Iterator[tuple[str, bytes]]:
     """The entries of a file, each with its place. One that was torn has no line end, and the next
     one follows on its line.
     """
     at = 0
     try:
-        with gzip.open(path) if path.suffix == ".gz" else open(path, "rb") as file:
+        with logs.opened(path) as file:
             for at, line in enumerate(file, 1):
                 before, *rest = line.rstrip(b"\n").split(BEGIN)
                 for entry in [before] * bool(before) + [BEGIN + it for it in rest]:
                     yield f"{path}, line {at}", entry
-    except (OSError, EOFError, zlib.error):
+    except logs.UNREADABLE:
         # (what follows in a damaged file is one entry that cannot be read)
         yield f"{path}, after line {at}", b""
 

@@ -134,7 +134,7 @@ def registers_with_site():
     names = [path.parent.name for path in sorted(SETTINGS.glob("*/site-name"))]
     found = [it for it in map(Register, filter(NAME.fullmatch, names)) if it.host]
     for it in found:
-        if not HOST.fullmatch(it.host):
+        if not HOST.fullmatch(it.host or ""):
             raise Failed(f"{it.settings / 'site-name'}: {it.host!r} is no name of a site")
     return found
 

@@ -26,6 +26,7 @@ from .drill import REPORT as DRILL
 from .registers import REGISTERS, Register, all_registers, known, season_of
 from .run import Failed, call, is_booted, tool
 from .second_copy import REPORT as SECOND, place_of
+from .settings_copy import REPORT as BESIDE
 
 # from when on something needs attention
 COPY_HOURS, DRILL_DAYS, CERTIFICATE_DAYS = 26, 35, 21
@@ -231,7 +232,10 @@ def copy_of(register: Register) -> State:
     if ahead := [it for it in made[:-1] if is_ahead(copies.age(it))]:
         return False, f"{text}; {ahead[0].name} is {age_text(copies.age(ahead[0]))} Rename it to keep it, or remove it"
     if not copies.settings_of(made[-1]).exists():
-        return False, f"{text}; without users, settings and log: journalctl -u admissions-second-copy@{register.name}"
+        return False, f"{text}; without users and settings: journalctl -u admissions-second-copy@{register.name}"
+    beside = report_of(register, BESIDE)
+    if beside and "WARNING" in beside[0]:
+        return False, f"{text}; {beside[0]}"
     return is_recent(old, COPY_HOURS * 3600), text
 
 

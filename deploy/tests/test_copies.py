@@ -5,11 +5,13 @@ import gzip
 import io
 import os
 import pathlib
+import shutil
 import tarfile
 import time
+import typing
 
 import pytest
-from machine import certificates, copies, nightly, registers, settings_copy, setup, sites, status
+from machine import certificates, copies, files, log_copies, logs, nightly, registers, settings_copy, setup, sites, status
 from machine.run import Failed
 
 HOUR = 3600.0
@@ -107,7 +109,7 @@ def test_a_name_of_a_day_that_is_none(register: registers.Register) -> None:
 def test_a_copy_without_settings_is_reported(register: registers.Register) -> None:
     copy(register, "nightly-000001-2025-03-01T023000.db", with_settings=False)
     is_well, text = status.copy_of(register)
-    assert (is_well, "without users, settings and log" in text) == (False, True)
+    assert (is_well, "without users and settings" in text) == (False, True)
 
 
 @pytest.mark.parametrize("age, is_well", [(25 * HOUR, True), (27 * HOUR, False), (-3 * HOUR, False)])
@@ -129,6 +131,10 @@ def test_the_age_of_the_last_drill(age: float, is_well: bool, register: register
     assert status.drill_of(register)[0] is is_well
 
 
+def copy_settings(register: registers.Register) -> int:
+    return settings_copy.main(type("Given", (), {"name": register.name}))  # type: ignore[arg-type]
+
+
 @pytest.fixture(name="copied")
 def copied_fixture(register: registers.Register, machine: pathlib.Path, write_as_me: None) -> pathlib.Path:
     """A copy, with settings, a key and a log of which settings-copy has copied what it copies."""
@@ -143,7 +149,7 @@ def copied_fixture(register: registers.Register, machine: pathlib.Path, write_as
     (register.logs / "asked.log.1").write_text('{"n":3}\n')
     (register.logs / "asked.log").write_text('{"n":4}\n{"n":5}\n{"torn')
     path = copy(register, "nightly-000001-2025-03-01T023000.db", with_settings=False)
-    assert settings_copy.main(type("Given", (), {"name": register.name})) == 0  # type: ignore[arg-type]
+    assert copy_settings(register) == 0
     return path
 
 
@@ -157,14 +163,14 @@ def given_to_setup(*words: str) -> argparse.Namespace:
 
 def lines_of(folder: pathlib.Path) -> list[str]:
     """What the copies of a log have, in their order."""
-    return [gzip.decompress(it.read_bytes()).decode() for it in settings_copy.copied_logs(folder).values()]
+    return [gzip.decompress(it).decode() for it in log_copies.contents_of(folder)[0]]
 
 
 def test_the_archive_of_a_night_stays_as_it_is(copied: pathlib.Path, register: registers.Register) -> None:
     path = copies.settings_of(register.nightly_copies()[-1])
     before = path.read_bytes()
     (register.settings / "roles").write_text("ben office;\n")
-    settings_copy.main(type("Given", (), {"name": register.name}))  # type: ignore[arg-type]
+    copy_settings(register)
     assert path.read_bytes() == before
 
 
@@ -183,16 +189,63 @@ def test_a_log_that_was_rotated_and_goes_on_is_copied_once(copied: pathlib.Path,
     (register.logs / "asked.log").write_text('{"n":4}\n{"n":5}\n{"n":6}\n')
     (register.logs / "asked.log").rename(register.logs / "asked.log.1")
     (register.logs / "asked.log").write_text('{"n":7}\n')
-    settings_copy.copy_log(register)
+    log_copies.copy(register)
     assert lines_of(copied.parent / "log") == ['{"n":1}\n{"n":2}\n', '{"n":3}\n', '{"n":4}\n{"n":5}\n{"n":6}\n', '{"n":7}\n']
 
 
-@pytest.mark.parametrize("text", ["", '{"n":4}\n', '{"n":4}\n{"n":8}\n'])
-def test_a_log_that_was_emptied_cut_or_changed_leaves_the_copy(text: str, copied: pathlib.Path, register: registers.Register) -> None:
+@pytest.mark.parametrize("text, more", [("", []), ('{"n":4}\n', []), ('{"n":4}\n{"n":8}\n', ['{"n":8}\n']), ('{"n":9}\n', ['{"n":9}\n'])])
+def test_of_a_log_that_was_emptied_cut_or_changed_all_lines_come_back_once(text: str, more: list[str], copied: pathlib.Path, register: registers.Register) -> None:
     (register.logs / "asked.log").write_text(text)
-    settings_copy.copy_log(register)
-    kept = [gzip.decompress(it.read_bytes()).decode() for it in sorted((copied.parent / "log").iterdir())]
-    assert '{"n":4}\n{"n":5}\n' in kept
+    for _ in range(2):
+        assert log_copies.copy(register) == []
+    assert len(log_copies.made(copied.parent / "log")) == 3 + len(more)
+    assert lines_of(copied.parent / "log") == ['{"n":1}\n{"n":2}\n', '{"n":3}\n', '{"n":4}\n{"n":5}\n', *more]
+
+
+def test_a_shorter_copy_of_an_earlier_release_adds_nothing(copied: pathlib.Path) -> None:
+    longer = copied.parent / "log/asked-000003-{}.gz".format(log_copies.place(log_copies.made(copied.parent / "log")[2])[1])
+    longer.with_name(longer.name.replace("000003", "000009")).write_bytes(gzip.compress(b'{"n":4}\n'))
+    assert lines_of(copied.parent / "log")[2:] == ['{"n":4}\n{"n":5}\n']
+
+
+DAMAGED: list[typing.Callable[[bytes], bytes]] = [lambda it: it[:-9], lambda it: it[:12], lambda it: b"no gzip", lambda it: it[:10] + b"\xff" * 8 + it[18:]]
+
+
+@pytest.mark.parametrize("damage", DAMAGED)
+def test_a_damaged_file_of_the_log_is_named_and_all_else_is_copied(damage: typing.Callable[[bytes], bytes], register: registers.Register, write_as_me: None) -> None:
+    path = copy(register, "nightly-000001-2025-03-01T023000.db", with_settings=False)
+    (register.logs / "asked.log.2.gz").write_bytes(damage(gzip.compress(b'{"n":1}\n{"n":2}\n')))
+    (register.logs / "asked.log").write_text('{"n":3}\n')
+    with pytest.raises(Failed, match=f"^{register.logs}/asked.log.2.gz was not copied: .+"):
+        copy_settings(register)
+    assert (path.with_suffix(".tar").exists(), lines_of(register.copies / "log")) == (True, ['{"n":3}\n'])
+    assert (status.copy_of(register)[0], "asked.log.2.gz was not copied" in status.copy_of(register)[1]) == (False, True)
+    (register.logs / "asked.log.2.gz").unlink()
+    assert (copy_settings(register), status.copy_of(register)[0]) == (0, True)
+
+
+@pytest.mark.parametrize("damage", DAMAGED)
+def test_a_damaged_copy_is_named_and_the_file_is_copied_beside_it(damage: typing.Callable[[bytes], bytes], copied: pathlib.Path, register: registers.Register) -> None:
+    last = log_copies.made(copied.parent / "log")[-1]
+    last.write_bytes(damage(last.read_bytes()))
+    with pytest.raises(Failed, match=f"^{last} cannot be read: "):
+        copy_settings(register)
+    assert lines_of(copied.parent / "log")[2:] == ['{"n":4}\n{"n":5}\n']
+    assert copy_settings(register) == 0
+
+
+def test_a_file_that_is_renamed_meanwhile_is_named(copied: pathlib.Path, register: registers.Register, monkeypatch: pytest.MonkeyPatch) -> None:
+    monkeypatch.setattr("machine.logs.in_order", lambda folder: [folder / "asked.log.7", folder / "asked.log"])
+    (register.logs / "asked.log").write_text('{"n":4}\n{"n":5}\n{"n":6}\n')
+    assert [it.partition(":")[0] for it in log_copies.copy(register)] == [f"{register.logs}/asked.log.7 was not copied"]
+    assert lines_of(copied.parent / "log")[2:] == ['{"n":4}\n{"n":5}\n{"n":6}\n']
+
+
+def test_what_is_beside_the_log_under_another_name_is_not_copied(copied: pathlib.Path, register: registers.Register) -> None:
+    for name in ("asked.log.old", "asked.log.7.bak", "asked.log.8.gz-2026020200.backup", "asked.log-20250303"):
+        (register.logs / name).write_text('{"n":9}\n')
+    log_copies.copy(register)
+    assert '{"n":9}\n' not in lines_of(copied.parent / "log")
 
 
 def test_settings_and_log_come_back_where_there_are_none(copied: pathlib.Path, register: registers.Register, machine: pathlib.Path) -> None:
@@ -206,9 +259,36 @@ def test_settings_and_log_come_back_where_there_are_none(copied: pathlib.Path, r
     assert (register.settings / "passwords").stat().st_mode & 0o777 == 0o640
     assert "jane office;" in (register.settings / "roles").read_text()
     assert (machine / "etc/second-copy").read_text() == "# where\n/mnt/copies\n"
-    logs = settings_copy.log_files(register.logs)
-    assert [it.name for it in logs] == ["asked.log.4.gz", "asked.log.3.gz", "asked.log.2.gz"]
-    assert [gzip.decompress(it.read_bytes()) for it in logs] == [b'{"n":1}\n{"n":2}\n', b'{"n":3}\n', b'{"n":4}\n{"n":5}\n']
+    made = logs.in_order(register.logs)
+    assert [it.name for it in made] == ["asked.log.4.gz", "asked.log.3.gz", "asked.log.2.gz"]
+    assert [gzip.decompress(it.read_bytes()) for it in made] == [b'{"n":1}\n{"n":2}\n', b'{"n":3}\n', b'{"n":4}\n{"n":5}\n']
+
+
+@pytest.mark.parametrize("killed_after", [0, 1, 2])
+def test_a_log_that_came_back_halfway_is_completed(killed_after: int, copied: pathlib.Path, register: registers.Register, monkeypatch: pytest.MonkeyPatch) -> None:
+    for path in register.logs.iterdir():
+        path.unlink()
+    written: list[pathlib.Path] = []
+
+    def write(path: pathlib.Path, *more: typing.Any) -> bool:
+        if len(written) == killed_after:
+            raise KeyboardInterrupt
+        written.append(path)
+        return whole(path, *more)
+    whole = files.write
+    monkeypatch.setattr(files, "write", write)
+    with pytest.raises(KeyboardInterrupt):
+        list(log_copies.restored(register, copied.parent / "log"))
+    monkeypatch.setattr(files, "write", whole)
+    assert list(log_copies.restored(register, copied.parent / "log")) == ["took 3 files of the log"]
+    assert [gzip.decompress(it.read_bytes()) for it in logs.in_order(register.logs)] == [b'{"n":1}\n{"n":2}\n', b'{"n":3}\n', b'{"n":4}\n{"n":5}\n']
+    assert list(log_copies.restored(register, copied.parent / "log")) == []
+
+
+def test_a_copy_without_a_log_beside_it_says_so(copied: pathlib.Path, register: registers.Register, machine: pathlib.Path) -> None:
+    alone = machine / copied.name
+    shutil.copy(copied.with_suffix(".tar"), alone.with_suffix(".tar"))
+    assert list(settings_copy.restored(register, alone))[-1] == f"there is no log in {machine}/log: who sent what is not brought back"
 
 
 def test_what_is_there_stays(copied: pathlib.Path, register: registers.Register) -> None:
