@@ -24,7 +24,8 @@ from machine import sites
 model = pathlib.Path(sys.argv[2]).read_text(encoding="utf-8")
 here = sites.this_machine()
 if sys.argv[3:] == ["main"]:
-    print(sites.limits_text() + sites.main_text("events {\\n\\tworker_connections 768;\\n}"))
+    main = "events {\\n\\tworker_connections 768;\\n}"
+    print(sites.limits_text(main) + sites.main_text(main))
 elif sys.argv[3:]:
     print(sites.site_text(model, *sys.argv[3:], here))
 else:

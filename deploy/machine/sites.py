@@ -109,16 +109,20 @@ def machine_text(model: str, more: str, machine: Machine) -> str:
     return MADE + machine.adapted(more + parts(model)[0])
 
 
-def limits_text() -> str:
-    """How many files each process of nginx may have open."""
-    return f"{MADE}worker_rlimit_nofile {OPEN_FILES};\n"
+def limits_text(main: str) -> str:
+    """How many files each process of nginx may have open, unless its main file says it already, as
+    nginx takes it once.
+    """
+    is_said = re.search(r"(?m)^[^#\n]*\bworker_rlimit_nofile\s", main)
+    return MADE if is_said else f"{MADE}worker_rlimit_nofile {OPEN_FILES};\n"
 
 
 def main_text(text: str) -> str:
     """nginx's main file, with connections enough. The number that was there stays behind it, for a
-    purge of the package to put it back.
+    purge of the package to put it back; so another directive on the line would be lost, and it is
+    left as it is.
     """
-    found = re.search(r"(?m)^(\s*worker_connections\s+)([0-9]+);", text)
+    found = re.search(r"(?m)^(\s*worker_connections\s+)([0-9]+);(?=[ \t]*(?:#|$))", text)
     if not found or int(found[2]) >= CONNECTIONS:
         return text
     return f"{text[:found.start()]}{found[1]}{CONNECTIONS}; # {found[2]} before admissions-setup{text[found.end():]}"
@@ -147,9 +151,10 @@ def make_all():
         raise Failed(f"{MODEL} is missing")
     model = MODEL.read_text(encoding="utf-8")
     machine = this_machine()
-    wanted = {MACHINE: machine_text(model, (share() / "machine.conf").read_text(encoding="utf-8"), machine), LIMITS: limits_text()}
-    if MAIN.exists():
-        wanted[MAIN] = main_text(MAIN.read_text(encoding="utf-8"))
+    main = MAIN.read_text(encoding="utf-8") if MAIN.exists() else ""
+    wanted = {MACHINE: machine_text(model, (share() / "machine.conf").read_text(encoding="utf-8"), machine), LIMITS: limits_text(main)}
+    if main:
+        wanted[MAIN] = main_text(main)
     sites = {AVAILABLE / f"admissions-{it.name}": site_text(model, it.name, it.host, machine) for it in registers_with_site()}
     wanted |= sites
     before = {path: path.read_text(encoding="utf-8") if path.exists() else None for path in wanted}

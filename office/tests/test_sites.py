@@ -47,17 +47,16 @@ def test_the_machines_own_part_needs_no_site():
     ("events { }", "events { }"),
     ("\tworker_connections 9000;", "\tworker_connections 9000;"),
     ("\t# worker_connections 768;", "\t# worker_connections 768;"),
+    ("worker_connections\t768; # few", "worker_connections\t8192; # 768 before admissions-setup # few"),
+    ("\tworker_connections 768; multi_accept on;", "\tworker_connections 768; multi_accept on;"),
+    ("events { worker_connections 768; }", "events { worker_connections 768; }"),
 ])
 def test_the_connections_of_nginx(before, after):
     """They are raised once, and never lowered."""
     assert sites.main_text(before) == sites.main_text(after) == after
 
 
-def test_a_purge_puts_the_connections_back():
-    """By the line of debian/postrm."""
-    line = re.search(r"sed -i 's/(.*)/(.*)/' /etc/nginx/nginx.conf", (ROOT / "debian/postrm").read_text())
-    assert line
-    old, new = line.groups()
-    pattern = old.replace(r"\(", "(").replace(r"\)", ")")
-    text = "events {\n\tworker_connections 768;\n\t# multi_accept on;\n}\n"
-    assert re.sub(pattern, new, sites.main_text(text)) == text
+@pytest.mark.parametrize("main, is_said", [
+    ("user www-data;\n", False), ("# worker_rlimit_nofile 512;\n", False), ("worker_rlimit_nofile 4096;\n", True), ("user x; worker_rlimit_nofile\t4096;\n", True)])
+def test_the_open_files_of_nginx_are_said_once(main, is_said):
+    assert sites.limits_text(main) == sites.MADE + ("" if is_said else "worker_rlimit_nofile 16384;\n")
