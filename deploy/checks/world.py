@@ -121,7 +121,7 @@ class World:
         self.name, self.host, self.lines, self.people = name, host, lines, people or PEOPLE
         self.root, self.prefix, self.file, self.settings = installation.root, installation.prefix, room / "reg.db", room / "settings"
         self.site_port, self.desk_port = 0, free_port()  # the desk's port is in a network of its own
-        for folder in ("run", "log", "copies", "temp", "index", "downloads", "settings"):
+        for folder in ("run", "log", "copies", "temp", "index/desk", "downloads", "settings"):
             (room / folder).mkdir(parents=True)
         self.passwords = {name: os.urandom(9).hex() for name in self.people}
         self.environment = {**os.environ, "PATH": f"{self.prefix}/bin:/usr/sbin:/sbin:{os.environ['PATH']}", "no_proxy": "*", "HOME": str(room)}
@@ -196,7 +196,7 @@ class World:
     def write_index(self):
         """As the unit of the desk does before each start, after the log is merged."""
         self.run("admissions", "do", self.file)
-        return self.run(self.prefix / "lib/admissions/index", self.file, self.room / "index")
+        return self.run(self.prefix / "lib/admissions/index", self.file, self.room / "index/desk")
 
     def start_desk(self):
         self.write_index()

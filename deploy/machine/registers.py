@@ -47,7 +47,7 @@ class Register:
 
     @property
     def index(self) -> pathlib.Path:
-        """The folder of its index, for the page."""
+        """The folder of what the page reads: the commands since and, in a folder of the desk, the index."""
         return pathlib.Path("/run/admissions-index", self.name)
 
     @property

@@ -22,7 +22,6 @@ exit status: 0 done; 1 not or not wholly done, and the line says why: correct th
 import argparse
 import os
 import pathlib
-import shutil
 import sys
 import time
 import typing
@@ -199,11 +198,13 @@ def make_register(register: Register, given: argparse.Namespace) -> typing.Itera
     elif given.copy:
         call(program("admissions-restore"), os.path.abspath(given.copy), file)
         for path in register.folder.iterdir():
-            shutil.chown(path, USER, USER)
+            # (of a link, which the user of the desks may have made, that itself)
+            os.chown(path, *files.numbers(USER, USER), follow_symlinks=False)
         yield f"made {file} from {given.copy}"
     else:
         call(program("admissions"), "init", file, given.phase, given.year, *given.holiday, as_user=USER)
-        yield f"made {file}, for {given.phase} {given.year}, {f'holidays ' if given.holiday else 'without holidays'}{' '.join(given.holiday)}"
+        days = f"holidays {' '.join(given.holiday)}" if given.holiday else "without holidays"
+        yield f"made {file}, for {given.phase} {given.year}, {days}"
 
 
 def take_settings(register: Register, given: argparse.Namespace) -> typing.Iterator[str]:

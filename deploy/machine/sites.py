@@ -24,11 +24,13 @@ READ = pathlib.Path("/run/admissions-sites-read")
 FIRST, LAST = "# The machine's own part, which is there once:\n", "# The end of that part\n"
 HOST = re.compile(r"(?=.{1,253}\Z)[a-z0-9]([a-z0-9-]{0,61}[a-z0-9])?(\.[a-z0-9]([a-z0-9-]{0,61}[a-z0-9])?)+")
 FOLDERS = pathlib.Path("/etc/tmpfiles.d")
-MADE_FOLDERS = """# Made by admissions-setup: the index for the page, and the commands since, for the desk's user and the site alone, and in memory;
+MADE_FOLDERS = """# Made by admissions-setup: the commands since, and in a folder of the desk's user the index for the page, for the site alone, and in memory;
 # and the log, which is for root alone: nginx opens it before it gives up its rights, and gives it
-# away when it gets the signal to reopen it
-d {index} 2750 {user} www-data
-f {index}/since.jsonl 0660 {user} www-data
+# away when it gets the signal to reopen it. What nginx opens so is in folders of root, where nobody
+# else can put a link in its place
+d {index} 0751 root www-data
+d {index}/desk 2750 {user} www-data
+f {index}/since.jsonl 0640 root www-data
 f {logs}/asked.log 0600 root root
 f {logs}/errors.log 0600 root root
 z {logs}/*.log* 0600 root root

@@ -200,7 +200,7 @@ def index_of(register: Register) -> State:
     """The index by which the page finds names: written before the desk started."""
     if register.host is None:
         return True, "it has no site"
-    path = register.index / "index.json"
+    path = register.index / "desk/index.json"
     if not path.exists():
         return False, f"none, so the page finds numbers and codes alone: journalctl -u admissions@{register.name}"
     return True, f"{path.stat().st_size:,} bytes, {age_text(time.time() - path.stat().st_mtime)}"

@@ -1,13 +1,16 @@
 """What admissions-setup takes, refuses and asks again; users and their roles; the holidays of a register that is there; and the lock."""
 import argparse
+import contextlib
 import datetime
 import io
 import multiprocessing
+import os
 import pathlib
 import shutil
 import subprocess
 import sqlite3
 import sys
+import tempfile
 import typing
 
 import pytest
@@ -187,6 +190,47 @@ def test_the_holidays_of_an_empty_register_and_no_other(register: registers.Regi
     file.close()
     with pytest.raises(Failed, match="cannot be changed any more, since it has 1 school: .* Its holidays are 2025-04-03, 2025-04-04$"):
         holidays.change_of(register, [])
+
+
+@pytest.fixture(name="as_desk")
+def as_desk_fixture(monkeypatch: pytest.MonkeyPatch) -> list[bool]:
+    """Whether the user of the desks does what is done now; nothing but this command gives files to others."""
+    now = [False]
+
+    @contextlib.contextmanager
+    def as_desk() -> typing.Iterator[None]:
+        now[0] = True
+        yield
+        now[0] = False
+    monkeypatch.setattr(files, "as_desk", as_desk)
+    monkeypatch.setattr(shutil, "chown", None)
+    return now
+
+
+def test_in_the_folder_of_the_desk_root_makes_no_folder(register: registers.Register, as_desk: list[bool], monkeypatch: pytest.MonkeyPatch) -> None:
+    made, make = [], tempfile.mkdtemp
+
+    def mkdtemp(*more: typing.Any) -> str:
+        made.append(as_desk[0])
+        return make(*more)
+    monkeypatch.setattr(tempfile, "mkdtemp", mkdtemp)
+    monkeypatch.setattr(holidays, "open_error", lambda *_, **more: "")
+    monkeypatch.setattr(holidays, "program", lambda name: name)
+    monkeypatch.setattr(holidays, "call", lambda *_, as_user: subprocess.CompletedProcess([], 0, f"restored; kept by {as_user}\n"))
+    assert holidays.change(register, ["2025-04-03"], []).endswith("with the holidays 2025-04-03; kept by admissions")
+    assert made == [True]
+
+
+def test_of_a_link_in_the_folder_of_the_desk_its_target_keeps_its_owner(register: registers.Register, as_desk: list[bool], write_as_me: None,
+                                                                       monkeypatch: pytest.MonkeyPatch) -> None:
+    register.file.unlink()
+    (register.folder / "link").symlink_to("/etc/hostname")
+    given: list[tuple[str, bool]] = []
+    monkeypatch.setattr(os, "chown", lambda path, *_, follow_symlinks=True: given.append((path.name, follow_symlinks)))
+    monkeypatch.setattr(setup, "program", lambda name: name)
+    monkeypatch.setattr(setup, "call", lambda *_: register.file.write_text(""))
+    assert list(setup.make_register(register, argparse.Namespace(copy="copy.db"))) == [f"made {register.file} from copy.db"]
+    assert sorted(given) == [("link", False), ("reg.db", False)]
 
 
 def test_openssl_takes_a_drawn_password(users: registers.Register) -> None:

@@ -50,7 +50,7 @@ def machine_root_fixture(tmp_path: pathlib.Path) -> pathlib.Path:
                  "var/log/admissions/a/errors.log", "etc/admissions/a/site.key", "etc/admissions/a/site.crt", "etc/admissions/a/site.csr", "etc/admissions/a/roles",
                  "etc/admissions/a/passwords", "etc/admissions/a/site-name", "etc/admissions/authority", "etc/nginx/sites-available/other", "etc/tmpfiles.d/other.conf",
                  "etc/systemd/system/multi-user.target.wants/admissions@a.service", "etc/systemd/system/timers.target.wants/admissions-backup@a.timer",
-                 "etc/systemd/system/multi-user.target.wants/other.service", "run/admissions-index/a/index.json"):
+                 "etc/systemd/system/multi-user.target.wants/other.service", "run/admissions-index/a/desk/index.json"):
         (tmp_path / name).parent.mkdir(parents=True, exist_ok=True)
         (tmp_path / name).write_text(f"{name}\n")
     for name in ("etc/nginx/conf.d/admissions.conf", "etc/nginx/sites-available/admissions-a", "etc/tmpfiles.d/admissions-a.conf"):
@@ -79,7 +79,7 @@ def test_a_purge_removes_what_can_be_made_again_and_nothing_else(machine_root: p
     assert sorted(before.keys() - after.keys()) == [
         "etc/admissions/a/passwords", "etc/admissions/a/roles", "etc/admissions/a/site-name", "etc/admissions/authority", "etc/nginx/conf.d/admissions.conf",
         "etc/nginx/modules-enabled/90-admissions.conf", "etc/nginx/sites-available/admissions-a", "etc/systemd/system/multi-user.target.wants/admissions@a.service",
-        "etc/systemd/system/timers.target.wants/admissions-backup@a.timer", "etc/tmpfiles.d/admissions-a.conf", "run/admissions-index/a/index.json",
+        "etc/systemd/system/timers.target.wants/admissions-backup@a.timer", "etc/tmpfiles.d/admissions-a.conf", "run/admissions-index/a/desk/index.json",
         "var/lib/admissions/.running-before-upgrade"]
     for folder, count in (("var/lib", 4), ("var/backups", 4), ("var/log", 4), ("etc", 3)):
         assert f"admissions: {machine_root}/{folder}/admissions is kept, with {count} files:" in done.stdout
