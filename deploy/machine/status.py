@@ -74,6 +74,8 @@ def report(register: Register) -> dict[str, State]:
             out[name] = part(register)
         except (Failed, OSError) as error:
             out[name] = False, str(error)
+        except ValueError as error:
+            out[name] = False, f"cannot be read: {error}"
     return out
 
 
@@ -112,9 +114,13 @@ def site_of(register: Register) -> State:
 
 
 def first_certificate(register: Register) -> bytes:
-    text = certificates.paths(register)[1].read_text(encoding="ascii")
-    end = "-----END CERTIFICATE-----"
-    return ssl.PEM_cert_to_DER_cert(text[text.index("-----BEGIN"):].partition(end)[0] + end)
+    path = certificates.paths(register)[1]
+    # (beside the certificate may be any text, which nginx passes over)
+    text, end = path.read_text(encoding="ascii", errors="replace"), "-----END CERTIFICATE-----"
+    begin = text.find("-----BEGIN CERTIFICATE-----")
+    if begin < 0:
+        raise Failed(f"{path} has no certificate in the form PEM")
+    return ssl.PEM_cert_to_DER_cert(text[begin:].partition(end)[0] + end)
 
 
 def units_of(register: Register) -> State:
