@@ -30,6 +30,11 @@ class Register:
         return self.folder / "reg.db"
 
     @property
+    def is_made(self) -> bool:
+        """Whether there is something in its file: a crash while it was made may leave an empty one."""
+        return self.file.exists() and self.file.stat().st_size > 0
+
+    @property
     def copies(self) -> pathlib.Path:
         return COPIES / self.name
 

@@ -1,5 +1,4 @@
 """The nightly copies: their order, which are removed, what is beside them, and what status says of their times."""
-import argparse
 import datetime
 import gzip
 import io
@@ -11,6 +10,7 @@ import time
 import typing
 
 import pytest
+from conftest import given_to_setup
 from machine import certificates, copies, files, log_copies, logs, nightly, registers, settings_copy, setup, sites, status
 from machine.run import Failed
 
@@ -151,14 +151,6 @@ def copied_fixture(register: registers.Register, machine: pathlib.Path, write_as
     path = copy(register, "nightly-000001-2025-03-01T023000.db", with_settings=False)
     assert copy_settings(register) == 0
     return path
-
-
-def given_to_setup(*words: str) -> argparse.Namespace:
-    reader = argparse.ArgumentParser()
-    setup.arguments(reader)
-    space = reader.parse_args(words)
-    setup.checked(space)
-    return space
 
 
 def lines_of(folder: pathlib.Path) -> list[str]:
