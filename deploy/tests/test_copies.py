@@ -11,7 +11,7 @@ import typing
 
 import pytest
 from conftest import given_to_setup
-from machine import certificates, copies, files, log_copies, logs, nightly, registers, settings_copy, setup, sites, status
+from machine import certificates, copies, files, log_copies, logs, nightly, registers, second_copy, settings_copy, setup, sites, status
 from machine.run import Failed
 
 HOUR = 3600.0
@@ -231,6 +231,21 @@ def test_a_file_that_is_renamed_meanwhile_is_named(copied: pathlib.Path, registe
     (register.logs / "asked.log").write_text('{"n":4}\n{"n":5}\n{"n":6}\n')
     assert [it.partition(":")[0] for it in log_copies.copy(register)] == [f"{register.logs}/asked.log.7 was not copied"]
     assert lines_of(copied.parent / "log")[2:] == ['{"n":4}\n{"n":5}\n{"n":6}\n']
+
+
+@pytest.mark.parametrize("more, is_refused", [(-1, False), (0, False), (1, True)])
+def test_a_longer_log_at_the_second_place_is_not_replaced(more: int, is_refused: bool, copied: pathlib.Path, register: registers.Register,
+                                                          monkeypatch: pytest.MonkeyPatch) -> None:
+    """Where the place is listed as rsync lists it."""
+    paths = log_copies.made(copied.parent / "log")
+    sizes = {paths[0].name: paths[0].stat().st_size, paths[1].name: paths[1].stat().st_size + more, "asked-000009-0123456789abcdef.gz": 10**9}
+    listed = "drwx------          4,096 2025/03/03 02:30:00 .\ndrwx------          4,096 2025/03/03 02:30:00 log\n"
+    monkeypatch.setattr(second_copy, "rsync", lambda *_: listed + "".join(f"-rw------- {size:14} 2025/03/03 02:30:00 log/{name}\n" for name, size in sizes.items()))
+    if is_refused:
+        with pytest.raises(Failed, match=f"^vault:copies/x/log/{paths[1].name} is longer than {paths[1]}, and stays as it is"):
+            second_copy.see_none_longer(register, "vault:copies/x/")
+    else:
+        second_copy.see_none_longer(register, "vault:copies/x/")
 
 
 def test_what_is_beside_the_log_under_another_name_is_not_copied(copied: pathlib.Path, register: registers.Register) -> None:
