@@ -3,8 +3,8 @@
   second-copy NAME
 
 /etc/admissions/second-copy names the place in one line, as rsync names it: a folder of another disk, or of another machine by ssh. The folder NAME is made in
-it. Copies that are there stay as they are. A file of the log is replaced by a longer one; where the one there is longer, as another machine's may be, nothing of
-the log is copied, and the line says so. Then the newest copy and the archive of its settings are fetched back
+it. Copies that are there stay as they are. A file of the log is replaced by a longer one; where the one there is longer, as another machine's may
+be, nothing of the log is copied, and the line says so. Then the newest copy and the archive of its settings are fetched back
 and compared with the first ones byte by byte, the copy is opened by the program, and rsync compares the log by checksums.
 The result is in /var/backups/admissions/NAME/second-copy.report, which admissions-status reads. Where no place is named nothing is done.
 

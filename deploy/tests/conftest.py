@@ -1,5 +1,4 @@
 """What the tests of deploy/ share: the modules of deploy/machine, and a machine of folders in place of this one. They need no root, no nginx and no systemd."""
-import argparse
 import os
 import pathlib
 import sqlite3
@@ -17,15 +16,6 @@ from machine import registers, second_copy, settings_copy, setup, sites, status 
 # the modules that name a folder of the machine by a constant of registers
 WITH_FOLDERS = (registers, second_copy, settings_copy, setup, sites, status)
 FOLDERS = {"REGISTERS": "lib", "COPIES": "backups", "SETTINGS": "etc", "LOGS": "log"}
-
-
-def given_to_setup(*words: str) -> argparse.Namespace:
-    """What admissions-setup is given by these arguments, which it takes."""
-    reader = argparse.ArgumentParser()
-    setup.arguments(reader)
-    space = reader.parse_args(words)
-    setup.checked(space)
-    return space
 
 
 @pytest.fixture(name="machine")

@@ -10,9 +10,9 @@ import time
 import typing
 
 import pytest
-from conftest import given_to_setup
 from machine import certificates, copies, files, log_copies, logs, nightly, registers, second_copy, settings_copy, setup, sites, status
 from machine.run import Failed
+from setup_arguments import given_to_setup
 
 HOUR = 3600.0
 DAY = 24 * HOUR
@@ -186,7 +186,8 @@ def test_a_log_that_was_rotated_and_goes_on_is_copied_once(copied: pathlib.Path,
 
 
 @pytest.mark.parametrize("text, more", [("", []), ('{"n":4}\n', []), ('{"n":4}\n{"n":8}\n', ['{"n":8}\n']), ('{"n":9}\n', ['{"n":9}\n'])])
-def test_of_a_log_that_was_emptied_cut_or_changed_all_lines_come_back_once(text: str, more: list[str], copied: pathlib.Path, register: registers.Register) -> None:
+def test_of_a_log_that_was_emptied_cut_or_changed_all_lines_come_back_once(text: str, more: list[str], copied: pathlib.Path,
+                                                                          register: registers.Register) -> None:
     (register.logs / "asked.log").write_text(text)
     for _ in range(2):
         assert log_copies.copy(register) == []
@@ -200,11 +201,12 @@ def test_a_shorter_copy_of_an_earlier_release_adds_nothing(copied: pathlib.Path)
     assert lines_of(copied.parent / "log")[2:] == ['{"n":4}\n{"n":5}\n']
 
 
-DAMAGED: list[typing.Callable[[bytes], bytes]] = [lambda it: it[:-9], lambda it: it[:12], lambda it: b"no gzip", lambda it: it[:10] + b"\xff" * 8 + it[18:]]
+Damage = typing.Callable[[bytes], bytes]
+DAMAGED: list[Damage] = [lambda it: it[:-9], lambda it: it[:12], lambda it: b"no gzip", lambda it: it[:10] + b"\xff" * 8 + it[18:]]
 
 
 @pytest.mark.parametrize("damage", DAMAGED)
-def test_a_damaged_file_of_the_log_is_named_and_all_else_is_copied(damage: typing.Callable[[bytes], bytes], register: registers.Register, write_as_me: None) -> None:
+def test_a_damaged_file_of_the_log_is_named_and_all_else_is_copied(damage: Damage, register: registers.Register, write_as_me: None) -> None:
     path = copy(register, "nightly-000001-2025-03-01T023000.db", with_settings=False)
     (register.logs / "asked.log.2.gz").write_bytes(damage(gzip.compress(b'{"n":1}\n{"n":2}\n')))
     (register.logs / "asked.log").write_text('{"n":3}\n')
@@ -217,7 +219,7 @@ def test_a_damaged_file_of_the_log_is_named_and_all_else_is_copied(damage: typin
 
 
 @pytest.mark.parametrize("damage", DAMAGED)
-def test_a_damaged_copy_is_named_and_the_file_is_copied_beside_it(damage: typing.Callable[[bytes], bytes], copied: pathlib.Path, register: registers.Register) -> None:
+def test_a_damaged_copy_is_named_and_the_file_is_copied_beside_it(damage: Damage, copied: pathlib.Path, register: registers.Register) -> None:
     last = log_copies.made(copied.parent / "log")[-1]
     last.write_bytes(damage(last.read_bytes()))
     with pytest.raises(Failed, match=f"^{last} cannot be read: "):
@@ -240,7 +242,8 @@ def test_a_longer_log_at_the_second_place_is_not_replaced(more: int, is_refused:
     paths = log_copies.made(copied.parent / "log")
     sizes = {paths[0].name: paths[0].stat().st_size, paths[1].name: paths[1].stat().st_size + more, "asked-000009-0123456789abcdef.gz": 10**9}
     listed = "drwx------          4,096 2025/03/03 02:30:00 .\ndrwx------          4,096 2025/03/03 02:30:00 log\n"
-    monkeypatch.setattr(second_copy, "rsync", lambda *_: listed + "".join(f"-rw------- {size:14} 2025/03/03 02:30:00 log/{name}\n" for name, size in sizes.items()))
+    listed += "".join(f"-rw------- {size:14} 2025/03/03 02:30:00 log/{name}\n" for name, size in sizes.items())
+    monkeypatch.setattr(second_copy, "rsync", lambda *_: listed)
     if is_refused:
         with pytest.raises(Failed, match=f"^vault:copies/x/log/{paths[1].name} is longer than {paths[1]}, and stays as it is"):
             second_copy.see_none_longer(register, "vault:copies/x/")
@@ -272,7 +275,8 @@ def test_settings_and_log_come_back_where_there_are_none(copied: pathlib.Path, r
 
 
 @pytest.mark.parametrize("killed_after", [0, 1, 2])
-def test_a_log_that_came_back_halfway_is_completed(killed_after: int, copied: pathlib.Path, register: registers.Register, monkeypatch: pytest.MonkeyPatch) -> None:
+def test_a_log_that_came_back_halfway_is_completed(killed_after: int, copied: pathlib.Path, register: registers.Register,
+                                                   monkeypatch: pytest.MonkeyPatch) -> None:
     for path in register.logs.iterdir():
         path.unlink()
     written: list[pathlib.Path] = []
