@@ -108,6 +108,7 @@ def write(path: pathlib.Path, text: str) -> bool:
 
 def write_hash(register: Register, user: str, line: str | None) -> None:
     """Puts this line in the place of that of a user in the file of passwords, or behind all others; or removes it. All else stays."""
+    hashes_of(register)  # (which refuses a user who is there twice)
     lines, new = read(passwords_path(register)).splitlines(), [] if line is None else [line]
     at = next((at for at, it in enumerate(lines) if user_of(it) == user), len(lines))
     write(passwords_path(register), "".join(f"{it}\n" for it in lines[:at] + new + lines[at + 1:]))

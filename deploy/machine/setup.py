@@ -256,12 +256,12 @@ def make_settings(register: Register, given: argparse.Namespace) -> typing.Itera
 
 def make_user(register: Register, given: argparse.Namespace, changes: Changes) -> typing.Iterator[str]:
     """The user with the role and, where there was none or another is wanted, a password."""
-    user, found = given.user, people.role_of(register, given.user)
+    user, found, hashes = given.user, people.role_of(register, given.user), people.hashes_of(register)
     if found != changes.role:
         raise Failed(f"the role of {user} was changed meanwhile: it is {found or 'none'}")
     if given.role and (changed := people.set_role(register, user, given.role)) and found:
         yield changed
-    if user in people.hashes_of(register) and not given.new_password:
+    if user in hashes and not given.new_password:
         yield f"{user} keeps the password"
     else:
         yield f"{user} signs in at https://{register.host}/ with the password {people.set_password(register, user)}"

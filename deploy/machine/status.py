@@ -237,11 +237,14 @@ def copy_of(register: Register) -> State:
     text = f"{made[-1].name}, {age_text(old)}, {len(made)} of them"
     if ahead := [it for it in made[:-1] if is_ahead(copies.age(it))]:
         return False, f"{text}; {ahead[0].name} is {age_text(copies.age(ahead[0]))} Rename it to keep it, or remove it"
-    if not copies.settings_of(made[-1]).exists():
+    archive = copies.settings_of(made[-1])
+    if not archive.exists():
         return False, f"{text}; without users and settings: journalctl -u admissions-second-copy@{register.name}"
     beside = report_of(register, BESIDE)
     if beside and "WARNING" in beside[0]:
         return False, f"{text}; {beside[0]}"
+    if beside and beside[1] > time.time() - archive.stat().st_mtime:
+        return False, f"{text}; without the whole log: journalctl -u admissions-second-copy@{register.name}"
     return is_recent(old, COPY_HOURS * 3600), text
 
 

@@ -228,6 +228,16 @@ def test_a_damaged_copy_is_named_and_the_file_is_copied_beside_it(damage: Damage
     assert copy_settings(register) == 0
 
 
+def test_copies_that_ended_before_the_log_are_reported(copied: pathlib.Path, register: registers.Register, monkeypatch: pytest.MonkeyPatch) -> None:
+    assert status.copy_of(register)[0] is True
+    copy(register, "nightly-000002-2025-03-02T023000.db", with_settings=False)
+    monkeypatch.setattr(log_copies, "copy", lambda _: 1 / 0)
+    with pytest.raises(ZeroDivisionError):
+        copy_settings(register)
+    is_well, text = status.copy_of(register)
+    assert (is_well, "without the whole log" in text) == (False, True)
+
+
 def test_a_file_that_is_renamed_meanwhile_is_named(copied: pathlib.Path, register: registers.Register, monkeypatch: pytest.MonkeyPatch) -> None:
     monkeypatch.setattr("machine.logs.in_order", lambda folder: [folder / "asked.log.7", folder / "asked.log"])
     (register.logs / "asked.log").write_text('{"n":4}\n{"n":5}\n{"n":6}\n')

@@ -244,7 +244,10 @@ def test_a_second_password_of_a_user_is_refused_before_any_change(users: registe
     for change in (people.users_of, lambda it: setup.list_users(it), lambda it: list(setup.make_user(it, given_user("ben"), setup.Changes(None, None)))):
         with pytest.raises(Failed, match=f"^{path}, line 4: jane is in an earlier line already$"):
             change(users)
+    with pytest.raises(Failed, match="line 4: jane is in an earlier line already"):
+        people.remove(users, "jane")
     assert path.read_text() == "# jane:\njane:$6$x\nalpha:$6$y\njane:$6$z\n"
+    assert (users.settings / "roles").read_text() == "# who may do what\njane office;\nalpha school-A;\n"
 
 
 def given_user(name: str, *more: str) -> argparse.Namespace:
