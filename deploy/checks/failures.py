@@ -106,7 +106,7 @@ def other_site(page, see):
 
 def without_index(world, page, see):
     """A register whose index could not be written: the page finds by numbers and codes, and says why it does no more."""
-    index = world.room / "index/index.json"
+    index = world.room / "index/desk/index.json"
     kept = index.read_bytes()
     index.unlink()
     opened(page, "/?without")

@@ -24,7 +24,8 @@ from machine import sites
 model = pathlib.Path(sys.argv[2]).read_text(encoding="utf-8")
 here = sites.this_machine()
 if sys.argv[3:] == ["main"]:
-    print(sites.limits_text() + sites.main_text("events {\\n\\tworker_connections 768;\\n}"))
+    main = "events {\\n\\tworker_connections 768;\\n}"
+    print(sites.limits_text(main) + sites.main_text(main))
 elif sys.argv[3:]:
     print(sites.site_text(model, *sys.argv[3:], here))
 else:
@@ -120,7 +121,7 @@ class World:
         self.name, self.host, self.lines, self.people = name, host, lines, people or PEOPLE
         self.root, self.prefix, self.file, self.settings = installation.root, installation.prefix, room / "reg.db", room / "settings"
         self.site_port, self.desk_port = 0, free_port()  # the desk's port is in a network of its own
-        for folder in ("run", "log", "copies", "temp", "index", "downloads", "settings"):
+        for folder in ("run", "log", "copies", "temp", "index/desk", "downloads", "settings"):
             (room / folder).mkdir(parents=True)
         self.passwords = {name: os.urandom(9).hex() for name in self.people}
         self.environment = {**os.environ, "PATH": f"{self.prefix}/bin:/usr/sbin:/sbin:{os.environ['PATH']}", "no_proxy": "*", "HOME": str(room)}
@@ -195,7 +196,7 @@ class World:
     def write_index(self):
         """As the unit of the desk does before each start, after the log is merged."""
         self.run("admissions", "do", self.file)
-        return self.run(self.prefix / "lib/admissions/index", self.file, self.room / "index")
+        return self.run(self.prefix / "lib/admissions/index", self.file, self.room / "index/desk")
 
     def start_desk(self):
         self.write_index()

@@ -47,8 +47,8 @@ def is_self_signed(certificate: pathlib.Path) -> bool:
     return len({line.partition("=")[2] for line in names}) == 1
 
 
-def take(register: Register, certificate: str, key: str) -> bool:
-    """Takes a certificate and its key from files. Returns whether they are others than before."""
+def pair(certificate: str, key: str) -> tuple[str, str]:
+    """The texts of a certificate and its key."""
     try:
         with open(certificate, encoding="ascii") as one, open(key, encoding="ascii") as other:
             texts = one.read(), other.read()
@@ -56,7 +56,18 @@ def take(register: Register, certificate: str, key: str) -> bool:
         raise Failed(f"{certificate} or {key} is not in the form PEM, which is text") from error
     if public_key("x509", "-pubkey", "-noout", "-in", certificate) != public_key("pkey", "-pubout", "-in", key):
         raise Failed(f"{certificate} is not of the key {key}")
-    to_key, to_certificate, _ = paths(register)
+    return texts
+
+
+def is_lost(register: Register, certificate: str, key: str) -> bool:
+    """Whether another certificate or key is there, which these would replace."""
+    texts, (to_key, to_certificate, _) = pair(certificate, key), paths(register)
+    return any(path.exists() and path.read_bytes() != text.encode() for path, text in zip((to_certificate, to_key), texts))
+
+
+def take(register: Register, certificate: str, key: str) -> bool:
+    """Takes a certificate and its key from files. Returns whether they are others than before."""
+    texts, (to_key, to_certificate, _) = pair(certificate, key), paths(register)
     return any([files.write(to_certificate, texts[0], 0o644), files.write(to_key, texts[1], 0o600)])
 
 

@@ -20,7 +20,7 @@ from . import copies
 from .registers import Register, known, open_error, rows, season_of
 from .run import Failed, call, program
 from .second_copy import fetched, now, place_of, write_report
-from .settings_copy import members_of
+from .settings_copy import OWN, members_of
 
 REPORT = "drill.report"
 COUNTS = {"schools": "school", "children": "child", "applications": "application", "places": "place", "rounds and fills": "draw"}
@@ -70,6 +70,6 @@ def settings_text(copy: pathlib.Path) -> str:
     found = members_of(copy)
     if not found:
         return "without settings"
-    if missing := {"passwords", "roles", "site-name"} - found.keys():
+    if missing := set(OWN) - found.keys():
         raise Failed(f"the settings of {copy} lack {', '.join(sorted(missing))}")
-    return f"settings with {len(found['passwords'][1].splitlines())} users"
+    return f"settings with {len(found['passwords'].splitlines())} users"

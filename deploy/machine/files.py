@@ -9,7 +9,7 @@ import sys
 import tempfile
 import typing
 
-from .run import Failed
+from .run import USER, Failed
 
 LOCK = pathlib.Path("/run/admissions-setup.lock")
 
@@ -47,14 +47,15 @@ def folder(path: pathlib.Path, mode: int, user: str = "root", group: str = "root
     return is_new or is_other
 
 
-def write(path: pathlib.Path, text: str, mode: int, user: str = "root", group: str = "root") -> bool:
-    """Gives a file this text in one step, if it has another. Returns whether it had."""
-    if path.exists() and path.read_text(encoding="utf-8") == text:
+def write(path: pathlib.Path, content: str | bytes, mode: int, user: str = "root", group: str = "root") -> bool:
+    """Gives a file this content in one step, if it has another. Returns whether it had."""
+    data = content.encode() if isinstance(content, str) else content
+    if path.exists() and path.read_bytes() == data:
         return False
     handle, new = tempfile.mkstemp(prefix=f".{path.name}.", dir=path.parent)
     try:
-        with open(handle, "w", encoding="utf-8") as out:
-            out.write(text)
+        with open(handle, "wb") as out:
+            out.write(data)
             out.flush()
             os.fsync(out.fileno())
         os.chown(new, *numbers(user, group))
@@ -74,3 +75,36 @@ def link(path: pathlib.Path, target: str) -> bool:
         raise Failed(f"{path} is there already, and is no link to {target}")
     path.symlink_to(target)
     return True
+
+
+@contextlib.contextmanager
+def as_desk() -> typing.Iterator[None]:
+    """What is written meanwhile is written by the user of the desks, as whom no link in a folder of theirs leads to a file of root."""
+    if os.geteuid() != 0:
+        yield
+        return
+    user, group = numbers(USER, USER)
+    os.setegid(group)
+    os.seteuid(user)
+    try:
+        yield
+    finally:
+        os.seteuid(0)
+        os.setegid(0)
+
+
+def write_as_desk(path: pathlib.Path, data: bytes, modified: int | None = None) -> None:
+    """Gives a file these bytes and, where it is given, this time, in one step; it is of the user of the desks alone."""
+    with as_desk():
+        handle, new = tempfile.mkstemp(prefix=f".{path.name}.", dir=path.parent)
+        try:
+            with open(handle, "wb") as out:
+                out.write(data)
+                out.flush()
+                os.fsync(out.fileno())
+            if modified is not None:
+                os.utime(new, ns=(modified, modified))
+            os.rename(new, path)
+        except BaseException:
+            os.unlink(new)
+            raise

@@ -2,10 +2,10 @@
 import contextlib
 import datetime
 import pathlib
-import shutil
 import tempfile
 import typing
 
+from . import files
 from .registers import Register, open_error, rows, season_of
 from .run import USER, Failed, call, is_booted, program, tool
 
@@ -43,14 +43,15 @@ def see_empty(register: Register) -> None:
 def change(register: Register, days: list[str], before: list[str]) -> str:
     """Makes the register anew with these days, while its desk is stopped. What was there is kept as a copy beside it."""
     season = season_of(register.file)
-    with stopped(register), tempfile.TemporaryDirectory(dir=register.folder, prefix="reg.db.part-") as room:
+    with files.as_desk():
+        part = tempfile.TemporaryDirectory(dir=register.folder, prefix="reg.db.part-")
+    with stopped(register), part as room:
         # (the file alone is the register only after the program has closed it)
         if error := open_error(register.file, as_user=USER):
             raise Failed(f"{register.file} does not open: {error}")
         see_empty(register)
         if days_of(register.file) != before:
             raise Failed(f"the holidays of {register.name} were changed meanwhile: they are {', '.join(days_of(register.file))}")
-        shutil.chown(room, USER, USER)
         new = pathlib.Path(room, "reg.db")
         call(program("admissions"), "init", new, season.phase, season.year, *days, as_user=USER)
         done = call(program("admissions-restore"), new, register.file, as_user=USER)

@@ -47,12 +47,17 @@ def passwords_path(register: Register) -> pathlib.Path:
 
 
 def roles_of(register: Register) -> dict[str, str]:
-    """The users of the file of roles. A line that is none of its form, by which nginx would refuse the sites, is an error that names it."""
+    """The users of the file of roles."""
+    return roles_in(read(roles_path(register)), str(roles_path(register)))
+
+
+def roles_in(text: str, name: str) -> dict[str, str]:
+    """The users of a text of roles. A line that is none of its form, by which nginx would refuse the sites, is an error that names it."""
     out: dict[str, str] = {}
-    for at, line in enumerate(read(roles_path(register)).splitlines(), 1):
+    for at, line in enumerate(text.splitlines(), 1):
         if NOTHING.fullmatch(line):
             continue
-        where, found = f"{roles_path(register)}, line {at}", LINE.fullmatch(line)
+        where, found = f"{name}, line {at}", LINE.fullmatch(line)
         if not found:
             raise Failed(f"{where}: {line.strip()!r} is not of the form 'USER ROLE;'")
         if found["user"] in out:
@@ -61,10 +66,22 @@ def roles_of(register: Register) -> dict[str, str]:
     return out
 
 
+def user_of(line: str) -> str | None:
+    """The user of a line of the file of passwords, or None: as nginx reads it, a remark or nothing."""
+    name, colon, _ = line.partition(":")
+    return name if colon and not line.startswith("#") else None
+
+
 def hashes_of(register: Register) -> dict[str, str]:
-    """The users of the file of passwords, each with the line."""
-    lines = read(passwords_path(register)).splitlines()
-    return {line.partition(":")[0]: line for line in lines if ":" in line}
+    """The users of the file of passwords, each with the line. A second line of a user, which nginx does not look at, is an error that names it."""
+    out: dict[str, str] = {}
+    for at, line in enumerate(read(passwords_path(register)).splitlines(), 1):
+        user = user_of(line)
+        if user in out:
+            raise Failed(f"{passwords_path(register)}, line {at}: {user} is in an earlier line already")
+        if user is not None:
+            out[user] = line
+    return out
 
 
 def users_of(register: Register) -> list[User]:
@@ -85,21 +102,25 @@ def problems_of(register: Register) -> list[str]:
     return out
 
 
-def write_roles(register: Register, text: str) -> None:
-    files.write(roles_path(register), text, 0o640, group=GROUP)
+def write(path: pathlib.Path, text: str) -> bool:
+    """Gives a file of users this text, for root and nginx alone. Returns whether it had another."""
+    return files.write(path, text, 0o640, group=GROUP)
 
 
-def write_hashes(register: Register, hashes: dict[str, str]) -> None:
-    text = "".join(f"{line}\n" for line in hashes.values())
-    files.write(passwords_path(register), text, 0o640, group=GROUP)
+def write_hash(register: Register, user: str, line: str | None) -> None:
+    """Puts this line in the place of that of a user in the file of passwords, or behind all others; or removes it. All else stays."""
+    hashes_of(register)  # (which refuses a user who is there twice)
+    lines, new = read(passwords_path(register)).splitlines(), [] if line is None else [line]
+    at = next((at for at, it in enumerate(lines) if user_of(it) == user), len(lines))
+    write(passwords_path(register), "".join(f"{it}\n" for it in lines[:at] + new + lines[at + 1:]))
 
 
 def make_files(register: Register) -> None:
     """Makes the two files, without users, where they are not there."""
     if not roles_path(register).exists():
-        write_roles(register, read(share() / "roles"))
+        write(roles_path(register), read(share() / "roles"))
     if not passwords_path(register).exists():
-        write_hashes(register, {})
+        write(passwords_path(register), "")
 
 
 def set_role(register: Register, user: str, role: str) -> str | None:
@@ -108,10 +129,10 @@ def set_role(register: Register, user: str, role: str) -> str | None:
     if before == role:
         return None
     if before is None:
-        write_roles(register, text + ("" if not text or text.endswith("\n") else "\n") + f"{user} {role};\n")
+        write(roles_path(register), text + ("" if not text or text.endswith("\n") else "\n") + f"{user} {role};\n")
         return f"{user} has the role {role}"
     line = rf"(?m)^(\s*{re.escape(user)}\s+){re.escape(before)}(?=\s*;)"
-    write_roles(register, re.sub(line, rf"\g<1>{role}", text))
+    write(roles_path(register), re.sub(line, rf"\g<1>{role}", text))
     return f"{user} has the role {role}, and no longer {before}"
 
 
@@ -120,16 +141,16 @@ def set_password(register: Register, user: str) -> str:
     password = secrets.token_urlsafe(18)
     salt = f"rounds={ROUNDS}${secrets.token_hex(8)}"
     hashed = call(tool("openssl", "openssl"), "passwd", "-6", "-salt", salt, "-stdin", text=password + "\n")
-    write_hashes(register, hashes_of(register) | {user: f"{user}:{hashed.stdout.strip()}"})
+    write_hash(register, user, f"{user}:{hashed.stdout.strip()}")
     return password
 
 
 def remove(register: Register, user: str) -> None:
     """Removes a user: the password first, without which the next request is refused."""
-    write_hashes(register, {name: line for name, line in hashes_of(register).items() if name != user})
+    write_hash(register, user, None)
     lines = read(roles_path(register)).splitlines(keepends=True)
     others = [it for it in lines if not ((found := LINE.fullmatch(it.rstrip("\n"))) and found["user"] == user)]
-    write_roles(register, "".join(others))
+    write(roles_path(register), "".join(others))
 
 
 def role_of(register: Register, user: str) -> str | None:

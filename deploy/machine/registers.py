@@ -30,6 +30,11 @@ class Register:
         return self.folder / "reg.db"
 
     @property
+    def is_made(self) -> bool:
+        """Whether there is something in its file: a crash while it was made may leave an empty one."""
+        return self.file.exists() and self.file.stat().st_size > 0
+
+    @property
     def copies(self) -> pathlib.Path:
         return COPIES / self.name
 
@@ -47,7 +52,7 @@ class Register:
 
     @property
     def index(self) -> pathlib.Path:
-        """The folder of its index, for the page."""
+        """The folder of what the page reads: the commands since and, in a folder of the desk, the index."""
         return pathlib.Path("/run/admissions-index", self.name)
 
     @property

@@ -3,7 +3,9 @@
   second-copy NAME
 
 /etc/admissions/second-copy names the place in one line, as rsync names it: a folder of another disk, or of another machine by ssh; or it has the line
-`none`, by which an office has decided against a second place. The folder NAME is made in the place. Copies that are there stay as they are; of the log, what is new is added. Then the newest copy and the archive of its settings are fetched back
+`none`, by which an office has decided against a second place. The folder NAME is made in the place. Copies that are there stay as they are. A file of
+the log is replaced by a longer one; where the one there is longer, as another machine's may
+be, nothing of the log is copied, and the line says so. Then the newest copy and the archive of its settings are fetched back
 and compared with the first ones byte by byte, the copy is opened by the program, and rsync compares the log by checksums.
 The result is in /var/backups/admissions/NAME/second-copy.report, which admissions-status reads. Where no place is named nothing is done.
 
@@ -16,12 +18,13 @@ import argparse
 import datetime
 import os
 import pathlib
+import re
 import tempfile
 
-from . import copies
+from . import copies, files
+from .log_copies import FOLDER as LOG
 from .registers import SETTINGS, Register, known, open_error
 from .run import USER, Failed, call, tool
-from .settings_copy import LOG
 
 REPORT = "second-copy.report"
 # what is written where there shall be no second place
@@ -93,6 +96,7 @@ def copied(register: Register, place: str) -> str:
     rsync("--ignore-existing", "--dirs", *filters, "--exclude", "*", f"{register.copies}/", there)
     has_log = (register.copies / LOG).is_dir()
     if has_log:
+        see_none_longer(register, there)
         rsync("--recursive", register.copies / LOG, there)
     settings = copies.settings_of(made[-1])
     with tempfile.TemporaryDirectory() as room:
@@ -105,8 +109,18 @@ def copied(register: Register, place: str) -> str:
         raise Failed(f"{there}{LOG} is not equal to {register.copies / LOG}: {' '.join(differs.split())}")
     is_same = is_local(place) and os.stat(place).st_dev == os.stat(register.copies).st_dev
     return (f"{now()} {made[-1].name} is in {place}/{register.name}, equal to the first copy, and opens"
-            + ("" if settings.exists() else "; WARNING: without users, settings and log")
+            + ("" if settings.exists() else "; WARNING: without users and settings")
             + ("; WARNING: on the same disk as the first copies" if is_same else ""))
+
+
+def see_none_longer(register: Register, there: str) -> None:
+    """Refuses to replace a file of the log by a shorter one: the copies here are only ever made longer, so that there is of another machine."""
+    listed = rsync("--list-only", "--recursive", "--no-human-readable", "--include", f"/{LOG}", "--include", f"/{LOG}/*", "--exclude", "*", there)
+    for size, name in re.findall(rf"(?m)^-\S+ +(\d+) \S+ \S+ {LOG}/(.+)$", listed):
+        here = register.copies / LOG / name
+        if here.exists() and here.stat().st_size < int(size):
+            raise Failed(f"{there}{LOG}/{name} is longer than {here}, and stays as it is. Does another machine copy to the same place?"
+                         " Rename it there to keep it, and repeat this")
 
 
 def fetched(place: str, register: Register, name: str, room: str) -> pathlib.Path:
@@ -121,7 +135,4 @@ def now() -> str:
 
 def write_report(register: Register, name: str, text: str) -> None:
     """A report beside the copies, in one step."""
-    new = register.copies / f".{name}.new"
-    new.write_text(text, encoding="utf-8")
-    new.chmod(0o600)
-    os.replace(new, register.copies / name)
+    files.write_as_desk(register.copies / name, text.encode())

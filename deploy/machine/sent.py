@@ -8,8 +8,10 @@ earlier files. TIME is a day or a moment of the local time of the log, such as 2
 command is printed as it was sent, except that a line break between its fields is a space. Commands
 that were sent by `admissions do` are not in the log.
 
-An entry that cannot be read, as a crash or a full disk may leave one, is named on the standard
-error with its file and line, and all others are printed: look whether its command is done.
+Two kinds of entries are not printed, but named on the standard error with file and line: one that
+cannot be read, as a crash or a full disk may leave it; and a command that ended with a status of
+500 or more, as where the connection to the desk broke. Look there who sent it and what it was, and
+whether it is done.
 
 example:
   admissions-sent secondary-2025 2025-03-03T02:30 > again.jsonl
@@ -19,18 +21,15 @@ arguments.
 """
 import argparse
 import datetime
-import gzip
 import json
 import pathlib
-import re
 import sys
-import zlib
 from collections.abc import Iterator
 
+from . import logs
 from .registers import named
 from .run import Failed
 
-LOG = re.compile(r"asked\.log(?:\.([0-9]+)(?:\.gz)?)?")
 # How each entry begins. nginx escapes the quotation marks within its values, so these bytes are
 # nowhere else in a log, whatever was sent
 BEGIN = b'{"at":"'
@@ -47,52 +46,44 @@ def arguments(reader: argparse.ArgumentParser) -> None:
 
 
 def main(given: argparse.Namespace) -> int:
-    logs = named(given.name).logs
+    folder = named(given.name).logs
     try:
         since = datetime.datetime.fromisoformat(given.since).astimezone()
     except ValueError as error:
         raise Failed(f"{given.since!r} is no moment: YYYY-MM-DD or YYYY-MM-DDTHH:MM", 2) from error
-    files = in_order(logs)
+    files = logs.in_order(folder)
     if not files:
-        raise Failed(f"{logs} has no asked.log")
+        raise Failed(f"{folder} has no asked.log")
     doubtful: list[str] = []
-    unread = 0
+    count = 0
     for path in files:
         for place, entry in entries(path):
             try:
-                moment, command = read(entry)
+                moment, command, failure = read(entry)
             except (ValueError, KeyError, TypeError, AttributeError):
-                doubtful.append(place)
+                doubtful.append(f"{place}: an entry cannot be read")
                 continue
             if moment < since:
                 # (and what was before it is older still)
                 doubtful.clear()
                 continue
-            unread += report(doubtful)
+            if failure:
+                doubtful.append(f"{place}: a command ended with the status {failure}")
+            count += report(doubtful)
             if command is not None:
                 sys.stdout.buffer.write(command + b"\n")
-    unread += report(doubtful)
-    return 1 if unread else 0
+    count += report(doubtful)
+    return 1 if count else 0
 
 
-def report(places: list[str]) -> int:
-    """Names the entries that cannot be read, and returns how many they are."""
+def report(doubtful: list[str]) -> int:
+    """Names the entries whose command may be done or not, and returns how many they are."""
     sys.stdout.flush()
-    for place in places:
-        said = f"{place}: an entry cannot be read: look whether its command is done"
-        print(f"admissions-sent: {said}", file=sys.stderr)
-    count = len(places)
-    places.clear()
+    for it in doubtful:
+        print(f"admissions-sent: {it}: look whether its command is done", file=sys.stderr)
+    count = len(doubtful)
+    doubtful.clear()
     return count
-
-
-def in_order(logs: pathlib.Path) -> list[pathlib.Path]:
-    """The files of a log, the oldest first: .., asked.log.2.gz, asked.log.1, asked.log."""
-    # (while logrotate compresses a file, it is there in both forms, and the last one taken is
-    # whole)
-    paths = sorted(logs.glob("asked.log*"), reverse=True)
-    found = {int(name[1] or 0): it for it in paths if (name := LOG.fullmatch(it.name))}
-    return [found[number] for number in sorted(found, reverse=True)]
 
 
 def entries(path: pathlib.Path) -> Iterator[tuple[str, bytes]]:
@@ -101,21 +92,27 @@ def entries(path: pathlib.Path) -> Iterator[tuple[str, bytes]]:
     """
     at = 0
     try:
-        with gzip.open(path) if path.suffix == ".gz" else open(path, "rb") as file:
+        with logs.opened(path) as file:
             for at, line in enumerate(file, 1):
                 before, *rest = line.rstrip(b"\n").split(BEGIN)
                 for entry in [before] * bool(before) + [BEGIN + it for it in rest]:
                     yield f"{path}, line {at}", entry
-    except (OSError, EOFError, zlib.error):
+    except logs.UNREADABLE:
         # (what follows in a damaged file is one entry that cannot be read)
         yield f"{path}, after line {at}", b""
 
 
-def read(entry: bytes) -> tuple[datetime.datetime, bytes | None]:
-    """The moment of an entry; and its command on one line, or nothing if it has none that was done.
+def read(entry: bytes) -> tuple[datetime.datetime, bytes | None, str | None]:
+    """The moment of an entry; its command on one line, if it has one that was done; and its status,
+    if it has a command that may be done or not.
     """
     line: dict[str, str] = json.loads(entry.decode("utf-8", "surrogateescape"))
-    moment = datetime.datetime.fromisoformat(line["at"]).astimezone()
-    if (line["method"], line["target"], line["status"]) != ("POST", "/command", "200"):
-        return moment, None
-    return moment, line["body"].translate(BETWEEN_TOKENS).encode("utf-8", "surrogateescape")
+    moment, status = datetime.datetime.fromisoformat(line["at"]).astimezone(), line["status"]
+    if (line["method"], line["target"]) != ("POST", "/command"):
+        return moment, None, None
+    if status != "200":
+        # (where the queue is full, nothing was passed on: the site answers for the desk)
+        is_busy = (status, line.get("desk")) == ("503", "502")
+        return moment, None, status if status.startswith("5") and not is_busy else None
+    command = line["body"].translate(BETWEEN_TOKENS)
+    return moment, command.encode("utf-8", "surrogateescape"), None

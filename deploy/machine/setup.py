@@ -13,7 +13,7 @@ left beside it.
 The third form adds a user, changes the role of one, draws another password, removes a user, or lists them. A password is drawn, and printed once. The
 fourth form replaces the holidays of a register that is still empty. The last form makes all sites again, after a change of
 /etc/nginx/sites-available/admissions.
-A change of what is there is shown, and is done after a yes on the terminal, or with --yes.
+A change of what is there is shown, and is done after a yes on the terminal, or with --yes. --new-password alone ends the old password without a question.
 
 example:
   admissions-setup secondary-2025 --phase secondary --year 2025 --holiday 2025-04-18 --site admissions.example --user jane --role office
@@ -23,7 +23,6 @@ exit status: 0 done; 1 not or not wholly done, and the line says why: correct th
 import argparse
 import os
 import pathlib
-import shutil
 import sys
 import time
 import typing
@@ -63,6 +62,7 @@ def arguments(reader: argparse.ArgumentParser) -> None:
 def main(given: argparse.Namespace) -> int:
     if os.geteuid() != 0:
         raise Failed("only root can set up a register")
+    see_one_command(given)
     for command, package in NEEDED.items():
         tool(command, package)
     if given.sites:
@@ -107,6 +107,15 @@ def make_sites() -> list[str]:
     return sites.make_all()
 
 
+def see_one_command(given: argparse.Namespace) -> None:
+    """Refuses the options of two commands together, of which one would not be done."""
+    options = [name for name, value in vars(given).items() if value and name not in ("name", "yes")]
+    for command in ("sites", "users", "remove"):
+        if command in options and len(options) > 1:
+            other = next(it for it in options if it != command)
+            raise Failed(f"--{command} and --{other.replace('_', '-')} belong to different commands", 2)
+
+
 def checked(given: argparse.Namespace) -> None:
     """Refuses what is wrong before anything is asked or made."""
     if given.year is not None:
@@ -130,21 +139,21 @@ def completed(given: argparse.Namespace) -> Register:
     """The register; what is not given is asked for."""
     if given.copy:
         given.name = given.name or name_of(season_of(pathlib.Path(given.copy)))
-    elif given.name is None or not named(given.name).file.exists():
+    elif given.name is None or not named(given.name).is_made:
         given.phase = given.phase or ask("--phase (primary or secondary)", answers.phase)
         given.year = given.year or ask("--year of entry", answers.year)
         given.name = given.name or name_of(given)
-        is_asked = not given.has_holidays and not named(given.name).file.exists() and sys.stdin.isatty()
+        is_asked = not given.has_holidays and not named(given.name).is_made and sys.stdin.isatty()
         if is_asked:
             given.holiday = ask("--holiday days (YYYY-MM-DD, separated by blanks), or none",
                                 lambda it: answers.holidays([] if it == answers.NONE else it.split()), answers.NONE)
     register = named(given.name)
     copied = settings_copy.names_of(given.copy) if given.copy else {}
-    given.site = given.site or register.host or copied.get("site-name") \
+    given.site = given.site or register.host or copied.get("site-name") and answers.host(copied["site-name"]) \
         or ask("--site, the name by which browsers find it", answers.host)
     if not given.user and "passwords" not in copied and not people.passwords_path(register).exists():
         given.user = ask("--user, who signs in first", answers.user)
-    if given.user and not given.role and people.role_of(register, given.user) is None:
+    if given.user and not given.role and role_before(register, given) is None:
         given.role = ask(f"--role of {given.user}: {people.ROLES}", answers.role)
     if given.authority is None and not AUTHORITY.exists() and "authority" not in copied and sys.stdin.isatty():
         given.authority = ask("--authority, the name that is printed on each sheet, or none",
@@ -165,17 +174,30 @@ class Changes(typing.NamedTuple):
 
 def confirmed(register: Register, given: argparse.Namespace) -> Changes:
     """Shows what of a register that is there will be changed, and has it confirmed."""
-    role = people.role_of(register, given.user) if given.user else None
+    role = role_before(register, given) if given.user else None
     if role and given.role and role != given.role:
         confirm(f"the role of {given.user} changes from {role} to {given.role}", given.yes)
+    authority = AUTHORITY.read_text(encoding="utf-8").strip() if AUTHORITY.exists() else ""
+    if given.authority and authority and given.authority != authority:
+        confirm(f"the name of the authority on the sheets of all registers changes from {authority} to {given.authority}", given.yes)
+    if given.certificate and certificates.is_lost(register, given.certificate, given.key):
+        confirm(f"the certificate and the key of {register.name} are replaced, and those that are there are kept nowhere", given.yes)
     before = None
-    if given.has_holidays and register.file.exists() and register.file.stat().st_size:
+    if given.has_holidays and register.is_made:
         if change := holidays.change_of(register, given.holiday):
             before = holidays.days_of(register.file)
             confirm(change, given.yes)
         else:
             print(f"{register.name} has just these holidays")
     return Changes(role, before)
+
+
+def role_before(register: Register, given: argparse.Namespace) -> str | None:
+    """The role of the user that is given, or None: among its users or, where it has none, among those beside the copy, which it will have."""
+    roles = people.roles_of(register)
+    if not roles and given.copy:
+        roles = people.roles_in(settings_copy.names_of(given.copy).get("roles", ""), f"the roles beside {given.copy}")
+    return roles.get(given.user)
 
 
 def see_site_is_free(register: Register, given: argparse.Namespace) -> None:
@@ -197,7 +219,7 @@ def make_folders(register: Register, _: argparse.Namespace) -> typing.Iterator[s
 def make_register(register: Register, given: argparse.Namespace) -> typing.Iterator[str]:
     """Makes the register, or sees that the one that is there is the one that is named."""
     file = register.file
-    if file.exists() and file.stat().st_size:
+    if register.is_made:
         found = season_of(file)
         if given.phase not in (None, found.phase) or given.year not in (None, found.year):
             raise Failed(f"{file} is the register of {found.phase} {found.year} already: give another one another NAME")
@@ -206,11 +228,13 @@ def make_register(register: Register, given: argparse.Namespace) -> typing.Itera
     elif given.copy:
         call(program("admissions-restore"), os.path.abspath(given.copy), file)
         for path in register.folder.iterdir():
-            shutil.chown(path, USER, USER)
+            # (of a link, which the user of the desks may have made, that itself)
+            os.chown(path, *files.numbers(USER, USER), follow_symlinks=False)
         yield f"made {file} from {given.copy}"
     else:
         call(program("admissions"), "init", file, given.phase, given.year, *given.holiday, as_user=USER)
-        yield f"made {file}, for {given.phase} {given.year}, {f'holidays ' if given.holiday else 'without holidays'}{' '.join(given.holiday)}"
+        days = f"holidays {' '.join(given.holiday)}" if given.holiday else "without holidays"
+        yield f"made {file}, for {given.phase} {given.year}, {days}"
 
 
 def take_settings(register: Register, given: argparse.Namespace) -> typing.Iterator[str]:
@@ -239,12 +263,12 @@ def make_settings(register: Register, given: argparse.Namespace) -> typing.Itera
 
 def make_user(register: Register, given: argparse.Namespace, changes: Changes) -> typing.Iterator[str]:
     """The user with the role and, where there was none or another is wanted, a password."""
-    user, found = given.user, people.role_of(register, given.user)
+    user, found, hashes = given.user, people.role_of(register, given.user), people.hashes_of(register)
     if found != changes.role:
         raise Failed(f"the role of {user} was changed meanwhile: it is {found or 'none'}")
     if given.role and (changed := people.set_role(register, user, given.role)) and found:
         yield changed
-    if user in people.hashes_of(register) and not given.new_password:
+    if user in hashes and not given.new_password:
         yield f"{user} keeps the password"
     else:
         yield f"{user} signs in at https://{register.host}/ with the password {people.set_password(register, user)}"

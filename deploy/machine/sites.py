@@ -24,11 +24,13 @@ READ = pathlib.Path("/run/admissions-sites-read")
 FIRST, LAST = "# The machine's own part, which is there once:\n", "# The end of that part\n"
 HOST = re.compile(r"(?=.{1,253}\Z)[a-z0-9]([a-z0-9-]{0,61}[a-z0-9])?(\.[a-z0-9]([a-z0-9-]{0,61}[a-z0-9])?)+")
 FOLDERS = pathlib.Path("/etc/tmpfiles.d")
-MADE_FOLDERS = """# Made by admissions-setup: the index for the page, and the commands since, for the desk's user and the site alone, and in memory;
+MADE_FOLDERS = """# Made by admissions-setup: the commands since, and in a folder of the desk's user the index for the page, for the site alone, and in memory;
 # and the log, which is for root alone: nginx opens it before it gives up its rights, and gives it
-# away when it gets the signal to reopen it
-d {index} 2750 {user} www-data
-f {index}/since.jsonl 0660 {user} www-data
+# away when it gets the signal to reopen it. What nginx opens so is in folders of root, where nobody
+# else can put a link in its place
+d {index} 0751 root www-data
+d {index}/desk 2750 {user} www-data
+f {index}/since.jsonl 0640 root www-data
 f {logs}/asked.log 0600 root root
 f {logs}/errors.log 0600 root root
 z {logs}/*.log* 0600 root root
@@ -109,16 +111,20 @@ def machine_text(model: str, more: str, machine: Machine) -> str:
     return MADE + machine.adapted(more + parts(model)[0])
 
 
-def limits_text() -> str:
-    """How many files each process of nginx may have open."""
-    return f"{MADE}worker_rlimit_nofile {OPEN_FILES};\n"
+def limits_text(main: str) -> str:
+    """How many files each process of nginx may have open, unless its main file says it already, as
+    nginx takes it once.
+    """
+    is_said = re.search(r"(?m)^[^#\n]*\bworker_rlimit_nofile\s", main)
+    return MADE if is_said else f"{MADE}worker_rlimit_nofile {OPEN_FILES};\n"
 
 
 def main_text(text: str) -> str:
     """nginx's main file, with connections enough. The number that was there stays behind it, for a
-    purge of the package to put it back.
+    purge of the package to put it back; so another directive on the line would be lost, and it is
+    left as it is.
     """
-    found = re.search(r"(?m)^(\s*worker_connections\s+)([0-9]+);", text)
+    found = re.search(r"(?m)^(\s*worker_connections\s+)([0-9]+);(?=[ \t]*(?:#|$))", text)
     if not found or int(found[2]) >= CONNECTIONS:
         return text
     return f"{text[:found.start()]}{found[1]}{CONNECTIONS}; # {found[2]} before admissions-setup{text[found.end():]}"
@@ -132,7 +138,11 @@ def share():
 def registers_with_site():
     """The registers that have a site name, by name."""
     names = [path.parent.name for path in sorted(SETTINGS.glob("*/site-name"))]
-    return [it for it in map(Register, filter(NAME.fullmatch, names)) if it.host]
+    found = [it for it in map(Register, filter(NAME.fullmatch, names)) if it.host]
+    for it in found:
+        if not HOST.fullmatch(it.host or ""):
+            raise Failed(f"{it.settings / 'site-name'}: {it.host!r} is no name of a site")
+    return found
 
 
 def make_all():
@@ -143,9 +153,10 @@ def make_all():
         raise Failed(f"{MODEL} is missing")
     model = MODEL.read_text(encoding="utf-8")
     machine = this_machine()
-    wanted = {MACHINE: machine_text(model, (share() / "machine.conf").read_text(encoding="utf-8"), machine), LIMITS: limits_text()}
-    if MAIN.exists():
-        wanted[MAIN] = main_text(MAIN.read_text(encoding="utf-8"))
+    main = MAIN.read_text(encoding="utf-8") if MAIN.exists() else ""
+    wanted = {MACHINE: machine_text(model, (share() / "machine.conf").read_text(encoding="utf-8"), machine), LIMITS: limits_text(main)}
+    if main:
+        wanted[MAIN] = main_text(main)
     sites = {AVAILABLE / f"admissions-{it.name}": site_text(model, it.name, it.host, machine) for it in registers_with_site()}
     wanted |= sites
     before = {path: path.read_text(encoding="utf-8") if path.exists() else None for path in wanted}

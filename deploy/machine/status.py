@@ -26,6 +26,7 @@ from .drill import REPORT as DRILL
 from .registers import REGISTERS, SETTINGS, Register, all_registers, known, season_of
 from .run import Failed, call, is_booted, tool
 from .second_copy import NONE, REPORT as SECOND, line_of, place_of
+from .settings_copy import REPORT as BESIDE
 
 # from when on something needs attention
 COPY_HOURS, DRILL_DAYS, CERTIFICATE_DAYS = 26, 35, 21
@@ -73,6 +74,8 @@ def report(register: Register) -> dict[str, State]:
             out[name] = part(register)
         except (Failed, OSError) as error:
             out[name] = False, str(error)
+        except ValueError as error:
+            out[name] = False, f"cannot be read: {error}"
     return out
 
 
@@ -111,9 +114,13 @@ def site_of(register: Register) -> State:
 
 
 def first_certificate(register: Register) -> bytes:
-    text = certificates.paths(register)[1].read_text(encoding="ascii")
-    end = "-----END CERTIFICATE-----"
-    return ssl.PEM_cert_to_DER_cert(text[text.index("-----BEGIN"):].partition(end)[0] + end)
+    path = certificates.paths(register)[1]
+    # (beside the certificate may be any text, which nginx passes over)
+    text, end = path.read_text(encoding="ascii", errors="replace"), "-----END CERTIFICATE-----"
+    begin = text.find("-----BEGIN CERTIFICATE-----")
+    if begin < 0:
+        raise Failed(f"{path} has no certificate in the form PEM")
+    return ssl.PEM_cert_to_DER_cert(text[begin:].partition(end)[0] + end)
 
 
 def units_of(register: Register) -> State:
@@ -199,7 +206,7 @@ def index_of(register: Register) -> State:
     """The index by which the page finds names: written before the desk started."""
     if register.host is None:
         return True, "it has no site"
-    path = register.index / "index.json"
+    path = register.index / "desk/index.json"
     if not path.exists():
         return False, f"none, so the page finds numbers and codes alone: journalctl -u admissions@{register.name}"
     return True, f"{path.stat().st_size:,} bytes, {age_text(time.time() - path.stat().st_mtime)}"
@@ -230,8 +237,14 @@ def copy_of(register: Register) -> State:
     text = f"{made[-1].name}, {age_text(old)}, {len(made)} of them"
     if ahead := [it for it in made[:-1] if is_ahead(copies.age(it))]:
         return False, f"{text}; {ahead[0].name} is {age_text(copies.age(ahead[0]))} Rename it to keep it, or remove it"
-    if not copies.settings_of(made[-1]).exists():
-        return False, f"{text}; without users, settings and log: journalctl -u admissions-second-copy@{register.name}"
+    archive = copies.settings_of(made[-1])
+    if not archive.exists():
+        return False, f"{text}; without users and settings: journalctl -u admissions-second-copy@{register.name}"
+    beside = report_of(register, BESIDE)
+    if beside and "WARNING" in beside[0]:
+        return False, f"{text}; {beside[0]}"
+    if beside and beside[1] > time.time() - archive.stat().st_mtime:
+        return False, f"{text}; without the whole log: journalctl -u admissions-second-copy@{register.name}"
     return is_recent(old, COPY_HOURS * 3600), text
 
 

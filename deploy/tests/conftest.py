@@ -11,10 +11,10 @@ sys.dont_write_bytecode = True
 ROOT = pathlib.Path(__file__).resolve().parents[2]
 sys.path[:0] = [str(ROOT / "deploy"), str(ROOT / "tools")]
 
-from machine import registers, second_copy, settings_copy, setup, status  # noqa: E402
+from machine import registers, second_copy, settings_copy, setup, sites, status  # noqa: E402
 
 # the modules that name a folder of the machine by a constant of registers
-WITH_FOLDERS = (registers, second_copy, settings_copy, setup, status)
+WITH_FOLDERS = (registers, second_copy, settings_copy, setup, sites, status)
 FOLDERS = {"REGISTERS": "lib", "COPIES": "backups", "SETTINGS": "etc", "LOGS": "log"}
 
 

@@ -1,14 +1,18 @@
 """The nightly copies: their order, which are removed, what is beside them, and what status says of their times."""
 import datetime
 import gzip
+import io
 import os
 import pathlib
+import shutil
 import tarfile
 import time
+import typing
 
 import pytest
-from machine import copies, nightly, registers, settings_copy, status
+from machine import certificates, copies, files, log_copies, logs, nightly, registers, second_copy, settings_copy, setup, sites, status
 from machine.run import Failed
+from setup_arguments import given_to_setup
 
 HOUR = 3600.0
 DAY = 24 * HOUR
@@ -105,7 +109,7 @@ def test_a_name_of_a_day_that_is_none(register: registers.Register) -> None:
 def test_a_copy_without_settings_is_reported(register: registers.Register) -> None:
     copy(register, "nightly-000001-2025-03-01T023000.db", with_settings=False)
     is_well, text = status.copy_of(register)
-    assert (is_well, "without users, settings and log" in text) == (False, True)
+    assert (is_well, "without users and settings" in text) == (False, True)
 
 
 @pytest.mark.parametrize("age, is_well", [(25 * HOUR, True), (27 * HOUR, False), (-3 * HOUR, False)])
@@ -127,10 +131,15 @@ def test_the_age_of_the_last_drill(age: float, is_well: bool, register: register
     assert status.drill_of(register)[0] is is_well
 
 
+def copy_settings(register: registers.Register) -> int:
+    return settings_copy.main(type("Given", (), {"name": register.name}))  # type: ignore[arg-type]
+
+
 @pytest.fixture(name="copied")
 def copied_fixture(register: registers.Register, machine: pathlib.Path, write_as_me: None) -> pathlib.Path:
     """A copy, with settings, a key and a log of which settings-copy has copied what it copies."""
-    (register.settings / "site.key").write_text("a key")
+    for name in ("site.key", "site.key.old", "notes"):
+        (register.settings / name).write_text("a key")
     (register.settings / "site.crt").write_text("a certificate")
     (register.settings / "passwords").chmod(0o640)
     (machine / "etc/authority").write_text("Example County Council\n")
@@ -140,20 +149,20 @@ def copied_fixture(register: registers.Register, machine: pathlib.Path, write_as
     (register.logs / "asked.log.1").write_text('{"n":3}\n')
     (register.logs / "asked.log").write_text('{"n":4}\n{"n":5}\n{"torn')
     path = copy(register, "nightly-000001-2025-03-01T023000.db", with_settings=False)
-    assert settings_copy.main(type("Given", (), {"name": register.name})) == 0  # type: ignore[arg-type]
+    assert copy_settings(register) == 0
     return path
 
 
 def lines_of(folder: pathlib.Path) -> list[str]:
     """What the copies of a log have, in their order."""
-    return [gzip.decompress(it.read_bytes()).decode() for it in settings_copy.copied_logs(folder).values()]
+    return [gzip.decompress(it).decode() for it in log_copies.contents_of(folder)[0]]
 
 
 def test_the_archive_of_a_night_stays_as_it_is(copied: pathlib.Path, register: registers.Register) -> None:
     path = copies.settings_of(register.nightly_copies()[-1])
     before = path.read_bytes()
     (register.settings / "roles").write_text("ben office;\n")
-    settings_copy.main(type("Given", (), {"name": register.name}))  # type: ignore[arg-type]
+    copy_settings(register)
     assert path.read_bytes() == before
 
 
@@ -172,16 +181,91 @@ def test_a_log_that_was_rotated_and_goes_on_is_copied_once(copied: pathlib.Path,
     (register.logs / "asked.log").write_text('{"n":4}\n{"n":5}\n{"n":6}\n')
     (register.logs / "asked.log").rename(register.logs / "asked.log.1")
     (register.logs / "asked.log").write_text('{"n":7}\n')
-    settings_copy.copy_log(register)
+    log_copies.copy(register)
     assert lines_of(copied.parent / "log") == ['{"n":1}\n{"n":2}\n', '{"n":3}\n', '{"n":4}\n{"n":5}\n{"n":6}\n', '{"n":7}\n']
 
 
-@pytest.mark.parametrize("text", ["", '{"n":4}\n', '{"n":4}\n{"n":8}\n'])
-def test_a_log_that_was_emptied_cut_or_changed_leaves_the_copy(text: str, copied: pathlib.Path, register: registers.Register) -> None:
+@pytest.mark.parametrize("text, more", [("", []), ('{"n":4}\n', []), ('{"n":4}\n{"n":8}\n', ['{"n":8}\n']), ('{"n":9}\n', ['{"n":9}\n'])])
+def test_of_a_log_that_was_emptied_cut_or_changed_all_lines_come_back_once(text: str, more: list[str], copied: pathlib.Path,
+                                                                          register: registers.Register) -> None:
     (register.logs / "asked.log").write_text(text)
-    settings_copy.copy_log(register)
-    kept = [gzip.decompress(it.read_bytes()).decode() for it in sorted((copied.parent / "log").iterdir())]
-    assert '{"n":4}\n{"n":5}\n' in kept
+    for _ in range(2):
+        assert log_copies.copy(register) == []
+    assert len(log_copies.made(copied.parent / "log")) == 3 + len(more)
+    assert lines_of(copied.parent / "log") == ['{"n":1}\n{"n":2}\n', '{"n":3}\n', '{"n":4}\n{"n":5}\n', *more]
+
+
+def test_a_shorter_copy_of_an_earlier_release_adds_nothing(copied: pathlib.Path) -> None:
+    longer = copied.parent / "log/asked-000003-{}.gz".format(log_copies.place(log_copies.made(copied.parent / "log")[2])[1])
+    longer.with_name(longer.name.replace("000003", "000009")).write_bytes(gzip.compress(b'{"n":4}\n'))
+    assert lines_of(copied.parent / "log")[2:] == ['{"n":4}\n{"n":5}\n']
+
+
+Damage = typing.Callable[[bytes], bytes]
+DAMAGED: list[Damage] = [lambda it: it[:-9], lambda it: it[:12], lambda it: b"no gzip", lambda it: it[:10] + b"\xff" * 8 + it[18:]]
+
+
+@pytest.mark.parametrize("damage", DAMAGED)
+def test_a_damaged_file_of_the_log_is_named_and_all_else_is_copied(damage: Damage, register: registers.Register, write_as_me: None) -> None:
+    path = copy(register, "nightly-000001-2025-03-01T023000.db", with_settings=False)
+    (register.logs / "asked.log.2.gz").write_bytes(damage(gzip.compress(b'{"n":1}\n{"n":2}\n')))
+    (register.logs / "asked.log").write_text('{"n":3}\n')
+    with pytest.raises(Failed, match=f"^{register.logs}/asked.log.2.gz was not copied: .+"):
+        copy_settings(register)
+    assert (path.with_suffix(".tar").exists(), lines_of(register.copies / "log")) == (True, ['{"n":3}\n'])
+    assert (status.copy_of(register)[0], "asked.log.2.gz was not copied" in status.copy_of(register)[1]) == (False, True)
+    (register.logs / "asked.log.2.gz").unlink()
+    assert (copy_settings(register), status.copy_of(register)[0]) == (0, True)
+
+
+@pytest.mark.parametrize("damage", DAMAGED)
+def test_a_damaged_copy_is_named_and_the_file_is_copied_beside_it(damage: Damage, copied: pathlib.Path, register: registers.Register) -> None:
+    last = log_copies.made(copied.parent / "log")[-1]
+    last.write_bytes(damage(last.read_bytes()))
+    with pytest.raises(Failed, match=f"^{last} cannot be read: "):
+        copy_settings(register)
+    assert lines_of(copied.parent / "log")[2:] == ['{"n":4}\n{"n":5}\n']
+    assert copy_settings(register) == 0
+
+
+def test_copies_that_ended_before_the_log_are_reported(copied: pathlib.Path, register: registers.Register, monkeypatch: pytest.MonkeyPatch) -> None:
+    assert status.copy_of(register)[0] is True
+    copy(register, "nightly-000002-2025-03-02T023000.db", with_settings=False)
+    monkeypatch.setattr(log_copies, "copy", lambda _: 1 / 0)
+    with pytest.raises(ZeroDivisionError):
+        copy_settings(register)
+    is_well, text = status.copy_of(register)
+    assert (is_well, "without the whole log" in text) == (False, True)
+
+
+def test_a_file_that_is_renamed_meanwhile_is_named(copied: pathlib.Path, register: registers.Register, monkeypatch: pytest.MonkeyPatch) -> None:
+    monkeypatch.setattr("machine.logs.in_order", lambda folder: [folder / "asked.log.7", folder / "asked.log"])
+    (register.logs / "asked.log").write_text('{"n":4}\n{"n":5}\n{"n":6}\n')
+    assert [it.partition(":")[0] for it in log_copies.copy(register)] == [f"{register.logs}/asked.log.7 was not copied"]
+    assert lines_of(copied.parent / "log")[2:] == ['{"n":4}\n{"n":5}\n{"n":6}\n']
+
+
+@pytest.mark.parametrize("more, is_refused", [(-1, False), (0, False), (1, True)])
+def test_a_longer_log_at_the_second_place_is_not_replaced(more: int, is_refused: bool, copied: pathlib.Path, register: registers.Register,
+                                                          monkeypatch: pytest.MonkeyPatch) -> None:
+    """Where the place is listed as rsync lists it."""
+    paths = log_copies.made(copied.parent / "log")
+    sizes = {paths[0].name: paths[0].stat().st_size, paths[1].name: paths[1].stat().st_size + more, "asked-000009-0123456789abcdef.gz": 10**9}
+    listed = "drwx------          4,096 2025/03/03 02:30:00 .\ndrwx------          4,096 2025/03/03 02:30:00 log\n"
+    listed += "".join(f"-rw------- {size:14} 2025/03/03 02:30:00 log/{name}\n" for name, size in sizes.items())
+    monkeypatch.setattr(second_copy, "rsync", lambda *_: listed)
+    if is_refused:
+        with pytest.raises(Failed, match=f"^vault:copies/x/log/{paths[1].name} is longer than {paths[1]}, and stays as it is"):
+            second_copy.see_none_longer(register, "vault:copies/x/")
+    else:
+        second_copy.see_none_longer(register, "vault:copies/x/")
+
+
+def test_what_is_beside_the_log_under_another_name_is_not_copied(copied: pathlib.Path, register: registers.Register) -> None:
+    for name in ("asked.log.old", "asked.log.7.bak", "asked.log.8.gz-2026020200.backup", "asked.log-20250303"):
+        (register.logs / name).write_text('{"n":9}\n')
+    log_copies.copy(register)
+    assert '{"n":9}\n' not in lines_of(copied.parent / "log")
 
 
 def test_settings_and_log_come_back_where_there_are_none(copied: pathlib.Path, register: registers.Register, machine: pathlib.Path) -> None:
@@ -190,14 +274,42 @@ def test_settings_and_log_come_back_where_there_are_none(copied: pathlib.Path, r
     (machine / "etc/second-copy").write_text("# the package's own\n")
     (register.settings / "roles").write_text("# none yet\n")
     list(settings_copy.restored(register, copied))
-    assert sorted(it.name for it in register.settings.iterdir()) == ["passwords", "roles", "site-name"]
+    assert sorted(it.name for it in register.settings.iterdir()) == ["passwords", "roles"]
     assert (register.settings / "passwords").read_text() == "jane:$6$x\nalpha:$6$y\n"
     assert (register.settings / "passwords").stat().st_mode & 0o777 == 0o640
     assert "jane office;" in (register.settings / "roles").read_text()
     assert (machine / "etc/second-copy").read_text() == "# where\n/mnt/copies\n"
-    logs = settings_copy.log_files(register.logs)
-    assert [it.name for it in logs] == ["asked.log.4.gz", "asked.log.3.gz", "asked.log.2.gz"]
-    assert [gzip.decompress(it.read_bytes()) for it in logs] == [b'{"n":1}\n{"n":2}\n', b'{"n":3}\n', b'{"n":4}\n{"n":5}\n']
+    made = logs.in_order(register.logs)
+    assert [it.name for it in made] == ["asked.log.4.gz", "asked.log.3.gz", "asked.log.2.gz"]
+    assert [gzip.decompress(it.read_bytes()) for it in made] == [b'{"n":1}\n{"n":2}\n', b'{"n":3}\n', b'{"n":4}\n{"n":5}\n']
+
+
+@pytest.mark.parametrize("killed_after", [0, 1, 2])
+def test_a_log_that_came_back_halfway_is_completed(killed_after: int, copied: pathlib.Path, register: registers.Register,
+                                                   monkeypatch: pytest.MonkeyPatch) -> None:
+    for path in register.logs.iterdir():
+        path.unlink()
+    written: list[pathlib.Path] = []
+
+    def write(path: pathlib.Path, *more: typing.Any) -> bool:
+        if len(written) == killed_after:
+            raise KeyboardInterrupt
+        written.append(path)
+        return whole(path, *more)
+    whole = files.write
+    monkeypatch.setattr(files, "write", write)
+    with pytest.raises(KeyboardInterrupt):
+        list(log_copies.restored(register, copied.parent / "log"))
+    monkeypatch.setattr(files, "write", whole)
+    assert list(log_copies.restored(register, copied.parent / "log")) == ["took 3 files of the log"]
+    assert [gzip.decompress(it.read_bytes()) for it in logs.in_order(register.logs)] == [b'{"n":1}\n{"n":2}\n', b'{"n":3}\n', b'{"n":4}\n{"n":5}\n']
+    assert list(log_copies.restored(register, copied.parent / "log")) == []
+
+
+def test_a_copy_without_a_log_beside_it_says_so(copied: pathlib.Path, register: registers.Register, machine: pathlib.Path) -> None:
+    alone = machine / copied.name
+    shutil.copy(copied.with_suffix(".tar"), alone.with_suffix(".tar"))
+    assert list(settings_copy.restored(register, alone))[-1] == f"there is no log in {machine}/log: who sent what is not brought back"
 
 
 def test_what_is_there_stays(copied: pathlib.Path, register: registers.Register) -> None:
@@ -208,14 +320,56 @@ def test_what_is_there_stays(copied: pathlib.Path, register: registers.Register)
     assert lines[-1].startswith(f"{register.logs} has a log already")
 
 
-def test_an_archive_brings_nothing_but_plain_names(copied: pathlib.Path) -> None:
+def test_an_archive_brings_what_is_copied_and_no_owner_or_mode(copied: pathlib.Path, register: registers.Register, machine: pathlib.Path) -> None:
     with tarfile.open(copied.with_suffix(".tar"), "w") as archive:
-        for name in ("../above", "/etc/passwd", "site.key", "roles"):
-            archive.addfile(tarfile.TarInfo(name))
+        for name in ("../above", "/etc/passwd", "site.key", "site.crt", "more", "roles", "authority"):
+            member = tarfile.TarInfo(name)
+            member.mode, member.uname, member.gname, member.size = 0o4777, "daemon", "daemon", 7
+            archive.addfile(member, io.BytesIO(b"a text\n"))
         link = tarfile.TarInfo("passwords")
         link.type, link.linkname = tarfile.SYMTYPE, "/etc/shadow"
         archive.addfile(link)
-    assert list(settings_copy.members_of(copied)) == ["roles"]
+    assert list(settings_copy.members_of(copied)) == ["roles", "authority"]
+    made = (register.settings / "roles", 0o640), (machine / "etc/authority", 0o644)
+    for path, _ in made:
+        path.unlink()
+    list(settings_copy.restored(register, copied))
+    assert [(path.read_text(), path.stat().st_mode & 0o7777) for path, _ in made] == [("a text\n", mode) for _, mode in made]
+
+
+def with_site_name(copied: pathlib.Path, text: str) -> None:
+    with tarfile.open(copied.with_suffix(".tar"), "w") as archive:
+        for name, content in {"site-name": text, "passwords": "jane:$6$x\n"}.items():
+            member = tarfile.TarInfo(name)
+            member.size = len(content)
+            archive.addfile(member, io.BytesIO(content.encode()))
+
+
+@pytest.mark.parametrize("given, host", [(["--site", "trial.example"], "trial.example"), ([], "admissions.example")])
+def test_a_copy_is_set_up_under_the_name_that_is_given_or_its_own(given: list[str], host: str, copied: pathlib.Path, machine: pathlib.Path,
+                                                                  monkeypatch: pytest.MonkeyPatch) -> None:
+    with_site_name(copied, "admissions.example\n")
+    monkeypatch.setattr(setup, "AUTHORITY", machine / "etc/authority")
+    monkeypatch.setattr(certificates, "make", lambda *_: iter(()))
+    trial = registers.Register("trial")
+    for path in (trial.settings, trial.logs):
+        path.mkdir()
+    space = given_to_setup("trial", "--copy", str(copied), *given)
+    setup.completed(space)
+    for step in (setup.take_settings, setup.make_settings):
+        list(step(trial, space))
+    assert (trial.host, (trial.settings / "passwords").read_text()) == (host, "jane:$6$x\n")
+
+
+@pytest.mark.parametrize("name", ["x.example; } server { listen 8081; root /etc", "x.example\nroot /etc;", "example"])
+def test_no_site_has_a_name_that_is_none(name: str, copied: pathlib.Path, register: registers.Register) -> None:
+    with_site_name(copied, name)
+    with pytest.raises(Failed, match="is no name of a site"):
+        setup.completed(given_to_setup("trial", "--copy", str(copied)))
+    assert sites.registers_with_site() == [register]
+    (register.settings / "site-name").write_text(name)
+    with pytest.raises(Failed, match=f"^{register.settings}/site-name: .* is no name of a site"):
+        sites.registers_with_site()
 
 
 def test_an_archive_that_is_none_is_an_error(copied: pathlib.Path) -> None:

@@ -1,19 +1,24 @@
 """What admissions-setup takes, refuses and asks again; users and their roles; the holidays of a register that is there; and the lock."""
 import argparse
+import contextlib
 import datetime
 import io
 import multiprocessing
+import os
 import pathlib
 import shutil
 import subprocess
 import sqlite3
 import sys
+import tarfile
+import tempfile
 import typing
 
 import pytest
 from conftest import ROOT
 from machine import answers, files, holidays, people, registers, setup
 from machine.run import Failed
+from setup_arguments import given_to_setup
 
 T = typing.TypeVar("T")
 
@@ -84,11 +89,8 @@ def test_only_a_yes_confirms(typed: str, monkeypatch: pytest.MonkeyPatch) -> Non
 
 
 def completed(monkeypatch: pytest.MonkeyPatch, typed: str, *given: str) -> typing.Any:
-    reader = argparse.ArgumentParser()
-    setup.arguments(reader)
-    space = reader.parse_args(given)
+    space = given_to_setup(*given)
     monkeypatch.setattr(sys, "stdin", Terminal(typed))
-    setup.checked(space)
     setup.completed(space)
     return space
 
@@ -112,13 +114,9 @@ def test_a_copy_names_its_register_and_nothing_is_asked_that_it_has(register: re
 
 
 def test_a_user_without_a_role_is_refused_and_the_roles_are_named(register: registers.Register, monkeypatch: pytest.MonkeyPatch) -> None:
-    reader = argparse.ArgumentParser()
-    setup.arguments(reader)
     monkeypatch.setattr(sys, "stdin", io.StringIO(""))
-    space = reader.parse_args([register.name, "--user", "mary"])
-    setup.checked(space)
     with pytest.raises(Failed, match="not given: --role of mary: office, which .*, or school-CODE, which") as found:
-        setup.completed(space)
+        setup.completed(given_to_setup(register.name, "--user", "mary"))
     assert found.value.status == 2
 
 
@@ -127,10 +125,8 @@ def test_a_user_without_a_role_is_refused_and_the_roles_are_named(register: regi
     (["--copy", "reg.db", "--phase", "primary"], "a copy has its own"), (["--copy", "reg.db", "--year", "2025"], "a copy has its own"), (["--role", "office"], "whose role"), (["--new-password"], "whose password"),
     (["--key", "site.key"], "belong together"), (["--year", "25"], "'25' is no year"), (["--holiday", "3/4/2026"], "write YYYY-MM-DD")])
 def test_options_that_do_not_belong_together(given: list[str], said: str) -> None:
-    reader = argparse.ArgumentParser()
-    setup.arguments(reader)
     with pytest.raises(Failed, match=said) as found:
-        setup.checked(reader.parse_args(["secondary-2025", *given]))
+        given_to_setup("secondary-2025", *given)
     assert found.value.status == 2
 
 
@@ -204,6 +200,160 @@ def test_the_holidays_of_an_empty_register_and_no_other(register: registers.Regi
     file.close()
     with pytest.raises(Failed, match="cannot be changed any more, since it has 1 school: .* Its holidays are 2025-04-03, 2025-04-04$"):
         holidays.change_of(register, [])
+
+
+@pytest.fixture(name="as_desk")
+def as_desk_fixture(monkeypatch: pytest.MonkeyPatch) -> list[bool]:
+    """Whether the user of the desks does what is done now; nothing but this command gives files to others."""
+    now = [False]
+
+    @contextlib.contextmanager
+    def as_desk() -> typing.Iterator[None]:
+        now[0] = True
+        yield
+        now[0] = False
+    monkeypatch.setattr(files, "as_desk", as_desk)
+    monkeypatch.setattr(shutil, "chown", None)
+    return now
+
+
+def test_in_the_folder_of_the_desk_root_makes_no_folder(register: registers.Register, as_desk: list[bool], monkeypatch: pytest.MonkeyPatch) -> None:
+    made, make = [], tempfile.mkdtemp
+
+    def mkdtemp(*more: typing.Any) -> str:
+        made.append(as_desk[0])
+        return make(*more)
+    monkeypatch.setattr(tempfile, "mkdtemp", mkdtemp)
+    monkeypatch.setattr(holidays, "open_error", lambda *_, **more: "")
+    monkeypatch.setattr(holidays, "program", lambda name: name)
+    monkeypatch.setattr(holidays, "call", lambda *_, as_user: subprocess.CompletedProcess([], 0, f"restored; kept by {as_user}\n"))
+    assert holidays.change(register, ["2025-04-03"], []).endswith("with the holidays 2025-04-03; kept by admissions")
+    assert made == [True]
+
+
+def test_of_a_link_in_the_folder_of_the_desk_its_target_keeps_its_owner(register: registers.Register, as_desk: list[bool], write_as_me: None,
+                                                                       monkeypatch: pytest.MonkeyPatch) -> None:
+    register.file.unlink()
+    (register.folder / "link").symlink_to("/etc/hostname")
+    given: list[tuple[str, bool]] = []
+    monkeypatch.setattr(os, "chown", lambda path, *_, follow_symlinks=True: given.append((path.name, follow_symlinks)))
+    monkeypatch.setattr(setup, "program", lambda name: name)
+    monkeypatch.setattr(setup, "call", lambda *_: register.file.write_text(""))
+    assert list(setup.make_register(register, argparse.Namespace(copy="copy.db"))) == [f"made {register.file} from copy.db"]
+    assert sorted(given) == [("link", False), ("reg.db", False)]
+
+
+def test_a_change_of_a_password_leaves_all_other_lines(users: registers.Register) -> None:
+    path = users.settings / "passwords"
+    path.write_text("# who: by hand\njane:$6$x:the first\n\nno user\nalpha:$6$y")
+    assert people.hashes_of(users) == {"jane": "jane:$6$x:the first", "alpha": "alpha:$6$y"}
+    people.set_password(users, "ben")
+    people.set_password(users, "jane")
+    found = people.hashes_of(users)
+    assert path.read_text() == f"# who: by hand\n{found['jane']}\n\nno user\nalpha:$6$y\n{found['ben']}\n"
+    people.remove(users, "jane")
+    assert path.read_text() == f"# who: by hand\n\nno user\nalpha:$6$y\n{found['ben']}\n"
+
+
+def test_a_second_password_of_a_user_is_refused_before_any_change(users: registers.Register) -> None:
+    path = users.settings / "passwords"
+    path.write_text("# jane:\njane:$6$x\nalpha:$6$y\njane:$6$z\n")
+    for change in (people.users_of, lambda it: setup.list_users(it), lambda it: list(setup.make_user(it, given_user("ben"), setup.Changes(None, None)))):
+        with pytest.raises(Failed, match=f"^{path}, line 4: jane is in an earlier line already$"):
+            change(users)
+    with pytest.raises(Failed, match="line 4: jane is in an earlier line already"):
+        people.remove(users, "jane")
+    assert path.read_text() == "# jane:\njane:$6$x\nalpha:$6$y\njane:$6$z\n"
+    assert (users.settings / "roles").read_text() == "# who may do what\njane office;\nalpha school-A;\n"
+
+
+def given_user(name: str, *more: str) -> argparse.Namespace:
+    return given_to_setup("secondary-2025", "--user", name, "--role", "office", *more)
+
+
+@pytest.mark.parametrize("words, said", [
+    (["--users", "--remove", "jane"], "--users and --remove"), (["--remove", "jane", "--user", "ben", "--role", "office"], "--remove and --user"),
+    (["--sites", "--new-password", "--user", "jane"], "--sites and --user"), (["--users", "--holiday", "2025-03-03"], "--users and --holiday")])
+def test_options_of_two_commands_are_refused(words: list[str], said: str, register: registers.Register, monkeypatch: pytest.MonkeyPatch) -> None:
+    monkeypatch.setattr(os, "geteuid", lambda: 0)
+    reader = argparse.ArgumentParser()
+    setup.arguments(reader)
+    with pytest.raises(Failed, match=f"^{said} belong to different commands$") as found:
+        setup.main(reader.parse_args([register.name, "--yes", *words]))
+    assert found.value.status == 2
+
+
+def test_an_empty_file_of_a_register_is_none(register: registers.Register, monkeypatch: pytest.MonkeyPatch, machine: pathlib.Path) -> None:
+    """As a crash leaves it while the program makes it: it is asked for as if there were none."""
+    register.file.write_bytes(b"")
+    monkeypatch.setattr(setup, "AUTHORITY", machine / "etc/authority")
+    found = completed(monkeypatch, "secondary\n2025\n2025-04-18\nnone\n", register.name)
+    assert (found.phase, found.year, found.holiday) == ("secondary", 2025, ["2025-04-18"])
+    monkeypatch.setattr(setup, "program", lambda name: name)
+    made: list[tuple[object, ...]] = []
+    monkeypatch.setattr(setup, "call", lambda *words, as_user: made.append(words))
+    assert list(setup.make_register(register, found)) == [f"made {register.file}, for secondary 2025, holidays 2025-04-18"]
+    assert made == [("admissions", "init", register.file, "secondary", 2025, "2025-04-18")]
+
+
+@pytest.mark.parametrize("own, beside, role, typed, asked", [
+    ("jane office;\n", None, "office", "", 0), ("jane office;\n", None, "school-A", "yes\n", 1), ("# none\n", "jane office;\n", "office", "", 0),
+    ("# none\n", "jane office;\n", "school-A", "yes\n", 1), ("ben office;\n", "jane school-A;\n", "office", "", 0)])
+def test_a_role_is_compared_with_that_of_the_archive_which_comes_back(
+        own: str, beside: str | None, role: str, typed: str, asked: int, users: registers.Register, machine: pathlib.Path, monkeypatch: pytest.MonkeyPatch,
+        capsys: pytest.CaptureFixture[str]) -> None:
+    (users.settings / "roles").write_text(own)
+    copy = machine / "nightly-000001-2025-03-01T023000.db"
+    if beside:
+        (machine / "roles").write_text(beside)
+        with tarfile.open(copy.with_suffix(".tar"), "w") as archive:
+            archive.add(machine / "roles", "roles")
+    given = given_to_setup(users.name, "--user", "jane", "--role", role, *(["--copy", str(copy)] if beside else []))
+    monkeypatch.setattr(setup, "AUTHORITY", users.settings / "site-name")
+    monkeypatch.setattr(sys, "stdin", Terminal(typed))
+    setup.completed(given)
+    changes = setup.confirmed(users, given)
+    assert capsys.readouterr().out.count("the role of jane changes") == asked
+    list(setup.take_settings(users, given))
+    list(setup.make_user(users, given, changes))
+    assert people.role_of(users, "jane") == role
+
+
+@pytest.mark.parametrize("before, given, said", [
+    ("Old Council", "Other Council", "the name of the authority on the sheets of all registers changes from Old Council to Other Council"),
+    ("Other Council", "Other Council", ""), (None, "Other Council", "")])
+def test_another_name_of_the_authority_is_confirmed(before: str | None, given: str, said: str, register: registers.Register, machine: pathlib.Path,
+                                                    monkeypatch: pytest.MonkeyPatch) -> None:
+    monkeypatch.setattr(setup, "AUTHORITY", machine / "etc/authority")
+    monkeypatch.setattr(sys, "stdin", io.StringIO(""))
+    if before:
+        (machine / "etc/authority").write_text(f"{before}\n")
+    see_confirmed(register, ["--authority", given], said)
+
+
+def see_confirmed(register: registers.Register, words: list[str], said: str) -> None:
+    """That without a terminal these arguments need --yes, and for what; or, where nothing is said, that they need none."""
+    if said:
+        with pytest.raises(Failed, match=f"^{said}: nothing was changed") as found:
+            setup.confirmed(register, given_to_setup(register.name, *words))
+        assert found.value.status == 2
+    setup.confirmed(register, given_to_setup(register.name, *words, *(["--yes"] if said else [])))
+
+
+REPLACED = "the certificate and the key of secondary-2025 are replaced, and those that are there are kept nowhere"
+
+
+@pytest.mark.parametrize("there, said", [
+    ((), ""), (("site.crt", "site.key"), ""), (("other.crt", "site.key"), REPLACED), (("site.crt", "other.key"), REPLACED)])
+def test_another_certificate_or_key_is_confirmed(there: tuple[str, ...], said: str, register: registers.Register, machine: pathlib.Path,
+                                                 monkeypatch: pytest.MonkeyPatch) -> None:
+    monkeypatch.setattr(sys, "stdin", io.StringIO(""))
+    for name in ("site", "other"):
+        subprocess.run(["openssl", "req", "-x509", "-newkey", "ec", "-pkeyopt", "ec_paramgen_curve:P-256", "-nodes", "-subj", "/CN=x",
+                        "-keyout", machine / f"{name}.key", "-out", machine / f"{name}.crt"], check=True, capture_output=True)
+    for it in there:
+        shutil.copy(machine / it, register.settings / f"site{pathlib.Path(it).suffix}")
+    see_confirmed(register, ["--certificate", str(machine / "site.crt"), "--key", str(machine / "site.key")], said)
 
 
 def test_openssl_takes_a_drawn_password(users: registers.Register) -> None:

@@ -142,18 +142,29 @@ def test_a_site_that_does_not_answer_as_it_should(answered: int | OSError, said:
     assert (is_well, said in text) == (False, True)
 
 
-def test_the_certificate_that_nginx_shows(register: registers.Register, monkeypatch: pytest.MonkeyPatch) -> None:
+@pytest.mark.parametrize("above", ["utf-8", "latin-1"])
+def test_the_certificate_that_nginx_shows(above: str, register: registers.Register, monkeypatch: pytest.MonkeyPatch) -> None:
     for name in ("site", "other"):
         subprocess.run(["openssl", "req", "-x509", "-newkey", "ec", "-pkeyopt", "ec_paramgen_curve:P-256", "-nodes", "-subj", "/CN=x", "-keyout", register.settings / f"{name}.key",
                         "-out", register.settings / f"{name}.crt"], check=True, capture_output=True)
     own, other = (register.settings / "site.crt").read_text(), (register.settings / "other.crt").read_text()
-    (register.settings / "site.crt").write_text(f"text above\n{own}{other}")
+    (register.settings / "site.crt").write_bytes(f"# Société, {above}\n{own}{other}".encode(above))
     first = subprocess.run(["openssl", "x509", "-in", register.settings / "site.crt", "-outform", "DER"], check=True, capture_output=True).stdout
     monkeypatch.setattr(status, "site_status_of", lambda _: (401, first))
     assert status.site_of(register)[0] is True
     (register.settings / "site.crt").write_text(other + own)
     is_well, text = status.site_of(register)
     assert (is_well, "systemctl reload nginx" in text) == (False, True)
+
+
+@pytest.mark.parametrize("content, said", [
+    (b"0\x82\x01\x0a\x00", "site.crt has no certificate in the form PEM"), (b"-----BEGIN CERTIFICATE-----\nxy\n-----END CERTIFICATE-----\n", "cannot be read: ")])
+def test_a_certificate_that_is_none_is_reported_and_so_is_all_else(content: bytes, said: str, register: registers.Register, monkeypatch: pytest.MonkeyPatch) -> None:
+    (register.settings / "site.crt").write_bytes(content)
+    monkeypatch.setattr(status, "site_status_of", lambda *_: (401, b""))
+    monkeypatch.setattr(status, "LOG_SECONDS", 0.1)
+    found = status.report(register)
+    assert (found["site"][0], said in found["site"][1], len(found)) == (False, True, 12)
 
 
 UNITS = ["admissions@secondary-2025.service", "admissions-backup@secondary-2025.timer", "admissions-drill@secondary-2025.timer", "nginx.service"]

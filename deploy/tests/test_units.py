@@ -6,8 +6,10 @@ import subprocess
 
 import pytest
 from conftest import ROOT
+from machine import sites
 
 UNITS = ROOT / "deploy/systemd"
+MAIN = "user www-data;\nevents {\n\tworker_connections\t768; # as Debian has it\n\t# multi_accept on;\n}\n"
 # Each line is what docs/DEPLOYMENT.md says in the words beside it
 LINES = {
     "admissions-backup@.timer": {"OnCalendar": ("*-*-* 02:30", "every night at 02:30"), "Persistent": ("true", "when it is on again")},
@@ -56,12 +58,15 @@ def machine_root_fixture(tmp_path: pathlib.Path) -> pathlib.Path:
                  "var/log/admissions/a/errors.log", "etc/admissions/a/site.key", "etc/admissions/a/site.crt", "etc/admissions/a/site.csr", "etc/admissions/a/roles",
                  "etc/admissions/a/passwords", "etc/admissions/a/site-name", "etc/admissions/authority", "etc/nginx/sites-available/other", "etc/tmpfiles.d/other.conf",
                  "etc/systemd/system/multi-user.target.wants/admissions@a.service", "etc/systemd/system/timers.target.wants/admissions-backup@a.timer",
-                 "etc/systemd/system/multi-user.target.wants/other.service", "run/admissions-index/a/index.json"):
+                 "etc/systemd/system/multi-user.target.wants/other.service", "run/admissions-index/a/desk/index.json"):
         (tmp_path / name).parent.mkdir(parents=True, exist_ok=True)
         (tmp_path / name).write_text(f"{name}\n")
     for name in ("etc/nginx/conf.d/admissions.conf", "etc/nginx/sites-available/admissions-a", "etc/tmpfiles.d/admissions-a.conf"):
         (tmp_path / name).parent.mkdir(parents=True, exist_ok=True)
         (tmp_path / name).write_text("# Made by admissions-setup\n")
+    (tmp_path / "etc/nginx/nginx.conf").write_text(sites.main_text(MAIN))
+    (tmp_path / "etc/nginx/modules-enabled").mkdir()
+    (tmp_path / "etc/nginx/modules-enabled/90-admissions.conf").write_text(sites.limits_text(MAIN))
     return tmp_path
 
 
@@ -76,11 +81,13 @@ def test_a_purge_removes_what_can_be_made_again_and_nothing_else(machine_root: p
     before = files_of(machine_root)
     done = subprocess.run(["sh", here, "purge"], capture_output=True, text=True, check=True)
     after = files_of(machine_root)
+    assert (machine_root / "etc/nginx/nginx.conf").read_text() == MAIN
+    after["etc/nginx/nginx.conf"] = before["etc/nginx/nginx.conf"]
     assert after.items() <= before.items()
     assert sorted(before.keys() - after.keys()) == [
         "etc/admissions/a/passwords", "etc/admissions/a/roles", "etc/admissions/a/site-name", "etc/admissions/authority", "etc/nginx/conf.d/admissions.conf",
-        "etc/nginx/sites-available/admissions-a", "etc/systemd/system/multi-user.target.wants/admissions@a.service",
-        "etc/systemd/system/timers.target.wants/admissions-backup@a.timer", "etc/tmpfiles.d/admissions-a.conf", "run/admissions-index/a/index.json",
+        "etc/nginx/modules-enabled/90-admissions.conf", "etc/nginx/sites-available/admissions-a", "etc/systemd/system/multi-user.target.wants/admissions@a.service",
+        "etc/systemd/system/timers.target.wants/admissions-backup@a.timer", "etc/tmpfiles.d/admissions-a.conf", "run/admissions-index/a/desk/index.json",
         "var/lib/admissions/.running-before-upgrade"]
     for folder, count in (("var/lib", 4), ("var/backups", 4), ("var/log", 4), ("etc", 3)):
         assert f"admissions: {machine_root}/{folder}/admissions is kept, with {count} files:" in done.stdout

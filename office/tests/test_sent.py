@@ -27,11 +27,11 @@ def quoted(text):
     return b"".join(names.get(it, b"\\u%04X" % it if it < 0x20 else bytes([it])) for it in text)
 
 
-def entry(at, body, status=b"200", target=b"/command", method=b"POST"):
-    """A line of the log without its end. `at` is a second."""
+def entry(at, body, status=b"200", target=b"/command", method=b"POST", desk=None):
+    """A line of the log without its end. `at` is a second, `desk` the status of the desk's own answer."""
     body = body.encode() if isinstance(body, str) else body
     return (b'{"at":"%s","who":"jane","from":"192.0.2.1","method":"%s","target":"%s","status":"%s","desk":"%s","seconds":"0.001","body":"%s"}'
-            % ((DAY % at).encode(), method, quoted(target), status, status, quoted(body)))
+            % ((DAY % at).encode(), method, quoted(target), status, desk or status, quoted(body)))
 
 
 @pytest.fixture(name="logs")
@@ -81,11 +81,20 @@ def test_bytes_that_are_no_text_stop_nothing(logs):
     assert sent(logs) == (0, (CHILD % (1, "T\u0177")).encode() + b"\n", "")
 
 
-@pytest.mark.parametrize("more", [{"status": b"409"}, {"status": b"400"}, {"status": b"502"}, {"status": b"503"}, {"target": b"/what-if"}, {"target": b"/command?"},
-    {"method": b"GET"}])
+@pytest.mark.parametrize("more", [{"status": b"409"}, {"status": b"400"}, {"status": b"503", "desk": b"502"}, {"target": b"/what-if"}, {"target": b"/command?"},
+    {"method": b"GET"}, {"status": b"502", "target": b"/what-if"}])
 def test_what_was_not_done_is_not_printed(logs, more):
     (logs / "asked.log").write_bytes(entry(1, CHILD % (1, "Ann"), **more) + b"\n" + entry(2, CHILD % (2, "Bo")) + b"\n")
     assert sent(logs) == (0, (CHILD % (2, "Bo")).encode() + b"\n", "")
+
+
+@pytest.mark.parametrize("status, desk", [(b"502", b"502"), (b"502", b"504"), (b"503", b"503"), (b"504", b"504"), (b"500", b"")])
+def test_what_may_be_done_is_named(logs, status, desk):
+    """In its place, and only from the moment on."""
+    (logs / "asked.log").write_bytes(entry(1, CHILD % (1, "Ann"), status=status, desk=desk) + b"\n" + entry(2, CHILD % (2, "Bo")) + b"\n")
+    said = f"admissions-sent: {logs}/asked.log, line 1: a command ended with the status {status.decode()}: look whether its command is done\n"
+    assert sent(logs) == (1, (CHILD % (2, "Bo")).encode() + b"\n", said)
+    assert sent(logs, "2025-03-03T10:00:02+00:00") == (0, (CHILD % (2, "Bo")).encode() + b"\n", "")
 
 
 @pytest.mark.parametrize("cut", [1, 7, 8, 30, 60, 100, 150, 200, -1])

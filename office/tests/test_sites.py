@@ -33,22 +33,38 @@ def test_what_a_site_listens_at(version, has_ipv6, own, machines, is_directive):
     assert (found, has_directive) == ([own, shared if machines else shared[::2]], is_directive)
 
 
+def test_the_machines_own_part_needs_no_site():
+    """Each variable of it is its own or nginx's, so nginx starts where the last register is retired."""
+    text = re.sub(r"(?m)^ *#.*", "", sites.machine_text(MODEL, MORE, sites.Machine(NEW, True)))
+    own = set(re.findall(r"(?m)^map .*\$(\w+) \{$|\bset \$(\w+) |\(\?<(\w+)>", text))
+    others = set(re.findall(r"\$(\w+)", text)) - {name for it in own for name in it}
+    assert sorted(others) == ["binary_remote_addr", "host", "remote_addr", "remote_user", "request_id", "request_method", "request_uri", "status", "time_iso8601",
+        "upstream_addr"]
+
+
+def test_what_nginx_opens_as_root_is_in_folders_of_root():
+    """There nobody else can put a link in its place. The folder of a log is made by admissions-setup, of root."""
+    made = re.findall(r"(?m)^d (\S+) \S+ (\S+)", sites.MADE_FOLDERS.format(index="/run/admissions-index/x", logs="/var/log/admissions/x", user="desk"))
+    owners = {"/var/log/admissions/x": "root", **dict(made)}
+    opened = re.findall(r"(?m)^ *(?:access|error)_log +(/\S+)/[^/ ]+ ", sites.site_text(MODEL, "x", "x.example", sites.Machine(NEW, True)))
+    assert (len(opened), {owners[it] for it in opened}, set(owners.values())) == (4, {"root"}, {"root", "desk"})
+
+
 @pytest.mark.parametrize("before, after", [
     ("events {\n\tworker_connections 768;\n}", "events {\n\tworker_connections 8192; # 768 before admissions-setup\n}"),
     ("events { }", "events { }"),
     ("\tworker_connections 9000;", "\tworker_connections 9000;"),
     ("\t# worker_connections 768;", "\t# worker_connections 768;"),
+    ("worker_connections\t768; # few", "worker_connections\t8192; # 768 before admissions-setup # few"),
+    ("\tworker_connections 768; multi_accept on;", "\tworker_connections 768; multi_accept on;"),
+    ("events { worker_connections 768; }", "events { worker_connections 768; }"),
 ])
 def test_the_connections_of_nginx(before, after):
     """They are raised once, and never lowered."""
     assert sites.main_text(before) == sites.main_text(after) == after
 
 
-def test_a_purge_puts_the_connections_back():
-    """By the line of debian/postrm."""
-    line = re.search(r"sed -i 's/(.*)/(.*)/' /etc/nginx/nginx.conf", (ROOT / "debian/postrm").read_text())
-    assert line
-    old, new = line.groups()
-    pattern = old.replace(r"\(", "(").replace(r"\)", ")")
-    text = "events {\n\tworker_connections 768;\n\t# multi_accept on;\n}\n"
-    assert re.sub(pattern, new, sites.main_text(text)) == text
+@pytest.mark.parametrize("main, is_said", [
+    ("user www-data;\n", False), ("# worker_rlimit_nofile 512;\n", False), ("worker_rlimit_nofile 4096;\n", True), ("user x; worker_rlimit_nofile\t4096;\n", True)])
+def test_the_open_files_of_nginx_are_said_once(main, is_said):
+    assert sites.limits_text(main) == sites.MADE + ("" if is_said else "worker_rlimit_nofile 16384;\n")
