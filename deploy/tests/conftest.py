@@ -49,5 +49,8 @@ def register_fixture(machine: pathlib.Path) -> registers.Register:
 @pytest.fixture(name="write_as_me")
 def write_as_me_fixture(monkeypatch: pytest.MonkeyPatch) -> None:
     """Files are those of whoever runs the tests."""
-    me: typing.Callable[[str, str], tuple[int, int]] = lambda user, group: (os.getuid(), os.getgid())
+    me: typing.Callable[[str, str], tuple[int, int]] = lambda user, group: (
+        os.getuid(),
+        os.getgid(),
+    )
     monkeypatch.setattr("machine.files.numbers", me)

@@ -24,36 +24,64 @@ def package_fixture() -> types.ModuleType:
     return module
 
 
-@pytest.mark.parametrize("text", ["", "57 passed, 0 failed\n", GATE.replace("0 failed", "1 failed"), GATE.replace("57 passed", "0 passed"), GATE + "and more\n"])
-def test_a_log_that_is_none_of_a_gate_that_passed(text: str, package: types.ModuleType, tmp_path: pathlib.Path) -> None:
+@pytest.mark.parametrize(
+    "text",
+    [
+        "",
+        "57 passed, 0 failed\n",
+        GATE.replace("0 failed", "1 failed"),
+        GATE.replace("57 passed", "0 passed"),
+        GATE + "and more\n",
+    ],
+)
+def test_a_log_that_is_none_of_a_gate_that_passed(
+    text: str, package: types.ModuleType, tmp_path: pathlib.Path
+) -> None:
     (tmp_path / "log").write_text(text)
     with pytest.raises(package.Refused):
         package.verdict_of(str(tmp_path / "log"))
 
 
-def test_the_verdict_is_the_last_line_of_the_log(package: types.ModuleType, tmp_path: pathlib.Path) -> None:
+def test_the_verdict_is_the_last_line_of_the_log(
+    package: types.ModuleType, tmp_path: pathlib.Path
+) -> None:
     (tmp_path / "log").write_text(GATE)
     assert package.verdict_of(str(tmp_path / "log")) == "57 passed, 0 failed"
     assert package.verdict_of("none") is None
 
 
 @pytest.mark.parametrize("verdict", ["57 passed, 0 failed", None])
-def test_the_manifest_says_what_it_was_given_and_what_is_there(verdict: str | None, package: types.ModuleType, tmp_path: pathlib.Path,
-                                                               monkeypatch: pytest.MonkeyPatch) -> None:
+def test_the_manifest_says_what_it_was_given_and_what_is_there(
+    verdict: str | None,
+    package: types.ModuleType,
+    tmp_path: pathlib.Path,
+    monkeypatch: pytest.MonkeyPatch,
+) -> None:
     program = tmp_path / "admissions"
     program.write_bytes(b"a program\n")
     for name, value in (("file_version", 2), ("program_version", "admissions 1.2.3")):
         monkeypatch.setattr(package, name, lambda _, it=value: it)
     found = package.manifest(program, "1.2.3", verdict)
-    commit = subprocess.run(["git", "-C", ROOT, "log", "-1", "--format=%H"], capture_output=True, text=True, check=True).stdout.strip()
+    commit = subprocess.run(
+        ["git", "-C", ROOT, "log", "-1", "--format=%H"], capture_output=True, text=True, check=True
+    ).stdout.strip()
     assert found["verdict_of_the_gate"] == verdict
-    assert (found["program"]["sha256"], found["program"]["bytes"]) == (hashlib.sha256(b"a program\n").hexdigest(), 10)
-    assert (found["program"]["version"], found["program"]["file_version"], found["commit"]) == ("admissions 1.2.3", 2, commit)
+    assert (found["program"]["sha256"], found["program"]["bytes"]) == (
+        hashlib.sha256(b"a program\n").hexdigest(),
+        10,
+    )
+    assert (found["program"]["version"], found["program"]["file_version"], found["commit"]) == (
+        "admissions 1.2.3",
+        2,
+        commit,
+    )
     assert found["program_is_of_this_checkout"] is False
     assert json.loads(json.dumps(found)) == found
 
 
-def made(package: types.ModuleType, verdict: str, monkeypatch: pytest.MonkeyPatch, tmp_path: pathlib.Path) -> None:
+def made(
+    package: types.ModuleType, verdict: str, monkeypatch: pytest.MonkeyPatch, tmp_path: pathlib.Path
+) -> None:
     """Goes as far as the manifest with a program that this checkout has not built."""
     program = tmp_path / "admissions"
     program.write_text("#!/bin/sh\n")
@@ -64,15 +92,29 @@ def made(package: types.ModuleType, verdict: str, monkeypatch: pytest.MonkeyPatc
     package.make(argparse.Namespace(program=str(program), verdict=verdict))
 
 
-def test_a_verdict_is_of_the_program_of_this_checkout_alone(package: types.ModuleType, tmp_path: pathlib.Path, monkeypatch: pytest.MonkeyPatch) -> None:
+def test_a_verdict_is_of_the_program_of_this_checkout_alone(
+    package: types.ModuleType, tmp_path: pathlib.Path, monkeypatch: pytest.MonkeyPatch
+) -> None:
     (tmp_path / "log").write_text(GATE)
-    with pytest.raises(package.Refused, match="says nothing of .*, which is not the program that this checkout built"):
+    with pytest.raises(
+        package.Refused,
+        match="says nothing of .*, which is not the program that this checkout built",
+    ):
         made(package, str(tmp_path / "log"), monkeypatch, tmp_path)
 
 
 def test_without_a_verdict_nothing_is_made() -> None:
-    done = subprocess.run([ROOT / "deploy/package", ROOT / "deploy/package"], capture_output=True, text=True, check=False)
-    assert (done.returncode, "--verdict LOG, the log of the gate that the program passed; none where it has not" in done.stderr) == (2, True)
+    done = subprocess.run(
+        [ROOT / "deploy/package", ROOT / "deploy/package"],
+        capture_output=True,
+        text=True,
+        check=False,
+    )
+    assert (
+        done.returncode,
+        "--verdict LOG, the log of the gate that the program passed; none where it has not"
+        in done.stderr,
+    ) == (2, True)
 
 
 MIT = "Permission is hereby granted, subject to the following\nconditions:\n\nThe above copyright notice and this permission notice shall\n"
@@ -80,7 +122,9 @@ APACHE = "Apache License\nVersion 2.0\n"
 
 
 @pytest.fixture(name="kit")
-def kit_fixture(package: types.ModuleType, tmp_path: pathlib.Path, monkeypatch: pytest.MonkeyPatch) -> pathlib.Path:
+def kit_fixture(
+    package: types.ModuleType, tmp_path: pathlib.Path, monkeypatch: pytest.MonkeyPatch
+) -> pathlib.Path:
     """A kit of three crates, and the table that says of them what they say."""
     crates: list[tuple[str, str, list[str]]] = [
         ("a", "A port of `a` 1.0.18 (MIT or Apache-2.0).", [MIT]),
@@ -97,11 +141,18 @@ def kit_fixture(package: types.ModuleType, tmp_path: pathlib.Path, monkeypatch: 
 
 
 ROWS: list[dict[str, str]] = []
-GOOD = [("a", "a", "1.0.18", "MIT OR Apache-2.0"), ("b", "b", "2.1.0", "(Apache-2.0 OR BSL-1.0) AND MIT"), ("own", "-", "-", "-")]
+GOOD = [
+    ("a", "a", "1.0.18", "MIT OR Apache-2.0"),
+    ("b", "b", "2.1.0", "(Apache-2.0 OR BSL-1.0) AND MIT"),
+    ("own", "-", "-", "-"),
+]
 
 
 def rows(*changed: tuple[str, str, str, str]) -> None:
-    ROWS[:] = [dict(zip(("crate", "upstream", "version", "licence"), it)) for it in ({row[0]: row for row in GOOD} | {row[0]: row for row in changed}).values()]
+    ROWS[:] = [
+        dict(zip(("crate", "upstream", "version", "licence"), it))
+        for it in ({row[0]: row for row in GOOD} | {row[0]: row for row in changed}).values()
+    ]
 
 
 def test_the_table_agrees_with_the_kit(package: types.ModuleType, kit: pathlib.Path) -> None:
@@ -109,11 +160,24 @@ def test_the_table_agrees_with_the_kit(package: types.ModuleType, kit: pathlib.P
     package.compare_with_kit(kit)
 
 
-@pytest.mark.parametrize("row", [
-    ("a", "a", "1.0.1", "MIT OR Apache-2.0"), ("a", "a", "1.0.19", "MIT OR Apache-2.0"), ("a", "a", "0.18", "MIT OR Apache-2.0"), ("a", "a", "1.0.18", "Apache-2.0"),
-    ("a", "a", "1.0.18", "-"), ("a", "a", "1.0.18", "MIT AND Apache-2.0"), ("b", "b", "2.1.0", "Apache-2.0 OR BSL-1.0"), ("b", "b", "2.1.0", "BSL-1.0 AND MIT"),
-    ("own", "-", "-", "MIT"), ("c", "c", "1.0.0", "MIT")])
-def test_another_version_or_licence_is_refused(row: tuple[str, str, str, str], package: types.ModuleType, kit: pathlib.Path) -> None:
+@pytest.mark.parametrize(
+    "row",
+    [
+        ("a", "a", "1.0.1", "MIT OR Apache-2.0"),
+        ("a", "a", "1.0.19", "MIT OR Apache-2.0"),
+        ("a", "a", "0.18", "MIT OR Apache-2.0"),
+        ("a", "a", "1.0.18", "Apache-2.0"),
+        ("a", "a", "1.0.18", "-"),
+        ("a", "a", "1.0.18", "MIT AND Apache-2.0"),
+        ("b", "b", "2.1.0", "Apache-2.0 OR BSL-1.0"),
+        ("b", "b", "2.1.0", "BSL-1.0 AND MIT"),
+        ("own", "-", "-", "MIT"),
+        ("c", "c", "1.0.0", "MIT"),
+    ],
+)
+def test_another_version_or_licence_is_refused(
+    row: tuple[str, str, str, str], package: types.ModuleType, kit: pathlib.Path
+) -> None:
     rows(row)
     with pytest.raises(package.Refused, match=f"^debian/ported.tsv has {row[0]}"):
         package.compare_with_kit(kit)

@@ -12,16 +12,38 @@ UNITS = ROOT / "deploy/systemd"
 MAIN = "user www-data;\nevents {\n\tworker_connections\t768; # as Debian has it\n\t# multi_accept on;\n}\n"
 # Each line is what docs/DEPLOYMENT.md says in the words beside it
 LINES = {
-    "admissions-backup@.timer": {"OnCalendar": ("*-*-* 02:30", "every night at 02:30"), "Persistent": ("true", "when it is on again")},
-    "admissions-drill@.timer": {"OnCalendar": ("*-*-01 04:30", "on the first of each month"), "Persistent": ("true", "when it is on again")},
+    "admissions-backup@.timer": {
+        "OnCalendar": ("*-*-* 02:30", "every night at 02:30"),
+        "Persistent": ("true", "when it is on again"),
+    },
+    "admissions-drill@.timer": {
+        "OnCalendar": ("*-*-01 04:30", "on the first of each month"),
+        "Persistent": ("true", "when it is on again"),
+    },
     "admissions-backup@.service": {
-        "ExecStart": ("/usr/local/lib/admissions/nightly /var/lib/admissions/%i/reg.db /var/backups/admissions/%i 30", "keeps the 30 copies that were made last"),
-        "OnSuccess": ("admissions@%i.service admissions-second-copy@%i.service", "starts both again, even if the copy failed"),
-        "OnFailure": ("admissions@%i.service", "starts both again, even if the copy failed"), "User": ("admissions", "")},
+        "ExecStart": (
+            "/usr/local/lib/admissions/nightly /var/lib/admissions/%i/reg.db /var/backups/admissions/%i 30",
+            "keeps the 30 copies that were made last",
+        ),
+        "OnSuccess": (
+            "admissions@%i.service admissions-second-copy@%i.service",
+            "starts both again, even if the copy failed",
+        ),
+        "OnFailure": ("admissions@%i.service", "starts both again, even if the copy failed"),
+        "User": ("admissions", ""),
+    },
     "admissions-second-copy@.service": {
         "ExecStartPre": ("-+/usr/local/lib/admissions/settings-copy %i", "users, settings and log"),
-        "ExecStart": ("/usr/local/lib/admissions/second-copy %i", "The copies go to the second place"), "User": ("admissions", "")},
-    "admissions-drill@.service": {"ExecStart": ("/usr/local/lib/admissions/drill %i", "a drill restores the newest copies"), "User": ("admissions", "")},
+        "ExecStart": (
+            "/usr/local/lib/admissions/second-copy %i",
+            "The copies go to the second place",
+        ),
+        "User": ("admissions", ""),
+    },
+    "admissions-drill@.service": {
+        "ExecStart": ("/usr/local/lib/admissions/drill %i", "a drill restores the newest copies"),
+        "User": ("admissions", ""),
+    },
 }
 
 
@@ -33,35 +55,78 @@ def test_the_lines_of_a_unit_are_those_that_the_page_promises(unit: str) -> None
         assert (key, found.get(key), words in page) == (key, value, True)
 
 
-@pytest.mark.parametrize("unit, form", [("admissions-backup@.timer", "*-*-* 02:30:00"), ("admissions-drill@.timer", "*-*-01 04:30:00")])
+@pytest.mark.parametrize(
+    "unit, form",
+    [
+        ("admissions-backup@.timer", "*-*-* 02:30:00"),
+        ("admissions-drill@.timer", "*-*-01 04:30:00"),
+    ],
+)
 def test_systemd_reads_the_times_as_they_are_meant(unit: str, form: str) -> None:
     time = re.findall(r"(?m)^OnCalendar=(.*)$", (UNITS / unit).read_text(encoding="utf-8"))
-    done = subprocess.run(["systemd-analyze", "calendar", *time], capture_output=True, text=True, check=True)
+    done = subprocess.run(
+        ["systemd-analyze", "calendar", *time], capture_output=True, text=True, check=True
+    )
     assert re.findall(r"Normalized form: (.*)", done.stdout) == [form]
 
 
 def test_a_log_is_kept_as_long_as_the_page_says() -> None:
-    found = dict(re.findall(r"(?m)^    (\w+) (\S+)$", (ROOT / "deploy/logrotate").read_text(encoding="utf-8")))
+    found = dict(
+        re.findall(
+            r"(?m)^    (\w+) (\S+)$", (ROOT / "deploy/logrotate").read_text(encoding="utf-8")
+        )
+    )
     page = " ".join((ROOT / "docs/DEPLOYMENT.md").read_text(encoding="utf-8").split())
     # 1,100 days are three years, which may have a leap day, and some days more
-    assert {name: found.get(name) for name in ("rotate", "maxage", "maxsize")} == {"rotate": "-1", "maxage": "1100", "maxsize": "100M"}
-    assert "closes it each month, or on the next day at 100 MB, compresses it, and deletes a file three years later" in page
+    assert {name: found.get(name) for name in ("rotate", "maxage", "maxsize")} == {
+        "rotate": "-1",
+        "maxage": "1100",
+        "maxsize": "100M",
+    }
+    assert (
+        "each month, or on the next day at 100 MB" in page
+        and "deletes those that are three years old" in page
+    )
 
 
 @pytest.fixture(name="machine_root")
 def machine_root_fixture(tmp_path: pathlib.Path) -> pathlib.Path:
     """What a register leaves on a machine, below a folder."""
-    for name in ("var/lib/admissions/a/reg.db", "var/lib/admissions/a/reg.db-wal", "var/lib/admissions/a/reg.db.before-restore-1", "var/lib/admissions/.ssh/id_ed25519",
-                 "var/lib/admissions/.running-before-upgrade", "var/backups/admissions/a/nightly-000001-2025-03-03T023000.db",
-                 "var/backups/admissions/a/nightly-000001-2025-03-03T023000.tar", "var/backups/admissions/a/log/asked-000001-0123456789abcdef.gz",
-                 "var/backups/admissions/a/drill.report", "var/log/admissions/a/asked.log", "var/log/admissions/a/asked.log.1", "var/log/admissions/a/asked.log.2.gz",
-                 "var/log/admissions/a/errors.log", "etc/admissions/a/site.key", "etc/admissions/a/site.crt", "etc/admissions/a/site.csr", "etc/admissions/a/roles",
-                 "etc/admissions/a/passwords", "etc/admissions/a/site-name", "etc/admissions/authority", "etc/nginx/sites-available/other", "etc/tmpfiles.d/other.conf",
-                 "etc/systemd/system/multi-user.target.wants/admissions@a.service", "etc/systemd/system/timers.target.wants/admissions-backup@a.timer",
-                 "etc/systemd/system/multi-user.target.wants/other.service", "run/admissions-index/a/desk/index.json"):
+    for name in (
+        "var/lib/admissions/a/reg.db",
+        "var/lib/admissions/a/reg.db-wal",
+        "var/lib/admissions/a/reg.db.before-restore-1",
+        "var/lib/admissions/.ssh/id_ed25519",
+        "var/lib/admissions/.running-before-upgrade",
+        "var/backups/admissions/a/nightly-000001-2025-03-03T023000.db",
+        "var/backups/admissions/a/nightly-000001-2025-03-03T023000.tar",
+        "var/backups/admissions/a/log/asked-000001-0123456789abcdef.gz",
+        "var/backups/admissions/a/drill.report",
+        "var/log/admissions/a/asked.log",
+        "var/log/admissions/a/asked.log.1",
+        "var/log/admissions/a/asked.log.2.gz",
+        "var/log/admissions/a/errors.log",
+        "etc/admissions/a/site.key",
+        "etc/admissions/a/site.crt",
+        "etc/admissions/a/site.csr",
+        "etc/admissions/a/roles",
+        "etc/admissions/a/passwords",
+        "etc/admissions/a/site-name",
+        "etc/admissions/authority",
+        "etc/nginx/sites-available/other",
+        "etc/tmpfiles.d/other.conf",
+        "etc/systemd/system/multi-user.target.wants/admissions@a.service",
+        "etc/systemd/system/timers.target.wants/admissions-backup@a.timer",
+        "etc/systemd/system/multi-user.target.wants/other.service",
+        "run/admissions-index/a/desk/index.json",
+    ):
         (tmp_path / name).parent.mkdir(parents=True, exist_ok=True)
         (tmp_path / name).write_text(f"{name}\n")
-    for name in ("etc/nginx/conf.d/admissions.conf", "etc/nginx/sites-available/admissions-a", "etc/tmpfiles.d/admissions-a.conf"):
+    for name in (
+        "etc/nginx/conf.d/admissions.conf",
+        "etc/nginx/sites-available/admissions-a",
+        "etc/tmpfiles.d/admissions-a.conf",
+    ):
         (tmp_path / name).parent.mkdir(parents=True, exist_ok=True)
         (tmp_path / name).write_text("# Made by admissions-setup\n")
     (tmp_path / "etc/nginx/nginx.conf").write_text(sites.main_text(MAIN))
@@ -71,11 +136,21 @@ def machine_root_fixture(tmp_path: pathlib.Path) -> pathlib.Path:
 
 
 def files_of(root: pathlib.Path) -> dict[str, str]:
-    return {str(it.relative_to(root)): hashlib.sha256(it.read_bytes()).hexdigest() for it in root.rglob("*") if it.is_file()}
+    return {
+        str(it.relative_to(root)): hashlib.sha256(it.read_bytes()).hexdigest()
+        for it in root.rglob("*")
+        if it.is_file()
+    }
 
 
-def test_a_purge_removes_what_can_be_made_again_and_nothing_else(machine_root: pathlib.Path, tmp_path_factory: pytest.TempPathFactory) -> None:
-    script = re.sub(r"(?<![\w$/])/(var|etc|run)/", rf"{machine_root}/\1/", (ROOT / "debian/postrm").read_text(encoding="utf-8"))
+def test_a_purge_removes_what_can_be_made_again_and_nothing_else(
+    machine_root: pathlib.Path, tmp_path_factory: pytest.TempPathFactory
+) -> None:
+    script = re.sub(
+        r"(?<![\w$/])/(var|etc|run)/",
+        rf"{machine_root}/\1/",
+        (ROOT / "debian/postrm").read_text(encoding="utf-8"),
+    )
     here = tmp_path_factory.mktemp("script") / "postrm"
     here.write_text(script, encoding="utf-8")
     before = files_of(machine_root)
@@ -85,17 +160,35 @@ def test_a_purge_removes_what_can_be_made_again_and_nothing_else(machine_root: p
     after["etc/nginx/nginx.conf"] = before["etc/nginx/nginx.conf"]
     assert after.items() <= before.items()
     assert sorted(before.keys() - after.keys()) == [
-        "etc/admissions/a/passwords", "etc/admissions/a/roles", "etc/admissions/a/site-name", "etc/admissions/authority", "etc/nginx/conf.d/admissions.conf",
-        "etc/nginx/modules-enabled/90-admissions.conf", "etc/nginx/sites-available/admissions-a", "etc/systemd/system/multi-user.target.wants/admissions@a.service",
-        "etc/systemd/system/timers.target.wants/admissions-backup@a.timer", "etc/tmpfiles.d/admissions-a.conf", "run/admissions-index/a/desk/index.json",
-        "var/lib/admissions/.running-before-upgrade"]
+        "etc/admissions/a/passwords",
+        "etc/admissions/a/roles",
+        "etc/admissions/a/site-name",
+        "etc/admissions/authority",
+        "etc/nginx/conf.d/admissions.conf",
+        "etc/nginx/modules-enabled/90-admissions.conf",
+        "etc/nginx/sites-available/admissions-a",
+        "etc/systemd/system/multi-user.target.wants/admissions@a.service",
+        "etc/systemd/system/timers.target.wants/admissions-backup@a.timer",
+        "etc/tmpfiles.d/admissions-a.conf",
+        "run/admissions-index/a/desk/index.json",
+        "var/lib/admissions/.running-before-upgrade",
+    ]
     for folder, count in (("var/lib", 4), ("var/backups", 4), ("var/log", 4), ("etc", 3)):
-        assert f"admissions: {machine_root}/{folder}/admissions is kept, with {count} files:" in done.stdout
+        assert (
+            f"admissions: {machine_root}/{folder}/admissions is kept, with {count} files:"
+            in done.stdout
+        )
 
 
 @pytest.mark.parametrize("word", ["remove", "upgrade", "failed-upgrade", "abort-install"])
-def test_nothing_but_a_purge_removes_anything(word: str, machine_root: pathlib.Path, tmp_path_factory: pytest.TempPathFactory) -> None:
-    script = re.sub(r"(?<![\w$/])/(var|etc|run)/", rf"{machine_root}/\1/", (ROOT / "debian/postrm").read_text(encoding="utf-8"))
+def test_nothing_but_a_purge_removes_anything(
+    word: str, machine_root: pathlib.Path, tmp_path_factory: pytest.TempPathFactory
+) -> None:
+    script = re.sub(
+        r"(?<![\w$/])/(var|etc|run)/",
+        rf"{machine_root}/\1/",
+        (ROOT / "debian/postrm").read_text(encoding="utf-8"),
+    )
     here = tmp_path_factory.mktemp("script") / "postrm"
     here.write_text(script.replace("systemctl", "true"), encoding="utf-8")
     before = files_of(machine_root)
