@@ -1,5 +1,4 @@
-// The two files of a register: how they are found, connected to, created and closed. Also the errors and the exit status of
-// a line of the command line, and what is printed of them.
+// The two files of a register: found, connected to, created and closed; with the errors and the exit status of a line of the command line.
 #![tactic(auto)]
 
 mod cause;
