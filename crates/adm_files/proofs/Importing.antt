@@ -8,9 +8,9 @@ use Rattle.adm_types.specs.declared.rows.ImportRow.{ImportRow}
 use Rattle.adm_desk.specs.DeskState.{DeskState}
 use Rattle.adm_wire.specs.Streams.{Stream}
 use Rattle.adm_files.specs.Imports.{FileGives, IsHandled, ImportsAs}
-use Rattle.adm_files.specs.declared.exit.Exit.{Exit}
-use Rattle.adm_files.specs.declared.fault.Fault.{Fault}
-use Rattle.adm_files.specs.declared.fault.Fault.TheVariants.{Row}
+use Rattle.adm_host.specs.declared.exit.Exit.{Exit}
+use Rattle.adm_host.specs.declared.fault.Fault.{Fault}
+use Rattle.adm_host.specs.declared.fault.Fault.TheVariants.{Row}
 
 -- no answer is an error of the file
 pub imports_as : {D : Type 0} {g : disk.Ghosts D} (old new : DeskState (Held (FileStore D g))) (file output : Stream) (rows : List ImportRow) (e : Result Exit Fault)

@@ -1,5 +1,1 @@
-pub mod Closing
-pub mod Fresh
 pub mod Importing
-pub mod Refusing
-pub mod Wording

@@ -1,5 +1,5 @@
 -- The result of an import of a file of rows.
-use Rattle.std.specs.Prelude.{◌≡◌, ◌⊎◌, ◌++◌, List, [], ◌∷◌, true, Option, Result, Ok, Err, IfOk, IfSome}
+use Rattle.std.specs.Prelude.{◌≡◌, ◌⊎◌, ◌++◌, ℕ, Bool, List, [], ◌∷◌, true, Option, Result, Ok, Err, IfOk, IfSome}
 use Rattle.sqlite_disk.specs.declared.Disk as disk
 use Rattle.sqlite_disk.specs.declared.Files.{Files}
 use Rattle.sqlite_wal.specs.Recovery.{Image}
@@ -17,14 +17,19 @@ use Rattle.adm_csv.specs.declared.fault.RowFault.{RowFault}
 use Rattle.adm_desk.specs.Lines.{answer_text}
 use Rattle.adm_desk.specs.DeskState.{Handles, DeskState}
 use Rattle.adm_desk.specs.declared.answer.Answer.{Answer}
-use Rattle.adm_files.specs.Exits.{exit_of_answer}
+use Rattle.adm_files.specs.Opened.{Opens}
+use Rattle.adm_files.specs.Outcomes.{exit_of_answer}
+use Rattle.adm_host.specs.Found.{Closes}
+use Rattle.adm_host.specs.Texts.{Puts}
+use Rattle.adm_host.specs.declared.cause.Cause.{Cause}
+use Rattle.adm_host.specs.declared.exit.Exit.{Exit}
+use Rattle.adm_host.specs.declared.fault.Fault.{Fault}
+use Rattle.adm_host.specs.declared.fault.Fault.TheVariants as fault
 use Rattle.adm_wire.specs.Streams.{Stream}
-use Rattle.adm_files.specs.Opened.{Closes, Opens}
-use Rattle.adm_files.specs.Texts.{Puts}
-use Rattle.adm_files.specs.declared.cause.Cause.{Cause}
-use Rattle.adm_files.specs.declared.exit.Exit.{Exit}
-use Rattle.adm_files.specs.declared.fault.Fault.{Fault}
-use Rattle.adm_files.specs.declared.fault.Fault.TheVariants as fault
+
+-- what the file of rows at a path held, and what remained of it
+abbrev pub files : {S : Type 0} → record { remaining : S → Option (List ℕ); has_failed : S → Bool; bytes_at : S → List ℕ → Option (List ℕ) } → S → S → List ℕ → Stream
+files g old new path = record { old = g.bytes_at old path; new = g.remaining new; has_failed = g.has_failed new }
 
 -- the file gives these rows, or this error; it is Read only where a read failed
 abbrev pub FileGives : Stream → Result (List ImportRow) RowFault → Type 0

@@ -1,6 +1,4 @@
-pub mod Exits
-pub mod Opened
-pub mod Reports
-pub mod Texts
 pub mod Imports
+pub mod Opened
+pub mod Outcomes
 pub mod Runs

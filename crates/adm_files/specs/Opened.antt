@@ -1,18 +1,13 @@
--- The result of opening a register in a file, and what a close leaves.
-use Rattle.std.specs.Prelude.{◌≡◌, ◌⊎◌, ⊤, ℕ, Bool, false, IsTrue, List, Option, None, Result, Ok, Err, MatchResult}
+-- The result of opening a register in a file.
+use Rattle.std.specs.Prelude.{◌≡◌, ◌⊎◌, false, None, Result, Ok, Err}
 use Rattle.sqlite_disk.specs.declared.Disk as disk
 use Rattle.sqlite_disk.specs.declared.Files.{Files}
 use Rattle.sqlite_wal.specs.Recovery.{Image}
-use Rattle.sqlite_wal.specs.Files.{outcomes}
-use Rattle.sqlite_wal.specs.Reads.{AreClean}
 use Rattle.sqlite_store.specs.declared.store.FileStore.{FileStore}
 use Rattle.sqlite.specs.declared.error.Error.{Error}
-use Rattle.sqlite.specs.Effect.{IsDatabase}
 use Rattle.sqlite.specs.State.{HasCleanDisk, Survives}
 use Rattle.sqlite.specs.Held.{Held}
-use Rattle.sqlite.specs.Files.{image_of, file_state, IsClosed, IsCleanLeft, LeavesFiles}
-use Rattle.sqlite.specs.Closing.{IsCopied}
-use Rattle.sqlite.specs.Start.{FindsIn}
+use Rattle.sqlite.specs.Files.{file_state}
 use Rattle.adm_schema.specs.declared.version.Version.TheVariants.{First}
 use Rattle.adm_schema.specs.Schema.{schema_of}
 use Rattle.adm_rows.specs.Represents.{LeavesOnly, LeavesNone}
@@ -23,40 +18,13 @@ use Rattle.adm_rows.specs.FirstFault.{IsFirstFault}
 use Rattle.adm_rows.specs.declared.fault.OpenFault.{OpenFault}
 use Rattle.adm_rows.specs.declared.fault.OpenFault.TheVariants.{Disk}
 use Rattle.adm_desk.specs.DeskState.{DeskState}
-use Rattle.adm_wire.specs.Streams.{Stream}
-use Rattle.adm_files.specs.Exits.{of_open}
-use Rattle.adm_files.specs.declared.connecting.Remains.{Remains}
-use Rattle.adm_files.specs.declared.connecting.Remains.TheVariants as remains
-use Rattle.adm_files.specs.declared.ended.Ended.{Ended}
-use Rattle.adm_files.specs.declared.exit.Exit.{Exit}
-use Rattle.adm_files.specs.declared.fault.Fault.{Fault}
-
--- what the file of rows at a path held, and what remained of it
-abbrev pub files : {S : Type 0} → record { remaining : S → Option (List ℕ); has_failed : S → Bool; bytes_at : S → List ℕ → Option (List ℕ) } → S → S → List ℕ → Stream
-files g old new path = record { old = g.bytes_at old path; new = g.remaining new; has_failed = g.has_failed new }
-
--- the files hold this, and so does all that a crash may leave of them
-pub record AreAsFound {D : Type 0} (g : disk.Ghosts D) (image : Image) (files : Files D) : Type 0 where
-  pub holds : image_of g files ≡ image
-  pub only : (left : Image) → outcomes g files.log files.db left → left ≡ image
+use Rattle.adm_host.specs.Exits.{of_open}
+use Rattle.adm_host.specs.Found.{Closes, IsFound}
+use Rattle.adm_host.specs.declared.ended.Ended.{Ended}
+use Rattle.adm_host.specs.declared.exit.Exit.{Exit}
+use Rattle.adm_host.specs.declared.fault.Fault.{Fault}
 
 module _ {D : Type 0} {g : disk.Ghosts D} where
-  -- The close of a connection: on a clean disk the last commit is in the file alone, or its error says what remains.
-  abbrev pub Closes : Held (FileStore D g) → Result (Files D) (Error × FileStore D g) → Type 0
-  Closes c closed = MatchResult closed (λ files. AreClean g files.log files.db → IsCopied c files) (λ e. IsClosed c e.1)
-
-  -- a connection to files that held this, which is open, and whose schema is the one that the database lists
-  abbrev pub IsFound : Image → Held (FileStore D g) → Type 0
-  IsFound image c = HasCleanDisk (file_state c)
-      → IsTrue (file_state c).is_open × FindsIn image (file_state c) × IsDatabase (file_state c).committed × (c.schema ≡ (file_state c).committed.schema)
-
-  -- what remained of files that held this, where they were not opened as a register: they were not opened at all; or a clean disk has what an open of `sqlite` that
-  -- fails leaves of such files; or they were opened, and a crash leaves them as they were, or in the second version for the same register
-  abbrev pub LeavesAsFound : Image → Remains D g → Type 0
-  LeavesAsFound image (remains.Untouched it) = ⊤
-  LeavesAsFound image (remains.Files left) = (files : Files D) × AreAsFound g image files × (IsCleanLeft left → LeavesFiles files left)
-  LeavesAsFound image (remains.Connection c) = (found : Held (FileStore D g)) × IsFound image found × Survives (file_state found) (file_state c) (IsMigrated (file_state found))
-
   -- the files represent no register, or could not be read, and stay as they were, or represent the same register in the second version; the first error that fits is
   -- reported, and Disk only where the disk failed or refused, or where they were of the first version
   pub record IsNotOpened (image : Image) (e : Result Exit Fault) (closed : Result (Files D) (Error × FileStore D g)) : Type 0 where

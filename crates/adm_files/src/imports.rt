@@ -3,21 +3,18 @@ ghost use Rattle.std.specs.Prelude.{◌≡◌, ◌++◌, [], ◌∷◌, codes, I
 ghost use Rattle.sqlite.specs.Held.{state};
 ghost use Rattle.sqlite_wal.specs.Files.{image_at};
 ghost use Rattle.adm_desk.specs.Lines.{answer_text};
-ghost use Rattle.adm_files.specs.Exits.{IsOpenFault, IsDisk};
-ghost use Rattle.adm_files.specs.Imports.{IsHandled, Imports, ImportsFile, ImportsInto};
+ghost use Rattle.adm_host.specs.Exits.{IsOpenFault, IsDisk};
+ghost use Rattle.adm_files.specs.Imports.{files, IsHandled, Imports, ImportsFile, ImportsInto};
 ghost use Rattle.adm_wire.specs.Streams.{reader, writer};
-ghost use Rattle.adm_files.specs.Opened.{files, LeavesAsFound};
-ghost use Rattle.adm_files.specs.Texts.{Puts};
+ghost use Rattle.adm_host.specs.Found.{LeavesAsFound};
+ghost use Rattle.adm_host.specs.Texts.{Puts};
 
-use crate::connecting::OpenError;
-use crate::ended::{Ended, close};
-use crate::exit::Exit;
-use crate::fault::Fault;
+use crate::closing::close;
 use crate::opening::open_desk;
-use crate::printing::put;
-use crate::rows::Rows;
+use crate::outcome::exit_of_answer;
 use adm_csv::read_rows;
 use adm_desk::{Answer, Desk};
+use adm_host::{Ended, Exit, Fault, OpenError, Rows, put};
 use adm_types::{Command, ImportRow, Seq};
 use adm_wire::{Input, Output};
 use sqlite::{Alter, FileFrom, FileStore, Start};
@@ -50,7 +47,7 @@ fn handle_rows<S: Alter, O: Output>(
 {
     let answer = desk.handle(&Command::Import(Seq::from_vec(rows)));
     match put_answer(alloc, output, &answer) {
-        Ok(()) => Ok(Exit::of_answer(answer)),
+        Ok(()) => Ok(exit_of_answer(answer)),
         Err(fault) => Err(fault),
     }
 }

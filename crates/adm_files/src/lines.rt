@@ -5,17 +5,16 @@ ghost use Rattle.sqlite.specs.Files.{file_state};
 ghost use Rattle.adm_desk.specs.Lines.{AnswersLine};
 ghost use Rattle.adm_desk.specs.Questions.{AnswersQuestionLine};
 ghost use Rattle.adm_desk.specs.DeskState.{Handles};
-ghost use Rattle.adm_files.specs.Exits.{IsOpenFault, IsDisk};
+ghost use Rattle.adm_host.specs.Exits.{IsOpenFault, IsDisk};
 ghost use Rattle.adm_wire.specs.Streams.{reader, writer};
-ghost use Rattle.adm_files.specs.Opened.{LeavesAsFound};
+ghost use Rattle.adm_host.specs.Found.{LeavesAsFound};
 ghost use Rattle.adm_files.specs.Runs.{OpensAndRuns, Runs};
 
-use crate::connecting::OpenError;
-use crate::ended::{Ended, close};
-use crate::exit::Exit;
-use crate::fault::Fault;
+use crate::closing::close;
 use crate::opening::open_desk;
+use crate::outcome::{exit_of, fault_of_run};
 use adm_desk::Desk;
+use adm_host::{Ended, OpenError};
 use adm_wire::{Input, Output};
 use sqlite::{FileFrom, FileStore, Start};
 use sqlite_disk::Disk;
@@ -56,8 +55,8 @@ fn run_desk<D: Disk + Drop, I: Input, O: Output>(
         result.exit result.closed }
 {
     match desk.run_lines(input, output) {
-        Ok(run) => close(desk, Ok(Exit::of(run))),
-        Err(fault) => close(desk, Err(Fault::from(fault))),
+        Ok(run) => close(desk, Ok(exit_of(run))),
+        Err(fault) => close(desk, Err(fault_of_run(fault))),
     }
 }
 
@@ -97,7 +96,7 @@ fn run_questions<D: Disk + Drop, I: Input, O: Output>(
         result.exit result.closed }
 {
     match desk.answer_questions(input, output) {
-        Ok(run) => close(desk, Ok(Exit::of(run))),
-        Err(fault) => close(desk, Err(Fault::from(fault))),
+        Ok(run) => close(desk, Ok(exit_of(run))),
+        Err(fault) => close(desk, Err(fault_of_run(fault))),
     }
 }

@@ -1,17 +1,16 @@
 // How the file of a register is opened.
 ghost use Rattle.std.specs.Prelude.{◌≡◌, codes, IfOk, IfErr, IsErr, IsErrAnd};
 ghost use Rattle.sqlite_wal.specs.Files.{image_at};
-ghost use Rattle.adm_files.specs.Exits.{IsOpenFault, IsDisk};
-ghost use Rattle.adm_files.specs.Opened.{IsOpened, LeavesAsFound, OpensAs};
+ghost use Rattle.adm_host.specs.Exits.{IsOpenFault, IsDisk};
+ghost use Rattle.adm_host.specs.Found.{LeavesAsFound};
+ghost use Rattle.adm_files.specs.Opened.{IsOpened, OpensAs};
 
-use crate::cause::Cause;
-use crate::connecting::{OpenError, before_open, changed, open_file};
-use crate::ended::{Ended, before_close, close, connection_of};
-use crate::exit::Exit;
-use crate::fault::Fault;
-use crate::found::{Found, Head, is_reserved};
-use crate::trial::Trial;
+use crate::closing::{close, connection_of};
 use adm_desk::Desk;
+use adm_host::{
+    Ended, Exit, Fault, Found, OpenError, Trial, before_close, before_open, changed, close_files,
+    open_file,
+};
 use sqlite::{FileFrom, FileStore, Start, Unknown};
 
 /// A desk over the register in a file, or how the line ended without one.
@@ -34,26 +33,10 @@ pub fn open_desk<S: Start>(
     ensures left { IfErr result (λ e. LeavesAsFound (image_at S.Start) e.remains) }
     ensures memory { file.now ≡ codes ":memory:" → IsErrAnd result (λ e. IsDisk e.fault) }
 {
-    match doubtful(rt, file) {
+    match Found::doubtful(rt, file) {
         Ok(Some(found)) => open_after_trial(rt, file, &found, start),
         Ok(None) => open_at(rt, file, start),
         Err(fault) => Err(before_open(fault, start)),
-    }
-}
-
-/// Finds the file. `Some` where an open may write to it before it is known to be a register.
-fn doubtful(rt: &HostRuntime, file: &str) -> Result<Option<Found>, Fault>
-    ensures err { IfErr result IsOpenFault }
-    ensures memory { file.now ≡ codes ":memory:" → IsErrAnd result IsDisk }
-{
-    if is_reserved(file) {
-        return Err(Fault::Disk(None));
-    }
-    let found = Found::at(rt, file)?;
-    match found.head(rt) {
-        Head::Database if found.is_doubtful() => Ok(Some(found)),
-        Head::Database => Ok(None),
-        Head::Unfinished | Head::Foreign => Err(Fault::Disk(Some(Cause::NoDatabase))),
     }
 }
 
@@ -152,7 +135,7 @@ fn open_at<S: Start>(
         Ok(desk) => Ok(Ok(desk)),
         Err((fault, conn)) => Ok(Err(Ended {
             exit: Err(Fault::from(fault)),
-            closed: conn.close_files(),
+            closed: close_files(conn),
         })),
     }
 }

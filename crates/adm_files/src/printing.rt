@@ -1,32 +1,20 @@
-// A text on the output, and a document of a register printed as one.
+// A document of a register, printed.
 ghost use Rattle.std.specs.Prelude.{◌≡◌, codes, false, IfOk, IfErr, OnErr, IsErrAnd};
 ghost use Rattle.sqlite_wal.specs.Files.{image_at};
 ghost use Rattle.adm_wire.specs.Streams.{writer};
-ghost use Rattle.adm_files.specs.Exits.{IsOpenFault, IsDisk};
-ghost use Rattle.adm_files.specs.Opened.{Closes, LeavesAsFound};
-ghost use Rattle.adm_files.specs.Texts.{Puts, Prints, PrintsAs, document_text};
+ghost use Rattle.adm_host.specs.Exits.{IsOpenFault, IsDisk};
+ghost use Rattle.adm_host.specs.Found.{Closes, LeavesAsFound};
+ghost use Rattle.adm_host.specs.Texts.{PrintsAs, document_text};
+ghost use Rattle.adm_files.specs.Runs.{Prints};
 
-use crate::connecting::OpenError;
-use crate::document::Document;
-use crate::ended::{Ended, close};
-use crate::exit::Exit;
-use crate::fault::Fault;
+use crate::closing::close;
 use crate::opening::open_desk;
 use adm_desk::Desk;
+use adm_host::{Document, Ended, Exit, Fault, OpenError};
 use adm_wire::Output;
 use sqlite::{Alter, FileFrom, FileStore, Start};
 use sqlite_disk::Disk;
 use std::alloc::Global;
-
-/// Writes a text. The `Err` is Write.
-pub fn put<O: Output>(output: &mut O, text: &str) -> Result<(), Fault>
-    ensures { Puts text.now (writer O.Output output.old output.new) result }
-{
-    match output.put(text.as_bytes()) {
-        Ok(()) => Ok(()),
-        Err(_) => Err(Fault::Write),
-    }
-}
 
 /// Prints a document of the desk's register.
 fn print_from<S: Alter, O: Output>(
@@ -42,13 +30,7 @@ fn print_from<S: Alter, O: Output>(
     let Some(register) = desk.register() else {
         unreachable!()
     };
-    match document.text(alloc, register) {
-        Ok(text) => match put(output, text.as_str()) {
-            Ok(()) => Ok(Exit::Done),
-            Err(fault) => Err(fault),
-        },
-        Err(fault) => Err(fault),
-    }
+    document.print(alloc, register, output)
 }
 
 /// Prints a document of the desk's register, and closes the connection, whatever comes.

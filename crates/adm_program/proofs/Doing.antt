@@ -21,21 +21,23 @@ use Rattle.adm_desk.specs.declared.answer.Answer.{Answer}
 use Rattle.adm_desk.specs.declared.answer.Answer.TheVariants as answer
 use Rattle.adm_desk.specs.declared.run.Run.{Run}
 use Rattle.adm_desk.specs.declared.run.RunFault.{RunFault}
-use Rattle.adm_files.specs.Exits.{of_lines, ExitsBy, exit_of_answer, ending_of, error_of, exit_of_result, line_outcome, exit_of_arguments, exit_code}
+use Rattle.adm_files.specs.Outcomes.{of_lines, exit_of_answer}
+use Rattle.adm_host.specs.Exits.{ExitsBy, ending_of, error_of, exit_of_result, line_outcome, exit_of_arguments, exit_code}
 use Rattle.adm_wire.specs.Streams.{Stream}
 use Rattle.adm_files.specs.Opened.{IsNotOpened}
 use Rattle.adm_files.specs.Imports.{ImportsAs, ImportsFile, ImportsInto}
 use Rattle.adm_program.specs.Served.{ServesAs, ServesOver}
-use Rattle.adm_files.specs.Texts.{Prints, PrintsAs, document_text}
-use Rattle.adm_files.specs.Runs.{LineStep, OpensAndRuns, Creates, CreatesAs}
+use Rattle.adm_host.specs.Texts.{PrintsAs, document_text}
+use Rattle.adm_files.specs.Runs.{LineStep, OpensAndRuns, Prints}
+use Rattle.adm_host.specs.Creation.{Creates, CreatesAs}
 use Rattle.adm_program.specs.Does.{Does}
-use Rattle.adm_files.specs.declared.document.Document.{Document}
-use Rattle.adm_files.specs.declared.document.Document.TheVariants as document
-use Rattle.adm_files.specs.declared.connecting.OpenError.{OpenError}
-use Rattle.adm_files.specs.declared.ended.Ended.{Ended}
-use Rattle.adm_files.specs.declared.exit.Exit.{Exit}
-use Rattle.adm_files.specs.declared.exit.Exit.TheVariants as exit
-use Rattle.adm_files.specs.declared.fault.Fault.{Fault}
+use Rattle.adm_host.specs.declared.document.Document.{Document}
+use Rattle.adm_host.specs.declared.document.Document.TheVariants as document
+use Rattle.adm_host.specs.declared.connecting.OpenError.{OpenError}
+use Rattle.adm_host.specs.declared.ended.Ended.{Ended}
+use Rattle.adm_host.specs.declared.exit.Exit.{Exit}
+use Rattle.adm_host.specs.declared.exit.Exit.TheVariants as exit
+use Rattle.adm_host.specs.declared.fault.Fault.{Fault}
 
 pub if_ok : {X E : Type 0} {P Q : X → Type 0} → ((x : X) → P x → Q x) → (r : Result X E) → IfOk r P → IfOk r Q
 if_ok more (Ok x) holds = more x holds

@@ -4,14 +4,14 @@ use Rattle.sqlite_disk.specs.declared.Disk as disk
 use Rattle.sqlite_store.specs.declared.store.FileStore.{FileStore}
 use Rattle.sqlite.specs.Held.{Held}
 use Rattle.adm_desk.specs.DeskState.{DeskState}
-use Rattle.adm_files.specs.Exits.{exit_of_status}
+use Rattle.adm_host.specs.Exits.{exit_of_status}
 use Rattle.adm_wire.specs.Streams.{Stream}
 use Rattle.adm_program.specs.Served.{IsListenFault, ServesAs, serving_text}
-use Rattle.adm_files.specs.Texts.{Puts}
-use Rattle.adm_files.specs.declared.exit.Exit.{Exit}
-use Rattle.adm_files.specs.declared.exit.Exit.TheVariants as exit
-use Rattle.adm_files.specs.declared.fault.Fault.{Fault}
-use Rattle.adm_files.specs.declared.fault.Fault.TheVariants as fault
+use Rattle.adm_host.specs.Texts.{Puts}
+use Rattle.adm_host.specs.declared.exit.Exit.{Exit}
+use Rattle.adm_host.specs.declared.exit.Exit.TheVariants as exit
+use Rattle.adm_host.specs.declared.fault.Fault.{Fault}
+use Rattle.adm_host.specs.declared.fault.Fault.TheVariants as fault
 
 -- the exit says whether the store failed
 pub exit_served : (failed : Bool) (status : ℕ) (e : Exit) → status ≡ (if failed then 4 else 0) → e ≡ exit_of_status status → e ≡ (if failed then exit.Failed else exit.Done)

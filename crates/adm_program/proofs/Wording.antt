@@ -7,15 +7,15 @@ use Rattle.sqlite_disk.specs.declared.start.Start as start
 use Rattle.sqlite_wal.specs.Files.{image_at}
 use Rattle.adm_words.specs.Lines.{ReadsArguments}
 use Rattle.adm_words.specs.declared.actions.Action.{Action}
-use Rattle.adm_files.specs.Exits.{has_many_holidays, IsCauseIn, line_outcome, exit_of_result, exit_code}
+use Rattle.adm_host.specs.Exits.{has_many_holidays, IsCauseIn, line_outcome, exit_of_result, exit_code}
 use Rattle.adm_wire.specs.Streams.{Stream}
-use Rattle.adm_files.specs.Reports.{ReportsOutcome}
+use Rattle.adm_host.specs.Reports.{ReportsOutcome}
 use Rattle.adm_program.specs.Does.{Does}
 use Rattle.adm_program.specs.Arguments.{ActsOn, texts}
-use Rattle.adm_files.specs.declared.connecting.OpenError.{OpenError}
-use Rattle.adm_files.specs.declared.ended.Ended.{Ended}
-use Rattle.adm_files.specs.declared.exit.Exit.{Exit}
-use Rattle.adm_files.specs.declared.fault.Fault.TheVariants.{TooManyHolidays}
+use Rattle.adm_host.specs.declared.connecting.OpenError.{OpenError}
+use Rattle.adm_host.specs.declared.ended.Ended.{Ended}
+use Rattle.adm_host.specs.declared.exit.Exit.{Exit}
+use Rattle.adm_host.specs.declared.fault.Fault.TheVariants.{TooManyHolidays}
 
 -- arguments that name an action
 pub taken : {D S : Type 0} {g : disk.Ghosts D} (first : start.Ghosts S) (arguments : List (Bor (List ℕ))) (a : Action) (rows : List ℕ → Stream) (input output errors : Stream) (r : Result (Ended D g) (OpenError D g)) (x : Exit)

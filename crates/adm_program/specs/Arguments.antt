@@ -11,13 +11,13 @@ use Rattle.sqlite.specs.declared.error.Error.{Error}
 use Rattle.adm_words.specs.Lines.{ReadsArguments}
 use Rattle.adm_words.specs.declared.actions.Action.{Action}
 use Rattle.adm_words.specs.declared.faults.ArgumentsFault.{ArgumentsFault}
-use Rattle.adm_files.specs.Exits.{has_many_holidays, IsCauseIn, ending_of, error_of, exit_of_result, exit_code, exit_of_arguments, fault_line}
+use Rattle.adm_host.specs.Exits.{has_many_holidays, IsCauseIn, ending_of, error_of, exit_of_result, exit_code, exit_of_arguments, fault_line}
 use Rattle.adm_wire.specs.Streams.{Stream}
-use Rattle.adm_files.specs.Reports.{ReportsText, ReportsOutcome, ReportsArguments}
+use Rattle.adm_host.specs.Reports.{ReportsText, ReportsOutcome, ReportsArguments}
 use Rattle.adm_program.specs.Does.{Does}
-use Rattle.adm_files.specs.declared.exit.Exit.{Exit}
-use Rattle.adm_files.specs.declared.fault.Fault.{Fault}
-use Rattle.adm_files.specs.declared.fault.Fault.TheVariants.{TooManyHolidays}
+use Rattle.adm_host.specs.declared.exit.Exit.{Exit}
+use Rattle.adm_host.specs.declared.fault.Fault.{Fault}
+use Rattle.adm_host.specs.declared.fault.Fault.TheVariants.{TooManyHolidays}
 
 -- the arguments, as texts
 abbrev pub texts : List (Bor (List ℕ)) → List (List ℕ)

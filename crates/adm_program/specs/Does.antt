@@ -13,13 +13,13 @@ use Rattle.adm_desk.specs.Lines.{AnswersLine}
 use Rattle.adm_desk.specs.Questions.{AnswersQuestionLine}
 use Rattle.adm_desk.specs.DeskState.{Handles}
 use Rattle.adm_wire.specs.Streams.{Stream}
-use Rattle.adm_files.specs.Runs.{OpensAndRuns, Creates}
+use Rattle.adm_files.specs.Runs.{OpensAndRuns, Prints}
+use Rattle.adm_host.specs.Creation.{Creates}
 use Rattle.adm_files.specs.Imports.{ImportsInto}
 use Rattle.adm_program.specs.Served.{ServesOver}
-use Rattle.adm_files.specs.Texts.{Prints}
-use Rattle.adm_files.specs.declared.document.Document.TheVariants as document
-use Rattle.adm_files.specs.declared.exit.Exit.{Exit}
-use Rattle.adm_files.specs.declared.fault.Fault.{Fault}
+use Rattle.adm_host.specs.declared.document.Document.TheVariants as document
+use Rattle.adm_host.specs.declared.exit.Exit.{Exit}
+use Rattle.adm_host.specs.declared.fault.Fault.{Fault}
 
 -- `init` creates the register of the season of its values, and reads and writes nothing else; `do` answers the lines, and `what-if` the questions;
 -- `import` imports the rows of the file at its path; `serve` serves connections; the others print a document of the register

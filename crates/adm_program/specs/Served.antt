@@ -13,12 +13,13 @@ use Rattle.adm_desk.specs.DeskState.{DeskState}
 use Rattle.adm_http.specs.Connections.{AnswersUpTo}
 use Rattle.adm_http.specs.Shows.{Shows}
 use Rattle.adm_wire.specs.Streams.{Stream}
-use Rattle.adm_files.specs.Opened.{Closes, Opens}
-use Rattle.adm_files.specs.Texts.{Puts}
-use Rattle.adm_files.specs.declared.exit.Exit.{Exit}
-use Rattle.adm_files.specs.declared.exit.Exit.TheVariants as exit
-use Rattle.adm_files.specs.declared.fault.Fault.{Fault}
-use Rattle.adm_files.specs.declared.fault.Fault.TheVariants as fault
+use Rattle.adm_host.specs.Found.{Closes}
+use Rattle.adm_files.specs.Opened.{Opens}
+use Rattle.adm_host.specs.Texts.{Puts}
+use Rattle.adm_host.specs.declared.exit.Exit.{Exit}
+use Rattle.adm_host.specs.declared.exit.Exit.TheVariants as exit
+use Rattle.adm_host.specs.declared.fault.Fault.{Fault}
+use Rattle.adm_host.specs.declared.fault.Fault.TheVariants as fault
 
 -- what is printed before the first connection
 abbrev pub serving_text : ℕ → List ℕ

@@ -1,23 +1,21 @@
 // What each line of the command line does, over a reader and writers.
 ghost use Rattle.std.specs.Prelude.{◌≡◌, codes, IsTrue, IfOk, IfErr, OnErr, IsErrAnd};
 ghost use Rattle.sqlite_wal.specs.Files.{image_at};
-ghost use Rattle.adm_files.specs.Exits.{has_many_holidays, IsCauseIn, IsOpenFault, RunsArguments, IsDisk};
-ghost use Rattle.adm_files.specs.declared.fault.Fault.TheVariants.{TooManyHolidays};
+ghost use Rattle.adm_host.specs.Exits.{has_many_holidays, IsCauseIn, IsOpenFault, RunsArguments, IsDisk};
+ghost use Rattle.adm_host.specs.declared.fault.Fault.TheVariants.{TooManyHolidays};
 ghost use Rattle.adm_http.specs.Connections.{errors_of};
 ghost use Rattle.adm_program.specs.Does.{Does};
 ghost use Rattle.adm_program.specs.Logged.{Logs, LogsBy, PrintsConnections};
-ghost use Rattle.adm_files.specs.Imports.{ImportsInto};
+ghost use Rattle.adm_files.specs.Imports.{files, ImportsInto};
 ghost use Rattle.adm_wire.specs.Streams.{reader, writer};
-ghost use Rattle.adm_files.specs.Opened.{files, LeavesAsFound};
+ghost use Rattle.adm_host.specs.Found.{LeavesAsFound};
 ghost use Rattle.adm_program.specs.Served.{ServesOver};
-ghost use Rattle.adm_files.specs.Texts.{Prints};
+ghost use Rattle.adm_files.specs.Runs.{Prints};
 ghost use Rattle.adm_program.specs.Arguments.{ActsOn, texts};
 
 use crate::serving::serve_connections;
-use adm_files::{
-    Document, Ended, Fault, OpenError, Rows, answer_questions, before_open, do_lines, end, import,
-    init, open_desk, print, refuse_arguments,
-};
+use adm_files::{answer_questions, do_lines, import, open_desk, print};
+use adm_host::{Document, Ended, Fault, OpenError, Rows, before_open, end, init, refuse_arguments};
 use adm_types::Season;
 use adm_wire::{Input, Output};
 use adm_words::{Action, action};

@@ -4,10 +4,11 @@ ghost use Rattle.adm_wire.specs.Streams.{writer};
 ghost use Rattle.adm_http.specs.Connections.{errors_of};
 ghost use Rattle.adm_program.specs.Logged.{PrintsConnections};
 ghost use Rattle.adm_program.specs.Served.{IsListenFault, Serves, serving_text};
-ghost use Rattle.adm_files.specs.Texts.{Puts};
+ghost use Rattle.adm_host.specs.Texts.{Puts};
 
 use adm_desk::Desk;
-use adm_files::{Ended, Exit, Fault, close, put};
+use adm_files::close;
+use adm_host::{Ended, Exit, Fault, put};
 use adm_http::{Port, Routes, serve_on};
 use adm_wire::Output;
 use sqlite::FileStore;

@@ -32,9 +32,9 @@ use Rattle.adm_desk.proofs.AcknowledgedLemmas.{keeps, keeps_lines}
 use Rattle.adm_http.specs.Bodies.{AnswersBodies}
 use Rattle.adm_files.specs.Imports.{ImportsAs}
 use Rattle.adm_files.specs.Opened.{IsOpened}
-use Rattle.adm_files.specs.declared.exit.Exit.{Exit}
-use Rattle.adm_files.specs.declared.fault.Fault.{Fault}
-use Rattle.adm_files.specs.declared.fault.Fault.TheVariants as fault
+use Rattle.adm_host.specs.declared.exit.Exit.{Exit}
+use Rattle.adm_host.specs.declared.fault.Fault.{Fault}
+use Rattle.adm_host.specs.declared.fault.Fault.TheVariants as fault
 use Rattle.adm_program.specs.Does.{Does}
 use Rattle.adm_program.specs.Served.{ServesAs}
 use Rattle.adm_program_laws.specs.SuccessiveRuns.{AnswersInput, AnswersRows, AnswersNone, AnswersBy, StartsClean}

@@ -33,11 +33,12 @@ use Rattle.adm_desk.specs.Files.{IsFileOf}
 use Rattle.adm_desk.specs.DeskState.{DeskState}
 use Rattle.adm_desk.specs.declared.answer.Answer.{Answer}
 use Rattle.adm_desk.proofs.CrashLemmas.{each_again, opens_one, is_not_none, still_represents}
-use Rattle.adm_files.specs.Opened.{Closes, IsNotOpened, IsOpened}
-use Rattle.adm_files.specs.Runs.{Creates, CreatesAs}
-use Rattle.adm_files.specs.declared.exit.Exit.{Exit}
-use Rattle.adm_files.specs.declared.exit.Exit.TheVariants as exit
-use Rattle.adm_files.specs.declared.fault.Fault.{Fault}
+use Rattle.adm_host.specs.Found.{Closes}
+use Rattle.adm_files.specs.Opened.{IsNotOpened, IsOpened}
+use Rattle.adm_host.specs.Creation.{Creates, CreatesAs}
+use Rattle.adm_host.specs.declared.exit.Exit.{Exit}
+use Rattle.adm_host.specs.declared.exit.Exit.TheVariants as exit
+use Rattle.adm_host.specs.declared.fault.Fault.{Fault}
 use Rattle.adm_program_laws.specs.SuccessiveRuns.{MayRemain, IsEffect}
 
 -- commands after commands

@@ -18,8 +18,8 @@ use Rattle.adm_rows.specs.Faults.{IsNoRegister}
 use Rattle.adm_desk.specs.Acknowledged.{FindsAgain, LeavesAcknowledged}
 use Rattle.adm_desk.specs.DeskState.{DeskState}
 use Rattle.adm_files.specs.Opened.{IsNotOpened, IsOpened}
-use Rattle.adm_files.specs.declared.exit.Exit.{Exit}
-use Rattle.adm_files.specs.declared.fault.Fault.{Fault}
+use Rattle.adm_host.specs.declared.exit.Exit.{Exit}
+use Rattle.adm_host.specs.declared.fault.Fault.{Fault}
 
 -- A run over files that held this: where it opens the register, that is the one after the acknowledged commands, or also one that the
 -- command in flight leaves; and it never reports that they hold none.

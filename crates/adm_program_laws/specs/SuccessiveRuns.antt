@@ -34,11 +34,11 @@ use Rattle.adm_desk.specs.declared.answer.Answer.{Answer}
 use Rattle.adm_desk.specs.declared.answer.LineAnswer.{LineAnswer}
 use Rattle.adm_files.specs.Imports.{FileGives}
 use Rattle.adm_files.specs.Opened.{IsNotOpened, IsOpened}
-use Rattle.adm_files.specs.Runs.{Creates}
-use Rattle.adm_files.specs.Texts.{Puts}
-use Rattle.adm_files.specs.declared.exit.Exit.{Exit}
-use Rattle.adm_files.specs.declared.exit.Exit.TheVariants as exit
-use Rattle.adm_files.specs.declared.fault.Fault.{Fault}
+use Rattle.adm_host.specs.Creation.{Creates}
+use Rattle.adm_host.specs.Texts.{Puts}
+use Rattle.adm_host.specs.declared.exit.Exit.{Exit}
+use Rattle.adm_host.specs.declared.exit.Exit.TheVariants as exit
+use Rattle.adm_host.specs.declared.fault.Fault.{Fault}
 use Rattle.adm_program.specs.Arguments.{Acts}
 use Rattle.adm_program.specs.Does.{Does}
 

@@ -1,7 +1,7 @@
 // The program: it takes its arguments and the streams of its process, and runs on real files.
 #![tactic(auto)]
 
-use adm_files::{FileRows, print_memory_fault};
+use adm_host::{FileRows, print_memory_fault};
 use adm_program::run_arguments;
 use adm_wire::Watched;
 use sqlite::Unknown;

@@ -1,5 +1,5 @@
 // A run with the lines that were given for it, and what it prints.
-use adm_files::FileRows;
+use adm_host::FileRows;
 use adm_program::run_arguments;
 use adm_wire::Watched;
 use sqlite::Unknown;

@@ -1,9 +1,9 @@
 use Rattle.std.proofs.Common.{Result, Err, refl, sym, subst}
 use Rattle.adm_wire.specs.Streams.{Stream}
 use Rattle.adm_files.specs.Imports.{ImportsAs}
-use Rattle.adm_files.specs.declared.exit.Exit.{Exit}
-use Rattle.adm_files.specs.declared.fault.Fault.{Fault}
-use Rattle.adm_files.specs.declared.fault.Fault.TheVariants.{Row}
+use Rattle.adm_host.specs.declared.exit.Exit.{Exit}
+use Rattle.adm_host.specs.declared.fault.Fault.{Fault}
+use Rattle.adm_host.specs.declared.fault.Fault.TheVariants.{Row}
 use Rattle.adm_files.proofs.Importing.{imports_as}
 use Rattle.adm_files.proofs.imports.import_rows.Goals as goal
 

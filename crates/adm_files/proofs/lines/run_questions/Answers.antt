@@ -6,7 +6,7 @@ returns-in-Ok g c = record {
   after = c.args.desk;
   run = Ok c.in-Ok.run';
   ends = c.in-Ok.ensures.ends;
-  reported = c.close.ensures.exit ∙ ap Ok c.of.ensures;
+  reported = c.close.ensures.exit ∙ ap Ok c.exit_of.ensures;
   closes = c.close.ensures.closes;
 }
 
@@ -15,6 +15,6 @@ returns-in-Err g c = record {
   after = c.args.desk;
   run = Err c.in-Err.fault;
   ends = c.in-Err.ensures.ends;
-  reported = c.close-in-Err.ensures.exit ∙ ap Err c.from.ensures;
+  reported = c.close-in-Err.ensures.exit ∙ ap Err c.fault_of_run.ensures;
   closes = c.close-in-Err.ensures.closes;
 }

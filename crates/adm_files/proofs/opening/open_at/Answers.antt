@@ -1,5 +1,4 @@
 use Rattle.std.proofs.Common.{ap, Err}
-use Rattle.adm_files.proofs.Closing.{closes}
 use Rattle.adm_files.proofs.opening.open_at.Goals as goal
 
 pub returns-in-Ok-clause-ok : goal.returns-in-Ok-clause-ok
@@ -25,5 +24,5 @@ returns-in-Err-clause-ok g c =
       unlimited = c.in_ok-conn.ensures.unlimited;
       disk = c.in-Err.ensures.disk;
       kept = c.in-Err.ensures.left;
-      closes = closes c.in-Err.conn c.close_files.result _ c.close_files.ensures.copied c.close_files.ensures.err;
+      closes = c.close_files.ensures;
     }

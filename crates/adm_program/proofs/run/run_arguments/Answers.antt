@@ -1,5 +1,5 @@
 use Rattle.std.proofs.Common.{ℕ, Ok, Err, refl, ap, ◌∙◌, sym, subst}
-use Rattle.adm_files.specs.Exits.{ExitsBy, exit_code}
+use Rattle.adm_host.specs.Exits.{ExitsBy, exit_code}
 use Rattle.adm_wire.specs.Streams.{Stream}
 use Rattle.adm_program.proofs.Doing.{exits, refused}
 use Rattle.adm_program.proofs.Wording.{taken}

@@ -1,6 +1,6 @@
 use Rattle.std.proofs.Common.{ℕ, List, subst}
 use Rattle.adm_wire.specs.Streams.{Stream}
-use Rattle.adm_files.specs.Texts.{Puts}
+use Rattle.adm_host.specs.Texts.{Puts}
 use Rattle.adm_program.proofs.serving.put_serving.Goals as goal
 
 pub returns-in-Ok : goal.returns-in-Ok

@@ -1,8 +1,8 @@
 use Rattle.std.proofs.Common.{Result, Ok, sym, refl, subst}
 use Rattle.adm_wire.specs.Streams.{Stream}
 use Rattle.adm_program.specs.Served.{ServesAs}
-use Rattle.adm_files.specs.declared.exit.Exit.{Exit}
-use Rattle.adm_files.specs.declared.fault.Fault.{Fault}
+use Rattle.adm_host.specs.declared.exit.Exit.{Exit}
+use Rattle.adm_host.specs.declared.fault.Fault.{Fault}
 use Rattle.adm_program.proofs.Logging.{each_turn, prints_nothing}
 use Rattle.adm_program.proofs.Served.{exit_served, not_printed, not_ready}
 use Rattle.adm_program.proofs.serving.serve_connections.Goals as goal

@@ -1,0 +1,4 @@
+pub mod Closing
+pub mod Fresh
+pub mod Refusing
+pub mod Wording

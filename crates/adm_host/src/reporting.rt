@@ -1,0 +1,79 @@
+// What is printed of an error on the standard error, and the exit that goes with it.
+ghost use Rattle.std.specs.Prelude.{◌≡◌};
+ghost use Rattle.adm_host.specs.Exits.{exit_of_arguments, line_outcome, fault_line, exit_of_result};
+ghost use Rattle.adm_wire.specs.Streams.{writer};
+ghost use Rattle.adm_host.specs.Reports.{ReportsText, ReportsOutcome, ReportsArguments, PrintsArguments};
+ghost use Rattle.adm_host.specs.declared.fault.Fault.TheVariants.{Memory};
+
+use crate::connecting::OpenError;
+use crate::ended::{Ended, ending};
+use crate::exit::Exit;
+use crate::fault::{Fault, print_text};
+use adm_wire::{Output, WriteFailed};
+use adm_words::{ArgumentsFault, fault_text};
+use sqlite_disk::Disk;
+use std::alloc::Global;
+
+/// Prints `fault: Memory` and LF, and gives the exit status 1: for a caller that has no memory for
+/// the arguments. It takes none. A print that fails is ignored.
+pub fn print_memory_fault<E: Output>(errors: &mut E) -> u8
+    ensures status { result ≡ 1 }
+    ensures reported { ReportsText (fault_line Memory) (writer E.Output errors.old errors.new) }
+{
+    print_fault(Err(Fault::Memory), errors).code()
+}
+
+/// The exit of a line, whose error is printed.
+pub fn end<D: Disk + Drop, E: Output>(ended: Result<Ended<D>, OpenError<D>>, errors: &mut E) -> Exit
+    ensures exit { result ≡ exit_of_result (line_outcome ended) }
+    ensures reported { ReportsOutcome (line_outcome ended) (writer E.Output errors.old errors.new) }
+{
+    match ended {
+        Ok(ended) => print_fault(ending(ended), errors),
+        Err(error) => print_fault(Err(error.fault), errors),
+    }
+}
+
+/// Prints an error. Where that fails, it is ignored.
+fn print_fault<E: Output>(ended: Result<Exit, Fault>, errors: &mut E) -> Exit
+    ensures exit { result ≡ exit_of_result ended }
+    ensures reported { ReportsOutcome ended (writer E.Output errors.old errors.new) }
+{
+    match ended {
+        Ok(exit) => exit,
+        Err(fault) => {
+            let _ = fault.print(errors);
+            Exit::Fault
+        }
+    }
+}
+
+/// Prints what is wrong with the arguments, or the help that they request, and gives the exit. A
+/// print that fails is ignored.
+pub fn refuse_arguments<E: Output>(alloc: Global, fault: &ArgumentsFault, errors: &mut E) -> Exit
+    ensures exit { result ≡ exit_of_arguments fault.now }
+    ensures reported { ReportsArguments fault.now (writer E.Output errors.old errors.new) }
+{
+    let _ = print_arguments_fault(alloc, fault, errors);
+    Exit::of_arguments(fault)
+}
+
+/// Prints what is wrong with the arguments. It takes memory for the text of `clap` alone; where
+/// there is none, or where `clap` had none for its text, which is then empty, that is printed.
+fn print_arguments_fault<E: Output>(
+    alloc: Global,
+    fault: &ArgumentsFault,
+    errors: &mut E,
+) -> Result<(), WriteFailed>
+    ensures { PrintsArguments fault.now (writer E.Output errors.old errors.new) result }
+{
+    match fault {
+        ArgumentsFault::Usage(_) => match fault_text(alloc, fault) {
+            Ok(text) if !text.is_empty() => print_text(text.as_str(), errors),
+            Ok(_) | Err(_) => Fault::Memory.print(errors),
+        },
+        ArgumentsFault::BadDate => print_text("fault: BadDate\n", errors),
+        ArgumentsFault::BadWord => print_text("fault: BadWord\n", errors),
+        ArgumentsFault::Memory => Fault::Memory.print(errors),
+    }
+}
