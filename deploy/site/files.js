@@ -129,7 +129,7 @@ function sentInPart(record) {
     element("h3", {}, `${name} was sent in part`),
     element("p", { id: "sent-in-part" }, `${inPart(record)} The last of them is line ${lines[outcomes.length - 1] ?? "none"}. Line ${lines[outcomes.length]} `
       + "may be done, and those after it were not sent. Choose the file again: it is compared with what was sent and with the register, and goes on from "
-      + "there. No line is sent twice."),
+      + "there, after a question. No line is sent twice."),
     element("p", { className: "tools screen-only" }, button("Forget it", forget, { id: "forget-file" })),
   ];
 }
@@ -191,17 +191,19 @@ function inWords(row) {
   return cmd === "remind" ? `${whom}: reminded of ${code} on ${when}` : `${whom}: offer of ${code} withdrawn on ${when}`;
 }
 
+// How many there are of each command
+const kindsInWords = (rows) => COMMANDS.map((cmd) => [cmd, rows.filter((it) => it.command.cmd === cmd).length]).filter(([, number]) => number)
+  .map(([cmd, number]) => `${count(number)} ${cmd}`).join(", ");
+
 function preview(name, rows, digest, room) {
   const good = rows.filter((it) => !it.problem);
-  const kinds = COMMANDS.map((cmd) => [cmd, good.filter((it) => it.command.cmd === cmd).length]).filter(([, number]) => number);
-  const kindsInWords = kinds.map(([cmd, number]) => `${count(number)} ${cmd}`).join(", ");
   const bad = rows.length - good.length;
-  const press = () => confirm({ name, rows, digest }, good, kindsInWords);
+  const press = () => confirmAndSend({ name, rows, digest }, good);
   const send = button(`Send ${count(good.length)}`, press, { id: "send-file", className: "final", disabled: !good.length });
   const columns = [...lineColumns, column("In the register", present), column("Note", (it) => it.problem || it.warning)];
   const schools = good.filter((it) => it.command.cmd === "add_school");
   room.replaceChildren(
-    element("p", { id: "counts" }, `${plural(rows.length, "line", "lines")}: ${kindsInWords || "no command"}${bad ? `, ${count(bad)} that cannot be sent` : ""}.`),
+    element("p", { id: "counts" }, `${plural(rows.length, "line", "lines")}: ${kindsInWords(good) || "no command"}${bad ? `, ${count(bad)} that cannot be sent` : ""}.`),
     ...(schools.length ? [schoolsTable(schools)] : []), table({ caption: `Preview of ${name}`, file: "preview.csv", rows, columns }).node,
     element("p", { className: "screen-only" }, send));
   say(`${name} is read. Nothing is sent yet.`, bad > 0);
@@ -218,17 +220,23 @@ function schoolsTable(rows) {
   }).node;
 }
 
-async function confirm(file, good, kindsInWords) {
+async function confirmAndSend(file, good) {
   if (isBusy()) return;
+  if (await isConfirmed(file, good)) await run(file, good);
+}
+
+// Whether some lines of a file may be sent. If not, nothing was sent, and the page says so
+async function isConfirmed(file, good) {
   for (const on of new Set(good.filter((it) => ["remind", "lapse"].includes(it.command.cmd)).map((it) => it.command.day))) {
-    if (typeof on === "string" && !await isDaySure(on, "Send the file")) return;
+    if (typeof on === "string" && !await isDaySure(on, "Send the file")) return false;
   }
   const final = good.filter((it) => !CAN_BE_REPLACED.includes(it.command.cmd));
   const warned = good.filter((it) => it.warning).length;
   const notes = `${final.length ? ` ${count(final.length)} of them cannot be undone.` : ""}${warned ? ` ${count(warned)} of them have a note.` : ""}`;
-  const question = `Send ${plural(good.length, "command", "commands")} of ${file.name}: ${kindsInWords}?${notes}`;
-  if (await isSure(question, `Yes, send ${count(good.length)}`, final.map(inWords))) await run(file, good);
-  else say("Nothing was sent.");
+  const question = `Send ${plural(good.length, "command", "commands")} of ${file.name}: ${kindsInWords(good)}?${notes}`;
+  if (await isSure(question, `Yes, send ${count(good.length)}`, final.map(inWords))) return true;
+  say("Nothing was sent.");
+  return false;
 }
 
 // Sends the rows of a file, and keeps how far it is: the rows that have an answer are the first of the file's in the record
@@ -278,29 +286,36 @@ function finish(file) {
   else say(text, shown.isBad);
 }
 
-// The same file as before a reload: each line has what became of it, and the one after the last answer may be done
+// The same file as before a reload: each line has what became of it, and the one after the last answer may be done. The children are
+// shown as they are now and not as they were when it was confirmed, so the rest is asked about again. A line that could not be sent
+// then is not sent
 function goOnAfterReload(name, rows, { lines, outcomes }, digest) {
   const place = new Map(lines.map((number, index) => [number, index]));
-  for (const row of rows.filter((it) => !it.problem)) {
+  for (const row of rows) {
     const index = place.get(row.number) ?? Infinity;
-    row.outcome = OUTCOMES[outcomes[index]] || (index === outcomes.length ? "unknown" : "unsent");
-    if (row.outcome === "refused" || row.outcome === "differs") row.reason = "it was not done before the page was loaded again";
+    const outcome = OUTCOMES[outcomes[index]];
+    if (outcome) Object.assign(row, { outcome, problem: "" });
+    else if (index === Infinity) row.problem ||= "it was not among those that were confirmed";
+    else if (!row.problem) row.outcome = index === outcomes.length ? "unknown" : "unsent";
+    if (outcome === "refused" || outcome === "differs") row.reason = "it was not done before the page was loaded again";
   }
-  finish({ name, rows, digest });
+  finish({ name, rows, digest, isAsked: true });
 }
 
 // Before the rest is sent, the register shows what is done already: nothing is sent twice
 async function goOn(file, rest) {
   if (isBusy()) return;
+  let done;
   try {
-    const { done } = await settle(rest.filter((it) => it.outcome === "unknown").map((it) => it.command));
-    for (const it of rest) it.outcome = done.includes(it.command) ? "done" : "unsent";
+    ({ done } = await settle(rest.filter((it) => it.outcome === "unknown").map((it) => it.command)));
   } catch (error) {
     if (!(error instanceof Shown)) throw error;
     say(`Nothing was sent. ${error.message}`, true);
     return;
   }
-  const open = rest.filter((it) => it.outcome !== "done");
-  if (open.length) await run(file, open);
+  const open = rest.filter((it) => !done.includes(it.command));
+  if (file.isAsked && open.length && !await isConfirmed(file, open)) return;
+  for (const it of rest) it.outcome = open.includes(it) ? "unsent" : "done";
+  if (open.length) await run({ ...file, isAsked: false }, open);
   else finish(file);
 }

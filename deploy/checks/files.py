@@ -1,0 +1,116 @@
+"""A file of commands that was sent in part, and goes on: after a reload, a stop, or an answer that was lost."""
+
+import json
+
+from checks import work
+from checks.browser import Browser
+from checks.page import ANSWER, confirm, opened, press_no, question, rows
+from checks.slips import chosen, do, place
+from checks.world import until
+
+COUNTS = "document.getElementById('counts')"
+
+
+def check(world, see):
+    """The register is that of checks/work.py, as in checks/slips.py."""
+    world.end(world.desk)
+    before, world.file = world.file, world.room / "files.db"
+    work.register(world, world.file)
+    world.start_desk()
+    try:
+        page = Browser(world, "jane")
+        page.width(1280, 900)
+        page.clock(work.TODAY)
+        opened(page)
+        partly_sent(world, page, see)
+        changed_meanwhile(world, page, see)
+        see("no script failed, however a file went on", page.errors, [])
+        world.end(page.process)
+    finally:
+        world.end(world.desk)
+        world.file = before
+        world.start_desk()
+
+
+def counted(page, begin):
+    """What became of a file, when it begins with a text."""
+    page.wait(f"{COUNTS} && {COUNTS}.innerText.startsWith({json.dumps(begin)})")
+    return page.value(f"{COUNTS}.innerText")
+
+
+def children(page):
+    """The children of the commands that the page has sent."""
+    return [json.loads(body)["child"] for body in page.posted]
+
+
+def reloaded_at(world, page, number):
+    """Answers the question about a file with yes, and loads the page again while its command of this number is at the desk, which is
+    suspended until then."""
+    page.posted.clear()
+    page.rule = lambda method, path: world.stop_desk() if len(page.posted) == number and method == "POST" else None
+    page.value("document.getElementById('sure-yes').click(); 0")
+    until(lambda: (page.value("0"), len(page.posted) == number)[1], "the command")
+    until(world.at_desk, "the command at the desk")
+    page.rule = None
+    page.call("Page.reload")
+    page.wait("document.readyState === 'complete' && document.getElementById('sent-in-part')")
+    world.continue_desk()
+
+
+def partly_sent(world, page, see):
+    """The page is loaded again in the middle of a file: its third command is at the desk then."""
+    path = world.room / "five.jsonl"
+    amend = {"cmd": "amend", "east": 0, "looked_after": False, "flags": [3], "siblings": [], "present": ""}
+    lines = [{"cmd": "remind", "child": 13, "school": "B", "day": work.TODAY},
+             *({**amend, "child": child, "name": f"Child of {child}", "north": 1000 * child} for child in (15, 16, 12, 14))]
+    path.write_text("".join(json.dumps(line) + "\n" for line in lines))
+    chosen(page, path)
+    page.value("document.getElementById('send-file').click()")
+    question(page)
+    reloaded_at(world, page, 3)
+    see("after a reload the page says how far the file was", page.value("document.getElementById('sent-in-part').innerText"),
+        "five.jsonl was sent in part: 2 of its 5 commands have an answer. The last of them is line 2. Line 3 may be done, and those after it were not sent. "
+        "Choose the file again: it is compared with what was sent and with the register, and goes on from there, after a question. No line is sent twice.")
+    until(lambda: "Child of 16" in (world.room / "index/since.jsonl").read_text().splitlines()[-1], "the third command")
+    (path.parent / "other").mkdir(exist_ok=True)
+    (path.parent / "other/five.jsonl").write_text(path.read_text() + "\n{}\n")
+    see("another text of this name is not taken for it", chosen(page, path.parent / "other/five.jsonl"),
+        "five.jsonl is another text than the one that was sent in part: all of it is shown. Nothing is sent yet.")
+    chosen(page, path)
+    see("the same file goes on", counted(page, "2"), "2 commands done, 0 refused or unreadable, 1 without an answer, 2 not sent.")
+    page.posted.clear()
+    page.value("document.getElementById('go-on').click()")
+    see("after a question about the rest", question(page), "Send 2 commands of five.jsonl: 2 amend?")
+    page.value("document.getElementById('sure-yes').click()")
+    counted(page, "5 commands done")
+    see("from its fourth line: the third was done", children(page), [12, 14])
+    see("and then nothing is kept", page.value("Object.keys(sessionStorage)"), [])
+
+
+def changed_meanwhile(world, page, see):
+    """After a reload somebody else accepts what a later line declines, and corrects the name for which another line could not be sent."""
+    path = world.room / "late.csv"
+    path.write_text("accept,12,B,Child of 12\naccept,13,B,Somebody Else\naccept,14,B,Child of 14\ndecline,11,A\n")
+    chosen(page, path)
+    page.value("document.getElementById('send-file').click()")
+    question(page)
+    reloaded_at(world, page, 2)
+    until(lambda: '14' in (world.room / "index/since.jsonl").read_text().splitlines()[-1], "the second command")
+    data = {"east": 0, "looked_after": False, "flags": [], "siblings": [], "present": ""}
+    do(world, cmd="accept", child=11, school="A")
+    do(world, cmd="amend", child=13, name="Somebody Else", north=1300, **data)
+    do(world, cmd="amend", child=12, name="Twelve", north=1200, **data)
+    chosen(page, path)
+    see("a line that could not be sent when the file was confirmed is none of the rest", [counted(page, "1"), rows(page)[1].split("|")[-1]],
+        ["1 command done, 1 refused or unreadable, 1 without an answer, 1 not sent.", "it was not among those that were confirmed"])
+    page.posted.clear()
+    page.value("document.getElementById('go-on').click()")
+    see("what is final is asked about again", (question(page), work.whom(page)),
+        ("Send 1 command of late.csv: 1 decline? 1 of them cannot be undone.", ["Child 11, Child of 11: declines A"]))
+    press_no(page)
+    page.wait(f"{ANSWER} === 'Nothing was sent.'")
+    see("after No the place that was accepted meanwhile is kept", (page.posted, place(world, 11)), ([], "A Ysgol Tŷ Gwyn, accepted"))
+    page.value("document.getElementById('go-on').click()")
+    confirm(page)
+    see("after Yes it is declined, and no other line is sent", (counted(page, "3")[:53], page.posted),
+        ("3 commands done, 1 refused or unreadable, 0 without a", ['{"cmd":"decline","child":11,"school":"A"}']))
