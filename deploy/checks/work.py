@@ -66,7 +66,7 @@ def check(world, see):
         pile(world, page, see)
         forms.corrections(world, page, see)
         forms.additions(world, page, see)
-        forms.plans(page, see)
+        forms.plans(world, page, see)
         file_of_commands(world, page, see)
         pasting.check(world, page, see)
         see("no script failed in a day's work", page.errors, [])

@@ -239,14 +239,16 @@ export function planForm({ number: of, name }, act) {
 
 // A raised admission number
 export function raiseForm(it) {
+  // As it is shown: an update changes `it` itself
+  const before = it.pan;
   const submit = async (forget) => {
     const pan = numberAt("pan", 1, 500, "The admission number");
-    if (pan <= it.pan) throw new Wrong("pan", `The admission number can only be raised: it is ${it.pan}.`);
-    const question = `Raise the admission number of ${it.school} ${isolated(it.name)} from ${it.pan} to ${pan}? It cannot be lowered again.`;
+    if (pan <= before) throw new Wrong("pan", `The admission number can only be raised: it is ${before}.`);
+    const question = `Raise the admission number of ${it.school} ${isolated(it.name)} from ${before} to ${pan}? It cannot be lowered again.`;
     if (!await isSure(question, "Yes, raise it")) return;
     await update();
     const now = school(it.school)?.pan;
-    if (now !== it.pan) {
+    if (now !== before) {
       again({ text: `Nothing was sent: the admission number of ${it.school} was raised meanwhile, and is ${now}.`, bad: true });
       return;
     }
@@ -257,5 +259,5 @@ export function raiseForm(it) {
     else if (reply) again(reply);
   };
   return element("details", { className: "screen-only" }, element("summary", {}, "Raise the admission number"),
-    form("raise-form", [field("New admission number", textInput("pan", it.pan, { inputMode: "numeric" }))], submit, "Raise it"));
+    form("raise-form", [field("New admission number", textInput("pan", before, { inputMode: "numeric" }))], submit, "Raise it"));
 }
