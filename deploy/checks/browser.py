@@ -126,7 +126,16 @@ class Browser:
         return done["result"].get("value")
 
     def wait(self, script, seconds=120):
-        return until(lambda: self.value(f"Boolean({script})"), script, seconds)
+        return until(lambda: self.is_so(script), script, seconds)
+
+    def is_so(self, script):
+        """Whether a script returns something true. It does not while the page is loaded again."""
+        try:
+            return self.value(f"Boolean({script})")
+        except RuntimeError as error:
+            if "Inspected target navigated" not in str(error):
+                raise
+            return False
 
     def press(self, key, times=1, shift=False, is_held=False):
         code, text = KEYS.get(key, (0, key))
