@@ -3,7 +3,7 @@ reload, a closed desk, a wrong sheet."""
 
 import json
 
-from checks import work
+from checks import entries, work
 from checks.browser import Browser
 from checks.page import (
     ANSWER,
@@ -47,6 +47,7 @@ def check(world, see):
         typing_ahead(world, page, see)
         stale_answer(world, page, see)
         recorded_here(world, page, see)
+        entries.check(world, page, see)
         finding_ahead(world, page, see)
         replies(world, page, see)
         schools(world, page, see)
