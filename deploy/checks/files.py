@@ -24,6 +24,7 @@ def check(world, see):
         opened(page)
         partly_sent(world, page, see)
         changed_meanwhile(world, page, see)
+        two_files(world, page, see)
         see("no script failed, however a file went on", page.errors, [])
         world.end(page.process)
     finally:
@@ -53,7 +54,7 @@ def reloaded_at(world, page, number):
     until(world.at_desk, "the command at the desk")
     page.rule = None
     page.call("Page.reload")
-    page.wait("document.readyState === 'complete' && document.getElementById('sent-in-part')")
+    page.wait("document.readyState === 'complete' && document.querySelector('.sent-in-part')")
     world.continue_desk()
 
 
@@ -68,7 +69,7 @@ def partly_sent(world, page, see):
     page.value("document.getElementById('send-file').click()")
     question(page)
     reloaded_at(world, page, 3)
-    see("after a reload the page says how far the file was", page.value("document.getElementById('sent-in-part').innerText"),
+    see("after a reload the page says how far the file was", page.value("document.querySelector('.sent-in-part p').innerText"),
         "five.jsonl was sent in part: 2 of its 5 commands have an answer. The last of them is line 2. Line 3 may be done, and those after it were not sent. "
         "Choose the file again: it is compared with what was sent and with the register, and goes on from there, after a question. No line is sent twice.")
     until(lambda: "Child of 16" in (world.room / "index/since.jsonl").read_text().splitlines()[-1], "the third command")
@@ -114,3 +115,38 @@ def changed_meanwhile(world, page, see):
     confirm(page)
     see("after Yes it is declined, and no other line is sent", (counted(page, "3")[:53], page.posted),
         ("3 commands done, 1 refused or unreadable, 0 without a", ['{"cmd":"decline","child":11,"school":"A"}']))
+
+
+def stopped_after_first(world, page):
+    """Answers the question about a file with yes, and stops it while its first command is at the desk."""
+    page.posted.clear()
+    page.rule = lambda method, path: world.stop_desk() if method == "POST" else None
+    page.value("document.getElementById('sure-yes').click(); 0")
+    until(lambda: (page.value("0"), len(page.posted) == 1)[1], "the first command")
+    page.rule = None
+    page.value("document.getElementById('stop').click()")
+    world.continue_desk()
+    page.wait("document.getElementById('go-on')")
+
+
+def two_files(world, page, see):
+    """A file is stopped, another one is sent whole, and then the first goes on."""
+    first, other = world.room / "first.csv", world.room / "other.csv"
+    first.write_text("accept,2,A\naccept,3,A\n")
+    other.write_text("accept,4,A\n")
+    chosen(page, first)
+    page.value("document.getElementById('send-file').click()")
+    question(page)
+    stopped_after_first(world, page)
+    chosen(page, other)
+    page.value("document.getElementById('send-file').click()")
+    confirm(page)
+    see("beside the result of another file is how far the first was", [counted(page, "1 command done, 0 refused")[:14],
+        page.value("[...document.querySelectorAll('.sent-in-part h3')].map(it => it.innerText)")], ["1 command done", ["first.csv was sent in part"]])
+    chosen(page, first)
+    see("which is kept", counted(page, "1"), "1 command done, 0 refused or unreadable, 1 without an answer, 0 not sent.")
+    page.posted.clear()
+    page.value("document.getElementById('go-on').click()")
+    confirm(page)
+    see("and goes on from there", (counted(page, "2")[:15], children(page)), ("2 commands done", [3]))
+    see("each is kept no longer than it needs to be", page.value("Object.keys(sessionStorage)"), [])

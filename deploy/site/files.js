@@ -67,21 +67,28 @@ async function textOf(chosen) {
   }
 }
 
-// How far the last file was sent: its name and digest, and of each command a letter, d done, r refused, s not sent since its child has
+// How far each file was sent: its name and digest, and of each command a letter, d done, r refused, s not sent since its child has
 // changed. It is kept until all of it has an answer
-const keptAs = () => `file ${who}`;
+const keptAs = (digest) => `file ${who} ${digest}`;
 const LETTERS = { done: "d", refused: "r", differs: "s" };
 const OUTCOMES = { d: "done", r: "refused", s: "differs" };
 
 function keep(record) {
   try {
-    if (record) sessionStorage.setItem(keptAs(), JSON.stringify(record));
-    else sessionStorage.removeItem(keptAs());
+    sessionStorage.setItem(keptAs(record.digest), JSON.stringify(record));
   } catch { /* a browser that keeps nothing: the file is sent all the same */ }
 }
 
-function keptRecord() {
-  try { return parsed(sessionStorage.getItem(keptAs())); } catch { return null; }
+function forget({ digest }) {
+  try {
+    sessionStorage.removeItem(keptAs(digest));
+  } catch { /* nothing was kept */ }
+}
+
+function keptRecords() {
+  try {
+    return Object.keys(sessionStorage).filter((it) => it.startsWith(keptAs(""))).map((it) => parsed(sessionStorage.getItem(it))).filter(Boolean);
+  } catch { return []; }
 }
 
 // The result of the last file, as long as the page is open
@@ -106,12 +113,11 @@ export function fileView() {
       input.value = "";
     }
   };
-  const record = shown || isBusy() ? null : keptRecord();
-  if (shown) room.replaceChildren(...shown.nodes);
-  else if (record) room.replaceChildren(...sentInPart(record));
+  const records = isBusy() ? [] : keptRecords().filter((it) => it.digest !== shown?.digest);
+  room.replaceChildren(...(shown ? shown.nodes : []), ...records.map(sentInPart));
+  const status = [...(shown ? [shown.text] : []), ...records.map(inPart)].join(" ");
   return {
-    title: "Send a file of commands", status: shown ? shown.text : record ? inPart(record) : "Choose a file.",
-    isBad: shown ? shown.isBad : Boolean(record), nodes: [
+    title: "Send a file of commands", status: status || "Choose a file.", isBad: shown?.isBad || records.length > 0, nodes: [
       element("p", {}, "One command on each line, as the HANDBOOK has them, or rows of answers such as decline,23,ELM,Bo Bell, saved as CSV. "
         + "Nothing is sent before you confirm."),
       element("p", { className: "screen-only" }, field("File", input)), room],
@@ -121,17 +127,16 @@ export function fileView() {
 const inPart = ({ name, outcomes, lines }) => `${name} was sent in part: ${count(outcomes.length)} of its ${plural(lines.length, "command has an answer",
   "commands have an answer")}.`;
 
-// After a reload: how far the last file was, and how it goes on
+// How far a file was before a reload or another file, and how it goes on
 function sentInPart(record) {
   const { name, outcomes, lines } = record;
-  const forget = () => { keep(null); again({ text: `${name} is forgotten. Nothing was sent.`, bad: false }); };
-  return [
+  const press = () => { forget(record); again({ text: `${name} is forgotten. Nothing was sent.`, bad: false }); };
+  return element("section", { className: "sent-in-part" },
     element("h3", {}, `${name} was sent in part`),
-    element("p", { id: "sent-in-part" }, `${inPart(record)} The last of them is line ${lines[outcomes.length - 1] ?? "none"}. Line ${lines[outcomes.length]} `
+    element("p", {}, `${inPart(record)} The last of them is line ${lines[outcomes.length - 1] ?? "none"}. Line ${lines[outcomes.length]} `
       + "may be done, and those after it were not sent. Choose the file again: it is compared with what was sent and with the register, and goes on from "
       + "there, after a question. No line is sent twice."),
-    element("p", { className: "tools screen-only" }, button("Forget it", forget, { id: "forget-file" })),
-  ];
+    element("p", { className: "tools screen-only" }, button("Forget it", press, { "aria-label": `Forget ${name}` })));
 }
 
 // Reads what the register has for the lines of a file, and shows both
@@ -141,10 +146,11 @@ async function look(name, rows, digest, room) {
   say(`Reading what the register has for ${name} …`);
   const letters = await lettersIfAny(numbers);
   for (const row of good) compareNames(row, letters);
-  const record = keptRecord();
-  if (record && record.digest === digest) return goOnAfterReload(name, rows, record, digest);
+  const records = keptRecords();
+  const record = records.find((it) => it.digest === digest);
+  if (record) return goOnAfterReload(name, rows, record, digest);
   preview(name, rows, digest, room);
-  if (record && record.name === name) say(`${name} is another text than the one that was sent in part: all of it is shown. Nothing is sent yet.`, true);
+  if (records.some((it) => it.name === name)) say(`${name} is another text than the one that was sent in part: all of it is shown. Nothing is sent yet.`, true);
   return null;
 }
 
@@ -272,7 +278,7 @@ function finish(file) {
     .length)} without an answer, ${count(of("unsent").length)} not sent${differ ? `, ${count(differ)} not sent since the child has changed` : ""}.`;
   const reason = (it) => it.problem || it.reason?.replace("Refused, and nothing has changed. ", "") || REASONS[it.outcome];
   const nodes = [element("p", { id: "counts" }, text)];
-  if (!rest.length) keep(null);
+  if (!rest.length) forget(file);
   if (left.length) {
     const lines = [...(left[0].head ? [left[0].head] : []), ...left.map((it) => it.text)];
     const save = () => download(`not-done-${name}`, lines.map((text) => text + "\n").join(""));
@@ -281,7 +287,7 @@ function finish(file) {
     nodes.push(table({ caption: "Not done", file: "not-done.csv", rows: left, columns: [...lineColumns, column("In the register", present),
       column("Reason", reason)] }).node);
   }
-  shown = { nodes, text, isBad: left.length > 0 };
+  shown = { nodes, text, digest: file.digest, isBad: left.length > 0 };
   if (location.hash === "#file") again(null);
   else say(text, shown.isBad);
 }
