@@ -4,7 +4,7 @@ import json
 
 from checks import work
 from checks.browser import Browser
-from checks.page import ANSWER, confirm, opened, press_no, question, rows
+from checks.page import ANSWER, confirm, opened, press, press_no, question, rows, visit, write
 from checks.slips import chosen, do, place
 from checks.world import until
 
@@ -25,6 +25,7 @@ def check(world, see):
         partly_sent(world, page, see)
         changed_meanwhile(world, page, see)
         two_files(world, page, see)
+        meanwhile(world, page, see)
         see("no script failed, however a file went on", page.errors, [])
         world.end(page.process)
     finally:
@@ -150,3 +151,37 @@ def two_files(world, page, see):
     confirm(page)
     see("and goes on from there", (counted(page, "2")[:15], children(page)), ("2 commands done", [3]))
     see("each is kept no longer than it needs to be", page.value("Object.keys(sessionStorage)"), [])
+
+
+def meanwhile(world, page, see):
+    """While a file is sent, here its first command being held, nothing else is, and each view says so."""
+    busy = "Nothing more was sent: another task is in progress."
+    path = world.room / "long.csv"
+    path.write_text("accept,5,A\naccept,6,A\n")
+    chosen(page, path)
+    page.value("document.getElementById('send-file').click()")
+    question(page)
+    page.posted.clear()
+    page.rule = lambda method, path: "held" if method == "POST" else None
+    page.value("document.getElementById('sure-yes').click(); 0")
+    until(lambda: (page.value("0"), page.held)[1], "the first command")
+    visit(page, "#child/7")
+    press(page, "#decline")
+    see("a decline while a file is sent is not sent, and the page says so", confirm(page), busy)
+    visit(page, "#child/7/amend")
+    write(page, north="701")
+    press(page, "#amend-form button")
+    see("so is a correction, and what was typed is kept", (confirm(page)[:len(busy)], page.value("document.getElementById('north').value")), (busy, "701"))
+    visit(page, "#school/E")
+    write(page, pan="3")
+    press(page, "#raise-form button")
+    see("and a raise", confirm(page)[:len(busy)], busy)
+    see("another file is not read", chosen(page, path), busy)
+    visit(page, "#list/no-answer")
+    see("and a worklist is not worked on", press(page, "#do-accept"), busy)
+    visit(page, "#file")
+    see("none of these was sent", page.posted, ['{"cmd":"accept","child":5,"school":"A"}'])
+    page.rule = None
+    page.release()
+    see("and the file goes on to its end", (counted(page, "2")[:15], children(page)), ("2 commands done", [5, 6]))
+    page.value("sessionStorage.clear()")

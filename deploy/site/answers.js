@@ -180,10 +180,10 @@ export function answersView() {
     input.focus();
     const done = `Child ${number}, ${isolated(name)}, has ${cmd === "accept" ? "accepted" : "declined"} ${where}.`;
     sending = sending.then(() => send({ cmd, child: number, school: place.school }, done, letter)).then((reply) => {
-      const { text, bad } = reply || { text: "Nothing was sent: another task is in progress.", bad: true };
+      const { text, bad } = reply;
       Object.assign(entry, { result: bad ? text : "done", isBad: bad, isSending: false });
       changed();
-      if (reply && reply.now && !open) room.replaceChildren(element("h3", {}, whoIs(reply.now)), element("p", {}, placeInWords(reply.now.place)));
+      if (reply.now && !open) room.replaceChildren(element("h3", {}, whoIs(reply.now)), element("p", {}, placeInWords(reply.now.place)));
       if (list.isConnected || bad) say(`${bad && !text.startsWith("Child ") ? `${whoIs(letter)}: ` : ""}${text}`, bad);
     });
     await sending;

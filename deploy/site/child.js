@@ -34,7 +34,6 @@ export async function childView([text, part]) {
 // kept until it was done
 const actOn = (letter) => async (command, done, forget = () => {}) => {
   const reply = await send(command, done, letter);
-  if (!reply) return;
   if (!reply.bad) forget();
   if (reply.isUnsent) report(reply);
   else again(reply);

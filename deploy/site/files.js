@@ -6,7 +6,7 @@ import { at, button, childLink, download, element, field, progress, say } from "
 import { folded } from "./finding.js";
 import { child, lettersIfAny, nameOf, parsed, school, who } from "./register.js";
 import { again } from "./router.js";
-import { isBusy, isDaySure, isSure, sendAll, settle } from "./sending.js";
+import { isBusy, isDaySure, isFree, isSure, sendAll, settle } from "./sending.js";
 import { answerOf, fieldsOf, separatorOf, titlesOf } from "./sheets.js";
 import { column, table } from "./tables.js";
 import { count, criteriaInWords, day, isDay, isolated, plural, schoolInWords } from "./words.js";
@@ -100,8 +100,9 @@ export function fileView() {
   const room = element("div", { id: "preview" });
   input.onchange = async () => {
     const chosen = input.files[0];
-    if (!chosen || isBusy()) return;
+    if (!chosen) return;
     try {
+      if (!isFree()) return;
       const { text, digest } = await textOf(chosen);
       shown = null;
       await look(chosen.name, readLines(text), digest, room);
@@ -227,7 +228,7 @@ function schoolsTable(rows) {
 }
 
 async function confirmAndSend(file, good) {
-  if (isBusy()) return;
+  if (!isFree()) return;
   if (await isConfirmed(file, good)) await run(file, good);
 }
 
@@ -260,7 +261,6 @@ async function run(file, rows) {
   keep(record);
   const results = await sendAll(rows.map((it) => ({ text: it.sent, shown: it.shown })), seen, () => isStopped);
   progress(1, 1);
-  if (!results) return;
   results.forEach((result, index) => Object.assign(rows[index], { outcome: result.outcome, reason: result.reason }));
   finish(file);
 }
@@ -310,7 +310,7 @@ function goOnAfterReload(name, rows, { lines, outcomes }, digest) {
 
 // Before the rest is sent, the register shows what is done already: nothing is sent twice
 async function goOn(file, rest) {
-  if (isBusy()) return;
+  if (!isFree()) return;
   let done;
   try {
     ({ done } = await settle(rest.filter((it) => it.outcome === "unknown").map((it) => it.command)));

@@ -132,9 +132,9 @@ export function amendView(of) {
     if (!await isSure(`Correct child ${before.child}: ${list}? The child’s priorities may change with it.`, "Yes, correct it")) return null;
     if (await isChanged()) return again({ text: MEANWHILE, bad: true });
     const reply = await send({ cmd: "amend", ...after }, `Child ${before.child} is corrected: ${list}.`);
-    if (reply && reply.isUnsent) return report(reply);
-    if (reply && !reply.bad) forget();
-    return reply && go(reply.bad ? `#child/${before.child}/amend` : `#child/${before.child}`, reply);
+    if (reply.isUnsent) return report(reply);
+    if (!reply.bad) forget();
+    return go(reply.bad ? `#child/${before.child}/amend` : `#child/${before.child}`, reply);
   };
   return {
     title: `Correct child ${before.child}, ${isolated(before.name)}`, status: "The form has the present data. The application cannot be changed.",
@@ -206,7 +206,6 @@ export function addView() {
 // The child first, then its application. If only the child is added, its view has the form of the application
 async function add(data, application, forget) {
   const added = await send({ cmd: "add_child", ...data }, `Child ${data.child} is added.`);
-  if (!added) return;
   if (added.bad) {
     report(added);
     return;
@@ -254,9 +253,9 @@ export function raiseForm(it) {
     }
     const reply = await send({ cmd: "raise_pan", school: it.school, pan },
       `The admission number of ${it.school} is ${pan}. The new places are not offered to anybody yet.`);
-    if (reply && !reply.bad) forget();
-    if (reply && reply.isUnsent) report(reply);
-    else if (reply) again(reply);
+    if (!reply.bad) forget();
+    if (reply.isUnsent) report(reply);
+    else again(reply);
   };
   return element("details", { className: "screen-only" }, element("summary", {}, "Raise the admission number"),
     form("raise-form", [field("New admission number", textInput("pan", before, { inputMode: "numeric" }))], submit, "Raise it"));

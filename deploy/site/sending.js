@@ -6,9 +6,16 @@ import { at, element, say } from "./elements.js";
 import { apply, child, letterIfAny, letterOf, parsed, register, school, update } from "./register.js";
 import { day, daysBetween, isDay, today } from "./words.js";
 
-// One task at a time: a second press sends nothing
+// One task at a time: a second press sends nothing, and says so
 let busy = false;
 export const isBusy = () => busy;
+const BUSY = "Nothing more was sent: another task is in progress.";
+
+// Whether a task may begin; if not, the page says why
+export function isFree() {
+  if (busy) say(BUSY, true);
+  return !busy;
+}
 
 // Asks for confirmation of what cannot be undone, with a line for each whom it concerns. It is confirmed by its button alone: no
 // letter is a key for it, and the button that does nothing has the focus
@@ -54,10 +61,10 @@ async function sendCompared({ text, shown }, isFirst) {
   return sendText(text);
 }
 
-// Sends one command, and returns its answer as a text to show; nothing if another task is in progress. `isUnsent` is whether the
-// desk was not there, so that all is as before; `now` is the letter of a child that is not as it was shown
+// Sends one command, and returns its answer as a text to show. `isUnsent` is whether the desk was not there, or another task is in
+// progress, so that all is as before; `now` is the letter of a child that is not as it was shown
 export async function send(command, done, shown = null) {
-  if (busy) return null;
+  if (busy) return { text: BUSY, bad: true, isUnsent: true };
   busy = true;
   say("Sending …");
   try {
@@ -74,7 +81,7 @@ const GOES_ON = ["done", "refused", "differs"];
 // Sends commands one after another until one has no certain answer, or the desk does nothing more. Each item has the `text` of its
 // command, and `shown`. Returns a result for each of them, in order; `seen` is called after each. `isStopped` is asked before each
 export async function sendAll(items, seen, isStopped = () => false) {
-  if (busy) return null;
+  if (busy) return items.map(({ text }) => ({ text, outcome: "unsent", reason: BUSY }));
   busy = true;
   const results = [];
   try {
