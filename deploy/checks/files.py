@@ -22,6 +22,7 @@ def check(world, see):
         page.width(1280, 900)
         page.clock(work.TODAY)
         opened(page)
+        names(world, page, see)
         partly_sent(world, page, see)
         changed_meanwhile(world, page, see)
         two_files(world, page, see)
@@ -57,6 +58,27 @@ def reloaded_at(world, page, number):
     page.call("Page.reload")
     page.wait("document.readyState === 'complete' && document.querySelector('.sent-in-part')")
     world.continue_desk()
+
+
+def names(world, page, see):
+    """The name of a row is compared wherever it is, and where there is none the page says so."""
+    path = world.room / "names.csv"
+    for what, text in (("after quotes in a sheet with tabs", 'decline\t13\t"B"\tOther Name\n'),
+                       ("after an empty field in a sheet with tabs", 'child\tnote\tschool\treply\tname\n13\t\t"B"\tdecline\tOther Name\n')):
+        path.write_text(text)
+        chosen(page, path)
+        see(f"a name is compared {what}", rows(page)[1].split("|")[-1], "the row has the name Other Name, and the register Child of 13")
+    text = "document.getElementById('nameless')?.innerText"
+    path.write_text("reply;child;school;child name\naccept;12;B;Child of 12\naccept;13;B;Other Name\n")
+    chosen(page, path)
+    see("a sheet whose names have another title is said to have none", page.value(text),
+        "2 rows have no name to compare with the register’s. The title of the column of names is ‘name’.")
+    path.write_text("accept,12,B,Child of 12\naccept,13,B\n")
+    chosen(page, path)
+    see("so is a row", page.value(text), "1 row has no name to compare with the register’s. The title of the column of names is ‘name’.")
+    path.write_text('accept,12,B,Child of 12\n{"cmd":"accept","child":13,"school":"B"}\n')
+    chosen(page, path)
+    see("but none of which each has a name, or is a command", page.value(text), None)
 
 
 def partly_sent(world, page, see):

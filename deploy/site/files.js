@@ -49,7 +49,7 @@ export function readLines(text) {
     const { command, name = "", problem: wrong } = isRow ? answerOf(fieldsOf(row.text, separator), titles || undefined)
       : { command: parsed(row.text) };
     const sent = isRow && command ? JSON.stringify(command) : row.text;
-    return { ...row, head, sent, command, givenName: name, problem: wrong || problem(command, sent), warning: warning(command) };
+    return { ...row, head, sent, command, isRow, givenName: name, problem: wrong || problem(command, sent), warning: warning(command) };
   });
 }
 
@@ -202,6 +202,14 @@ function inWords(row) {
 const kindsInWords = (rows) => COMMANDS.map((cmd) => [cmd, rows.filter((it) => it.command.cmd === cmd).length]).filter(([, number]) => number)
   .map(([cmd, number]) => `${count(number)} ${cmd}`).join(", ");
 
+// Rows that have no name are sent for whoever has the number
+function nameless(rows) {
+  const number = rows.filter((it) => it.isRow && !it.givenName).length;
+  if (!number) return [];
+  return [element("p", { className: "warning", id: "nameless" },
+    `${plural(number, "row has", "rows have")} no name to compare with the register’s. The title of the column of names is ‘name’.`)];
+}
+
 function preview(name, rows, digest, room) {
   const good = rows.filter((it) => !it.problem);
   const bad = rows.length - good.length;
@@ -211,7 +219,7 @@ function preview(name, rows, digest, room) {
   const schools = good.filter((it) => it.command.cmd === "add_school");
   room.replaceChildren(
     element("p", { id: "counts" }, `${plural(rows.length, "line", "lines")}: ${kindsInWords(good) || "no command"}${bad ? `, ${count(bad)} that cannot be sent` : ""}.`),
-    ...(schools.length ? [schoolsTable(schools)] : []), table({ caption: `Preview of ${name}`, file: "preview.csv", rows, columns }).node,
+    ...nameless(good), ...(schools.length ? [schoolsTable(schools)] : []), table({ caption: `Preview of ${name}`, file: "preview.csv", rows, columns }).node,
     element("p", { className: "screen-only" }, send));
   say(`${name} is read. Nothing is sent yet.`, bad > 0);
 }
