@@ -27,6 +27,7 @@ def check(world, see):
         changed_meanwhile(world, page, see)
         two_files(world, page, see)
         meanwhile(world, page, see)
+        same_child(world, page, see)
         see("no script failed, however a file went on", page.errors, [])
         world.end(page.process)
     finally:
@@ -207,3 +208,34 @@ def meanwhile(world, page, see):
     page.release()
     see("and the file goes on to its end", (counted(page, "2")[:15], children(page)), ("2 commands done", [5, 6]))
     page.value("sessionStorage.clear()")
+
+
+def same_child(world, page, see):
+    """Two lines of one child, and what comes between them: a stop, or an answer that is lost while somebody else is quicker."""
+    path = world.room / "twice.csv"
+    path.write_text("accept,1,B\ndecline,1,B\n")
+    chosen(page, path)
+    page.value("document.getElementById('send-file').click()")
+    question(page)
+    stopped_after_first(world, page)
+    page.value("document.getElementById('go-on').click()")
+    see("after a stop, what the file has done itself is no surprise to it", (counted(page, "2")[:15], len(page.posted)), ("2 commands done", 2))
+    for what, lines, other, wanted in (
+        ("so it is where an answer was lost", "accept,7,A\ndecline,7,A\n", None, "2 commands done"),
+        ("but what somebody else has done is", "leave,13,A\ndecline,13,B\n", {"cmd": "accept", "child": 13, "school": "B"}, "1 command done, 0")
+    ):
+        path.write_text(lines)
+        chosen(page, path)
+        page.value("document.getElementById('send-file').click()")
+        page.posted.clear()
+        page.rule = lambda method, path: (world.ask("/command", "jane", page.posted[0]), "broken")[1] if method == "POST" else None
+        page.value("document.getElementById('sure-yes').click(); 0")
+        page.wait("document.getElementById('go-on')")
+        page.rule = None
+        if other:
+            do(world, **other)
+        page.value("document.getElementById('go-on').click()")
+        page.wait(f"{COUNTS} && {COUNTS}.innerText.includes(' 0 without an answer, 0 not sent')")
+        see(what, page.value(f"{COUNTS}.innerText")[:len(wanted)], wanted)
+    see("and it is not sent", ([row.split("|")[-1] for row in rows(page)[1:]], place(world, 13)),
+        (["Child 13: the place at B was accepted meanwhile. Nothing was sent."], 'B Bo "Peep" School, accepted'))

@@ -6,7 +6,7 @@ import { at, button, childLink, download, element, field, progress, say } from "
 import { folded } from "./finding.js";
 import { child, lettersIfAny, nameOf, parsed, school, who } from "./register.js";
 import { again } from "./router.js";
-import { isBusy, isDaySure, isFree, isSure, sendAll, settle } from "./sending.js";
+import { follow, isBusy, isDaySure, isFree, isSure, sendAll, settle } from "./sending.js";
 import { answerOf, fieldsOf, separatorOf, titlesOf } from "./sheets.js";
 import { column, table } from "./tables.js";
 import { count, criteriaInWords, day, isDay, isolated, plural, schoolInWords } from "./words.js";
@@ -267,9 +267,10 @@ async function run(file, rows) {
     if (LETTERS[outcome]) keep(Object.assign(record, { outcomes: record.outcomes + LETTERS[outcome] }));
   };
   keep(record);
-  const results = await sendAll(rows.map((it) => ({ text: it.sent, shown: it.shown })), seen, () => isStopped);
+  const items = rows.map((it) => ({ text: it.sent, shown: it.shown }));
+  const results = await sendAll(items, seen, () => isStopped);
   progress(1, 1);
-  results.forEach((result, index) => Object.assign(rows[index], { outcome: result.outcome, reason: result.reason }));
+  results.forEach((result, index) => Object.assign(rows[index], { outcome: result.outcome, reason: result.reason, shown: items[index].shown }));
   finish(file);
 }
 
@@ -328,6 +329,7 @@ async function goOn(file, rest) {
     return;
   }
   const open = rest.filter((it) => !done.includes(it.command));
+  for (const it of rest) if (!open.includes(it)) await follow(it.command, it.shown, open);
   if (file.isAsked && open.length && !await isConfirmed(file, open)) return;
   for (const it of rest) it.outcome = open.includes(it) ? "unsent" : "done";
   if (open.length) await run({ ...file, isAsked: false }, open);

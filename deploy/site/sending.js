@@ -1,6 +1,6 @@
 // Sends commands: one at a time, each once. What was done is distinguished from what was refused, what was not sent, and what may be
 // done. Just before a command is sent, its child is read again: for one that is not as it was shown, nothing is sent.
-import { changeOf } from "./changes.js";
+import { changeOf, followed } from "./changes.js";
 import { ask, describe, isAway, outcome, Shown } from "./desk.js";
 import { at, element, say } from "./elements.js";
 import { apply, child, letterIfAny, letterOf, parsed, register, school, update } from "./register.js";
@@ -79,7 +79,8 @@ export async function send(command, done, shown = null) {
 const GOES_ON = ["done", "refused", "differs"];
 
 // Sends commands one after another until one has no certain answer, or the desk does nothing more. Each item has the `text` of its
-// command, and `shown`. Returns a result for each of them, in order; `seen` is called after each. `isStopped` is asked before each
+// command, and `shown`, which what is done to the same child changes. Returns a result for each of them, in order; `seen` is called
+// after each. `isStopped` is asked before each
 export async function sendAll(items, seen, isStopped = () => false) {
   if (busy) return items.map(({ text }) => ({ text, outcome: "unsent", reason: BUSY }));
   busy = true;
@@ -90,7 +91,7 @@ export async function sendAll(items, seen, isStopped = () => false) {
       const isOver = Boolean(last) && !GOES_ON.includes(last.outcome);
       const isUnsent = isOver || isStopped();
       results.push(isUnsent ? { text: item.text, outcome: "unsent", reason: "" } : await sendCompared(item, !last));
-      if (results.at(-1).outcome === "done") await follow(item, items.slice(results.length));
+      if (results.at(-1).outcome === "done") await follow(parsed(item.text), item.shown, items.slice(results.length));
       if (!isOver) seen(results.length, items.length, results.at(-1));
     }
   } finally {
@@ -100,11 +101,11 @@ export async function sendAll(items, seen, isStopped = () => false) {
 }
 
 // What this task has done itself to a child is no surprise to its later commands of the same child
-async function follow({ shown }, later) {
+export async function follow(command, shown, later) {
   const same = shown ? later.filter((it) => it.shown && it.shown.number === shown.number) : [];
   if (!same.length) return;
   const now = await letterIfAny(shown.number).catch(() => null);
-  for (const it of same) it.shown = now || it.shown;
+  if (now) for (const it of same) it.shown = followed(it.shown, now, command);
 }
 
 // Whether a command that may be done is done: by the child's letter, or by what the register has now. Nothing if it cannot be seen
