@@ -25,6 +25,7 @@ def check(world, see):
         names(world, page, see)
         partly_sent(world, page, see)
         changed_meanwhile(world, page, see)
+        nobody(world, page, see)
         two_files(world, page, see)
         meanwhile(world, page, see)
         same_child(world, page, see)
@@ -139,6 +140,24 @@ def changed_meanwhile(world, page, see):
     confirm(page)
     see("after Yes it is declined, and no other line is sent", (counted(page, "3")[:53], page.posted),
         ("3 commands done, 1 refused or unreadable, 0 without a", ['{"cmd":"decline","child":11,"school":"A"}']))
+
+
+def nobody(world, page, see):
+    """A line in doubt is about a child that the register does not have: the file goes on all the same."""
+    path = world.room / "nobody.csv"
+    path.write_text("accept,999,A\naccept,9,A\n")
+    chosen(page, path)
+    page.value("document.getElementById('send-file').click()")
+    question(page)
+    reloaded_at(world, page, 1)
+    chosen(page, path)
+    page.posted.clear()
+    page.value("document.getElementById('go-on').click()")
+    page.wait(f"document.getElementById('sure').open || {ANSWER}.startsWith('Nothing was sent')")
+    see("a child that the register does not have stops no file", page.value("document.getElementById('sure').open"), True)
+    confirm(page)
+    see("its line is refused, and the next one is done", (counted(page, "1"), children(page)),
+        ("1 command done, 1 refused or unreadable, 0 without an answer, 0 not sent.", [999, 9]))
 
 
 def stopped_after_first(world, page):

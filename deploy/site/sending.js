@@ -3,7 +3,7 @@
 import { changeOf, followed } from "./changes.js";
 import { ask, describe, isAway, outcome, Shown } from "./desk.js";
 import { at, element, say } from "./elements.js";
-import { apply, child, letterIfAny, letterOf, parsed, register, school, update } from "./register.js";
+import { apply, child, letterIfAny, parsed, register, school, update } from "./register.js";
 import { day, daysBetween, isDay, today } from "./words.js";
 
 // One task at a time: a second press sends nothing, and says so
@@ -115,7 +115,9 @@ export async function isDone(command) {
   if (cmd === "raise_pan") return Boolean(school(code)) && school(code).pan >= command.pan;
   if (cmd === "add_child" || cmd === "amend") return Boolean(child(number)) && hasData(child(number).data, command);
   if (cmd === "apply") return Boolean(child(number)) && child(number).applied === on;
-  const { place, waits } = await letterOf(number);
+  const letter = await letterIfAny(number);
+  if (!letter) return false;
+  const { place, waits } = letter;
   const isThere = Boolean(place) && place.school === code;
   if (cmd === "accept") return isThere && place.kind === "accepted";
   if (cmd === "name_plan") return isThere && place.kind === "plan";
