@@ -641,14 +641,15 @@ def forms(page, see):
 
 def closed(world, page, see):
     """The desk is closed, as for a draw, while a form is open."""
-    message = "The desk is closed, perhaps for a draw. What you typed is kept here: try again when it is open."
+    message = "The desk is closed, perhaps for a draw. Try again when it is open."
+    kept = f"{message} What you typed is kept here."
     visit(page, "#child/16/amend")
     write(page, north="16001")
     world.end(world.desk)
     world.run("admissions", "do", world.file)
     page.posted.clear()
     press(page, "#amend-form button")
-    see("a closed desk is said", confirm(page), f"Nothing was sent. {message}")
+    see("a closed desk is said", confirm(page), f"Nothing was sent. {kept}")
     see(
         "and the form stays as it is",
         (page.value("document.getElementById('north').value"), page.posted),
@@ -660,7 +661,8 @@ def closed(world, page, see):
     page.type("13")
     page.press("Enter")
     page.wait(f"{ANSWER}.startsWith('The desk is closed')")
-    see("a number that cannot be looked up stays in the field", page.value(f"{FIELD}.value"), "13")
+    see("a number that cannot be looked up stays in the field", page.value(f"[{FIELD}.value, {ANSWER}]"), ["13", kept])
+    see("a worklist, where nothing was typed, says no more than that", visit(page, "#list/vacancies"), message)
     visit(page, "#child/2")
     world.start_desk()
     page.value("document.getElementById('try-again').click()")

@@ -3,7 +3,7 @@
 // nothing but the button of the child that is shown answers. What was recorded, and what was not, is listed below, until the list is
 // cleared or the tab is closed.
 import { MAY_BE_DONE, Shown } from "./desk.js";
-import { keepList, keptList } from "./drafts.js";
+import { KEPT, keepList, keptList } from "./drafts.js";
 import { button, childLink, element, field, isFinding, say, schoolLink } from "./elements.js";
 import { matches } from "./finding.js";
 import { hasIndex, letterOf, nameOf } from "./register.js";
@@ -110,7 +110,7 @@ export function answersView() {
       if (isShown(mine)) await offer(Object.assign(mine, { letter, name: letter.name }), isDecline);
     } catch (error) {
       if (!(error instanceof Shown)) throw error;
-      if (isShown(mine)) notFound(mine, error.message);
+      if (isShown(mine)) notFound(mine, error.isAway ? `${error.message} ${KEPT}` : error.message);
     }
   }
 

@@ -1,6 +1,6 @@
 // Forms: a new child with its application, a correction that keeps what it does not change, an application, a plan and a raised admission number.
 import { Shown } from "./desk.js";
-import { draftOf, keepFor } from "./drafts.js";
+import { KEPT, draftOf, keepFor } from "./drafts.js";
 import { at, dayField, dayInput, element, field, report, say } from "./elements.js";
 import { details, plain } from "./finding.js";
 import { child, hasIndex, nextNumber, register, school, update } from "./register.js";
@@ -94,6 +94,9 @@ function form(id, nodes, submit, action) {
   return made;
 }
 
+// Reports that a form was not sent: it stays as it is
+export const reportUnsent = ({ text }) => report({ text: `${text} ${KEPT}`, bad: true });
+
 function setWrong(input, message) {
   say(`Nothing was sent. ${message}`, true);
   input.closest(".field").append(element("span", { className: "error", id: `${input.id}-error` }, message));
@@ -132,7 +135,7 @@ export function amendView(of) {
     if (!await isSure(`Correct child ${before.child}: ${list}? The child’s priorities may change with it.`, "Yes, correct it")) return null;
     if (await isChanged()) return again({ text: MEANWHILE, bad: true });
     const reply = await send({ cmd: "amend", ...after }, `Child ${before.child} is corrected: ${list}.`);
-    if (reply.isUnsent) return report(reply);
+    if (reply.isUnsent) return reportUnsent(reply);
     if (!reply.bad) forget();
     return go(reply.bad ? `#child/${before.child}/amend` : `#child/${before.child}`, reply);
   };
@@ -207,7 +210,7 @@ export function addView() {
 async function add(data, application, forget) {
   const added = await send({ cmd: "add_child", ...data }, `Child ${data.child} is added.`);
   if (added.bad) {
-    report(added);
+    (added.isUnsent ? reportUnsent : report)(added);
     return;
   }
   forget();
@@ -254,7 +257,7 @@ export function raiseForm(it) {
     const reply = await send({ cmd: "raise_pan", school: it.school, pan },
       `The admission number of ${it.school} is ${pan}. The new places are not offered to anybody yet.`);
     if (!reply.bad) forget();
-    if (reply.isUnsent) report(reply);
+    if (reply.isUnsent) reportUnsent(reply);
     else again(reply);
   };
   return element("details", { className: "screen-only" }, element("summary", {}, "Raise the admission number"),
