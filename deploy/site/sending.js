@@ -39,7 +39,7 @@ async function sendText(text) {
   const answer = await ask("/command", text);
   const what = outcome(answer);
   if (what === "done") apply(parsed(text));
-  return { text, outcome: what, reason: what === "done" ? "" : describe(answer, true), reply: answer.body };
+  return { text, outcome: what, reason: what === "done" ? "" : describe(answer, true) };
 }
 
 // Sends a command if its child is still as it was shown. `shown` is the letter that was shown, or nothing if the command rests on
