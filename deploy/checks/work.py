@@ -232,7 +232,7 @@ def pile(world, page, see):
     page.press("Enter")
     see("a minus after the number asks at once", question(page), f"Decline the place of child 7, Zoë Tŷ-Owen, at A Ysgol Tŷ Gwyn? {IS_FINAL}")
     page.press("Escape")
-    page.wait("!document.getElementById('sure').open")
+    page.wait(f"!document.getElementById('sure').open && {FOCUS}.value")
     see("Escape is no, and the field has the number", page.value(f"[{FOCUS}.id, {FOCUS}.value]"), ["answer-child", "7-"])
     page.press("Enter")
     question(page)
