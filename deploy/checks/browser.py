@@ -22,12 +22,13 @@ CLOCK = """(() => {{
 
 
 class Browser:
-    """One page. `rule` may give a response (status, body) in place of the site's, or 'broken', for a request of a method and a path. `posted` has the body
-    of each POST that the page has sent, and `console` what the browser's console reports of requests that failed."""
+    """One page. `rule` may give a response (status, body) in place of the site's, 'broken', or 'held', which release() sends on, for a request of a
+    method and a path. `posted` has the body of each POST that the page has sent, and `console` what the browser's console reports of requests that
+    failed."""
 
     def __init__(self, world, who):
         self.who, self.password, self.host = who, world.passwords.get(who, ""), world.host
-        self.rule, self.errors, self.posted, self.console, self.number, self.rest = None, [], [], [], 0, b""
+        self.rule, self.errors, self.posted, self.console, self.held, self.number, self.rest = None, [], [], [], [], 0, b""
         key = world.run("openssl", "x509", "-in", world.certificate, "-pubkey", "-noout").stdout
         raw = base64.b64decode("".join(key.strip().split("\n")[1:-1]))
         pinned = base64.b64encode(hashlib.sha256(raw).digest()).decode()
@@ -108,12 +109,19 @@ class Browser:
         if asked["method"] == "POST":
             self.posted.append(asked.get("postData", ""))
         answer = self.rule and self.rule(asked["method"], asked["url"].partition(self.host)[2])
-        if answer == "broken":
+        if answer == "held":
+            self.held.append(given["requestId"])
+        elif answer == "broken":
             self.send("Fetch.failRequest", requestId=given["requestId"], errorReason="ConnectionReset")
         elif answer:
             self.send("Fetch.fulfillRequest", requestId=given["requestId"], responseCode=answer[0], body=base64.b64encode(answer[1].encode()).decode())
         else:
             self.send("Fetch.continueRequest", requestId=given["requestId"])
+
+    def release(self):
+        """Sends on the requests that were held."""
+        while self.held:
+            self.call("Fetch.continueRequest", requestId=self.held.pop(0))
 
     def open(self, path):
         self.call("Page.navigate", url=f"https://{self.host}{path}")
@@ -126,7 +134,16 @@ class Browser:
         return done["result"].get("value")
 
     def wait(self, script, seconds=120):
-        return until(lambda: self.value(f"Boolean({script})"), script, seconds)
+        return until(lambda: self.is_so(script), script, seconds)
+
+    def is_so(self, script):
+        """Whether a script returns something true. It does not while the page is loaded again."""
+        try:
+            return self.value(f"Boolean({script})")
+        except RuntimeError as error:
+            if "Inspected target navigated" not in str(error):
+                raise
+            return False
 
     def press(self, key, times=1, shift=False, is_held=False):
         code, text = KEYS.get(key, (0, key))

@@ -75,7 +75,7 @@ def shown(page, see):
     write(page, name="Hal")
     press(page, "#amend-form button")
     see("before a command the page sees that nobody answers, and sends nothing", (confirm(page), len(page.posted)),
-        ("Nothing was sent. There was no answer. Try again; if there is still none, inform whoever runs the desk.", sent + 1))
+        ("Nothing was sent. There was no answer. Try again; if there is still none, inform whoever runs the desk. What you typed is kept here.", sent + 1))
     page.rule = None
 
 

@@ -127,7 +127,7 @@ def additions(world, page, see):
     see("and the application is entered at the child", confirm(page), "Done, and stored. Child 18: applied 1 April 2025 for A.")
 
 
-def plans(page, see):
+def plans(world, page, see):
     visit(page, "#child/16")
     write(page, plan="E")
     press(page, "#plan-form button")
@@ -143,3 +143,16 @@ def plans(page, see):
         "Raise the admission number of E \u2068مدرسة الأمل\u2069 from 2 to 5? It cannot be lowered again.")
     confirm(page)
     see("and raised", page.value(RESULT).split("\n")[1:3], ["Admission number", "5"])
+    write(page, pan="7")
+    press(page, "#raise-form button")
+    page.posted.clear()
+    world.ask("/command", "jane", '{"cmd":"raise_pan","school":"E","pan":6}')
+    until(lambda: '\\"pan\\":6' in (world.room / "index/since.jsonl").read_text(), "the line of the commands since")
+    see("one that somebody else raised meanwhile is not raised again unseen", (confirm(page), page.posted),
+        ("Nothing was sent: the admission number of E was raised meanwhile, and is 6.", []))
+    see("it is shown then, beside what was typed", page.value(
+        "[document.querySelector('.facts dd').innerText, document.getElementById('pan').value, document.getElementById('pan-now').textContent]"),
+        ["6", "7", "In the register now: 6"])
+    press(page, "#raise-form button")
+    see("and from there it is raised", (question(page).split("from")[1].split("?")[0], confirm(page).split(".")[0], page.posted),
+        (" 6 to 7", "Done, and stored", ['{"cmd":"raise_pan","school":"E","pan":7}']))

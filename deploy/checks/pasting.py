@@ -4,6 +4,7 @@ they do what they say. Called by checks/work.py, on its register."""
 import os
 import pathlib
 import re
+import select
 import subprocess
 
 from checks.page import ANSWER, visit, write
@@ -116,54 +117,74 @@ def days(page, see):
     )
 
 
-def paste(world, text, room, *answers):
-    """Pastes a block into a terminal, and types answers to its questions. Returns its status and what it
-    printed."""
-    terminal, end = os.openpty()
-    os.write(terminal, "".join(f"{it}\n" for it in answers).encode())
-    done = subprocess.run(
-        ["bash", "-c", text],
-        cwd=room,
-        env=world.environment,
-        stdin=end,
-        stdout=subprocess.PIPE,
-        stderr=subprocess.STDOUT,
-        text=True,
-        timeout=300,
-        check=False,
-    )
-    os.close(terminal)
-    os.close(end)
-    return done.returncode, done.stdout
+class Shell:
+    """A shell at a terminal, into which the blocks of a draw are pasted one after another."""
+
+    def __init__(self, world, room):
+        self.terminal, end = os.openpty()
+        self.printed, out = os.pipe()
+        self.process = subprocess.Popen(["bash"], cwd=room, env=world.environment, stdin=end, stdout=out, stderr=out)
+        os.close(end)
+        os.close(out)
+        # (an answer for which nothing asks would run the program of this name)
+        self.paste("yes() { false; }")
+
+    def paste(self, block, *answers):
+        """Pastes a block, and types answers to its questions. Returns its status and what it printed."""
+        lines = [block, *answers, 'echo "<status $?>"']
+        os.write(self.terminal, "".join(f"{it}\n" for it in lines).encode())
+        printed = b""
+        while not (found := re.search(rb"<status (\d+)>\n", printed)):
+            if not select.select([self.printed], [], [], 300)[0]:
+                raise TimeoutError(printed)
+            piece = os.read(self.printed, 1 << 16)
+            if not piece:
+                raise RuntimeError(f"the shell has ended: {printed!r}")
+            printed += piece
+        return int(found[1]), printed[: found.start()].decode()
+
+    def end(self):
+        """Ends it by the end of its terminal, which what it may still run reads too."""
+        os.close(self.terminal)
+        self.process.wait(60)
+        os.close(self.printed)
 
 
 def paste_all(world, see, steps, room, kind):
-    """From the copy to the audit. The real day is far from that of the draw, so admissions-send asks: once
-    it gets No, then Yes."""
-    paste(world, steps[1], room)
+    """From the copy to the audit, in one shell."""
+    shell = Shell(world, room)
+    try:
+        paste_each(world, see, steps, room, kind, shell)
+    finally:
+        shell.end()
+
+
+def paste_each(world, see, steps, room, kind, shell):
+    """The real day is far from that of the draw, so admissions-send asks: for a wrong day it gets No, and
+    for the right one Yes."""
+    shell.paste(steps[1])
     see(
         f"a {kind}: a copy, the pairs and the sheet",
-        (paste(world, steps[2], room)[0], sorted(it.name for it in room.rglob("*draw-3*"))),
+        (shell.paste(steps[2])[0], sorted(it.name for it in room.rglob("*draw-3*"))),
         (0, ["before-draw-3.db", "draw-3.pairs", "draw-3.xlsx"]),
     )
     filled = world.run("/usr/bin/python3", "-c", FILL_IN, room / "draw-3.xlsx")
     see("the sheet is filled in, in another order", (filled.returncode, filled.stderr), (0, ""))
     before = (room / "reg.db").read_bytes()
-    asked = paste(world, steps[3], room, "no")[1]
+    asked = shell.paste(with_values(steps[3], day="2025-04-30"), "no")[1]
     see(
         "a day that is far from the clock's is asked about, and after no nothing is sent",
         (
-            "with the day 2025-04-03" in asked,
+            "with the day 2025-04-30" in asked,
             "Send all the same?" in asked,
             asked.endswith("nothing was sent\n"),
             (room / "reg.db").read_bytes() == before,
         ),
         (True, True, True, True),
     )
-    (room / "draw-3.jsonl").unlink()
-    status, printed = paste(world, steps[3], room, "yes")
-    see(f"the {kind} is sent", (status, "1 of 1 line done" in printed), (0, True))
-    status, audited = paste(world, steps[4], room)
+    status, printed = shell.paste(steps[3], "yes")
+    see(f"the {kind} is sent, with the right day", (status, "1 of 1 line done" in printed, "cannot overwrite" in printed), (0, True, False))
+    status, audited = shell.paste(steps[4])
     last = {
         "round": [
             "0",
@@ -184,9 +205,9 @@ def paste_all(world, see, steps, room, kind):
             (room / "report-3").read_text().splitlines()[:1],
             ["Round 3, draw 3, 2025-04-03"],
         )
-    status, again = paste(world, steps[3], room, "yes")
+    status, again = shell.paste(steps[3])
     see(
-        "pasted once more it sends nothing",
-        (status != 0, "1 of 1 line done" in again),
-        (True, False),
+        "pasted once more it sends nothing, and keeps what was sent",
+        (status != 0, "1 of 1 line done" in again, "draw-3.jsonl: cannot overwrite existing file" in again),
+        (True, False, True),
     )

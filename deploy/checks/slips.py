@@ -3,7 +3,7 @@ reload, a closed desk, a wrong sheet."""
 
 import json
 
-from checks import work
+from checks import entries, work
 from checks.browser import Browser
 from checks.page import (
     ANSWER,
@@ -19,7 +19,7 @@ from checks.page import (
     visit,
     write,
 )
-from checks.world import group, until
+from checks.world import group
 
 # The register is that of checks/work.py: on 2 April 2 to 10 have an open offer of A, of which 2, 3 and 4
 # were reminded on 19 March; 11 has one of A and 1 one of B, both of 10 March; 12, 13 and 14 have one of B.
@@ -47,11 +47,11 @@ def check(world, see):
         typing_ahead(world, page, see)
         stale_answer(world, page, see)
         recorded_here(world, page, see)
+        entries.check(world, page, see)
         finding_ahead(world, page, see)
         replies(world, page, see)
         schools(world, page, see)
         stale_file(world, page, see)
-        partly_sent(world, page, see)
         forms(page, see)
         closed(world, page, see)
         views(page, see)
@@ -583,76 +583,6 @@ def stale_file(world, page, see):
     )
 
 
-def partly_sent(world, page, see):
-    """The page is loaded again in the middle of a file: its third command is at the desk then."""
-    path = world.room / "five.jsonl"
-    amend = {
-        "cmd": "amend",
-        "east": 0,
-        "looked_after": False,
-        "flags": [3],
-        "siblings": [],
-        "present": "",
-    }
-    lines = [
-        {"cmd": "remind", "child": 13, "school": "B", "day": TODAY},
-        *(
-            {**amend, "child": child, "name": f"Child of {child}", "north": 1000 * child}
-            for child in (15, 16, 12, 14)
-        ),
-    ]
-    path.write_text("".join(json.dumps(line) + "\n" for line in lines))
-    chosen(page, path)
-    press(page, "#send-file")
-    page.posted.clear()
-    page.rule = (
-        lambda method, path: world.stop_desk()
-        if len(page.posted) == 3 and method == "POST"
-        else None
-    )
-    page.value("document.getElementById('sure-yes').click(); 0")
-    until(lambda: (page.value("0"), len(page.posted) == 3)[1], "the third command")
-    until(world.at_desk, "the third command at the desk")
-    page.rule = None
-    page.call("Page.reload")
-    page.wait("document.readyState === 'complete' && document.getElementById('sent-in-part')")
-    world.continue_desk()
-    see(
-        "after a reload the page says how far the file was",
-        page.value("document.getElementById('sent-in-part').innerText"),
-        "five.jsonl was sent in part: 2 of its 5 commands have an answer. The last of them is line 2. Line 3 may be done, and those after it were not sent. "
-        "Choose the file again: it is compared with what was sent and with the register, and goes on from there. No line is sent twice.",
-    )
-    until(
-        lambda: "Child of 16" in (world.room / "index/since.jsonl").read_text().splitlines()[-1],
-        "the third command",
-    )
-    path.with_name("other").mkdir(exist_ok=True)
-    (path.parent / "other/five.jsonl").write_text(path.read_text() + "\n{}\n")
-    see(
-        "another text of this name is not taken for it",
-        chosen(page, path.parent / "other/five.jsonl"),
-        "five.jsonl is another text than the one that was sent in part: all of it is shown. Nothing is sent yet.",
-    )
-    chosen(page, path)
-    see(
-        "the same file goes on",
-        page.value("document.getElementById('counts').innerText"),
-        "2 commands done, 0 refused or unreadable, 1 without an answer, 2 not sent.",
-    )
-    page.posted.clear()
-    page.value("document.getElementById('go-on').click()")
-    page.wait(
-        "document.getElementById('counts') && document.getElementById('counts').innerText.startsWith('5 commands done')"
-    )
-    see(
-        "from its fourth line: the third was done",
-        [json.loads(body)["child"] for body in page.posted],
-        [12, 14],
-    )
-    see("and then nothing is kept", page.value("Object.keys(sessionStorage)"), [])
-
-
 def forms(page, see):
     """A form that was begun is there again after a reload, and after another view; once it was sent nothing
     is kept."""
@@ -711,14 +641,15 @@ def forms(page, see):
 
 def closed(world, page, see):
     """The desk is closed, as for a draw, while a form is open."""
-    message = "The desk is closed, perhaps for a draw. What you typed is kept here: try again when it is open."
+    message = "The desk is closed, perhaps for a draw. Try again when it is open."
+    kept = f"{message} What you typed is kept here."
     visit(page, "#child/16/amend")
     write(page, north="16001")
     world.end(world.desk)
     world.run("admissions", "do", world.file)
     page.posted.clear()
     press(page, "#amend-form button")
-    see("a closed desk is said", confirm(page), f"Nothing was sent. {message}")
+    see("a closed desk is said", confirm(page), f"Nothing was sent. {kept}")
     see(
         "and the form stays as it is",
         (page.value("document.getElementById('north').value"), page.posted),
@@ -730,7 +661,8 @@ def closed(world, page, see):
     page.type("13")
     page.press("Enter")
     page.wait(f"{ANSWER}.startsWith('The desk is closed')")
-    see("a number that cannot be looked up stays in the field", page.value(f"{FIELD}.value"), "13")
+    see("a number that cannot be looked up stays in the field", page.value(f"[{FIELD}.value, {ANSWER}]"), ["13", kept])
+    see("a worklist, where nothing was typed, says no more than that", visit(page, "#list/vacancies"), message)
     visit(page, "#child/2")
     world.start_desk()
     page.value("document.getElementById('try-again').click()")

@@ -3,7 +3,7 @@
 // nothing but the button of the child that is shown answers. What was recorded, and what was not, is listed below, until the list is
 // cleared or the tab is closed.
 import { MAY_BE_DONE, Shown } from "./desk.js";
-import { keepList, keptList } from "./drafts.js";
+import { KEPT, keepList, keptList } from "./drafts.js";
 import { button, childLink, element, field, isFinding, say, schoolLink } from "./elements.js";
 import { matches } from "./finding.js";
 import { hasIndex, letterOf, nameOf } from "./register.js";
@@ -15,6 +15,8 @@ import { IS_FINAL, isolated, placeInWords, plural } from "./words.js";
 let recorded = null;
 // The answers are sent one after another, and each child is looked up after those before
 let sending = Promise.resolve();
+// The entry that is looked up or shown, and has no answer yet
+let open = null;
 // Shows what was recorded in the view as it is now
 let showNow = () => {};
 const LIST = ["#answers", "recorded"];
@@ -24,10 +26,21 @@ function before() {
   return keptList(...LIST).map(({ isSending, ...it }) => (isSending ? { ...it, result: MAY_BE_DONE, isBad: true } : it));
 }
 
+// Keeps the list as it is now. After a reload an entry without an answer is one of it
+function keep() {
+  const others = open ? recorded.filter((it) => !isSettledBy(it, open.number)) : recorded;
+  keepList(...LIST, open ? [left(open, "the page was loaded again before an answer."), ...others] : recorded);
+}
+
 // Keeps and shows the list as it is now
 function changed() {
-  keepList(...LIST, recorded);
+  keep();
   showNow();
+}
+
+function setOpen(entry) {
+  open = entry;
+  keep();
 }
 
 // The child that a number or a name means, if it is one alone
@@ -47,10 +60,14 @@ function read(entry) {
 
 const whoIs = ({ number, name }) => `Child ${number}, ${isolated(name)}`;
 
+const left = ({ number, name, text }, reason) => ({ number, name: name || text, cmd: "", school: "", result: `Nothing was sent: ${reason}`, isBad: true,
+  isOpen: true });
+
 // An entry that was left without an answer, listed below: nothing that was typed is lost unseen
-function leave({ number, name, text }, reason) {
-  settled(number);
-  recorded.unshift({ number, name: name || text, cmd: "", school: "", result: `Nothing was sent: ${reason}`, isBad: true, isOpen: true });
+function leave(entry, reason) {
+  if (open === entry) open = null;
+  settled(entry.number);
+  recorded.unshift(left(entry, reason));
   changed();
 }
 
@@ -62,8 +79,6 @@ export function answersView() {
   const form = element("form", { id: "answers-form", className: "screen-only", noValidate: true },
     field("Child’s number or name", input, "Enter shows the offer, and Enter again accepts it. To decline, put - after the number: 17-"),
     element("p", { className: "tools" }, element("button", {}, "Look up")));
-  // The entry that is looked up or shown, and has no answer yet
-  let open = null;
 
   form.onsubmit = (event) => {
     event.preventDefault();
@@ -82,32 +97,40 @@ export function answersView() {
     const { text, isDecline } = read(entry);
     if (open && open.text !== text) leave(open, `the next entry came ${open.letter ? "before an answer" : "while it was looked up"}.`);
     const mine = { text, entry };
-    open = mine;
+    setOpen(mine);
     input.value = "";
     room.replaceChildren(element("p", {}, `Looking up ${isolated(text)} …`));
     say(`Looking up ${isolated(text)} …`);
     try {
       mine.number = meant(text);
       mine.name = nameOf(mine.number);
+      keep();
       await sending;
       const letter = await letterOf(mine.number);
-      if (open === mine) await offer(Object.assign(mine, { letter, name: letter.name }), isDecline);
+      if (isShown(mine)) await offer(Object.assign(mine, { letter, name: letter.name }), isDecline);
     } catch (error) {
       if (!(error instanceof Shown)) throw error;
-      if (open === mine) notFound(mine, error.message);
+      if (isShown(mine)) notFound(mine, error.isAway ? `${error.message} ${KEPT}` : error.message);
     }
   }
 
+  // Whether an entry has its answer here. In another view it has none, and is listed when this one is shown again
+  const isShown = (mine) => open === mine && input.isConnected;
+
   function notFound(mine, reason) {
-    open = null;
     room.replaceChildren();
-    if (!giveBack(mine)) leave(mine, reason);
+    end(mine, reason);
     say(reason, true);
   }
 
-  // An entry that came to nothing is in the field again, to be corrected, if nothing was typed meanwhile
+  // An entry that came to nothing is in the field again, to be corrected; or it is listed, if something was typed meanwhile
+  function end(mine, reason) {
+    if (giveBack(mine)) setOpen(null);
+    else leave(mine, reason);
+  }
+
   function giveBack({ entry }) {
-    if (input.value || !input.isConnected) return false;
+    if (input.value) return false;
     input.value = entry;
     if (!isFinding()) {
       input.focus();
@@ -122,19 +145,18 @@ export function answersView() {
     const { place } = letter;
     const who = whoIs(letter);
     const isWaiting = form.contains(document.activeElement) && !input.value;
+    const none = `there is no offer to answer. ${placeInWords(place)}`;
     room.replaceChildren(element("h3", {}, who), element("p", {}, placeInWords(place)));
     if (!place || place.kind === "plan") {
-      open = null;
-      giveBack(mine);
-      return say(`${who}: there is no offer to answer. ${placeInWords(place)}`, true);
+      end(mine, none);
+      return say(`${who}: ${none}`, true);
     }
     const accept = button("Accept", () => record(mine, "accept"), { id: "accept" });
     const decline = button("Decline", () => record(mine, "decline"), { id: "decline", className: "final" });
     room.append(element("p", { className: "tools" }, place.kind === "offered" ? accept : null, decline));
     say(`${who}: ${placeInWords(place)}`);
-    if (place.kind !== "offered") open = null;
     if (isDecline && isWaiting) return record(mine, "decline");
-    if (place.kind !== "offered") giveBack(mine);
+    if (place.kind !== "offered") end(mine, none);
     else if (isWaiting) accept.focus();
     return null;
   }
@@ -158,10 +180,10 @@ export function answersView() {
     input.focus();
     const done = `Child ${number}, ${isolated(name)}, has ${cmd === "accept" ? "accepted" : "declined"} ${where}.`;
     sending = sending.then(() => send({ cmd, child: number, school: place.school }, done, letter)).then((reply) => {
-      const { text, bad } = reply || { text: "Nothing was sent: another task is in progress.", bad: true };
+      const { text, bad } = reply;
       Object.assign(entry, { result: bad ? text : "done", isBad: bad, isSending: false });
       changed();
-      if (reply && reply.now && !open) room.replaceChildren(element("h3", {}, whoIs(reply.now)), element("p", {}, placeInWords(reply.now.place)));
+      if (reply.now && !open) room.replaceChildren(element("h3", {}, whoIs(reply.now)), element("p", {}, placeInWords(reply.now.place)));
       if (list.isConnected || bad) say(`${bad && !text.startsWith("Child ") ? `${whoIs(letter)}: ` : ""}${text}`, bad);
     });
     await sending;
@@ -190,6 +212,7 @@ export function answersView() {
   }
 
   recorded ??= before();
+  if (open) leave(open, "another view came before an answer.");
   showNow = showRecorded;
   showRecorded();
   return { title: "Answers to offers", nodes: [form, room, list], status: "Enter a number or a name.", focus: input };
@@ -200,7 +223,8 @@ function stopRepeated(event) {
 }
 
 // An entry that was left before is settled by an answer for the same child
+const isSettledBy = (it, number) => Boolean(number) && it.isOpen && it.number === number;
+
 function settled(number) {
-  const at = recorded.findIndex((it) => it.isOpen && it.number === number);
-  if (number && at >= 0) recorded.splice(at, 1);
+  recorded = recorded.filter((it) => !isSettledBy(it, number));
 }

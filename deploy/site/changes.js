@@ -15,6 +15,12 @@ export function changeOf(shown, now, { cmd, school }) {
   return "";
 }
 
+// What is shown of a child after a command of the same task was done: what that command changes is as it is now. What else has changed
+// since is somebody else's, and remains a difference
+export function followed(shown, now, { cmd }) {
+  return cmd === "leave_list" ? { ...shown, waits: now.waits } : { ...shown, place: now.place, waits: now.waits };
+}
+
 const isSame = (one, other) => JSON.stringify(one) === JSON.stringify(other);
 
 function changeOfPlace(before, now) {

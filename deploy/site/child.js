@@ -1,7 +1,7 @@
 // A child: where it has a place and since when, until when to answer, where it waits and why; and what can be done for it.
 import { Shown } from "./desk.js";
 import { button, dayField, dayInput, element, facts, link, report, schoolLink } from "./elements.js";
-import { amendView, applyForm, planForm } from "./forms.js";
+import { amendView, applyForm, planForm, reportUnsent } from "./forms.js";
 import { withDays } from "./reading.js";
 import { child, endOf, hasIndex, letterOf, lettersOf, register, school } from "./register.js";
 import { again } from "./router.js";
@@ -31,12 +31,11 @@ export async function childView([text, part]) {
 }
 
 // Sends a command if the child is still as this letter shows it, and shows the child as it is then. What was typed into a form is
-// kept until it was done
-const actOn = (letter) => async (command, done, forget = () => {}) => {
+// kept until it was done, and only a form has something to `forget`
+const actOn = (letter) => async (command, done, forget = null) => {
   const reply = await send(command, done, letter);
-  if (!reply) return;
-  if (!reply.bad) forget();
-  if (reply.isUnsent) report(reply);
+  if (!reply.bad) forget?.();
+  if (reply.isUnsent) (forget ? reportUnsent : report)(reply);
   else again(reply);
 };
 

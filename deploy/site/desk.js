@@ -35,7 +35,7 @@ export const FAULTS = {
 
 export const MAY_BE_DONE = "There was no answer. It may be done: look before you send it again.";
 const ASK_AGAIN = "There was no answer. Try again; if there is still none, inform whoever runs the desk.";
-const CLOSED = "The desk is closed, perhaps for a draw. What you typed is kept here: try again when it is open.";
+const CLOSED = "The desk is closed, perhaps for a draw. Try again when it is open.";
 
 // Whether there was no answer of the desk: the site had none from it, or the browser none from the site
 export const isAway = ({ status }) => status === 0 || status === 502 || status === 504;

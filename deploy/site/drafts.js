@@ -3,6 +3,9 @@
 import { button, element } from "./elements.js";
 import { parsed, who } from "./register.js";
 
+// What is said where something was typed and not sent
+export const KEPT = "What you typed is kept here.";
+
 const keyOf = (hash, id) => `form ${who} ${hash} ${id}`;
 const here = () => location.hash || "#start";
 const valueOf = (it) => (it.type === "checkbox" ? it.checked : it.value);

@@ -21,9 +21,10 @@ export function steps({ draw, on, code, round, name }) {
       names,
       `admissions-backup reg.db copies/before-draw-$draw.db && ${pairs} > draw-$draw.pairs &&`,
       "    admissions-lots draw-$draw.pairs --sheet draw-$draw.xlsx --register reg.db"]],
-    [code ? "Fill the vacancy" : "Run the round", "It asks before it sends a day that looks wrong. If it asks, read the day and type yes or no.", [
+    [code ? "Fill the vacancy" : "Run the round", "It asks before it sends a day that looks wrong. If it asks, read the day and type yes or no. "
+      + "After no, enter the right day above and paste this block again.", [
       `${names} day=${on}`,
-      "[ -s draw-$draw.jsonl ] || rm -f draw-$draw.jsonl",
+      "ls draw-$draw.answers* > /dev/null 2>&1 || rm -f draw-$draw.jsonl",
       `admissions-lots draw-$draw.pairs draw-$draw.xlsx --register reg.db --number $draw --day $day${option} > draw-$draw.jsonl &&`,
       "    admissions-send draw-$draw.jsonl"]],
     ["Audit before anyone is informed", AUDITED[code ? "fill" : "round"], code ? [`admissions-audit copies/before-draw-${draw}.db reg.db`] : [

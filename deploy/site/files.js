@@ -6,7 +6,7 @@ import { at, button, childLink, download, element, field, progress, say } from "
 import { folded } from "./finding.js";
 import { child, lettersIfAny, nameOf, parsed, school, who } from "./register.js";
 import { again } from "./router.js";
-import { isBusy, isDaySure, isSure, sendAll, settle } from "./sending.js";
+import { follow, isBusy, isDaySure, isFree, isSure, sendAll, settle } from "./sending.js";
 import { answerOf, fieldsOf, separatorOf, titlesOf } from "./sheets.js";
 import { column, table } from "./tables.js";
 import { count, criteriaInWords, day, isDay, isolated, plural, schoolInWords } from "./words.js";
@@ -49,7 +49,7 @@ export function readLines(text) {
     const { command, name = "", problem: wrong } = isRow ? answerOf(fieldsOf(row.text, separator), titles || undefined)
       : { command: parsed(row.text) };
     const sent = isRow && command ? JSON.stringify(command) : row.text;
-    return { ...row, head, sent, command, givenName: name, problem: wrong || problem(command, sent), warning: warning(command) };
+    return { ...row, head, sent, command, isRow, givenName: name, problem: wrong || problem(command, sent), warning: warning(command) };
   });
 }
 
@@ -67,21 +67,28 @@ async function textOf(chosen) {
   }
 }
 
-// How far the last file was sent: its name and digest, and of each command a letter, d done, r refused, s not sent since its child has
+// How far each file was sent: its name and digest, and of each command a letter, d done, r refused, s not sent since its child has
 // changed. It is kept until all of it has an answer
-const keptAs = () => `file ${who}`;
+const keptAs = (digest) => `file ${who} ${digest}`;
 const LETTERS = { done: "d", refused: "r", differs: "s" };
 const OUTCOMES = { d: "done", r: "refused", s: "differs" };
 
 function keep(record) {
   try {
-    if (record) sessionStorage.setItem(keptAs(), JSON.stringify(record));
-    else sessionStorage.removeItem(keptAs());
+    sessionStorage.setItem(keptAs(record.digest), JSON.stringify(record));
   } catch { /* a browser that keeps nothing: the file is sent all the same */ }
 }
 
-function keptRecord() {
-  try { return parsed(sessionStorage.getItem(keptAs())); } catch { return null; }
+function forget({ digest }) {
+  try {
+    sessionStorage.removeItem(keptAs(digest));
+  } catch { /* nothing was kept */ }
+}
+
+function keptRecords() {
+  try {
+    return Object.keys(sessionStorage).filter((it) => it.startsWith(keptAs(""))).map((it) => parsed(sessionStorage.getItem(it))).filter(Boolean);
+  } catch { return []; }
 }
 
 // The result of the last file, as long as the page is open
@@ -93,8 +100,9 @@ export function fileView() {
   const room = element("div", { id: "preview" });
   input.onchange = async () => {
     const chosen = input.files[0];
-    if (!chosen || isBusy()) return;
+    if (!chosen) return;
     try {
+      if (!isFree()) return;
       const { text, digest } = await textOf(chosen);
       shown = null;
       await look(chosen.name, readLines(text), digest, room);
@@ -106,12 +114,11 @@ export function fileView() {
       input.value = "";
     }
   };
-  const record = shown || isBusy() ? null : keptRecord();
-  if (shown) room.replaceChildren(...shown.nodes);
-  else if (record) room.replaceChildren(...sentInPart(record));
+  const records = isBusy() ? [] : keptRecords().filter((it) => it.digest !== shown?.digest);
+  room.replaceChildren(...(shown ? shown.nodes : []), ...records.map(sentInPart));
+  const status = [...(shown ? [shown.text] : []), ...records.map(inPart)].join(" ");
   return {
-    title: "Send a file of commands", status: shown ? shown.text : record ? inPart(record) : "Choose a file.",
-    isBad: shown ? shown.isBad : Boolean(record), nodes: [
+    title: "Send a file of commands", status: status || "Choose a file.", isBad: shown?.isBad || records.length > 0, nodes: [
       element("p", {}, "One command on each line, as the HANDBOOK has them, or rows of answers such as decline,23,ELM,Bo Bell, saved as CSV. "
         + "Nothing is sent before you confirm."),
       element("p", { className: "screen-only" }, field("File", input)), room],
@@ -121,17 +128,16 @@ export function fileView() {
 const inPart = ({ name, outcomes, lines }) => `${name} was sent in part: ${count(outcomes.length)} of its ${plural(lines.length, "command has an answer",
   "commands have an answer")}.`;
 
-// After a reload: how far the last file was, and how it goes on
+// How far a file was before a reload or another file, and how it goes on
 function sentInPart(record) {
   const { name, outcomes, lines } = record;
-  const forget = () => { keep(null); again({ text: `${name} is forgotten. Nothing was sent.`, bad: false }); };
-  return [
+  const press = () => { forget(record); again({ text: `${name} is forgotten. Nothing was sent.`, bad: false }); };
+  return element("section", { className: "sent-in-part" },
     element("h3", {}, `${name} was sent in part`),
-    element("p", { id: "sent-in-part" }, `${inPart(record)} The last of them is line ${lines[outcomes.length - 1] ?? "none"}. Line ${lines[outcomes.length]} `
+    element("p", {}, `${inPart(record)} The last of them is line ${lines[outcomes.length - 1] ?? "none"}. Line ${lines[outcomes.length]} `
       + "may be done, and those after it were not sent. Choose the file again: it is compared with what was sent and with the register, and goes on from "
-      + "there. No line is sent twice."),
-    element("p", { className: "tools screen-only" }, button("Forget it", forget, { id: "forget-file" })),
-  ];
+      + "there, after a question. No line is sent twice."),
+    element("p", { className: "tools screen-only" }, button("Forget it", press, { "aria-label": `Forget ${name}` })));
 }
 
 // Reads what the register has for the lines of a file, and shows both
@@ -141,10 +147,11 @@ async function look(name, rows, digest, room) {
   say(`Reading what the register has for ${name} …`);
   const letters = await lettersIfAny(numbers);
   for (const row of good) compareNames(row, letters);
-  const record = keptRecord();
-  if (record && record.digest === digest) return goOnAfterReload(name, rows, record, digest);
+  const records = keptRecords();
+  const record = records.find((it) => it.digest === digest);
+  if (record) return goOnAfterReload(name, rows, record, digest);
   preview(name, rows, digest, room);
-  if (record && record.name === name) say(`${name} is another text than the one that was sent in part: all of it is shown. Nothing is sent yet.`, true);
+  if (records.some((it) => it.name === name)) say(`${name} is another text than the one that was sent in part: all of it is shown. Nothing is sent yet.`, true);
   return null;
 }
 
@@ -191,18 +198,28 @@ function inWords(row) {
   return cmd === "remind" ? `${whom}: reminded of ${code} on ${when}` : `${whom}: offer of ${code} withdrawn on ${when}`;
 }
 
+// How many there are of each command
+const kindsInWords = (rows) => COMMANDS.map((cmd) => [cmd, rows.filter((it) => it.command.cmd === cmd).length]).filter(([, number]) => number)
+  .map(([cmd, number]) => `${count(number)} ${cmd}`).join(", ");
+
+// Rows that have no name are sent for whoever has the number
+function nameless(rows) {
+  const number = rows.filter((it) => it.isRow && !it.givenName).length;
+  if (!number) return [];
+  return [element("p", { className: "warning", id: "nameless" },
+    `${plural(number, "row has", "rows have")} no name to compare with the register’s. The title of the column of names is ‘name’.`)];
+}
+
 function preview(name, rows, digest, room) {
   const good = rows.filter((it) => !it.problem);
-  const kinds = COMMANDS.map((cmd) => [cmd, good.filter((it) => it.command.cmd === cmd).length]).filter(([, number]) => number);
-  const kindsInWords = kinds.map(([cmd, number]) => `${count(number)} ${cmd}`).join(", ");
   const bad = rows.length - good.length;
-  const press = () => confirm({ name, rows, digest }, good, kindsInWords);
+  const press = () => confirmAndSend({ name, rows, digest }, good);
   const send = button(`Send ${count(good.length)}`, press, { id: "send-file", className: "final", disabled: !good.length });
   const columns = [...lineColumns, column("In the register", present), column("Note", (it) => it.problem || it.warning)];
   const schools = good.filter((it) => it.command.cmd === "add_school");
   room.replaceChildren(
-    element("p", { id: "counts" }, `${plural(rows.length, "line", "lines")}: ${kindsInWords || "no command"}${bad ? `, ${count(bad)} that cannot be sent` : ""}.`),
-    ...(schools.length ? [schoolsTable(schools)] : []), table({ caption: `Preview of ${name}`, file: "preview.csv", rows, columns }).node,
+    element("p", { id: "counts" }, `${plural(rows.length, "line", "lines")}: ${kindsInWords(good) || "no command"}${bad ? `, ${count(bad)} that cannot be sent` : ""}.`),
+    ...nameless(good), ...(schools.length ? [schoolsTable(schools)] : []), table({ caption: `Preview of ${name}`, file: "preview.csv", rows, columns }).node,
     element("p", { className: "screen-only" }, send));
   say(`${name} is read. Nothing is sent yet.`, bad > 0);
 }
@@ -218,17 +235,23 @@ function schoolsTable(rows) {
   }).node;
 }
 
-async function confirm(file, good, kindsInWords) {
-  if (isBusy()) return;
+async function confirmAndSend(file, good) {
+  if (!isFree()) return;
+  if (await isConfirmed(file, good)) await run(file, good);
+}
+
+// Whether some lines of a file may be sent. If not, nothing was sent, and the page says so
+async function isConfirmed(file, good) {
   for (const on of new Set(good.filter((it) => ["remind", "lapse"].includes(it.command.cmd)).map((it) => it.command.day))) {
-    if (typeof on === "string" && !await isDaySure(on, "Send the file")) return;
+    if (typeof on === "string" && !await isDaySure(on, "Send the file")) return false;
   }
   const final = good.filter((it) => !CAN_BE_REPLACED.includes(it.command.cmd));
   const warned = good.filter((it) => it.warning).length;
   const notes = `${final.length ? ` ${count(final.length)} of them cannot be undone.` : ""}${warned ? ` ${count(warned)} of them have a note.` : ""}`;
-  const question = `Send ${plural(good.length, "command", "commands")} of ${file.name}: ${kindsInWords}?${notes}`;
-  if (await isSure(question, `Yes, send ${count(good.length)}`, final.map(inWords))) await run(file, good);
-  else say("Nothing was sent.");
+  const question = `Send ${plural(good.length, "command", "commands")} of ${file.name}: ${kindsInWords(good)}?${notes}`;
+  if (await isSure(question, `Yes, send ${count(good.length)}`, final.map(inWords))) return true;
+  say("Nothing was sent.");
+  return false;
 }
 
 // Sends the rows of a file, and keeps how far it is: the rows that have an answer are the first of the file's in the record
@@ -244,10 +267,10 @@ async function run(file, rows) {
     if (LETTERS[outcome]) keep(Object.assign(record, { outcomes: record.outcomes + LETTERS[outcome] }));
   };
   keep(record);
-  const results = await sendAll(rows.map((it) => ({ text: it.sent, shown: it.shown })), seen, () => isStopped);
+  const items = rows.map((it) => ({ text: it.sent, shown: it.shown }));
+  const results = await sendAll(items, seen, () => isStopped);
   progress(1, 1);
-  if (!results) return;
-  results.forEach((result, index) => Object.assign(rows[index], { outcome: result.outcome, reason: result.reason }));
+  results.forEach((result, index) => Object.assign(rows[index], { outcome: result.outcome, reason: result.reason, shown: items[index].shown }));
   finish(file);
 }
 
@@ -264,7 +287,7 @@ function finish(file) {
     .length)} without an answer, ${count(of("unsent").length)} not sent${differ ? `, ${count(differ)} not sent since the child has changed` : ""}.`;
   const reason = (it) => it.problem || it.reason?.replace("Refused, and nothing has changed. ", "") || REASONS[it.outcome];
   const nodes = [element("p", { id: "counts" }, text)];
-  if (!rest.length) keep(null);
+  if (!rest.length) forget(file);
   if (left.length) {
     const lines = [...(left[0].head ? [left[0].head] : []), ...left.map((it) => it.text)];
     const save = () => download(`not-done-${name}`, lines.map((text) => text + "\n").join(""));
@@ -273,34 +296,42 @@ function finish(file) {
     nodes.push(table({ caption: "Not done", file: "not-done.csv", rows: left, columns: [...lineColumns, column("In the register", present),
       column("Reason", reason)] }).node);
   }
-  shown = { nodes, text, isBad: left.length > 0 };
+  shown = { nodes, text, digest: file.digest, isBad: left.length > 0 };
   if (location.hash === "#file") again(null);
   else say(text, shown.isBad);
 }
 
-// The same file as before a reload: each line has what became of it, and the one after the last answer may be done
+// The same file as before a reload: each line has what became of it, and the one after the last answer may be done. The children are
+// shown as they are now and not as they were when it was confirmed, so the rest is asked about again. A line that could not be sent
+// then is not sent
 function goOnAfterReload(name, rows, { lines, outcomes }, digest) {
   const place = new Map(lines.map((number, index) => [number, index]));
-  for (const row of rows.filter((it) => !it.problem)) {
+  for (const row of rows) {
     const index = place.get(row.number) ?? Infinity;
-    row.outcome = OUTCOMES[outcomes[index]] || (index === outcomes.length ? "unknown" : "unsent");
-    if (row.outcome === "refused" || row.outcome === "differs") row.reason = "it was not done before the page was loaded again";
+    const outcome = OUTCOMES[outcomes[index]];
+    if (outcome) Object.assign(row, { outcome, problem: "" });
+    else if (index === Infinity) row.problem ||= "it was not among those that were confirmed";
+    else if (!row.problem) row.outcome = index === outcomes.length ? "unknown" : "unsent";
+    if (outcome === "refused" || outcome === "differs") row.reason = "it was not done before the page was loaded again";
   }
-  finish({ name, rows, digest });
+  finish({ name, rows, digest, isAsked: true });
 }
 
 // Before the rest is sent, the register shows what is done already: nothing is sent twice
 async function goOn(file, rest) {
-  if (isBusy()) return;
+  if (!isFree()) return;
+  let done;
   try {
-    const { done } = await settle(rest.filter((it) => it.outcome === "unknown").map((it) => it.command));
-    for (const it of rest) it.outcome = done.includes(it.command) ? "done" : "unsent";
+    ({ done } = await settle(rest.filter((it) => it.outcome === "unknown").map((it) => it.command)));
   } catch (error) {
     if (!(error instanceof Shown)) throw error;
     say(`Nothing was sent. ${error.message}`, true);
     return;
   }
-  const open = rest.filter((it) => it.outcome !== "done");
-  if (open.length) await run(file, open);
+  const open = rest.filter((it) => !done.includes(it.command));
+  for (const it of rest) if (!open.includes(it)) await follow(it.command, it.shown, open);
+  if (file.isAsked && open.length && !await isConfirmed(file, open)) return;
+  for (const it of rest) it.outcome = open.includes(it) ? "unsent" : "done";
+  if (open.length) await run({ ...file, isAsked: false }, open);
   else finish(file);
 }

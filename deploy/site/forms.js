@@ -1,6 +1,6 @@
 // Forms: a new child with its application, a correction that keeps what it does not change, an application, a plan and a raised admission number.
 import { Shown } from "./desk.js";
-import { draftOf, keepFor } from "./drafts.js";
+import { KEPT, draftOf, keepFor } from "./drafts.js";
 import { at, dayField, dayInput, element, field, report, say } from "./elements.js";
 import { details, plain } from "./finding.js";
 import { child, hasIndex, nextNumber, register, school, update } from "./register.js";
@@ -94,6 +94,9 @@ function form(id, nodes, submit, action) {
   return made;
 }
 
+// Reports that a form was not sent: it stays as it is
+export const reportUnsent = ({ text }) => report({ text: `${text} ${KEPT}`, bad: true });
+
 function setWrong(input, message) {
   say(`Nothing was sent. ${message}`, true);
   input.closest(".field").append(element("span", { className: "error", id: `${input.id}-error` }, message));
@@ -132,9 +135,9 @@ export function amendView(of) {
     if (!await isSure(`Correct child ${before.child}: ${list}? The child’s priorities may change with it.`, "Yes, correct it")) return null;
     if (await isChanged()) return again({ text: MEANWHILE, bad: true });
     const reply = await send({ cmd: "amend", ...after }, `Child ${before.child} is corrected: ${list}.`);
-    if (reply && reply.isUnsent) return report(reply);
-    if (reply && !reply.bad) forget();
-    return reply && go(reply.bad ? `#child/${before.child}/amend` : `#child/${before.child}`, reply);
+    if (reply.isUnsent) return reportUnsent(reply);
+    if (!reply.bad) forget();
+    return go(reply.bad ? `#child/${before.child}/amend` : `#child/${before.child}`, reply);
   };
   return {
     title: `Correct child ${before.child}, ${isolated(before.name)}`, status: "The form has the present data. The application cannot be changed.",
@@ -206,9 +209,8 @@ export function addView() {
 // The child first, then its application. If only the child is added, its view has the form of the application
 async function add(data, application, forget) {
   const added = await send({ cmd: "add_child", ...data }, `Child ${data.child} is added.`);
-  if (!added) return;
   if (added.bad) {
-    report(added);
+    (added.isUnsent ? reportUnsent : report)(added);
     return;
   }
   forget();
@@ -239,23 +241,25 @@ export function planForm({ number: of, name }, act) {
 
 // A raised admission number
 export function raiseForm(it) {
+  // As it is shown: an update changes `it` itself
+  const before = it.pan;
   const submit = async (forget) => {
     const pan = numberAt("pan", 1, 500, "The admission number");
-    if (pan <= it.pan) throw new Wrong("pan", `The admission number can only be raised: it is ${it.pan}.`);
-    const question = `Raise the admission number of ${it.school} ${isolated(it.name)} from ${it.pan} to ${pan}? It cannot be lowered again.`;
+    if (pan <= before) throw new Wrong("pan", `The admission number can only be raised: it is ${before}.`);
+    const question = `Raise the admission number of ${it.school} ${isolated(it.name)} from ${before} to ${pan}? It cannot be lowered again.`;
     if (!await isSure(question, "Yes, raise it")) return;
     await update();
     const now = school(it.school)?.pan;
-    if (now !== it.pan) {
+    if (now !== before) {
       again({ text: `Nothing was sent: the admission number of ${it.school} was raised meanwhile, and is ${now}.`, bad: true });
       return;
     }
     const reply = await send({ cmd: "raise_pan", school: it.school, pan },
       `The admission number of ${it.school} is ${pan}. The new places are not offered to anybody yet.`);
-    if (reply && !reply.bad) forget();
-    if (reply && reply.isUnsent) report(reply);
-    else if (reply) again(reply);
+    if (!reply.bad) forget();
+    if (reply.isUnsent) reportUnsent(reply);
+    else again(reply);
   };
   return element("details", { className: "screen-only" }, element("summary", {}, "Raise the admission number"),
-    form("raise-form", [field("New admission number", textInput("pan", it.pan, { inputMode: "numeric" }))], submit, "Raise it"));
+    form("raise-form", [field("New admission number", textInput("pan", before, { inputMode: "numeric" }))], submit, "Raise it"));
 }

@@ -1,14 +1,21 @@
 // Sends commands: one at a time, each once. What was done is distinguished from what was refused, what was not sent, and what may be
 // done. Just before a command is sent, its child is read again: for one that is not as it was shown, nothing is sent.
-import { changeOf } from "./changes.js";
+import { changeOf, followed } from "./changes.js";
 import { ask, describe, isAway, outcome, Shown } from "./desk.js";
 import { at, element, say } from "./elements.js";
-import { apply, child, letterIfAny, letterOf, parsed, register, school, update } from "./register.js";
+import { apply, child, letterIfAny, parsed, register, school, update } from "./register.js";
 import { day, daysBetween, isDay, today } from "./words.js";
 
-// One task at a time: a second press sends nothing
+// One task at a time: a second press sends nothing, and says so
 let busy = false;
 export const isBusy = () => busy;
+const BUSY = "Nothing more was sent: another task is in progress.";
+
+// Whether a task may begin; if not, the page says why
+export function isFree() {
+  if (busy) say(BUSY, true);
+  return !busy;
+}
 
 // Asks for confirmation of what cannot be undone, with a line for each whom it concerns. It is confirmed by its button alone: no
 // letter is a key for it, and the button that does nothing has the focus
@@ -32,7 +39,7 @@ async function sendText(text) {
   const answer = await ask("/command", text);
   const what = outcome(answer);
   if (what === "done") apply(parsed(text));
-  return { text, outcome: what, reason: what === "done" ? "" : describe(answer, true), reply: answer.body };
+  return { text, outcome: what, reason: what === "done" ? "" : describe(answer, true) };
 }
 
 // Sends a command if its child is still as it was shown. `shown` is the letter that was shown, or nothing if the command rests on
@@ -54,10 +61,10 @@ async function sendCompared({ text, shown }, isFirst) {
   return sendText(text);
 }
 
-// Sends one command, and returns its answer as a text to show; nothing if another task is in progress. `isUnsent` is whether the
-// desk was not there, so that all is as before; `now` is the letter of a child that is not as it was shown
+// Sends one command, and returns its answer as a text to show. `isUnsent` is whether the desk was not there, or another task is in
+// progress, so that all is as before; `now` is the letter of a child that is not as it was shown
 export async function send(command, done, shown = null) {
-  if (busy) return null;
+  if (busy) return { text: BUSY, bad: true, isUnsent: true };
   busy = true;
   say("Sending …");
   try {
@@ -72,9 +79,10 @@ export async function send(command, done, shown = null) {
 const GOES_ON = ["done", "refused", "differs"];
 
 // Sends commands one after another until one has no certain answer, or the desk does nothing more. Each item has the `text` of its
-// command, and `shown`. Returns a result for each of them, in order; `seen` is called after each. `isStopped` is asked before each
+// command, and `shown`, which what is done to the same child changes. Returns a result for each of them, in order; `seen` is called
+// after each. `isStopped` is asked before each
 export async function sendAll(items, seen, isStopped = () => false) {
-  if (busy) return null;
+  if (busy) return items.map(({ text }) => ({ text, outcome: "unsent", reason: BUSY }));
   busy = true;
   const results = [];
   try {
@@ -83,7 +91,7 @@ export async function sendAll(items, seen, isStopped = () => false) {
       const isOver = Boolean(last) && !GOES_ON.includes(last.outcome);
       const isUnsent = isOver || isStopped();
       results.push(isUnsent ? { text: item.text, outcome: "unsent", reason: "" } : await sendCompared(item, !last));
-      if (results.at(-1).outcome === "done") await follow(item, items.slice(results.length));
+      if (results.at(-1).outcome === "done") await follow(parsed(item.text), item.shown, items.slice(results.length));
       if (!isOver) seen(results.length, items.length, results.at(-1));
     }
   } finally {
@@ -93,11 +101,11 @@ export async function sendAll(items, seen, isStopped = () => false) {
 }
 
 // What this task has done itself to a child is no surprise to its later commands of the same child
-async function follow({ shown }, later) {
+export async function follow(command, shown, later) {
   const same = shown ? later.filter((it) => it.shown && it.shown.number === shown.number) : [];
   if (!same.length) return;
   const now = await letterIfAny(shown.number).catch(() => null);
-  for (const it of same) it.shown = now || it.shown;
+  if (now) for (const it of same) it.shown = followed(it.shown, now, command);
 }
 
 // Whether a command that may be done is done: by the child's letter, or by what the register has now. Nothing if it cannot be seen
@@ -107,7 +115,9 @@ export async function isDone(command) {
   if (cmd === "raise_pan") return Boolean(school(code)) && school(code).pan >= command.pan;
   if (cmd === "add_child" || cmd === "amend") return Boolean(child(number)) && hasData(child(number).data, command);
   if (cmd === "apply") return Boolean(child(number)) && child(number).applied === on;
-  const { place, waits } = await letterOf(number);
+  const letter = await letterIfAny(number);
+  if (!letter) return false;
+  const { place, waits } = letter;
   const isThere = Boolean(place) && place.school === code;
   if (cmd === "accept") return isThere && place.kind === "accepted";
   if (cmd === "name_plan") return isThere && place.kind === "plan";

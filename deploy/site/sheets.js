@@ -12,12 +12,13 @@ export function separatorOf(rows) {
   return SEPARATORS.reduce((best, sign) => (countOf(sign) > countOf(best) ? sign : best));
 }
 
-// The fields of a row. A field in quotes may have the separator in it, and a quote that is doubled
+// The fields of a row. A field in quotes may have the separator in it, and a quote that is doubled. A tab beside it is no blank: it may
+// be the separator
 export function fieldsOf(row, separator) {
   const fields = [];
   let rest = row;
   for (;;) {
-    const quoted = /^\s*"((?:[^"]|"")*)"\s*/.exec(rest);
+    const quoted = /^[^\S\t]*"((?:[^"]|"")*)"[^\S\t]*/.exec(rest);
     const end = quoted ? quoted[0].length : rest.indexOf(separator) < 0 ? rest.length : rest.indexOf(separator);
     fields.push((quoted ? quoted[1].replaceAll('""', '"') : rest.slice(0, end)).trim());
     if (rest[end] !== separator) return fields;

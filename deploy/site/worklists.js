@@ -4,7 +4,7 @@ import { at, button, childLink, dayField, dayInput, element, progress, say, scho
 import { readList } from "./reading.js";
 import { allLetters, child, nameOf, register, rounds } from "./register.js";
 import { go } from "./router.js";
-import { isBusy, isDaySure, isSure, sendAll, settle } from "./sending.js";
+import { isDaySure, isFree, isSure, sendAll, settle } from "./sending.js";
 import { column, table } from "./tables.js";
 import { IS_FINAL, count, day, daysAfter, isolated, plural, readDay, time, today } from "./words.js";
 
@@ -145,7 +145,7 @@ const results = new Map();
 // Sends one command for each row, after one confirmation
 async function workOn(name, cmd, rows, on) {
   const action = ACTIONS[cmd];
-  if (isBusy()) return say("Another task is in progress.", true);
+  if (!isFree()) return null;
   if (!rows.length) return say("Nothing is ticked.", true);
   if (action.isDated && !await isDaySure(on, "Send")) return null;
   const yes = `${action.yes} ${plural(rows.length, ...action.things)}`;
@@ -166,7 +166,6 @@ async function run(name, cmd, tasks, before) {
   say(`Sending ${count(tasks.length)} …`);
   const sent = await sendAll(tasks.map(({ command, shown }) => ({ text: JSON.stringify(command), shown })), seen, () => isStopped);
   progress(1, 1);
-  if (!sent) return say("Another task is in progress.", true);
   const of = (...what) => sent.map((it, index) => ({ ...tasks[index], ...it })).filter((it) => what.includes(it.outcome));
   const found = { done: before.done + of("done").length, refused: [...before.refused, ...of("refused", "differs")], unknown: of("unknown"),
     unsent: of("unsent") };
@@ -205,7 +204,7 @@ function report(name, cmd, { done, refused, unknown, unsent }) {
 
 // Before the rest is sent, the letters of those without an answer show whether they are done: nothing is sent twice
 async function goOn(name, cmd, doubtful, open, before) {
-  if (isBusy()) return;
+  if (!isFree()) return;
   try {
     const { done, left } = await settle(doubtful.map((it) => it.command));
     const known = { ...before, done: before.done + done.length };
