@@ -1,6 +1,6 @@
 -- What results from the first rows of an import, gone through with those that were new so far.
-use Rattle.std.proofs.Common.{◌≡◌, ◌∙◌, ap, sym, subst, refl, Bool, true, false, ℕ, ◌+◌, List, [], ◌∷◌, ◌++◌, length, map, None, arith}
-use Rattle.std.specs.Prelude.{not, if◌then◌else◌}
+use Rattle.std.proofs.Common.{◌≡◌, ◌∙◌, ap, sym, subst, refl, Bool, true, false, ℕ, ◌+◌, List, [], ◌∷◌, ◌++◌, length, map, Option, Some, None, Ok, Err, arith}
+use Rattle.std.specs.Prelude.{not, Result, OnOk, IfErr, if◌then◌else◌}
 use Rattle.std.specs.Ordering.{nat_cmp}
 use Rattle.std.specs.BTreeMap.{insert_entry}
 use Rattle.std.specs.Map.{keys_of, values_of}
@@ -22,8 +22,11 @@ use Rattle.adm_commands.specs.Tests.{first_failing}
 use Rattle.adm_commands.specs.Beside.{IsBeside}
 use Rattle.adm_commands.specs.Commands.AddChild as add_child
 use Rattle.adm_commands.specs.Commands.Apply as apply
-use Rattle.adm_commands.specs.Commands.Import.{is_known, row_tests, refusal_of_row, with_row, refused_from, new_rows}
-use Rattle.adm_commands.proofs.ImportSeen.{Seen, seen_none, known_seen, new_seen, seen_all}
+use Rattle.adm_commands.specs.Commands.Import.{is_known, row_tests, refusal_of_row, with_row, refused_from, or_later, new_rows}
+use Rattle.adm_commands.specs.WhyNot.{Explains}
+use Rattle.adm_commands.specs.declared.not_done.NotDone.{NotDone}
+use Rattle.adm_commands.specs.declared.not_done.NotDone.TheVariants.{Refused, Memory}
+use Rattle.adm_commands.proofs.ImportSeen.{Seen, seen_none, known_seen, new_seen, refused_here, seen_all}
 use Rattle.adm_commands.proofs.ImportBeside.{beside_none, one_beside, first_false}
 
 -- a row's number
@@ -92,3 +95,36 @@ pub walked_all : (old : State) (rows : List ImportRow) (added : List (ℕ × Imp
     → (None ≡ refused_from old 1 rows) × IsPermutation (new_rows old rows) (values_of added)
 walked_all old rows added number w =
     let all = seen_all old rows w.seen number w.new w.so_far in (all.0, subst (λ new. IsPermutation new (values_of added)) all.1 w.permuted)
+
+-- so far no row was refused; or the first that is refused, or the end of memory, is what ended it
+abbrev pub IsWalkedTo : Result (Unit {0}) NotDone → State → List ImportRow → List (ℕ × ImportRow) → ℕ → List ImportRow → Type 0
+IsWalkedTo (Ok _) old rows added number rest = IsWalked old rows added number rest
+IsWalkedTo (Err why) old rows added number rest = Explains (refused_from old 1 rows) why
+
+module _ (old : State) (rows : List ImportRow) (added : List (ℕ × ImportRow)) (number : ℕ) (row : ImportRow) (rest : List ImportRow) (w : IsWalked old rows added number (row ∷ rest)) where
+  -- a row that is not refused
+  pub walked_on : (more : List (ℕ × ImportRow)) → refusal_of_row w.seen row ≡ None
+      → more ≡ (if is_known w.seen row then added else insert_entry nat_cmp added row.child.no row) → IsWalked old rows more (number + 1) rest
+  walked_on more passes joins = go (is_known w.seen row) refl joins
+    where
+      go : (known : Bool) → is_known w.seen row ≡ known → more ≡ (if known then added else insert_entry nat_cmp added row.child.no row) → IsWalked old rows more (number + 1) rest
+      go true known same = subst (λ entries. IsWalked old rows entries (number + 1) rest) (sym same) (walked_known old rows added number row rest w passes known)
+      go false unknown same = subst (λ entries. IsWalked old rows entries (number + 1) rest) (sym same) (walked_new old rows added number row rest w passes unknown)
+
+  -- or the first that is
+  pub walked_up : (why : NotDone) → Explains (or_later number (refusal_of_row w.seen row) None) why → Explains (refused_from old 1 rows) why
+  walked_up Memory explains = tt
+  walked_up (Refused refusal place) explains = go (refusal_of_row w.seen row) refl explains
+    where
+      go : (o : Option Refusal) → refusal_of_row w.seen row ≡ o → or_later number o None ≡ Some (refusal, place) → refused_from old 1 rows ≡ Some (refusal, place)
+      go None passes none = cc
+      go (Some first) refused same = refused_here old rows w.seen number row rest w.new w.so_far first refused ∙ same
+
+  -- so the row is taken
+  pub walked_next : (more : List (ℕ × ImportRow)) (result : Result (Unit {0}) NotDone)
+      → OnOk result ((seen : State) → IsBeside old added seen → refusal_of_row seen row ≡ None)
+      → OnOk result ((seen : State) → IsBeside old added seen → more ≡ (if is_known seen row then added else insert_entry nat_cmp added row.child.no row))
+      → IfErr result (λ why. (seen : State) → IsBeside old added seen → Explains (or_later number (refusal_of_row seen row) None) why)
+      → IsWalkedTo result old rows more (number + 1) rest
+  walked_next more (Ok _) passes joins refused = walked_on more (passes w.seen w.beside) (joins w.seen w.beside)
+  walked_next more (Err why) passes joins refused = walked_up why (refused w.seen w.beside)

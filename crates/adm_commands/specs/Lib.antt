@@ -9,3 +9,4 @@ pub mod Beside
 pub mod Steps
 pub mod History
 pub mod Imports
+pub mod WhyNot

@@ -9,10 +9,10 @@ use adm_types::Child;
 use std::alloc::{AllocError, Global};
 
 /// The child's data are written, in place of those that were there.
-pub(crate) fn put_child(alloc: Global, child: &Child) -> Result<Difference, AllocError>
-    ensures { IfOk result (λ change. change ≡ change_of_child child.now) }
+pub(crate) fn put_child(alloc: Global, child: Child) -> Result<Difference, AllocError>
+    ensures { IfOk result (λ change. change ≡ change_of_child child) }
 {
-    let row = Shared::new(alloc, child.clone()?)?;
+    let row = Shared::new(alloc, child)?;
     let mut change = Difference::none(alloc);
     change.children = one(alloc, row)?;
     Ok(change)

@@ -16,12 +16,12 @@ use std::alloc::Global;
 /// The register after the command, what it changed and its reply, or why it was not done. The
 /// register before stays. What it costs grows with the tables that the command changes, of which the
 /// pointers to their rows are copied; the others are shared.
-pub fn propose(old: &Register, alloc: Global, command: &Command) -> Result<Proposal, NotDone>
-    ensures step { Decides old.now command.now (decision result) }
+pub fn propose(old: &Register, alloc: Global, command: Command) -> Result<Proposal, NotDone>
+    ensures step { Decides old.now command (decision result) }
     ensures extends { IfOk result (λ proposal. Extends old.now proposal.register × WellFormed proposal.register) }
     ensures schools { IfOk result (λ proposal. KeepsSchools old.now proposal.register) }
     ensures change { IfOk result (λ proposal. IsDifference old.now proposal.register proposal.change) }
-    ensures kept { KeptByTypes command.now }
+    ensures kept { KeptByTypes command }
 {
     allotment_fits();
     match evaluate(old.tables(), old.draws_so_far(), alloc, command)? {
@@ -39,12 +39,8 @@ pub fn propose(old: &Register, alloc: Global, command: &Command) -> Result<Propo
 
 /// The register after the command and its reply, or why it was not done. The register before stays.
 /// What it costs grows with the tables that the command changes; the others are shared.
-pub fn decide(
-    old: &Register,
-    alloc: Global,
-    command: &Command,
-) -> Result<(Register, Reply), NotDone>
-    ensures step { Decides old.now command.now result }
+pub fn decide(old: &Register, alloc: Global, command: Command) -> Result<(Register, Reply), NotDone>
+    ensures step { Decides old.now command result }
     ensures extends { IfOk result (λ done. Extends old.now done.0 × WellFormed done.0) }
     ensures schools { IfOk result (λ done. KeepsSchools old.now done.0) }
 {

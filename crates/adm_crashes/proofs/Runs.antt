@@ -1,6 +1,5 @@
 -- A run of commands goes on by one step.
-use Rattle.std.proofs.Common.{◌≡◌, ℕ, List, [], ◌∷◌, ◌++◌, subst, refl, ◌+◌, ◌<◌, length, get_or, take, Result, Ok, Err, IfOk, OnErr}
-use Rattle.std.proofs.lemmas.List.{take_more}
+use Rattle.std.proofs.Common.{List, [], ◌∷◌, ◌++◌, subst, refl, Result, Ok, Err, IfOk, OnErr}
 use Rattle.adm_types.specs.declared.commands.Command.{Command}
 use Rattle.adm_desk.specs.declared.answer.Answer.{Answer}
 use Rattle.adm_crashes.specs.Steps.{IsRun}
@@ -12,12 +11,6 @@ Run-more {D} step old mid new [] [] c a run last = (new, (let P : D → Type 0 =
 Run-more step old mid new [] (b ∷ answers) c a run last = absurd run
 Run-more step old mid new (d ∷ cs) [] c a run last = absurd run
 Run-more step old mid new (d ∷ cs) (b ∷ answers) c a run last = (run.0, run.1, Run-more step run.0 mid new cs answers c a run.2 last)
-
-pub Run-more_at : {D : Type 0} (step : D → Command → Answer → D → Type 0) (old mid new : D) (commands : List Command) (i : ℕ) (command : Command) (answers pushed : List Answer) (a : Answer)
-    → i < length commands → command ≡ get_or commands i command → pushed ≡ answers ++ a ∷ []
-    → IsRun step old (take i commands) answers mid → step mid command a new → IsRun step old (take (i + 1) commands) pushed new
-Run-more_at step old mid new commands i command answers pushed a within is items run last =
-    rw (items, take_more commands i command within, ← is) (Run-more step old mid new _ answers command a run last)
 
 -- a run by a step is one by a step that follows from it
 pub Run-weaker : {D : Type 0} (step other : D → Command → Answer → D → Type 0) → ((old : D) (c : Command) (a : Answer) (new : D) → step old c a new → other old c a new)

@@ -70,18 +70,18 @@ fn store_of<D: Disk + Drop>(desk: Desk<FileStore<D>>) -> FileStore<D>
 pub fn run_commands<D: Disk + Drop>(
     alloc: Global,
     files: Files<D>,
-    commands: &[Command],
+    commands: Vec<Command>,
 ) -> Result<CommandRun<D>, NotHandled<D>>
     requires log { IsTrue (D.Disk.is_usable files.log) }
     requires db { IsTrue (D.Disk.is_usable files.db) }
     // On clean disks of a register: whatever two files a crash may leave are those of a register that may be found after the commands.
     ensures keeps { (r : Register) → IsFileOf r (image_of D.Disk files)
-        → IfOk result (λ run. IsClean (view run.store) → KeepsEveryImage r (zip commands.now run.answers.items) run.store) }
-    ensures answers { IfOk result (λ run. IsAnsweredFrom D.Disk files (IsClean (view run.store)) commands.now run.answers.items) }
+        → IfOk result (λ run. IsClean (view run.store) → KeepsEveryImage r (zip commands.items run.answers.items) run.store) }
+    ensures answers { IfOk result (λ run. IsAnsweredFrom D.Disk files (IsClean (view run.store)) commands.items run.answers.items) }
     ensures unhandled { (r : Register) → IsFileOf r (image_of D.Disk files) → IfErr result (λ e. IsUnhandled r files e) }
     // For a start that takes the store over: the same of each database that it may find.
     ensures databases { (r : Register) → IsFileOf r (image_of D.Disk files)
-        → IfOk result (λ run. IsClean (view run.store) → KeepsEachDatabase r (zip commands.now run.answers.items) (recovers run.store)) }
+        → IfOk result (λ run. IsClean (view run.store) → KeepsEachDatabase r (zip commands.items run.answers.items) (recovers run.store)) }
     ensures numbered { IfOk result (λ run. IsClean (view run.store) → IsTrue (view run.store).is_numbered) }
 {
     let mut desk = match open_files(alloc, files) {
@@ -108,13 +108,13 @@ pub fn run_commands<D: Disk + Drop>(
 pub fn run_until_crash<D: Crash + Drop>(
     alloc: Global,
     files: Files<D>,
-    commands: &[Command],
+    commands: Vec<Command>,
 ) -> Result<Restarted<FileStore<D>>, NotHandled<D>>
     requires log { IsTrue (D.Disk.is_usable files.log) }
     requires db { IsTrue (D.Disk.is_usable files.db) }
     // Over files of a register: the one that is found may be found after the commands. No start reports NotOurs, Version or BadRow.
-    ensures restarts { (r : Register) → IsFileOf r (image_of D.Disk files) → IfOk result (λ it. IsRestartOf r (zip commands.now it.answers.items) it.opened) }
-    ensures answers { IfOk result (λ it. IsAnsweredFrom D.Disk files (IsCleanStart it.opened) commands.now it.answers.items) }
+    ensures restarts { (r : Register) → IsFileOf r (image_of D.Disk files) → IfOk result (λ it. IsRestartOf r (zip commands.items it.answers.items) it.opened) }
+    ensures answers { IfOk result (λ it. IsAnsweredFrom D.Disk files (IsCleanStart it.opened) commands.items it.answers.items) }
     ensures alive { IfOk result (λ it. IfOk it.opened (λ new. (new.failed ≡ false) × LeavesOnly new.register (file_state new.conn))) }
     ensures unhandled { (r : Register) → IsFileOf r (image_of D.Disk files) → IfErr result (λ e. IsUnhandled r files e) }
 {

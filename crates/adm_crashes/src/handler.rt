@@ -25,8 +25,8 @@ trait Handler {
     // What a command may be answered, and what the handler is then.
     ghost step: { View → Command → Answer → View → Type 0 };
 
-    fn handle(&mut self, command: &Command) -> Answer
-        ensures { step (view self.old) command.now result (view self.new) };
+    fn handle(&mut self, command: Command) -> Answer
+        ensures { step (view self.old) command result (view self.new) };
 }
 
 /// Answers the commands in order. Room for all answers is made first, so after an `Err` no
@@ -34,9 +34,9 @@ trait Handler {
 fn answer_all<H: Handler>(
     alloc: Global,
     handler: &mut H,
-    commands: &[Command],
+    commands: Vec<Command>,
 ) -> Result<Vec<Answer>, AllocError>
-    ensures run { IfOk result (λ answers. IsRun H.step (H.view handler.old) commands.now answers.items (H.view handler.new)) }
+    ensures run { IfOk result (λ answers. IsRun H.step (H.view handler.old) commands.items answers.items (H.view handler.new)) }
     ensures err { OnErr result (H.view handler.new ≡ H.view handler.old) }
 {
     let mut answers = Vec::with_capacity(alloc, commands.len())?;
@@ -57,7 +57,7 @@ impl<S: Alter> Handler for Desk<S> {
 
     ghost step = { HandlesOnDisk (state S.Store) };
 
-    fn handle(&mut self, command: &Command) -> Answer {
+    fn handle(&mut self, command: Command) -> Answer {
         Desk::handle(self, command)
     }
 }
@@ -75,10 +75,10 @@ fn leaves_its_register<S: Alter>(desk: &Desk<S>)
 pub fn handle_all<S: Alter>(
     alloc: Global,
     desk: &mut Desk<S>,
-    commands: &[Command],
+    commands: Vec<Command>,
 ) -> Result<Vec<Answer>, AllocError>
-    ensures run { IfOk result (λ answers. IsRun (Handles (state S.Store)) desk.old commands.now answers.items desk.new) }
-    ensures kept { IfOk result (λ answers. desk.old.failed ≡ false → KeepsAcknowledged (state S.Store) desk.old desk.new (zip commands.now answers.items)) }
+    ensures run { IfOk result (λ answers. IsRun (Handles (state S.Store)) desk.old commands.items answers.items desk.new) }
+    ensures kept { IfOk result (λ answers. desk.old.failed ≡ false → KeepsAcknowledged (state S.Store) desk.old desk.new (zip commands.items answers.items)) }
     ensures err { OnErr result (desk.new ≡ desk.old) }
     ensures clean { HasCleanDisk (state S.Store desk.new.conn) → HasCleanDisk (state S.Store desk.old.conn) }
 {

@@ -128,8 +128,8 @@ impl<S: Alter> Desk<S> {
     /// later answer is Failed and the connection stays as it is, until the file is opened again.
     /// What it costs grows with the tables that the command changes, of which the pointers to their
     /// rows are copied; what is compared and written grows with the rows that it changes.
-    pub fn handle(&mut self, command: &Command) -> Answer
-        ensures handles { Handles (state S.Store) self.old command.now result self.new }
+    pub fn handle(&mut self, command: Command) -> Answer
+        ensures handles { Handles (state S.Store) self.old command result self.new }
         // A wrong answer of the disk is not forgotten.
         ensures clean { HasCleanDisk (state S.Store self.new.conn) → HasCleanDisk (state S.Store self.old.conn) }
     {
@@ -234,7 +234,7 @@ impl<S: Alter> LineHandler for Desk<S> {
 
     fn answer(&mut self, alloc: Global, line: &[u8]) -> LineAnswer {
         match read_command(alloc, line) {
-            Ok(command) => LineAnswer::Handled(Desk::handle(self, &command)),
+            Ok(command) => LineAnswer::Handled(Desk::handle(self, command)),
             Err(fault) => LineAnswer::Faulty(fault),
         }
     }

@@ -45,7 +45,7 @@ fn handle_rows<S: Alter, O: Output>(
     ensures { IsHandled (state S.Store) desk.old desk.new rows.items
         (writer O.Output output.old output.new) result }
 {
-    let answer = desk.handle(&Command::Import(Seq::from_vec(rows)));
+    let answer = desk.handle(Command::Import(Seq::from_vec(rows)));
     match put_answer(alloc, output, &answer) {
         Ok(()) => Ok(exit_of_answer(answer)),
         Err(fault) => Err(fault),

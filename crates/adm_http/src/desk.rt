@@ -67,7 +67,7 @@ impl<S: Alter> RequestHandler for Desk<S> {
     fn run(&mut self, alloc: Global, purpose: Purpose, body: &[u8]) -> LineAnswer {
         match purpose {
             Purpose::Command => match read_command(alloc, body) {
-                Ok(command) => LineAnswer::Handled(self.handle(&command)),
+                Ok(command) => LineAnswer::Handled(self.handle(command)),
                 Err(fault) => LineAnswer::Faulty(fault),
             },
             Purpose::Question => self.answer_question(alloc, body),

@@ -56,11 +56,11 @@ impl From<DrawFault> for NotOffered {
 pub(crate) fn offers_after(
     old: &Register,
     alloc: Global,
-    command: &Command,
+    command: Command,
     lots: &[u32],
 ) -> Result<Offers, NotOffered>
-    ensures best { IfOk result (λ offers. IsRoundAfter old.now command.now lots.now (school_of offers)) }
-    ensures fault { IfErr result (IsNotOffered old.now command.now lots.now) }
+    ensures best { IfOk result (λ offers. IsRoundAfter old.now command lots.now (school_of offers)) }
+    ensures fault { IfErr result (IsNotOffered old.now command lots.now) }
 {
     let (register, _) = decide(old, alloc, command)?;
     let problem = problem(&register, alloc, lots)?;

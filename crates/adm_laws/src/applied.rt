@@ -64,6 +64,6 @@ pub fn offers_with_shorter_application(
     // The proof reads here that the register is well formed.
     let _tables = old.tables();
     let apply = Command::Apply(first_listed(alloc, application, count)?);
-    let given = offers_after(old, alloc, &apply, lots)?;
+    let given = offers_after(old, alloc, apply, lots)?;
     Ok(given)
 }

@@ -30,6 +30,6 @@ pub fn offers_with_number(
     // The proof reads here that the register is well formed.
     let _tables = old.tables();
     let raise = Command::RaisePan { school, pan };
-    let given = offers_after(old, alloc, &raise, lots)?;
+    let given = offers_after(old, alloc, raise, lots)?;
     Ok(given)
 }

@@ -36,7 +36,7 @@ fn run(
     alloc: Global,
     files: Files<Memory>,
     (log_calls, db_calls): (u64, u64),
-    commands: &[Command],
+    commands: Vec<Command>,
 ) -> Option<Ran> {
     let Files { log, db } = files;
     let files = Files {
@@ -113,7 +113,7 @@ pub(crate) fn crash(
         alloc,
         disks.files(alloc)?,
         calls_until(Some(stop)),
-        &commands,
+        commands,
     ) {
         None => println!(rt; "  PROBLEM: the disks cannot be used"),
         Some(Ok(restarted)) => print_came(rt, alloc, &restarted),

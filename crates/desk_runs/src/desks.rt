@@ -8,6 +8,7 @@ use adm_rows::OpenFault;
 use adm_types::Command;
 use adm_wire::{Input, Output};
 use run_disks::NotFound;
+use run_steps::copy_of;
 use sqlite::{Alter, Connection};
 use std::alloc::Global;
 
@@ -21,9 +22,12 @@ pub(crate) fn opened<S: Alter>(alloc: Global, conn: Connection<S>) -> Opened<S>
     Desk::open(alloc, conn)
 }
 
-/// The answer to a command. No clause speaks of it.
+/// The answer to a copy of a command. No clause speaks of it.
 pub(crate) fn asked<S: Alter>(desk: &mut Desk<S>, command: &Command) -> Answer {
-    desk.handle(command)
+    match copy_of(command) {
+        Ok(command) => desk.handle(command),
+        Err(_) => Answer::Memory,
+    }
 }
 
 /// The connection of a desk. No clause speaks of it.

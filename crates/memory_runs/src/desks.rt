@@ -198,7 +198,7 @@ pub(crate) fn left_by(desk: MemoryDesk) -> Files<Memory> {
 }
 
 /// The answer to a command.
-pub(crate) fn asked(desk: &mut MemoryDesk, command: &Command) -> Answer {
+pub(crate) fn asked(desk: &mut MemoryDesk, command: Command) -> Answer {
     desk.handle(command)
 }
 
@@ -206,7 +206,7 @@ pub(crate) fn asked(desk: &mut MemoryDesk, command: &Command) -> Answer {
 pub(crate) fn all_asked(
     alloc: Global,
     desk: &mut MemoryDesk,
-    commands: &[Command],
+    commands: Vec<Command>,
 ) -> Result<Vec<Answer>, AllocError> {
     handle_all(alloc, desk, commands)
 }

@@ -88,7 +88,7 @@ pub(crate) fn by_commands(
     let commands = script.commands(alloc)?;
     let mut desk = fresh_desk(alloc, script)?;
     refuse(rt, refusal)?;
-    let answered = all_asked(alloc, &mut desk, &commands);
+    let answered = all_asked(alloc, &mut desk, commands);
     ample(rt)?;
     print_answers(rt, alloc, &answered)?;
     print_what_is_left(rt, alloc, Reached::Desk(desk))

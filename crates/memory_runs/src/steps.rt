@@ -11,7 +11,7 @@ use std::alloc::Global;
 
 fn answered(alloc: Global, desk: &mut MemoryDesk, line: &str) -> LineAnswer {
     match read_command(alloc, line.as_bytes()) {
-        Ok(command) => LineAnswer::Handled(asked(desk, &command)),
+        Ok(command) => LineAnswer::Handled(asked(desk, command)),
         Err(fault) => LineAnswer::Faulty(fault),
     }
 }
@@ -21,7 +21,7 @@ fn import(alloc: Global, desk: &mut MemoryDesk, file: &[u8], trace: &mut Trace) 
         Ok(rows) => {
             let command = Command::Import(Seq::from_vec(rows));
             trace.add(Event::Rows(None));
-            trace.add(Event::Answer(LineAnswer::Handled(asked(desk, &command))));
+            trace.add(Event::Answer(LineAnswer::Handled(asked(desk, command))));
         }
         Err(fault) => trace.add(Event::Rows(Some(fault))),
     }

@@ -35,7 +35,7 @@ fn named() -> Option<Names> {
 fn desk_after(alloc: Global, script: &Script) -> io::Result<MemoryDesk> {
     let mut desk = fresh_desk(alloc, script)?;
     let commands = script.commands(alloc)?;
-    for command in &commands {
+    for command in commands {
         let _answer = asked(&mut desk, command);
     }
     Ok(desk)
@@ -120,7 +120,7 @@ fn register(rt: &impl Print, desk: &MemoryDesk, names: Names, refusal: &str) -> 
 }
 
 /// The changes of an accepted command.
-fn changes_of(alloc: Global, register: &Register, command: &Command) -> io::Result<Changes> {
+fn changes_of(alloc: Global, register: &Register, command: Command) -> io::Result<Changes> {
     match propose(register, alloc, command) {
         Ok(proposal) => Ok(changes(alloc, register, proposal.change)?),
         Err(_) => Err(io::Error::other("not accepted")),
@@ -168,7 +168,7 @@ fn script_values(
     };
     register(rt, &desk, names, refusal)?;
     if let Some(register) = desk.register() {
-        counts(rt, &changes_of(alloc, register, &decline)?, refusal)?;
+        counts(rt, &changes_of(alloc, register, decline)?, refusal)?;
     }
     connection(rt, alloc, desk, refusal)
 }

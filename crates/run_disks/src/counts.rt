@@ -4,7 +4,7 @@ use adm_commands::propose;
 use adm_register::{Difference, Register};
 use adm_store::changes;
 use adm_types::Command;
-use run_steps::Act;
+use run_steps::{Act, copy_of};
 use std::alloc::Global;
 use std::io;
 
@@ -26,6 +26,9 @@ fn written(alloc: Global, old: &Register, difference: Difference) -> Option<Coun
 }
 
 fn of_command(alloc: Global, register: &Register, command: &Command) -> Option<Counts> {
+    let Ok(command) = copy_of(command) else {
+        return None;
+    };
     match propose(register, alloc, command) {
         Ok(proposal) => written(alloc, register, proposal.change),
         Err(_) => None,

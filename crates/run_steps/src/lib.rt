@@ -4,6 +4,7 @@
 #![tactic(auto)]
 
 mod act;
+mod copies;
 mod cut;
 mod printed;
 mod registers;
@@ -13,6 +14,7 @@ mod streams;
 mod sweep;
 
 pub use act::Act;
+pub use copies::copy_of;
 pub use cut::{Cut, line_ends};
 pub use printed::print_register;
 pub use registers::{after, is_same};

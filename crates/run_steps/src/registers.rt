@@ -1,5 +1,6 @@
 // Registers compared, and the register after an act.
 use crate::act::Act;
+use crate::copies::copy_of;
 use crate::same::are_same;
 use adm_commands::decide;
 use adm_register::{Register, Rows};
@@ -47,6 +48,9 @@ fn created(season: &Season) -> Option<Register> {
 }
 
 fn handled(alloc: Global, register: &Register, command: &Command) -> Option<Register> {
+    let Ok(command) = copy_of(command) else {
+        return None;
+    };
     match decide(register, alloc, command) {
         Ok((after, _)) => Some(after),
         Err(_) => None,

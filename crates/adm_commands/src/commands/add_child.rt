@@ -40,11 +40,11 @@ pub(crate) fn refusal_with_room(room: usize, old: &Tables, child: &Child) -> Opt
 pub(crate) fn evaluate(
     old: &Tables,
     alloc: Global,
-    child: &Child,
+    child: Child,
 ) -> Result<CommandResult, AllocError>
-    ensures { IfOk result (Follows (rules child.now) old.now) }
+    ensures { IfOk result (Follows (rules child) old.now) }
 {
-    match refusal_of(old, child) {
+    match refusal_of(old, &child) {
         Some(refusal) => Ok(refused(refusal)),
         None => Ok(done(put_child(alloc, child)?)),
     }

@@ -31,14 +31,14 @@ fn refusal_of(old: &Tables, school: &School) -> Option<Refusal>
 pub(crate) fn evaluate(
     old: &Tables,
     alloc: Global,
-    school: &School,
+    school: School,
 ) -> Result<CommandResult, AllocError>
-    ensures { IfOk result (Follows (rules school.now) old.now) }
+    ensures { IfOk result (Follows (rules school) old.now) }
 {
-    if let Some(refusal) = refusal_of(old, school) {
+    if let Some(refusal) = refusal_of(old, &school) {
         return Ok(refused(refusal));
     }
-    let row = Shared::new(alloc, school.clone()?)?;
+    let row = Shared::new(alloc, school)?;
     let mut change = Difference::none(alloc);
     change.schools = one(alloc, row)?;
     Ok(done(change))

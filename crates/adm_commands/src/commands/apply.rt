@@ -1,5 +1,6 @@
 // To apply: a child's list of schools, in its order of preference.
-ghost use Rattle.std.specs.Prelude.{◌≡◌, IfOk};
+ghost use Rattle.std.specs.Prelude.{◌≡◌, IfOk, IsTrue, nat_le};
+ghost use Rattle.adm_types.specs.Limits.{first_day};
 ghost use Rattle.adm_commands.specs.Tests.{first_failing};
 ghost use Rattle.adm_commands.specs.Rules.{Follows};
 ghost use Rattle.adm_commands.specs.Commands.Apply.{rules, tests, further_tests};
@@ -52,14 +53,15 @@ pub(crate) fn further_refusal_of(
 pub(crate) fn evaluate(
     old: &Tables,
     alloc: Global,
-    application: &Application,
+    application: Application,
 ) -> Result<CommandResult, AllocError>
-    ensures { IfOk result (Follows (rules application.now) old.now) }
+    ensures follows { IfOk result (Follows (rules application) old.now) }
+    ensures kept { IsTrue (nat_le first_day application.day) }
 {
-    if let Some(refusal) = refusal_of(old, application) {
+    if let Some(refusal) = refusal_of(old, &application) {
         return Ok(refused(refusal));
     }
-    let row = Shared::new(alloc, application.clone()?)?;
+    let row = Shared::new(alloc, application)?;
     let mut change = Difference::none(alloc);
     change.applications = one(alloc, row)?;
     Ok(done(change))

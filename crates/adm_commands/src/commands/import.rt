@@ -1,18 +1,23 @@
 // To import children with their applications.
-ghost use Rattle.std.specs.Prelude.{◌≡◌, ◌||◌, map, is_some, None, IfOk, OnOk, option_copied};
+ghost use Rattle.std.specs.Prelude.{◌≡◌, ◌||◌, map, is_some, None, IfOk, IfErr, OnOk, option_copied, if◌then◌else◌};
 ghost use Rattle.std.specs.Option.{option_or};
 ghost use Rattle.std.specs.BTreeMap.{keys, values, insert_entry};
 ghost use Rattle.std.specs.FinMap.{get, contains_key};
 ghost use Rattle.std.specs.List.Sorted.{IsPermutation};
 ghost use Rattle.std.specs.Ordering.{nat_cmp};
 ghost use Rattle.adm_table.specs.TableRows.{row_at};
-ghost use Rattle.adm_commands.specs.Commands.Import.{rules, change_of, is_known, refusal_of_row, refused_from, new_rows};
+ghost use Rattle.std.specs.List.{AllByRecursion};
+ghost use Rattle.adm_commands.specs.Commands.Import.{rules, change_of, is_known, refusal_of_row, refused_from, or_later, new_rows};
 ghost use Rattle.adm_commands.specs.Beside.{IsBeside};
+ghost use Rattle.adm_commands.specs.KeptByTypes.{KeptByImportRow};
+ghost use Rattle.adm_commands.specs.WhyNot.{Explains};
 ghost use Rattle.adm_commands.specs.Rules.{Follows};
 ghost use Rattle.adm_register.specs.State.{State, application_of};
 
+use crate::NotDone;
 use crate::command_result::CommandResult;
 use crate::commands::{add_child, apply};
+use crate::kept::kept_by_row;
 use adm_register::{Difference, Tables};
 use adm_table::{Same, Shared};
 use adm_types::limits::MOST_CHILDREN;
@@ -23,14 +28,6 @@ use std::collections::BTreeMap;
 /// The rows of an import that are new so far, by their children's numbers.
 type Added = BTreeMap<ChildNo, Shared<ImportRow>>;
 
-/// What results from the rows of an import, one after another.
-struct Walked {
-    /// The first refusal, with the number of its row.
-    why: Option<(Refusal, u64)>,
-    /// The rows before it that were not known.
-    added: Added,
-}
-
 /// The rows that are new, in the order of their children's numbers, and how many there are beside
 /// those that were known; or the first row that is refused, with its number from 1. It takes memory
 /// for the rows that are new. What it costs grows with the rows and the schools that they name, times
@@ -38,16 +35,19 @@ struct Walked {
 pub(crate) fn evaluate(
     old: &Tables,
     alloc: Global,
-    rows: &[ImportRow],
+    rows: Seq<ImportRow>,
 ) -> Result<CommandResult, AllocError>
-    ensures { IfOk result (Follows (rules rows.now) old.now) }
+    ensures follows { IfOk result (Follows (rules rows) old.now) }
+    ensures kept { AllByRecursion KeptByImportRow rows }
 {
-    let Walked { why, added } = walk(old, alloc, rows)?;
-    if let Some(refused) = why {
-        return Ok(Err(refused));
-    }
+    let length = rows.len();
+    let added = match walk(old, alloc, rows) {
+        Ok(added) => added,
+        Err(NotDone::Refused { refusal, row }) => return Ok(Err((refusal, row))),
+        Err(NotDone::Memory) => return Err(AllocError),
+    };
     let count = added.len();
-    let known = rows.len().saturating_sub(count);
+    let known = length.saturating_sub(count);
     let reply = Reply::Imported {
         added: count as u64,
         known: known as u64,
@@ -56,28 +56,52 @@ pub(crate) fn evaluate(
     Ok(Ok((rows_put(alloc, Seq::from_vec(added))?, reply)))
 }
 
-/// Goes through the rows up to the first that is refused, each beside those before it.
-fn walk(old: &Tables, alloc: Global, rows: &[ImportRow]) -> Result<Walked, AllocError>
-    ensures why { IfOk result (λ walk. walk.why ≡ refused_from old.now 1 rows.now) }
-    ensures added { IfOk result (λ walk. walk.why ≡ None → IsPermutation (new_rows old.now rows.now) (values walk.added)) }
-    ensures numbers { IfOk result (λ walk. map (λ row. row.child.no) (values walk.added) ≡ keys walk.added) }
+/// The rows that are not known, each row beside those before it; or why there are none. The rows
+/// after the first that is refused are dropped.
+fn walk(old: &Tables, alloc: Global, rows: Seq<ImportRow>) -> Result<Added, NotDone>
+    ensures passes { OnOk result (None ≡ refused_from old.now 1 rows) }
+    ensures added { IfOk result (λ added. IsPermutation (new_rows old.now rows) (values added)) }
+    ensures numbers { IfOk result (λ added. map (λ row. row.child.no) (values added) ≡ keys added) }
+    ensures refused { IfErr result (Explains (refused_from old.now 1 rows)) }
+    ensures kept { AllByRecursion KeptByImportRow rows }
 {
     let mut added = BTreeMap::new(alloc);
     let mut number = 1;
-    let mut rest = rows;
-    while let Some((row, others)) = rest.split_first() {
-        if let Some(refusal) = refusal_of_row(old, &added, row) {
-            let why = Some((refusal, number));
-            return Ok(Walked { why, added });
-        }
-        let known = is_known(old, &added, row);
-        if !known {
-            add(alloc, &mut added, row)?;
+    let mut walked = Ok(());
+    for row in rows.into_vec() {
+        kept_by_row(&row);
+        match walked {
+            Ok(()) => walked = take(old, alloc, &mut added, number, row),
+            Err(_) => drop(row),
         }
         number += 1;
-        rest = others;
     }
-    Ok(Walked { why: None, added })
+    walked?;
+    Ok(added)
+}
+
+/// Takes a row and its number: it joins those that are new, unless it is known.
+fn take(
+    old: &Tables,
+    alloc: Global,
+    added: &mut Added,
+    number: u64,
+    row: ImportRow,
+) -> Result<(), NotDone>
+    ensures passes { OnOk result ((seen : State) → IsBeside old.now added.old.entries seen → refusal_of_row seen row ≡ None) }
+    ensures joins { OnOk result ((seen : State) → IsBeside old.now added.old.entries seen → added.new.entries ≡ (if is_known seen row then added.old.entries else insert_entry nat_cmp added.old.entries row.child.no row)) }
+    ensures refused { IfErr result (λ why. (seen : State) → IsBeside old.now added.old.entries seen → Explains (or_later number (refusal_of_row seen row) None) why) }
+{
+    if let Some(refusal) = refusal_of_row(old, added, &row) {
+        return Err(NotDone::Refused {
+            refusal,
+            row: number,
+        });
+    }
+    if is_known(old, added, &row) {
+        return Ok(());
+    }
+    Ok(add(alloc, added, row)?)
 }
 
 /// Whether the row is equal to the imported row that is kept for its child.
@@ -125,11 +149,12 @@ fn refusal_of_row(old: &Tables, added: &Added, row: &ImportRow) -> Option<Refusa
 }
 
 /// The row joins those that are new.
-fn add(alloc: Global, added: &mut Added, row: &ImportRow) -> Result<(), AllocError>
-    ensures { OnOk result (added.new.entries ≡ insert_entry nat_cmp added.old.entries row.now.child.no row.now) }
+fn add(alloc: Global, added: &mut Added, row: ImportRow) -> Result<(), AllocError>
+    ensures { OnOk result (added.new.entries ≡ insert_entry nat_cmp added.old.entries row.child.no row) }
 {
-    let copy = Shared::new(alloc, row.clone()?)?;
-    let _there = added.insert(row.child.no, copy)?;
+    let row = Shared::new(alloc, row)?;
+    let child = row.as_ref().child.no;
+    let _there = added.insert(child, row)?;
     Ok(())
 }
 

@@ -1,5 +1,6 @@
 // To remind of an offer.
-ghost use Rattle.std.specs.Prelude.{◌≡◌, IfOk};
+ghost use Rattle.std.specs.Prelude.{◌≡◌, IfOk, IsTrue, nat_le};
+ghost use Rattle.adm_types.specs.Limits.{last_day};
 ghost use Rattle.adm_commands.specs.Tests.{first_failing};
 ghost use Rattle.adm_commands.specs.Rules.{Follows};
 ghost use Rattle.adm_commands.specs.Commands.Remind.{rules, tests};
@@ -36,7 +37,8 @@ pub(crate) fn evaluate(
     school: SchoolCode,
     day: Day,
 ) -> Result<CommandResult, AllocError>
-    ensures { IfOk result (Follows (rules child school day) old.now) }
+    ensures follows { IfOk result (Follows (rules child school day) old.now) }
+    ensures kept { IsTrue (nat_le day last_day) }
 {
     if let Some(refusal) = refusal_of(old, child, school, day) {
         return Ok(refused(refusal));

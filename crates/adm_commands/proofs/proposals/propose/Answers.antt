@@ -9,7 +9,7 @@ use Rattle.adm_commands.proofs.proposals.propose.Goals as goal
 pub changed-requires : goal.changed-requires
 changed-requires c =
     let old = c.args.old.now in
-    let asked = c.args.command.now in
+    let asked = c.args.command in
     let made = c.in-Ok in
     let comes = subst (λ (s : State). Follows (rules_of asked) s (Ok (made.whole, made.reply))) c.tables.ensures.value
     (subst (Follows (rules_of asked) c.tables.result.now) made.is c.in_ok-refusal.ensures.follows) in

@@ -16,7 +16,7 @@ returns-in-Ok-handle_all-clause-keeps g c r file clean =
     let it = c.store_of-store in
     let late : HasCleanDisk (file_state last.conn) = omega (arith, it.ensures.quiet.clean, clean) in
     let alive = c.in-Ok.ensures.alive.0 in
-    let answered = zip c.args.commands.now c.in-Ok-handle_all.answers.items in
+    let answered = zip c.args.commands.items c.in-Ok-handle_all.answers.items in
     subst (λ (x : Register). KeepsEveryImage x answered it.result) (c.in-Ok.ensures.register r file (c.handle_all.ensures.clean late))
     (every_image {g = g.D.Disk} c.draws_kept.ensures c.rounds_are_recorded.ensures c.rounds_stay.ensures c.round_is_recorded.ensures answered desk last it.result
     (c.has_draws_in_order.ensures alive) (c.in-Ok-handle_all.ensures.kept alive) it.ensures.quiet clean (it.ensures.numbered clean) (it.ensures.sound clean))
@@ -39,7 +39,7 @@ returns-in-Ok-handle_all-clause-databases g c r file clean =
     let it = c.store_of-store in
     let late : HasCleanDisk (file_state last.conn) = omega (arith, it.ensures.quiet.clean, clean) in
     let alive = c.in-Ok.ensures.alive.0 in
-    let answered = zip c.args.commands.now c.in-Ok-handle_all.answers.items in
+    let answered = zip c.args.commands.items c.in-Ok-handle_all.answers.items in
     subst (λ (x : Register). KeepsEachDatabase x answered (recovers it.result)) (c.in-Ok.ensures.register r file (c.handle_all.ensures.clean late))
     (each_database {g = g.D.Disk} c.draws_kept.ensures c.rounds_are_recorded.ensures c.rounds_stay.ensures c.round_is_recorded.ensures answered desk last it.result
     (c.has_draws_in_order.ensures alive) (c.in-Ok-handle_all.ensures.kept alive) it.ensures.quiet clean)

@@ -12,7 +12,7 @@ returns-clause-run g c = IfOk-weaker c.answer_all.result _ _ (λ answers run. Ru
 
 pub returns-clause-kept : goal.returns-clause-kept
 returns-clause-kept g c = IfOk-weaker c.answer_all.result _ _ (λ answers run alive.
-    keeps_commands (state g.S.Store) c.args.desk.now c.answer_all.new.handler c.args.commands.now answers.items alive (c.leaves_its_register.ensures alive)
+    keeps_commands (state g.S.Store) c.args.desk.now c.answer_all.new.handler c.args.commands.items answers.items alive (c.leaves_its_register.ensures alive)
     (Run-weaker _ _ (λ _ _ _ _ both. both.0) _ _ _ _ run)) c.answer_all.ensures.run
 
 pub returns-clause-clean : goal.returns-clause-clean
