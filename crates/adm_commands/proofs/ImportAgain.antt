@@ -12,7 +12,7 @@ use Rattle.std.proofs.lemmas.List.Sorted.{IsPermutation-sym, length_permutation}
 use Rattle.std.proofs.lemmas.List.{nil_from_length}
 use Rattle.adm_lists.proofs.Orders.{tied, same_key}
 use Rattle.adm_lists.proofs.Each.{each_weaker}
-use Rattle.adm_types.specs.declared.rows.ImportRow.{ImportRow}
+use Rattle.adm_types.specs.declared.rows.Row.{Row as ImportRow}
 use Rattle.adm_register.specs.State.{State}
 use Rattle.adm_register.specs.Change.{after, put_all}
 use Rattle.adm_commands.specs.Tests.{first_failing}

@@ -9,7 +9,7 @@ use Rattle.std.specs.FinMap.{get, len, len-insert, get-insert, contains_key}
 use Rattle.std.proofs.lemmas.Bool.{ltb-true, ltb-false, lt-ltb, le-ltb}
 use Rattle.adm_types.specs.Limits.{is_from, is_without_repeat, is_name, is_child_in_range, most_children, most_preferences}
 use Rattle.adm_types.specs.Seasons.{lists_end}
-use Rattle.adm_types.specs.declared.rows.ImportRow.{ImportRow}
+use Rattle.adm_types.specs.declared.rows.Row.{Row as ImportRow}
 use Rattle.adm_types.specs.declared.commands.Refusal.TheVariants as refusal
 use Rattle.adm_table.specs.TableRows.{row_at}
 use Rattle.adm_register.specs.State.{State, application_of}

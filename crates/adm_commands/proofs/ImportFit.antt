@@ -15,7 +15,7 @@ use Rattle.adm_types.specs.Limits.{most_children}
 use Rattle.adm_types.specs.Seasons.{lists_end}
 use Rattle.adm_types.specs.declared.rows.Application.{Application}
 use Rattle.adm_types.specs.declared.rows.Child.{Child}
-use Rattle.adm_types.specs.declared.rows.ImportRow.{ImportRow}
+use Rattle.adm_types.specs.declared.rows.Row.{Row as ImportRow}
 use Rattle.adm_register.specs.State.{State, application_of}
 use Rattle.adm_register.specs.Change.{after, put_all}
 use Rattle.adm_commands.specs.KeptByTypes.{KeptByImportRow}

@@ -2,7 +2,7 @@
 use Rattle.std.proofs.Common.{◌≡◌, ◌∙◌, ap, sym, refl, true, false, ℕ, ◌+◌, List, [], ◌∷◌, ◌++◌, Some, None}
 use Rattle.std.specs.Prelude.{if◌then◌else◌}
 use Rattle.std.proofs.lemmas.List.{append_assoc}
-use Rattle.adm_types.specs.declared.rows.ImportRow.{ImportRow}
+use Rattle.adm_types.specs.declared.rows.Row.{Row as ImportRow}
 use Rattle.adm_types.specs.declared.commands.Refusal.{Refusal}
 use Rattle.adm_register.specs.State.{State}
 use Rattle.adm_commands.specs.Commands.Import.{is_known, refusal_of_row, with_row, after_row, refused_from, or_later, new_rows}

@@ -12,7 +12,7 @@ use Rattle.adm_lists.proofs.Maps.{contains_key-insert}
 use Rattle.adm_lists.proofs.Each.{each_weaker}
 use Rattle.adm_types.specs.Limits.{is_from, is_without_repeat, is_name, is_child_in_range, most_children, most_preferences}
 use Rattle.adm_types.specs.Seasons.{lists_end}
-use Rattle.adm_types.specs.declared.rows.ImportRow.{ImportRow}
+use Rattle.adm_types.specs.declared.rows.Row.{Row as ImportRow}
 use Rattle.adm_types.specs.declared.commands.Refusal.{Refusal}
 use Rattle.adm_register.specs.Change.{after, change_of_child}
 use Rattle.adm_register.specs.State.{State, application_of}

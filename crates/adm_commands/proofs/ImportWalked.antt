@@ -13,7 +13,7 @@ use Rattle.std.proofs.lemmas.Bool.{not-true}
 use Rattle.adm_table.specs.TableRows.{row_at}
 use Rattle.adm_table.proofs.OwnKeys.{none_of, new_entry, own_keys}
 use Rattle.adm_table.proofs.Runs.{lookup-inserted}
-use Rattle.adm_types.specs.declared.rows.ImportRow.{ImportRow}
+use Rattle.adm_types.specs.declared.rows.Row.{Row as ImportRow}
 use Rattle.adm_types.specs.declared.commands.Refusal.{Refusal}
 use Rattle.adm_types.specs.declared.commands.Refusal.TheVariants.{RowDiffers}
 use Rattle.adm_register.specs.State.{State, application_of}

@@ -1,6 +1,5 @@
 pub mod HeldLemmas
 pub mod Posed
-pub mod NoBetterList
 pub mod RoundNext
 pub mod RoundFit
 pub mod Accepted
@@ -29,12 +28,6 @@ pub mod ShowsRows
 pub mod ShowsPlaces
 pub mod ShowsDraws
 pub mod EachCommand
-pub mod Repeats
-pub mod OneStep
-pub mod StepKeeps
-pub mod SomeStep
-pub mod History
-pub mod Imports
 pub mod RoundEntrants
 pub mod RoundOffers
 pub mod RoundRoom

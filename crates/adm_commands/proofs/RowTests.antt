@@ -4,7 +4,7 @@ use Rattle.std.specs.Prelude.{is_some, not, Option, if◌then◌else◌}
 use Rattle.std.specs.Cmp.{nat_cmp_total}
 use Rattle.std.specs.FinMap.{get, get-insert, contains_key}
 use Rattle.adm_lists.proofs.Orders.{tied}
-use Rattle.adm_types.specs.declared.rows.ImportRow.{ImportRow}
+use Rattle.adm_types.specs.declared.rows.Row.{Row as ImportRow}
 use Rattle.adm_types.specs.declared.commands.Refusal.{Refusal}
 use Rattle.adm_types.specs.declared.commands.Refusal.TheVariants.{RowDiffers, UnknownChild}
 use Rattle.adm_register.specs.State.{State, application_of}

@@ -11,7 +11,7 @@ use Rattle.adm_types.specs.declared.commands.Reply.TheVariants.{Filled, Imported
 use Rattle.adm_types.specs.declared.draws.Draw.{Draw}
 use Rattle.adm_types.specs.declared.draws.Outcome.{Outcome}
 use Rattle.adm_types.specs.declared.rows.Child.{Child}
-use Rattle.adm_types.specs.declared.rows.ImportRow.{ImportRow}
+use Rattle.adm_types.specs.declared.rows.Row.{Row as ImportRow}
 use Rattle.adm_round.specs.Outcomes.{outcomes_of}
 use Rattle.adm_waiting.specs.Waiting.{first_by_lot}
 use Rattle.adm_register.specs.declared.difference.Difference.{Difference}

@@ -6,7 +6,7 @@ use Rattle.adm_types.specs.Code.{is_code}
 use Rattle.adm_types.specs.Limits.{is_from, is_child_number, first_day, last_day}
 use Rattle.adm_types.specs.declared.rows.School.{School}
 use Rattle.adm_types.specs.declared.rows.Child.{Child}
-use Rattle.adm_types.specs.declared.rows.ImportRow.{ImportRow}
+use Rattle.adm_types.specs.declared.rows.Row.{Row as ImportRow}
 
 -- a school's code is one, and its name is a text
 pub record KeptBySchool (school : School) : Type 0 where

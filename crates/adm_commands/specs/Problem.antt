@@ -1,9 +1,7 @@
 -- Which lots pose a problem of the next round on a register (the order of the tests is this profile's).
 use Rattle.std.specs.Prelude.{◌≡◌, ℕ, List, Option, None, Some, if◌then◌else◌}
 use Rattle.adm_register.specs.State.{State}
-use Rattle.adm_register.specs.WellFormed.{WellFormed}
-use Rattle.adm_round.specs.Round.{IsPosed}
-use Rattle.adm_commands.specs.Commands.Round.{sites, round_applicants, round_lots, is_lot_count, are_lots_apart}
+use Rattle.adm_commands.specs.Commands.Round.{is_lot_count, are_lots_apart}
 use Rattle.adm_commands.specs.declared.problems.DrawFault.{DrawFault}
 use Rattle.adm_commands.specs.declared.problems.DrawFault.TheVariants.{LotCount, LotsRepeated}
 
@@ -12,7 +10,3 @@ abbrev pub lots_fault : State → List ℕ → Option DrawFault
 lots_fault s numbers =
     if is_lot_count s numbers then (if are_lots_apart s numbers then None else Some LotsRepeated)
     else Some LotCount
-
--- On each well-formed register lots that pass both tests pose a round, and so a well-formed problem.
-abbrev pub RoundIsPosed : Type 0
-RoundIsPosed = (s : State) (numbers : List ℕ) → WellFormed s → lots_fault s numbers ≡ None → IsPosed (sites s) (round_applicants s) (round_lots s numbers)

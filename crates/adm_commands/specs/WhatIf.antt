@@ -1,11 +1,10 @@
 -- What a child would have by another list of its wanted schools, in the next round on a register (this profile).
-use Rattle.std.specs.Prelude.{◌≡◌, ℕ, List, Option, None, Some, option_map}
+use Rattle.std.specs.Prelude.{ℕ, List, Option, None, Some, option_map}
 use Rattle.adm_match.specs.Market.{Code}
-use Rattle.adm_match.specs.Relisting.{what_if_fault, IsWhatIf, IsNoGain}
+use Rattle.adm_match.specs.Relisting.{what_if_fault}
 use Rattle.adm_match.specs.declared.what_ifs.WhatIfFault.{WhatIfFault}
 use Rattle.adm_match.specs.declared.what_ifs.WhatIfFault.TheVariants as list
 use Rattle.adm_register.specs.State.{State}
-use Rattle.adm_register.specs.WellFormed.{WellFormed}
 use Rattle.adm_commands.specs.Problem.{lots_fault}
 use Rattle.adm_commands.specs.Commands.Round.{round_market}
 use Rattle.adm_commands.specs.declared.problems.DrawFault.{DrawFault}
@@ -34,12 +33,3 @@ first_question_fault (Some fault) later = Some (by_lots fault)
 -- the problem; and it wants each of the schools, none of which is repeated. A tenant does not want its own school.
 abbrev pub question_fault : State → ℕ → List ℕ → List Code → Option QuestionFault
 question_fault s child numbers schools = first_question_fault (lots_fault s numbers) (what_if_fault (round_market s numbers) child schools)
-
--- By no other list does a child get a better school. Take any register, lots that pass both tests, any child, and any schools that it
--- lists in place of its own list; those that its own list has not are dropped. What the best allocation of the problem then gives the
--- child is never, on its own list, before what the best allocation gives it by that own list. To have none comes after every school.
-abbrev pub NoBetterList : Type 0
-NoBetterList =
-    (s : State) (numbers : List ℕ) (child : ℕ) (schools : List Code) (school : Option Code)
-    → WellFormed s → lots_fault s numbers ≡ None → IsWhatIf (round_market s numbers) child schools school
-    → IsNoGain (round_market s numbers) child school

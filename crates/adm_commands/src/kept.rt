@@ -3,7 +3,7 @@ ghost use Rattle.std.specs.Prelude.{IsTrue, nat_lt};
 ghost use Rattle.std.specs.List.{list_all};
 ghost use Rattle.adm_commands.specs.KeptByTypes.{KeptBySchool, KeptByChild, KeptByRound, KeptByImportRow};
 
-use adm_types::{Child, Day, ImportRow, School, Seq};
+use adm_types::{Child, Day, Row, School, Seq};
 
 /// Of a school: its code is one, and its name is a text.
 pub(crate) fn kept_by_school(school: &School)
@@ -34,7 +34,7 @@ fn are_lots(lots: &[u32])
 {}
 
 /// Of a row of an import: what its child keeps, and a day.
-pub(crate) fn kept_by_row(row: &ImportRow)
+pub(crate) fn kept_by_row(row: &Row)
     ensures { KeptByImportRow row.now }
 {
     kept_by_child(&row.child);

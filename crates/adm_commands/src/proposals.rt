@@ -37,21 +37,6 @@ pub fn propose(old: &Register, alloc: Global, command: Command) -> Result<Propos
     }
 }
 
-/// The register after the command and its reply, or why it was not done. The register before stays.
-/// What it costs grows with the tables that the command changes; the others are shared.
-pub fn decide(old: &Register, alloc: Global, command: Command) -> Result<(Register, Reply), NotDone>
-    ensures step { Decides old.now command result }
-    ensures extends { IfOk result (λ done. Extends old.now done.0 × WellFormed done.0) }
-    ensures schools { IfOk result (λ done. KeepsSchools old.now done.0) }
-{
-    let Proposal {
-        register,
-        change: _,
-        reply,
-    } = propose(old, alloc, command)?;
-    Ok((register, reply))
-}
-
 /// The result of an accepted command.
 #[derive(Drop)]
 pub struct Proposal {

@@ -4,7 +4,7 @@ use Rattle.sqlite.specs.State.{State as Disk}
 use Rattle.adm_types.specs.declared.commands.Command.{Command}
 use Rattle.adm_register.specs.State.{State as Register}
 use Rattle.adm_commands.specs.Imports.{Reaches}
-use Rattle.adm_commands.specs.Steps.{OneStep}
+use Rattle.adm_command_laws.specs.Steps.{OneStep}
 use Rattle.adm_rows.specs.Represents.{LeavesOnly}
 use Rattle.adm_desk.specs.declared.answer.Answer.{Answer}
 use Rattle.adm_desk.specs.Acknowledged.{KeepsAcknowledged}

@@ -13,7 +13,8 @@ use Rattle.sqlite.specs.Tree.{Trees}
 use Rattle.sqlite.proofs.Theorems.{opens_again}
 use Rattle.adm_types.specs.declared.commands.Command.{Command}
 use Rattle.adm_register.specs.State.{State as Register}
-use Rattle.adm_commands.specs.History.{DrawsInOrder, DrawsStay, DrawsKept, RoundIsRecorded}
+use Rattle.adm_commands.specs.History.{DrawsInOrder, DrawsStay}
+use Rattle.adm_command_laws.specs.History.{DrawsKept, RoundIsRecorded}
 use Rattle.adm_commands.specs.Imports.{Reaches}
 use Rattle.adm_rows.specs.Faults.{IsNoRegister}
 use Rattle.adm_rows.specs.Represents.{Represents}

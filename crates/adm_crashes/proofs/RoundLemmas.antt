@@ -20,7 +20,8 @@ use Rattle.adm_commands.specs.Steps.{Accepts}
 use Rattle.adm_commands.specs.Rules.{without_row}
 use Rattle.adm_commands.specs.Tests.{first_failing}
 use Rattle.adm_commands.specs.Commands.Round as round
-use Rattle.adm_commands.specs.History.{DrawsInOrder, DrawsStay, DrawsKept, RoundIsRecorded, RecordsRound}
+use Rattle.adm_commands.specs.History.{DrawsInOrder, DrawsStay}
+use Rattle.adm_command_laws.specs.History.{DrawsKept, RoundIsRecorded, RecordsRound}
 use Rattle.sqlite.specs.State.{State as Disk}
 use Rattle.adm_commands.specs.Imports.{Reaches}
 use Rattle.adm_desk.specs.Acknowledged.{FindsAgain, LeavesAcknowledged}

@@ -4,7 +4,8 @@ use Rattle.std.specs.FinMap.{get}
 use Rattle.adm_types.specs.declared.commands.Command.{Command}
 use Rattle.adm_types.specs.declared.commands.Command.TheVariants.{Round}
 use Rattle.adm_register.specs.State.{State as Register}
-use Rattle.adm_commands.specs.History.{DrawsInOrder, RecordsRound}
+use Rattle.adm_commands.specs.History.{DrawsInOrder}
+use Rattle.adm_command_laws.specs.History.{RecordsRound}
 use Rattle.adm_commands.specs.Steps.{Accepts}
 use Rattle.adm_commands.specs.Imports.{Reaches}
 

@@ -12,7 +12,7 @@ ghost use Rattle.adm_crashes.specs.Crashes.{IsAnsweredFrom, IsCleanStart, IsRest
 
 use crate::restart::restart;
 use crate::{Restarted, handle_all, open_files, rounds_are_recorded, rounds_stay};
-use adm_commands::{draws_kept, round_is_recorded};
+use adm_command_laws::{draws_kept, round_is_recorded};
 use adm_desk::{Answer, Desk};
 use adm_rows::OpenFault;
 use adm_types::Command;

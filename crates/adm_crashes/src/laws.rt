@@ -2,7 +2,7 @@
 ghost use Rattle.adm_crashes.specs.Rounds.{RoundsAreRecorded, RoundsStay};
 ghost use Rattle.adm_crashes.specs.Steps.{OneAfter};
 
-use adm_commands::{draws_kept, one_step, round_is_recorded};
+use adm_command_laws::{draws_kept, one_step, round_is_recorded};
 
 /// Accepted commands, one after another, leave one register.
 pub fn one_after()

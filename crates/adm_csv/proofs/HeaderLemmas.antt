@@ -1,7 +1,7 @@
 -- The header in the records of a file.
 use Rattle.std.proofs.Common.{◌≡◌, ◌∙◌, ℕ, List, [], ◌∷◌, length, take, true, false, Result, Ok, Err, IfErr, ap, refl, sym, subst, arith}
 use Rattle.std.specs.Result.{is_ok}
-use Rattle.adm_types.specs.declared.rows.ImportRow.{ImportRow}
+use Rattle.adm_types.specs.declared.rows.Row.{Row as ImportRow}
 use Rattle.adm_csv.specs.declared.fault.Fault.{Fault}
 use Rattle.adm_csv.specs.declared.fault.Fault.TheVariants.{Header, FieldCount, BadNumber, BadDate, BadText, TooManyRows, Read, Memory}
 use Rattle.adm_csv.specs.declared.fault.RowFault.{RowFault}

@@ -8,7 +8,7 @@ use Rattle.csv.specs.Machine.{Read, next_record, step, is_end, fields_after, fie
 use Rattle.csv.specs.Reading.{default_config, strip_bom, is_bom, records, records_from}
 use Rattle.csv.specs.declared.parser.State.{State}
 use Rattle.csv.specs.declared.parser.State.TheVariants as st
-use Rattle.adm_types.specs.declared.rows.ImportRow.{ImportRow}
+use Rattle.adm_types.specs.declared.rows.Row.{Row as ImportRow}
 use Rattle.adm_csv.specs.declared.fault.Fault.TheVariants.{Header, Memory}
 use Rattle.adm_csv.specs.declared.fault.RowFault.{RowFault}
 use Rattle.adm_csv.specs.Kinds.{Text}

@@ -4,7 +4,7 @@ use Rattle.std.specs.Result.{IsOk}
 use Rattle.csv.specs.Reading.{records, default_config, strip_bom}
 use Rattle.adm_fields.specs.Lists.{import_fields}
 use Rattle.adm_fields.specs.Records.{import_of}
-use Rattle.adm_types.specs.declared.rows.ImportRow.{ImportRow}
+use Rattle.adm_types.specs.declared.rows.Row.{Row as ImportRow}
 use Rattle.adm_csv.specs.declared.fault.Fault.{Fault}
 use Rattle.adm_csv.specs.declared.fault.Fault.TheVariants.{Header, TooManyRows, Read, Memory}
 use Rattle.adm_csv.specs.declared.fault.RowFault.{RowFault}

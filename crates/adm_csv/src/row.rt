@@ -7,7 +7,7 @@ ghost use Rattle.adm_csv.specs.Reading.{Gives};
 use crate::Fault;
 use crate::cells::{CsvFields, row};
 use adm_fields::{ImportFields, import_of};
-use adm_types::ImportRow;
+use adm_types::Row;
 use csv::ByteRecord;
 use std::alloc::Global;
 
@@ -21,7 +21,7 @@ pub(crate) fn is_header(fields: &ByteRecord) -> bool
 
 /// The row that a record is, under a header of so many fields.
 #[tactic(auto, unfolding(crate::specs::Rows::row_in))]
-pub(crate) fn row_in(alloc: Global, width: usize, fields: &ByteRecord) -> Result<ImportRow, Fault>
+pub(crate) fn row_in(alloc: Global, width: usize, fields: &ByteRecord) -> Result<Row, Fault>
     ensures { Gives result (row_in width (fields_of fields.now)) }
 {
     let values = row::<ImportFields>(alloc, width, fields)?;

@@ -9,7 +9,7 @@ ghost use Rattle.adm_csv.specs.Rows.{FailsAt, IsReached, IsReachedUnder, Record,
 use crate::input::read_text;
 use crate::row::{is_header, row_in};
 use crate::{Fault, RowFault};
-use adm_types::ImportRow;
+use adm_types::Row;
 use adm_wire::Input;
 use csv::{ByteRecord, ByteRecordsIntoIter, ReaderBuilder};
 use std::alloc::Global;
@@ -49,7 +49,7 @@ fn take_header(records: &mut ByteRecordsIntoIter<&[u8]>) -> Result<usize, Fault>
 }
 
 /// The row of this number, under a header of so many fields.
-fn row_at(alloc: Global, width: usize, number: u64, fields: &ByteRecord) -> Result<ImportRow, Fault>
+fn row_at(alloc: Global, width: usize, number: u64, fields: &ByteRecord) -> Result<Row, Fault>
     ensures reads { Gives result (import_row_at width number (fields_of fields.now)) }
     ensures upper { OnOk result (number ≤ most_rows) }
 {
@@ -64,7 +64,7 @@ fn rows_from(
     alloc: Global,
     width: usize,
     records: ByteRecordsIntoIter<&[u8]>,
-) -> Result<Vec<ImportRow>, RowFault>
+) -> Result<Vec<Row>, RowFault>
     requires { IsPlain records }
     ensures reads { ReadsFrom (λ v. v.items) width 1 (remaining_of records.entry) result }
     ensures memory { IfErr result (λ e. e.fault ≡ Fault.Memory → IsReachedUnder width e.row (remaining_of records.entry)) }
@@ -97,7 +97,7 @@ fn rows_from(
 }
 
 /// The rows of a text.
-fn rows_of(alloc: Global, text: &[u8]) -> Result<Vec<ImportRow>, RowFault>
+fn rows_of(alloc: Global, text: &[u8]) -> Result<Vec<Row>, RowFault>
     ensures reads { ReadsRows ⊥ (λ v. v.items) (records_of text.now) result }
     ensures memory { IfErr result (λ e. e.fault ≡ Fault.Memory → IsReached e.row (records_of text.now)) }
 {
@@ -122,7 +122,7 @@ fn rows_of(alloc: Global, text: &[u8]) -> Result<Vec<ImportRow>, RowFault>
 /// It reads in pieces of up to 4,096 bytes, to the end or to the piece in which the 2,002nd record
 /// ends, since the file is known to have too many rows then; the rest is neither read nor kept. Memory
 /// grows with what is read (a single record may be as long as the file), and time with its bytes.
-pub fn read_rows<R: Input>(alloc: Global, reader: &mut R) -> Result<Vec<ImportRow>, RowFault>
+pub fn read_rows<R: Input>(alloc: Global, reader: &mut R) -> Result<Vec<Row>, RowFault>
     // The rows, or the first error, are those of the file.
     ensures rows { IfSome (R.remaining reader.old) (λ input. ReadsRows (Unit {0}) (λ v. v.items) (records_of input) result) }
 

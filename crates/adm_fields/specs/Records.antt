@@ -3,7 +3,7 @@ use Rattle.std.specs.Prelude.{◌≡◌, ℕ, Bool, List, Option, None}
 use Rattle.std.specs.Borrow.{Bor}
 use Rattle.adm_types.specs.declared.rows.Application.{Application}
 use Rattle.adm_types.specs.declared.rows.Child.{Child}
-use Rattle.adm_types.specs.declared.rows.ImportRow.{ImportRow}
+use Rattle.adm_types.specs.declared.rows.Row.{Row as ImportRow}
 
 -- the values of the fields of a child that must be there, and then others
 abbrev pub ChildValues : Type 0 → Type 0

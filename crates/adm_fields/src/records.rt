@@ -5,7 +5,7 @@ ghost use Rattle.adm_fields.specs.Records.{refs_are, home_of, child_of, applicat
 use crate::child::{
     ChildField, Day, East, Flags, LookedAfter, Name, North, Preferences, Present, Siblings,
 };
-use adm_types::{Application, Child, ChildNo, ImportRow, Point, SchoolCode, Seq, Text};
+use adm_types::{Application, Child, ChildNo, Point, Row, SchoolCode, Seq, Text};
 
 /// The fields of a child that must be there, and then others.
 pub type HomeFields<Others> = (
@@ -114,12 +114,12 @@ pub fn home_of(values: ChildValues<()>) -> Child
 }
 
 /// An imported row without a present school, as its row in a table has it.
-pub fn bare_import_of(values: ChildValues<(adm_types::Day, (Seq<SchoolCode>, ()))>) -> ImportRow
+pub fn bare_import_of(values: ChildValues<(adm_types::Day, (Seq<SchoolCode>, ()))>) -> Row
     ensures { result ≡ bare_import_of values }
 {
     let (no, (name, (east, (north, (looked_after, (flags, (siblings, others))))))) = values;
     let (day, (preferences, ())) = others;
-    ImportRow {
+    Row {
         child: home_of((
             no,
             (
@@ -139,14 +139,12 @@ pub fn application_of(values: (ChildNo, (adm_types::Day, (Seq<SchoolCode>, ())))
     Application { child, day, list }
 }
 
-pub fn import_of(
-    values: ChildValues<(adm_types::Day, (Seq<SchoolCode>, OptionalValues))>,
-) -> ImportRow
+pub fn import_of(values: ChildValues<(adm_types::Day, (Seq<SchoolCode>, OptionalValues))>) -> Row
     ensures { result ≡ import_of values }
 {
     let (no, (name, (east, (north, (looked_after, (flags, (siblings, others))))))) = values;
     let (day, (preferences, last)) = others;
-    ImportRow {
+    Row {
         child: child_of((
             no,
             (

@@ -4,7 +4,7 @@ use Rattle.sqlite_disk.specs.declared.Disk as disk
 use Rattle.sqlite_store.specs.declared.store.FileStore.{FileStore}
 use Rattle.sqlite.specs.Held.{Held}
 use Rattle.sqlite.specs.Files.{file_state}
-use Rattle.adm_types.specs.declared.rows.ImportRow.{ImportRow}
+use Rattle.adm_types.specs.declared.rows.Row.{Row as ImportRow}
 use Rattle.adm_desk.specs.DeskState.{DeskState}
 use Rattle.adm_wire.specs.Streams.{Stream}
 use Rattle.adm_files.specs.Imports.{FileGives, IsHandled, ImportsAs}

@@ -9,7 +9,7 @@ use Rattle.sqlite.specs.Held.{Held}
 use Rattle.sqlite.specs.Files.{file_state}
 use Rattle.sqlite.specs.State.{State as Left}
 use Rattle.adm_types.specs.declared.commands.Command.TheVariants.{Import}
-use Rattle.adm_types.specs.declared.rows.ImportRow.{ImportRow}
+use Rattle.adm_types.specs.declared.rows.Row.{Row as ImportRow}
 use Rattle.adm_csv.specs.Ended.{StopsAfter}
 use Rattle.adm_csv.specs.Rows.{ReadsRows, records_of}
 use Rattle.adm_csv.specs.declared.fault.Fault.TheVariants.{Read}

@@ -15,7 +15,7 @@ use crate::outcome::exit_of_answer;
 use adm_csv::read_rows;
 use adm_desk::{Answer, Desk};
 use adm_host::{Ended, Exit, Fault, OpenError, Rows, put};
-use adm_types::{Command, ImportRow, Seq};
+use adm_types::{Command, Row as ImportRow, Seq};
 use adm_wire::{Input, Output};
 use sqlite::{Alter, FileFrom, FileStore, Start};
 use sqlite_disk::Disk;

@@ -5,13 +5,13 @@ use Rattle.adm_types.specs.declared.seasons.SeasonFault.{SeasonFault}
 use Rattle.adm_types.specs.declared.seasons.SeasonFault.TheVariants as season
 use Rattle.adm_csv.specs.declared.fault.Fault.{Fault as CsvFault}
 use Rattle.adm_csv.specs.declared.fault.Fault.TheVariants as csv
-use Rattle.adm_letters.specs.declared.fault.TextFault.{TextFault}
-use Rattle.adm_letters.specs.declared.fault.TextFault.TheVariants as letter
+use Rattle.adm_letters.specs.declared.fault.LetterFault.{LetterFault}
+use Rattle.adm_letters.specs.declared.fault.LetterFault.TheVariants as letter
 use Rattle.adm_words.specs.Lines.{ReadsArguments}
 use Rattle.adm_words.specs.declared.actions.Action.{Action}
 use Rattle.adm_words.specs.declared.actions.Action.TheVariants as action
-use Rattle.adm_words.specs.declared.faults.ArgumentsFault.{ArgumentsFault}
-use Rattle.adm_words.specs.declared.faults.ArgumentsFault.TheVariants as arguments
+use Rattle.adm_words.specs.declared.faults.WordsFault.{WordsFault}
+use Rattle.adm_words.specs.declared.faults.WordsFault.TheVariants as arguments
 use Rattle.adm_store.specs.declared.fault.CreateFault.{CreateFault}
 use Rattle.adm_store.specs.declared.fault.CreateFault.TheVariants as create
 use Rattle.adm_rows.specs.declared.fault.OpenFault.{OpenFault}
@@ -106,7 +106,7 @@ of_open opened.BadRow = BadRow
 of_open opened.Disk = Disk None
 of_open opened.Memory = Memory
 
-abbrev pub of_letter : TextFault → Fault
+abbrev pub of_letter : LetterFault → Fault
 of_letter letter.UnknownChild = UnknownChild
 of_letter letter.UnknownSchool = UnknownSchool
 of_letter letter.NoRound = NoRound
@@ -185,7 +185,7 @@ exit_of_result (Ok e) = e
 exit_of_result (Err fault) = exit.Fault
 
 -- arguments that are a usage error, or memory ran out while they were read
-abbrev pub exit_of_arguments : ArgumentsFault → Exit
+abbrev pub exit_of_arguments : WordsFault → Exit
 exit_of_arguments arguments.Memory = exit.Fault
 exit_of_arguments fault = exit.Usage
 
@@ -200,7 +200,7 @@ line_outcome (Ok e) = ending_of e.exit (error_of e.closed)
 line_outcome (Err error) = Err error.fault
 
 -- what the arguments were read as: `init` and what prints a text end with 0 or 1, `do`, `what-if` and `import` never with 2, and `serve` with 0, 1 or 4; 2 where they are a usage error
-abbrev pub ExitsBy : Result Action ArgumentsFault → ℕ → Type 0
+abbrev pub ExitsBy : Result Action WordsFault → ℕ → Type 0
 ExitsBy (Ok (action.Init file phase year days)) status = (status ≡ 0) ⊎ (status ≡ 1)
 ExitsBy (Ok (action.Do file)) status = status ≢ 2
 ExitsBy (Ok (action.WhatIf file)) status = status ≢ 2
@@ -215,4 +215,4 @@ ExitsBy (Err _) status = status ≡ 2
 
 -- the arguments were read, and the status is one that an action of this kind, or this error in the arguments, may end with
 abbrev pub RunsArguments : List (List ℕ) → ℕ → Type 0
-RunsArguments given status = (read : Result Action ArgumentsFault) × ReadsArguments given read × ExitsBy read status
+RunsArguments given status = (read : Result Action WordsFault) × ReadsArguments given read × ExitsBy read status

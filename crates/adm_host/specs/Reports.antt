@@ -2,7 +2,7 @@
 use Rattle.std.specs.Prelude.{◌≡◌, ◌≢◌, ◌⊎◌, ℕ, true, List, [], take, Result, Ok, Err}
 use Rattle.std.specs.Io.KnownBytes.{Appends}
 use Rattle.adm_words.specs.Lines.{IsFaultText}
-use Rattle.adm_words.specs.declared.faults.ArgumentsFault.{ArgumentsFault}
+use Rattle.adm_words.specs.declared.faults.WordsFault.{WordsFault}
 use Rattle.adm_host.specs.Exits.{fault_line}
 use Rattle.adm_wire.specs.Streams.{Stream}
 use Rattle.adm_host.specs.declared.exit.Exit.{Exit}
@@ -27,11 +27,11 @@ ReportsOutcome (Ok e) errors = errors.new ≡ errors.old
 ReportsOutcome (Err fault) errors = ReportsText (fault_line fault) errors
 
 -- what is wrong with the arguments is printed; the text of clap is its own, so of that this says only that it is not empty
-abbrev pub ReportsArguments : ArgumentsFault → Stream → Type 0
+abbrev pub ReportsArguments : WordsFault → Stream → Type 0
 ReportsArguments fault errors = (text : List ℕ) × IsFaultText fault text × (text ≢ []) × ReportsText text errors
 
 -- ---- for a private clause
 
 -- the same of one print
-abbrev pub PrintsArguments : {A B : Type 0} → ArgumentsFault → Stream → Result A B → Type 0
+abbrev pub PrintsArguments : {A B : Type 0} → WordsFault → Stream → Result A B → Type 0
 PrintsArguments fault errors result = (text : List ℕ) × IsFaultText fault text × (text ≢ []) × PrintsText text errors result

@@ -6,7 +6,7 @@ use Rattle.adm_register.specs.State.{State}
 use Rattle.adm_letters.specs.Letters.{letter_text}
 use Rattle.adm_letters.specs.Lists.{list_text}
 use Rattle.adm_letters.specs.Pairs.{pairs_text}
-use Rattle.adm_letters.specs.Reports.{report_text}
+use Rattle.adm_letters.specs.Reports.{round_text}
 use Rattle.adm_wire.specs.Streams.{Stream}
 use Rattle.adm_host.specs.declared.document.Document.{Document}
 use Rattle.adm_host.specs.declared.document.Document.TheVariants as document
@@ -31,7 +31,7 @@ text_or f None = Err f
 abbrev pub document_text : State → Document → Result (List ℕ) Fault
 document_text s (document.Letter child) = text_or fault.UnknownChild (letter_text s child)
 document_text s (document.List school) = text_or fault.UnknownSchool (list_text s school)
-document_text s (document.Report round) = text_or fault.NoRound (report_text s round)
+document_text s (document.Report round) = text_or fault.NoRound (round_text s round)
 document_text s (document.Pairs school) = text_or fault.UnknownSchool (pairs_text s school)
 
 -- printing a text is done where it was written; where there is none, its error is reported and nothing is written

@@ -4,7 +4,7 @@ ghost use Rattle.adm_host.specs.Texts.{Puts, PrintsAs, Says, document_text};
 
 use crate::exit::Exit;
 use crate::fault::Fault;
-use adm_letters::{letter, list_text, pairs_text, report_text};
+use adm_letters::{letter, list_text, pairs_text, round_text};
 use adm_register::Register;
 use adm_types::{ChildNo, SchoolCode};
 use adm_wire::Output;
@@ -50,7 +50,7 @@ impl Document {
         match self {
             Document::Letter(child) => Ok(letter(alloc, register, child)?),
             Document::List(school) => Ok(list_text(alloc, register, school)?),
-            Document::Report(round) => Ok(report_text(alloc, register, round)?),
+            Document::Report(round) => Ok(round_text(alloc, register, round)?),
             Document::Pairs(school) => Ok(pairs_text(alloc, register, school)?),
         }
     }

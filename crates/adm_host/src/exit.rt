@@ -2,7 +2,7 @@
 ghost use Rattle.std.specs.Prelude.{◌≡◌};
 ghost use Rattle.adm_host.specs.Exits.{exit_code, exit_of_status, exit_of_arguments};
 
-use adm_words::ArgumentsFault;
+use adm_words::WordsFault;
 
 /// How the program exits.
 #[derive(Clone, Copy, Debug, PartialEq, Eq)]
@@ -32,13 +32,12 @@ impl Exit {
     }
 
     /// The exit of arguments that are a usage error, or that could not be read because memory ran out.
-    pub fn of_arguments(fault: &ArgumentsFault) -> Exit
+    pub fn of_arguments(fault: &WordsFault) -> Exit
         ensures { result ≡ exit_of_arguments fault.now }
     {
         match fault {
-            ArgumentsFault::Memory => Exit::Fault,
-            ArgumentsFault::Usage(_) | ArgumentsFault::BadDate | ArgumentsFault::BadWord =>
-                Exit::Usage,
+            WordsFault::Memory => Exit::Fault,
+            WordsFault::Usage(_) | WordsFault::BadDate | WordsFault::BadWord => Exit::Usage,
         }
     }
 

@@ -7,7 +7,7 @@ ghost use Rattle.adm_host.specs.declared.fault.Fault.TheVariants.{Memory};
 
 use crate::cause::{Cause, cause_of_kind};
 use adm_csv::RowFault;
-use adm_letters::TextFault;
+use adm_letters::LetterFault;
 use adm_rows::OpenFault;
 use adm_store::CreateFault;
 use adm_types::SeasonFault;
@@ -186,15 +186,15 @@ impl From<OpenFault> for Fault {
     }
 }
 
-impl From<TextFault> for Fault {
+impl From<LetterFault> for Fault {
     ghost from_gives = { λ error fault. fault ≡ of_letter error };
 
-    fn from(fault: TextFault) -> Fault {
+    fn from(fault: LetterFault) -> Fault {
         match fault {
-            TextFault::UnknownChild => Fault::UnknownChild,
-            TextFault::UnknownSchool => Fault::UnknownSchool,
-            TextFault::NoRound => Fault::NoRound,
-            TextFault::Memory => Fault::Memory,
+            LetterFault::UnknownChild => Fault::UnknownChild,
+            LetterFault::UnknownSchool => Fault::UnknownSchool,
+            LetterFault::NoRound => Fault::NoRound,
+            LetterFault::Memory => Fault::Memory,
         }
     }
 }

@@ -10,7 +10,7 @@ use crate::ended::{Ended, ending};
 use crate::exit::Exit;
 use crate::fault::{Fault, print_text};
 use adm_wire::{Output, WriteFailed};
-use adm_words::{ArgumentsFault, fault_text};
+use adm_words::{WordsFault, fault_text};
 use sqlite_disk::Disk;
 use std::alloc::Global;
 
@@ -50,7 +50,7 @@ fn print_fault<E: Output>(ended: Result<Exit, Fault>, errors: &mut E) -> Exit
 
 /// Prints what is wrong with the arguments, or the help that they request, and gives the exit. A
 /// print that fails is ignored.
-pub fn refuse_arguments<E: Output>(alloc: Global, fault: &ArgumentsFault, errors: &mut E) -> Exit
+pub fn refuse_arguments<E: Output>(alloc: Global, fault: &WordsFault, errors: &mut E) -> Exit
     ensures exit { result ≡ exit_of_arguments fault.now }
     ensures reported { ReportsArguments fault.now (writer E.Output errors.old errors.new) }
 {
@@ -62,18 +62,18 @@ pub fn refuse_arguments<E: Output>(alloc: Global, fault: &ArgumentsFault, errors
 /// there is none, or where `clap` had none for its text, which is then empty, that is printed.
 fn print_arguments_fault<E: Output>(
     alloc: Global,
-    fault: &ArgumentsFault,
+    fault: &WordsFault,
     errors: &mut E,
 ) -> Result<(), WriteFailed>
     ensures { PrintsArguments fault.now (writer E.Output errors.old errors.new) result }
 {
     match fault {
-        ArgumentsFault::Usage(_) => match fault_text(alloc, fault) {
+        WordsFault::Usage(_) => match fault_text(alloc, fault) {
             Ok(text) if !text.is_empty() => print_text(text.as_str(), errors),
             Ok(_) | Err(_) => Fault::Memory.print(errors),
         },
-        ArgumentsFault::BadDate => print_text("fault: BadDate\n", errors),
-        ArgumentsFault::BadWord => print_text("fault: BadWord\n", errors),
-        ArgumentsFault::Memory => Fault::Memory.print(errors),
+        WordsFault::BadDate => print_text("fault: BadDate\n", errors),
+        WordsFault::BadWord => print_text("fault: BadWord\n", errors),
+        WordsFault::Memory => Fault::Memory.print(errors),
     }
 }

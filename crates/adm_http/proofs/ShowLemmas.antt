@@ -5,8 +5,8 @@ use Rattle.std.specs.declared.string.String.{String}
 use Rattle.adm_register.specs.State.{State}
 use Rattle.adm_desk.specs.DeskState.{DeskState}
 use Rattle.adm_letters.specs.Answers.{GivesText}
-use Rattle.adm_letters.specs.declared.fault.TextFault.{TextFault}
-use Rattle.adm_letters.specs.declared.fault.TextFault.TheVariants as letter
+use Rattle.adm_letters.specs.declared.fault.LetterFault.{LetterFault}
+use Rattle.adm_letters.specs.declared.fault.LetterFault.TheVariants as letter
 use Rattle.adm_http.specs.Routes.{text_in}
 use Rattle.adm_http.specs.Shows.{IsShown, IsShownAs, Shows}
 use Rattle.adm_http.specs.declared.request_handler.Shown.{Shown}
@@ -14,7 +14,7 @@ use Rattle.adm_http.specs.declared.request_handler.Shown.TheVariants.{Text, Miss
 use Rattle.adm_http.specs.declared.routes.Resource.{Resource}
 
 -- what was given is shown
-pub given_shown : {A : Type 0} (text : Option (List ℕ)) (fault : TextFault) (given : Result (String A) TextFault) (shown : Shown)
+pub given_shown : {A : Type 0} (text : Option (List ℕ)) (fault : LetterFault) (given : Result (String A) LetterFault) (shown : Shown)
     → (fault ≡ letter.Memory → ⊥) → GivesText text fault given → IsShownAs given shown → IsShown text shown
 given_shown (Some text) fault (Ok given) (Text made) other gives is = ap Some (sym gives ∙ sym is)
 given_shown None fault (Ok given) (Text made) other gives is = absurd gives

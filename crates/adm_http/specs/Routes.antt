@@ -16,7 +16,7 @@ use Rattle.adm_http.specs.declared.routes.Resource.TheVariants.{ChildState, Chil
 use Rattle.adm_register.specs.State.{State}
 use Rattle.adm_letters.specs.Letters.{letter_text}
 use Rattle.adm_letters.specs.Lists.{list_text}
-use Rattle.adm_letters.specs.Reports.{report_text}
+use Rattle.adm_letters.specs.Reports.{round_text}
 use Rattle.adm_http.specs.States.{child_text}
 use Rattle.adm_http.specs.declared.responses.Media.{Media}
 use Rattle.adm_http.specs.declared.responses.Media.TheVariants.{Json, PlainText}
@@ -93,7 +93,7 @@ abbrev pub text_in : State → Resource → Option (List ℕ)
 text_in s (ChildState child) = child_text s child
 text_in s (ChildLetter child) = letter_text s child
 text_in s (WaitingList school) = list_text s school
-text_in s (RoundReport round) = report_text s round
+text_in s (RoundReport round) = round_text s round
 
 -- ---- the router
 

@@ -2,8 +2,8 @@
 use Rattle.std.specs.Prelude.{◌≡◌, ℕ, List, Option, Some, None, Result, Ok, Err, MatchBool, string_bytes}
 use Rattle.std.specs.declared.string.String.{String}
 use Rattle.adm_desk.specs.DeskState.{DeskState}
-use Rattle.adm_letters.specs.declared.fault.TextFault.{TextFault}
-use Rattle.adm_letters.specs.declared.fault.TextFault.TheVariants as letter
+use Rattle.adm_letters.specs.declared.fault.LetterFault.{LetterFault}
+use Rattle.adm_letters.specs.declared.fault.LetterFault.TheVariants as letter
 use Rattle.adm_http.specs.Routes.{text_in}
 use Rattle.adm_http.specs.declared.request_handler.Shown.{Shown}
 use Rattle.adm_http.specs.declared.request_handler.Shown.TheVariants.{Text, Missing, Memory, Failed}
@@ -23,7 +23,7 @@ Shows desk resource shown = MatchBool desk.failed (shown ≡ Failed) (IsShown (t
 -- ---- for a private clause
 
 -- what a call that makes a text answered, as what is shown
-abbrev pub IsShownAs : {A : Type 0} → Result (String A) TextFault → Shown → Type 0
+abbrev pub IsShownAs : {A : Type 0} → Result (String A) LetterFault → Shown → Type 0
 IsShownAs (Ok text) (Text given) = string_bytes given ≡ string_bytes text
 IsShownAs (Ok text) Missing = ⊥
 IsShownAs (Ok text) Memory = ⊥

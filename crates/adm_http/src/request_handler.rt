@@ -4,7 +4,7 @@ ghost use Rattle.adm_http.specs.Shows.{IsShownAs};
 
 use crate::routes::{Purpose, Resource};
 use adm_desk::LineAnswer;
-use adm_letters::TextFault;
+use adm_letters::LetterFault;
 use std::alloc::Global;
 
 /// What reading a text gave.
@@ -45,13 +45,13 @@ pub(crate) trait RequestHandler {
 }
 
 /// What a call that makes a text gave.
-pub(crate) fn given(text: Result<String, TextFault>) -> Shown
+pub(crate) fn given(text: Result<String, LetterFault>) -> Shown
     ensures { IsShownAs text result }
 {
     match text {
         Ok(text) => Shown::Text(text),
-        Err(TextFault::Memory) => Shown::Memory,
-        Err(TextFault::UnknownChild | TextFault::UnknownSchool | TextFault::NoRound) =>
+        Err(LetterFault::Memory) => Shown::Memory,
+        Err(LetterFault::UnknownChild | LetterFault::UnknownSchool | LetterFault::NoRound) =>
             Shown::Missing,
     }
 }

@@ -8,7 +8,7 @@ use crate::request_handler::{Shown, given};
 use crate::responses::Media;
 use crate::router::add;
 use crate::states::child_text;
-use adm_letters::{letter, list_text, report_text};
+use adm_letters::{letter, list_text, round_text};
 use adm_register::Register;
 use adm_types::{ChildNo, SchoolCode, plain};
 use matchit::Router;
@@ -105,7 +105,7 @@ pub(crate) fn show(alloc: Global, register: &Register, resource: &Resource) -> S
         Resource::ChildState(child) => given(child_text(alloc, register, *child)),
         Resource::ChildLetter(child) => given(letter(alloc, register, *child)),
         Resource::WaitingList(school) => given(list_text(alloc, register, *school)),
-        Resource::RoundReport(round) => given(report_text(alloc, register, *round)),
+        Resource::RoundReport(round) => given(round_text(alloc, register, *round)),
     }
 }
 

@@ -2,10 +2,10 @@
 ghost use Rattle.std.specs.Prelude.{◌≡◌, IfOk, map, string_bytes};
 ghost use Rattle.adm_register.specs.Waits.{standings_of};
 ghost use Rattle.adm_letters.specs.Answers.{GivesText};
-ghost use Rattle.adm_letters.specs.declared.fault.TextFault.TheVariants.{UnknownChild};
+ghost use Rattle.adm_letters.specs.declared.fault.LetterFault.TheVariants.{UnknownChild};
 ghost use Rattle.adm_http.specs.States.{kind_of, held_json, place_json, wait_json, waits_json, state_json, child_json, child_text};
 
-use adm_letters::TextFault;
+use adm_letters::LetterFault;
 use adm_register::{Register, Standing};
 use adm_types::{ChildNo, Place, PlaceState, SchoolCode};
 use std::alloc::{AllocError, Global};
@@ -19,12 +19,12 @@ pub(crate) fn child_text(
     alloc: Global,
     register: &Register,
     child: ChildNo,
-) -> Result<String, TextFault>
+) -> Result<String, LetterFault>
     ensures { GivesText (child_text register.now child) UnknownChild result }
 {
     match register.child(child) {
         Some(_) => Ok(known_child_text(alloc, register, child)?),
-        None => Err(TextFault::UnknownChild),
+        None => Err(LetterFault::UnknownChild),
     }
 }
 

@@ -9,7 +9,7 @@ use Rattle.adm_lists.proofs.Options.{none_of}
 use Rattle.adm_types.specs.declared.rows.Application.{Application}
 use Rattle.adm_types.specs.declared.commands.Command.TheVariants.{Apply}
 use Rattle.adm_match.specs.Stability.{Allocation, IsBest}
-use Rattle.adm_match.specs.Generous.{IsNoWorse}
+use Rattle.adm_match_laws.specs.Generous.{IsNoWorse}
 use Rattle.adm_round.specs.Outcomes.{outcomes_of}
 use Rattle.adm_register.specs.State.{State}
 use Rattle.adm_register.specs.Change.{after}

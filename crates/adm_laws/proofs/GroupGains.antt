@@ -14,7 +14,7 @@ use Rattle.adm_match.proofs.SideBySide.{element_at}
 use Rattle.adm_match.proofs.RanksAndBlocks.{at_All}
 use Rattle.adm_match.proofs.Moved.{set_here, set_there}
 use Rattle.adm_match.proofs.Existence.{IsInvariant, end_keeps}
-use Rattle.adm_match.proofs.AnyList.{listing}
+use Rattle.adm_match_laws.proofs.AnyList.{listing}
 use Rattle.adm_match.proofs.Posed.{posed}
 use Rattle.adm_match.proofs.Distinct.{distinct}
 use Rattle.adm_match.proofs.Relisted.{seated}

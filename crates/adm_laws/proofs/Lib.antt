@@ -1,6 +1,7 @@
 pub mod Zips
 pub mod Posed
 pub mod Quotas
+pub mod MoreQuotas
 pub mod MorePlaces
 pub mod ShorterList
 pub mod RaisedRound

@@ -17,7 +17,7 @@ use Rattle.adm_match.proofs.SideBySide.{count_beside, element_at}
 use Rattle.adm_match.proofs.RanksAndBlocks.{has_tells, not_has, at_All, All_at, list_any_of, list_any_gives, wish_at_rank, same_rank, guest_from}
 use Rattle.adm_match.proofs.Departure.{held_wish}
 use Rattle.adm_match.proofs.GivenByRows.{find_is, gives_by}
-use Rattle.adm_match.proofs.Generous.{count_upto}
+use Rattle.adm_match_laws.proofs.Generous.{count_upto}
 use Rattle.adm_match.proofs.Placed.{swap_sums, sum_upto, placed, placed_from, placed_upto, count_less, blocks_from, on_list}
 
 -- what an entrant hands in: its tenancies at most, and its keys where it names a school that it truly lists

@@ -12,21 +12,22 @@ use Rattle.adm_types.specs.declared.draws.Outcome.{Outcome}
 use Rattle.adm_types.specs.declared.commands.Refusal.{Refusal}
 use Rattle.adm_types.specs.declared.commands.Command.TheVariants.{RaisePan}
 use Rattle.adm_match.specs.Stability.{IsBest}
-use Rattle.adm_match.specs.Generous.{IsNoWorse}
+use Rattle.adm_match_laws.specs.Generous.{IsNoWorse}
 use Rattle.adm_round.specs.declared.applicants.Applicant.{Applicant}
 use Rattle.adm_round.specs.declared.applicants.Site.{Site}
 use Rattle.adm_round.specs.declared.applicants.Pair.{Pair}
 use Rattle.adm_round.specs.Round.{wants, pair_at, pairs_at, pairs, lots_of, IsPosed}
 use Rattle.adm_round.specs.Ranks.{market_of_round}
 use Rattle.adm_round.specs.Outcomes.{AreBest, outcomes_of}
-use Rattle.adm_round.specs.Raised.{IsRaised, NoLossByQuotas}
+use Rattle.adm_laws.specs.Sites.{IsRaised, NoLossByQuotas}
 use Rattle.adm_register.specs.State.{State}
 use Rattle.adm_register.specs.Change.{no_change, after}
 use Rattle.adm_register.specs.WellFormed.{WellFormed}
 use Rattle.adm_register.proofs.Fits.{after-keeps}
 use Rattle.adm_commands.specs.Commands.RaisePan.{tests, may_have, with_pan, change_of}
 use Rattle.adm_commands.specs.Tests.{first_failing}
-use Rattle.adm_commands.specs.Problem.{lots_fault, RoundIsPosed}
+use Rattle.adm_commands.specs.Problem.{lots_fault}
+use Rattle.adm_command_laws.specs.NextRound.{RoundIsPosed}
 use Rattle.adm_commands.specs.declared.problems.DrawFault.TheVariants.{LotCount, LotsRepeated}
 use Rattle.adm_commands.specs.Commands.Round.{sites, round_applicants, quota, round_lots, round_market, round_pairs, AreOutcomes}
 use Rattle.adm_commands.specs.Rules.{without_row}

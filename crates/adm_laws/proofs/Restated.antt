@@ -6,7 +6,7 @@ use Rattle.std.proofs.lemmas.Bool.{cases_Bool, eqb-true, true≢false}
 use Rattle.std.proofs.lemmas.List.Elements.{recursion_from_All}
 use Rattle.adm_match.specs.Market.{Candidate, Market}
 use Rattle.adm_match.specs.Stability.{Allocation, IsStable}
-use Rattle.adm_match.specs.AnyList.{MayHandIn}
+use Rattle.adm_match_laws.specs.AnyList.{MayHandIn}
 use Rattle.adm_laws.specs.Groups.{HandsIn, IsHandedInBy, NoGroupGains, is_member, restated, with_lists, NotAllGain}
 
 -- the member that states the entrant's list, where there is one

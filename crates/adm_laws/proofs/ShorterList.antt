@@ -12,7 +12,7 @@ use Rattle.adm_types.specs.declared.rows.Application.{Application}
 use Rattle.adm_types.specs.declared.rows.Child.{Child}
 use Rattle.adm_match.specs.declared.problem.Wish.{Wish}
 use Rattle.adm_match.specs.Market.{Code, Candidate}
-use Rattle.adm_match.specs.Generous.{IsCutFrom, IsAsGenerous, NoLoss}
+use Rattle.adm_match_laws.specs.Generous.{IsCutFrom, IsAsGenerous, NoLoss}
 use Rattle.adm_round.specs.declared.applicants.Applicant.{Applicant}
 use Rattle.adm_round.specs.declared.applicants.Site.{Site}
 use Rattle.adm_round.specs.Round.{code_of_site, number_of, listed}
@@ -21,7 +21,7 @@ use Rattle.adm_round.specs.Outcomes.{PosedWithoutFault}
 use Rattle.adm_register.specs.State.{State}
 use Rattle.adm_register.specs.Wanted.{above, has_left, wanted_of, own_school}
 use Rattle.adm_commands.specs.Commands.Round.{takes_part, applicant_of, round_applicants, sites, round_lots, round_market}
-use Rattle.adm_commands.specs.Problem.{RoundIsPosed}
+use Rattle.adm_command_laws.specs.NextRound.{RoundIsPosed}
 use Rattle.adm_laws.specs.Registers.{first_listed, with_application, KeepsLots, NoLossByShorterList}
 use Rattle.adm_laws.proofs.Zips.{zip_map, zip_with, zip_any, put_zip}
 

@@ -4,7 +4,7 @@ use Rattle.adm_types.specs.declared.rows.Application.{Application}
 use Rattle.adm_types.specs.declared.commands.Command.TheVariants.{Apply}
 use Rattle.adm_types.specs.declared.draws.Outcome.{Outcome}
 use Rattle.adm_match.specs.Stability.{Allocation}
-use Rattle.adm_match.specs.Generous.{IsNoWorse}
+use Rattle.adm_match_laws.specs.Generous.{IsNoWorse}
 use Rattle.adm_register.specs.State.{State}
 use Rattle.adm_commands.specs.Commands.Round.{round_lots, round_market, AreOutcomes}
 use Rattle.adm_commands.specs.Steps.{Accepts}

@@ -4,8 +4,8 @@ use Rattle.adm_match.specs.declared.problem.Wish.{Wish}
 use Rattle.adm_match.specs.declared.problem.Seats.{Seats}
 use Rattle.adm_match.specs.Market.{Code, Candidate, Market, assigned_rank, quota_of, first_fault}
 use Rattle.adm_match.specs.Stability.{Allocation, IsStable, IsBest, count_at}
-use Rattle.adm_match.specs.Generous.{IsNoWorse, without, shortened, cut_to}
-use Rattle.adm_match.specs.AnyList.{MayHandIn, with_any_list}
+use Rattle.adm_match_laws.specs.Generous.{IsNoWorse, without, shortened, cut_to}
+use Rattle.adm_match_laws.specs.AnyList.{MayHandIn, with_any_list}
 
 -- the entrant, with the first wishes of its list alone where it is the child
 abbrev pub cut_entrant : ℕ → ℕ → Candidate → Candidate

@@ -3,7 +3,7 @@ use Rattle.std.specs.Prelude.{◌≡◌, ℕ, ◌≤◌, Bool, true, false, None
 use Rattle.std.specs.List.{AllZip, list_any}
 use Rattle.adm_match.specs.Market.{Candidate, Market, assigned_rank, first_fault}
 use Rattle.adm_match.specs.Stability.{Allocation, IsStable, IsBest}
-use Rattle.adm_match.specs.AnyList.{MayHandIn}
+use Rattle.adm_match_laws.specs.AnyList.{MayHandIn}
 
 -- an entrant, and what it hands in: of the group any list of any schools, perhaps without its tenancy, and of the others their own
 pub record HandsIn (group : ℕ → Bool) (entrant now : Candidate) : Type 0 where

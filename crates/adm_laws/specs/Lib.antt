@@ -1,4 +1,5 @@
 pub mod Changed
+pub mod Sites
 pub mod Registers
 pub mod AfterCommand
 pub mod Raised

@@ -2,7 +2,7 @@
 use Rattle.std.specs.Prelude.{ℕ, List}
 use Rattle.adm_types.specs.declared.draws.Outcome.{Outcome}
 use Rattle.adm_match.specs.Stability.{Allocation}
-use Rattle.adm_match.specs.Generous.{IsNoWorse}
+use Rattle.adm_match_laws.specs.Generous.{IsNoWorse}
 use Rattle.adm_register.specs.State.{State}
 use Rattle.adm_commands.specs.Commands.Round.{round_market, AreOutcomes}
 

@@ -5,7 +5,7 @@ use Rattle.adm_types.specs.declared.rows.Application.{Application}
 use Rattle.adm_types.specs.declared.commands.Command.TheVariants.{RaisePan}
 use Rattle.adm_types.specs.declared.draws.Outcome.{Outcome}
 use Rattle.adm_types.specs.declared.draws.Lot.{Lot}
-use Rattle.adm_match.specs.Generous.{IsNoWorse}
+use Rattle.adm_match_laws.specs.Generous.{IsNoWorse}
 use Rattle.adm_round.specs.Round.{number_of, listed}
 use Rattle.adm_round.specs.Ranks.{lot_at}
 use Rattle.adm_register.specs.State.{State}

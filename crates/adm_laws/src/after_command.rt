@@ -4,7 +4,8 @@ ghost use Rattle.adm_match.specs.Stability.{school_of};
 ghost use Rattle.adm_laws.specs.AfterCommand.{by_refusal, by_lots, IsRoundAfter, IsNotOffered};
 ghost use Rattle.adm_laws.specs.declared.after_command.NotOffered.TheVariants.{Memory};
 
-use adm_commands::{DrawFault, NotDone, decide, problem};
+use adm_command_laws::decide;
+use adm_commands::{DrawFault, NotDone, problem};
 use adm_match::{Offers, offers};
 use adm_register::Register;
 use adm_types::{Command, Refusal};

@@ -2,12 +2,13 @@
 ghost use Rattle.std.specs.Prelude.{◌≡◌, ◌⊎◌, ◌==◌, if◌then◌else◌, take, map, IfOk, IfErr, Some};
 ghost use Rattle.adm_match.specs.Market.{market_of, first_fault};
 ghost use Rattle.adm_match.specs.Stability.{IsBest, school_of};
-ghost use Rattle.adm_match.specs.Generous.{cut_to, shortened};
+ghost use Rattle.adm_match_laws.specs.Generous.{cut_to, shortened};
 ghost use Rattle.adm_match.specs.declared.problem.BadProblem.TheVariants.{Memory};
 ghost use Rattle.adm_laws.specs.Changed.{NoLossCutTo, cut_entrant};
 
 use crate::copies::{same_entrant, same_seats};
-use adm_match::{BadProblem, Entrant, Offers, Problem, Seats, Wish, no_loss_by_cutting, offers};
+use adm_match::{BadProblem, Entrant, Offers, Problem, Seats, Wish, offers};
+use adm_match_laws::no_loss_by_cutting;
 use adm_types::ChildNo;
 use std::alloc::{AllocError, Global};
 

@@ -2,12 +2,13 @@
 ghost use Rattle.std.specs.Prelude.{◌≡◌, ◌⊎◌, ◌==◌, not, filter, IfOk, IfErr, Some};
 ghost use Rattle.adm_match.specs.Market.{market_of, first_fault};
 ghost use Rattle.adm_match.specs.Stability.{IsBest, school_of};
-ghost use Rattle.adm_match.specs.Generous.{without};
+ghost use Rattle.adm_match_laws.specs.Generous.{without};
 ghost use Rattle.adm_match.specs.declared.problem.BadProblem.TheVariants.{Memory};
 ghost use Rattle.adm_laws.specs.Changed.{NoLossWithout};
 
 use crate::copies::{same_entrant, same_seats};
-use adm_match::{BadProblem, Entrant, Offers, Problem, Seats, no_loss_by_leaving, offers};
+use adm_match::{BadProblem, Entrant, Offers, Problem, Seats, offers};
+use adm_match_laws::no_loss_by_leaving;
 use adm_types::ChildNo;
 use std::alloc::{AllocError, Global};
 

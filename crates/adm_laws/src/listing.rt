@@ -2,12 +2,13 @@
 ghost use Rattle.std.specs.Prelude.{◌≡◌, ◌⊎◌, ◌==◌, if◌then◌else◌, map, IfOk, IfErr, Some};
 ghost use Rattle.adm_match.specs.Market.{market_of, first_fault};
 ghost use Rattle.adm_match.specs.Stability.{IsBest, school_of};
-ghost use Rattle.adm_match.specs.AnyList.{handed_in, with_any_list};
+ghost use Rattle.adm_match_laws.specs.AnyList.{handed_in, with_any_list};
 ghost use Rattle.adm_match.specs.declared.problem.BadProblem.TheVariants.{Memory};
 ghost use Rattle.adm_laws.specs.Changed.{NoGainHandedIn, handed_entrant};
 
 use crate::copies::{same_entrant, same_seats, same_wishes};
-use adm_match::{BadProblem, Entrant, Offers, Problem, Seats, Wish, no_list_helps, offers};
+use adm_match::{BadProblem, Entrant, Offers, Problem, Seats, Wish, offers};
+use adm_match_laws::no_list_helps;
 use adm_types::{ChildNo, SchoolCode};
 use std::alloc::{AllocError, Global};
 

@@ -2,12 +2,13 @@
 ghost use Rattle.std.specs.Prelude.{◌≡◌, ◌⊎◌, map, IfOk, IfErr, Some};
 ghost use Rattle.adm_match.specs.Market.{market_of, first_fault};
 ghost use Rattle.adm_match.specs.Stability.{IsBest, school_of};
-ghost use Rattle.adm_match.specs.Generous.{with_seats};
+ghost use Rattle.adm_match_laws.specs.Generous.{with_seats};
 ghost use Rattle.adm_match.specs.declared.problem.BadProblem.TheVariants.{Memory};
 ghost use Rattle.adm_laws.specs.Changed.{with_quota, quotas_with, NoLossWithQuota};
 
 use crate::copies::same_entrants;
-use adm_match::{BadProblem, Entrant, Offers, Problem, Seats, no_loss_by_places, offers};
+use adm_match::{BadProblem, Entrant, Offers, Problem, Seats, offers};
+use adm_match_laws::no_loss_by_places;
 use adm_types::SchoolCode;
 use std::alloc::{AllocError, Global};
 

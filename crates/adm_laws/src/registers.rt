@@ -1,9 +1,10 @@
 // The laws of a register before a round: a raised admission number, and an application that ends earlier, hurt nobody.
 ghost use Rattle.adm_laws.specs.Registers.{NoLossByRaise, NoLossByShorterList};
 
-use adm_commands::round_is_posed;
-use adm_match::no_loss;
-use adm_round::{no_loss_by_quotas, posed_without_fault};
+use crate::quotas::no_loss_by_quotas;
+use adm_command_laws::round_is_posed;
+use adm_match_laws::no_loss;
+use adm_round::posed_without_fault;
 
 /// Raising an admission number before a round leaves no child worse off in it, by the same lots.
 pub fn no_loss_by_raise()

@@ -7,7 +7,8 @@ ghost use Rattle.adm_match.specs.declared.problem.BadProblem.TheVariants.{Memory
 ghost use Rattle.adm_laws.specs.Changed.{IsTakenAt};
 
 use crate::copies::{same_entrants, same_seats};
-use adm_match::{BadProblem, Entrant, Offers, Problem, Seats, offers, same_schools_fill};
+use adm_match::{BadProblem, Entrant, Offers, Problem, Seats, offers};
+use adm_match_laws::same_schools_fill;
 use adm_types::SchoolCode;
 use std::alloc::Global;
 

@@ -38,5 +38,5 @@ unfoldable pub report_lines : Draw → List (List ℕ)
 report_lines draw = report_head draw.round draw.number (day_text draw.day) ∷ (map outcome_text draw.outcomes ++ report_counts draw.outcomes ∷ [])
 
 -- the report of the round of a number, if there was one
-abbrev pub report_text : State → ℕ → Option (List ℕ)
-report_text s number = option_map (λ draw. lines_text (report_lines draw)) (round_of s number)
+abbrev pub round_text : State → ℕ → Option (List ℕ)
+round_text s number = option_map (λ draw. lines_text (report_lines draw)) (round_of s number)

@@ -1,6 +1,6 @@
 // Why there is no such letter, list, report or list of pairs.
 ghost use Rattle.std.specs.Prelude.{◌≡◌};
-ghost use Rattle.adm_letters.specs.declared.fault.TextFault.TheVariants.{Memory};
+ghost use Rattle.adm_letters.specs.declared.fault.LetterFault.TheVariants.{Memory};
 ghost use Rattle.adm_letters.specs.Answers.{text_fault_of};
 
 use adm_register::ListFault;
@@ -9,7 +9,7 @@ use thiserror::Error;
 
 /// Why there is no such text.
 #[derive(Clone, Copy, Debug, PartialEq, Eq, Error)]
-pub enum TextFault {
+pub enum LetterFault {
     /// There is no child of this number.
     #[error("UnknownChild")]
     UnknownChild = 1,
@@ -24,21 +24,21 @@ pub enum TextFault {
     Memory = 4,
 }
 
-impl From<AllocError> for TextFault {
+impl From<AllocError> for LetterFault {
     ghost from_gives = { λ _ fault. fault ≡ Memory };
 
-    fn from(_error: AllocError) -> TextFault {
-        TextFault::Memory
+    fn from(_error: AllocError) -> LetterFault {
+        LetterFault::Memory
     }
 }
 
-impl From<ListFault> for TextFault {
+impl From<ListFault> for LetterFault {
     ghost from_gives = { λ list fault. fault ≡ text_fault_of list };
 
-    fn from(fault: ListFault) -> TextFault {
+    fn from(fault: ListFault) -> LetterFault {
         match fault {
-            ListFault::UnknownSchool => TextFault::UnknownSchool,
-            ListFault::Memory => TextFault::Memory,
+            ListFault::UnknownSchool => LetterFault::UnknownSchool,
+            ListFault::Memory => LetterFault::Memory,
         }
     }
 }

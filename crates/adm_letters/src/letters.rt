@@ -2,13 +2,13 @@
 ghost use Rattle.std.specs.Prelude.{◌≡◌, IfOk, [], ◌∷◌, map, string_bytes};
 ghost use Rattle.adm_register.specs.Rows.{place_of};
 ghost use Rattle.adm_letters.specs.Answers.{GivesText};
-ghost use Rattle.adm_letters.specs.declared.fault.TextFault.TheVariants.{UnknownChild};
+ghost use Rattle.adm_letters.specs.declared.fault.LetterFault.TheVariants.{UnknownChild};
 ghost use Rattle.adm_letters.specs.Lines.{AddsLines, lines_text};
 ghost use Rattle.adm_letters.specs.Days.{day_text};
 ghost use Rattle.adm_letters.specs.LetterLines.{head_line, child_line, phase_text, reminded_line, withdrawal_line};
 ghost use Rattle.adm_letters.specs.Letters.{offer_lines, place_lines, school_name, lines_of_place, wait_line, lines_of_waits, letter_lines, letter_text};
 
-use crate::TextFault;
+use crate::LetterFault;
 use crate::days::day_text;
 use crate::letter_lines::{
     accepted_line, child_line, head_line, no_place, offered_line, phase_text, plan_line,
@@ -24,12 +24,12 @@ use std::alloc::{AllocError, Global};
 /// through once for all schools, and with those that list one of them.
 ///
 /// Where it is an error, there is no such child (`UnknownChild`), or memory ran out.
-pub fn letter(alloc: Global, register: &Register, child: ChildNo) -> Result<String, TextFault>
+pub fn letter(alloc: Global, register: &Register, child: ChildNo) -> Result<String, LetterFault>
     ensures { GivesText (letter_text register.now child) UnknownChild result }
 {
     match register.child(child) {
         Some(found) => Ok(letter_to(alloc, register, found)?),
-        None => Err(TextFault::UnknownChild),
+        None => Err(LetterFault::UnknownChild),
     }
 }
 

@@ -11,8 +11,8 @@ mod lists;
 mod pairs;
 mod reports;
 
-pub use fault::TextFault;
+pub use fault::LetterFault;
 pub use letters::letter;
 pub use lists::list_text;
 pub use pairs::pairs_text;
-pub use reports::report_text;
+pub use reports::round_text;

@@ -1,11 +1,11 @@
 // The waiting list of a school.
 ghost use Rattle.std.specs.Prelude.{◌≡◌, IfOk, [], ◌∷◌, map, string_bytes};
 ghost use Rattle.adm_letters.specs.Answers.{GivesText};
-ghost use Rattle.adm_letters.specs.declared.fault.TextFault.TheVariants.{UnknownSchool};
+ghost use Rattle.adm_letters.specs.declared.fault.LetterFault.TheVariants.{UnknownSchool};
 ghost use Rattle.adm_letters.specs.Lines.{AddsLines, lines_text};
 ghost use Rattle.adm_letters.specs.Lists.{list_head, columns, list_row, list_foot, list_lines, list_text};
 
-use crate::TextFault;
+use crate::LetterFault;
 use adm_register::Register;
 use adm_types::{School, SchoolCode};
 use adm_waiting::Waiting;
@@ -21,14 +21,14 @@ pub fn list_text(
     alloc: Global,
     register: &Register,
     school: SchoolCode,
-) -> Result<String, TextFault>
+) -> Result<String, LetterFault>
     ensures { GivesText (list_text register.now school) UnknownSchool result }
 {
     let waiting = register.waiting(alloc, school)?;
     let vacancies = register.vacancies(school).unwrap_or(0);
     match register.school(school) {
         Some(found) => Ok(list(alloc, found, &waiting, vacancies)?),
-        None => Err(TextFault::UnknownSchool),
+        None => Err(LetterFault::UnknownSchool),
     }
 }
 

@@ -3,11 +3,11 @@ ghost use Rattle.std.specs.Prelude.{◌≡◌, IfOk, [], ◌∷◌, map, string_
 ghost use Rattle.adm_commands.specs.Commands.Round.{round_pairs};
 ghost use Rattle.adm_commands.specs.Commands.Fill.{fill_pairs};
 ghost use Rattle.adm_letters.specs.Answers.{GivesText};
-ghost use Rattle.adm_letters.specs.declared.fault.TextFault.TheVariants.{UnknownSchool};
+ghost use Rattle.adm_letters.specs.declared.fault.LetterFault.TheVariants.{UnknownSchool};
 ghost use Rattle.adm_letters.specs.Lines.{AddsLines, lines_text};
 ghost use Rattle.adm_letters.specs.Pairs.{pair_line, pair_text, pairs_text};
 
-use crate::TextFault;
+use crate::LetterFault;
 use adm_commands::{fill_pairs, round_pairs};
 use adm_register::Register;
 use adm_round::Pair;
@@ -30,14 +30,14 @@ pub fn pairs_text(
     alloc: Global,
     register: &Register,
     school: Option<SchoolCode>,
-) -> Result<String, TextFault>
+) -> Result<String, LetterFault>
     ensures { GivesText (pairs_text register.now school) UnknownSchool result }
 {
     match school {
         None => Ok(of_round(alloc, register)?),
         Some(code) => match register.school(code) {
             Some(_) => Ok(of_fill(alloc, register, code)?),
-            None => Err(TextFault::UnknownSchool),
+            None => Err(LetterFault::UnknownSchool),
         },
     }
 }

@@ -1,12 +1,12 @@
 // The report of a round.
 ghost use Rattle.std.specs.Prelude.{◌≡◌, IfOk, [], ◌∷◌, map, string_bytes};
 ghost use Rattle.adm_letters.specs.Answers.{GivesText};
-ghost use Rattle.adm_letters.specs.declared.fault.TextFault.TheVariants.{NoRound};
+ghost use Rattle.adm_letters.specs.declared.fault.LetterFault.TheVariants.{NoRound};
 ghost use Rattle.adm_letters.specs.Lines.{AddsLines, lines_text};
 ghost use Rattle.adm_letters.specs.Days.{day_text};
-ghost use Rattle.adm_letters.specs.Reports.{report_head, outcome_line, outcome_text, report_foot, report_counts, report_lines, report_text};
+ghost use Rattle.adm_letters.specs.Reports.{report_head, outcome_line, outcome_text, report_foot, report_counts, report_lines, round_text};
 
-use crate::TextFault;
+use crate::LetterFault;
 use crate::days::day_text;
 use adm_register::Register;
 use adm_round::{Totals, counts};
@@ -19,12 +19,12 @@ use std::fmt::Write;
 /// takes memory for the text; what it costs grows with the draws and with the round's children.
 ///
 /// Where it is an error, there was no such round (`NoRound`), or memory ran out.
-pub fn report_text(alloc: Global, register: &Register, number: u32) -> Result<String, TextFault>
-    ensures { GivesText (report_text register.now number) NoRound result }
+pub fn round_text(alloc: Global, register: &Register, number: u32) -> Result<String, LetterFault>
+    ensures { GivesText (round_text register.now number) NoRound result }
 {
     match register.round(number) {
         Some(draw) => Ok(report(alloc, draw)?),
-        None => Err(TextFault::NoRound),
+        None => Err(LetterFault::NoRound),
     }
 }
 

@@ -114,17 +114,6 @@ gives_proposals m rows offers h is n =
     subst (λ (a : Allocation). offers.proposals ≡ proposals_of m a) (λ i child. sym (is child) i)
     (n ∙ reached_all m rows (found_in rows) h.distinct.well h.sound.shaped h.done (gives_by m rows h.distinct.children h.sound.shaped))
 
--- what the scan has settled, of the problem that the caller sees
-pub settled : (now : Market) (es es' : List Candidate) (ss ss' : List Seats) (rows : List Progress) → market_of es ss ≡ now → first_fault (market_of es ss) ≡ None
-    → es' ≡ es → ss' ≡ ss → Sound (market_of es' ss') rows → AllDone es' rows → Settled now rows
-settled now es es' ss ss' rows is ok e s h done =
-    let same : market_of es' ss' ≡ now = (λ i. market_of (e i) (s i)) ∙ is in
-    record {
-      distinct = distinct now (posed now (subst (λ (m : Market). first_fault m ≡ None) is ok));
-      sound = subst (λ (m : Market). Sound m rows) same h;
-      done = subst (λ (m : Market). AllDone m.entrants rows) same done;
-    }
-
 -- the same of a result that may want for memory
 pub best_if : {E : Type 0} (m : Market) (rows : List Progress) (result : Result Allotment E) → Settled m rows → IfOk result (IsGiven rows) → IfOk result (λ offers. IsBest m (school_of offers))
 best_if m rows (Ok offers) h is = gives_best m rows offers h is

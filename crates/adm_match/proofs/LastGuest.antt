@@ -1,12 +1,12 @@
 -- The guest that ranks last among those before an index.
-use Rattle.std.proofs.Common.{◌≡◌, ◌≢◌, ◌&&◌, not, length, IfSome, IfNone, ℕ, ◌+◌, ◌<◌, ◌≤◌, List, Option, None, Some, true, false, MatchOption, inl, inr, refl, sym, ap, ◌∙◌, subst, arith}
+use Rattle.std.proofs.Common.{◌≡◌, ◌≢◌, ◌&&◌, not, ℕ, ◌+◌, ◌<◌, ◌≤◌, List, Some, true, false, inl, inr, refl, sym, ap, ◌∙◌, subst, arith}
 use Rattle.std.specs.List.{slice_get}
 use Rattle.std.proofs.lemmas.Bool.{cases_lt, cases_eq, and_parts, and_from, not-true, not_from_false, false≢true}
-use Rattle.std.proofs.lemmas.Option.{same_Some, slice_get_within}
+use Rattle.std.proofs.lemmas.Option.{same_Some}
 use Rattle.adm_types.specs.Code.{has}
 use Rattle.adm_match.specs.declared.progress.Progress.{Progress}
 use Rattle.adm_match.specs.Market.{Code, Candidate, is_tenant, ranks_before}
-use Rattle.adm_match.specs.Turns.{IsGuestAt, AreRanked, IsLast, NoGuest}
+use Rattle.adm_match.specs.Turns.{IsGuestAt, AreRanked}
 use Rattle.adm_match.proofs.RanksAndBlocks.{has_tells, has_true, ranks_before_trans}
 
 -- the school has no guest before the index i
@@ -95,14 +95,3 @@ no_guest_at entrants rows s i e r ei ri h d g =
     let here : r.school ≡ Some s = subst (λ (x : Progress). x.school ≡ Some s) r_is g.1.2 in
     let free : is_tenant e s ≡ false = subst (λ (x : Candidate). is_tenant x s ≡ false) d_is g.2 in
     false≢true (sym h ∙ and_from (has r.school s) (not (is_tenant e s)) (has_true r.school s here) (not_from_false (is_tenant e s) free))
-
--- below the length is everywhere
-pub last_all : (entrants : List Candidate) (rows : List Progress) (s : Code) (i : ℕ) (o : Option ℕ) → length entrants ≤ i
-    → MatchOption o (NoGuestBelow entrants rows s i) (IsLastBelow entrants rows s i) → IfSome o (λ k. IsLast entrants rows s k)
-last_all entrants rows s i None far h = tt
-last_all entrants rows s i (Some k) far h = (h.0, h.2, λ l c apart g. h.3 l c (omega (arith, far, slice_get_within entrants l c g.0)) apart g)
-
-pub none_all : (entrants : List Candidate) (rows : List Progress) (s : Code) (i : ℕ) (o : Option ℕ) → length entrants ≤ i
-    → MatchOption o (NoGuestBelow entrants rows s i) (IsLastBelow entrants rows s i) → IfNone o (NoGuest entrants rows s)
-none_all entrants rows s i None far h = λ k e g. h k e (omega (arith, far, slice_get_within entrants k e g.0)) g
-none_all entrants rows s i (Some k) far h = tt

@@ -8,19 +8,15 @@ pub mod Posed
 pub mod Turn
 pub mod Offered
 pub mod GivenByRows
-pub mod FirstBlock
+pub mod FoundWishes
 pub mod Distinct
 pub mod Existence
 pub mod Placed
 pub mod Moved
 pub mod Beginning
 pub mod NoGain
-pub mod Generous
 pub mod Relisted
-pub mod FullSchools
-pub mod AnyList
 pub mod Heap
-mod HeldChildren
 pub mod Mirror
 pub mod DirectoryLemmas
 pub mod PlaceLemmas

@@ -11,7 +11,7 @@ use Rattle.adm_match.specs.Market.{Code, Candidate, Market, preference_rank, ass
 use Rattle.adm_match.specs.Stability.{Allocation, prefers, blocks, IsContent, IsStable, IsBest}
 use Rattle.adm_match.proofs.RanksAndBlocks.{at_All, wish_at_rank}
 use Rattle.adm_match.proofs.Beginning.{rank_take, key_take, rank_taken, at_take}
-use Rattle.adm_match.proofs.FirstBlock.{rank_within}
+use Rattle.adm_match.proofs.FoundWishes.{rank_within}
 use Rattle.adm_match.specs.Distinct.{Distinct}
 use Rattle.adm_match.proofs.Existence.{best_exists}
 use Rattle.adm_match.specs.Distinct.{Seated}

@@ -110,24 +110,6 @@ ranked_by m h s k l d c j i w z less dk cl jw iz ws zs free free' =
     let apart = keys_apart d c j w none jw (subst (λ (t : Code). is_tenant d t ≡ false) (sym ws) free) (subst (λ (t : Code). is_tenant c t ≡ false) (sym ws) free') in
     (d_key, c_key, subst (λ o. is_key o w.key ≡ false) (ap (key_at c.list) ws ∙ c_key) apart)
 
-pub are_ranked : (m : Market) (rows : List Progress) (s : Code) → Posed m → Shaped m rows → AreRanked m.entrants rows s
-are_ranked m rows s h shaped k l d c apart gd gc before =
-    let w = held_wish d gd.1.0 s (shaped.holds k d gd.1.0 gd.0 gd.1.1) gd.1.2 in
-    let z = held_wish c gc.1.0 s (shaped.holds l c gc.1.0 gc.0 gc.1.1) gc.1.2 in
-    elim (cases_order k l) [
-      | inl same ↦ absurd (apart same)
-      | inr other ↦ elim other [
-        | inl less ↦
-            let f = ranked_by m h s k l d c gd.1.0.rejections gc.1.0.rejections w.0 z.0 less gd.0 gc.0 w.1 z.1 w.2 z.2 gd.2 gc.2 in
-            let was : precedes w.0.key z.0.key ≡ false = sym (λ i. both_precede (f.0 i) (f.1 i)) ∙ before in
-            (λ i. both_precede (f.1 i) (f.0 i)) ∙ precedes_total z.0.key w.0.key f.2 was
-        | inr more ↦
-            let f = ranked_by m h s l k c d gc.1.0.rejections gd.1.0.rejections z.0 w.0 more gc.0 gd.0 z.1 w.1 z.2 w.2 gc.2 gd.2 in
-            let was : precedes w.0.key z.0.key ≡ false = sym (λ i. both_precede (f.1 i) (f.0 i)) ∙ before in
-            (λ i. both_precede (f.0 i) (f.1 i)) ∙ precedes_total' w.0.key z.0.key f.2 was
-      ]
-    ]
-
 -- a child is at one index
 pub child_once : (m : Market) → Posed m → (i j : ℕ) (d e : Candidate) → slice_get m.entrants i ≡ Some d → slice_get m.entrants j ≡ Some e → i < j → d.child ≡ e.child → ⊥
 child_once m h i j d e di ej less same =

@@ -1,6 +1,6 @@
 -- The problem in which one child hands in another list, and the laws of stable allocations.
 use Rattle.std.proofs.Common.{◌≡◌, ℕ, ◌+◌, ◌<◌, ◌≤◌, List, [], ◌∷◌, ◌++◌, length, map, Option, None, Some, true, false, cond, not, inl, inr, refl, sym, ap, ◌∙◌, subst, arith}
-use Rattle.std.specs.Prelude.{is_some, bytes_eq, option_map, find, ◌==◌}
+use Rattle.std.specs.Prelude.{bytes_eq, option_map, find, ◌==◌}
 use Rattle.std.specs.List.{slice_get, list_any, cons_option}
 use Rattle.std.specs.Option.{option_to_list}
 use Rattle.std.proofs.lemmas.Bool.{cases_Bool, cases_order, or_parts, not-false, eq-eqb, eqb-true}
@@ -10,15 +10,15 @@ use Rattle.std.proofs.lemmas.Slice.Eq.{bytes_eq-Decides}
 use Rattle.adm_match.specs.declared.problem.Wish.{Wish}
 use Rattle.adm_match.specs.Market.{Code, Candidate, Market, preference_rank, assigned_rank, is_tenant, key_at, is_not_last, some_pair, same_code, same_school}
 use Rattle.adm_match.specs.Stability.{Allocation, IsStable}
-use Rattle.adm_match.specs.Relisting.{wishes_among, with_list, relisted, NoGain, SamePlaced, OneBest}
+use Rattle.adm_match.specs.Relisting.{wishes_among, with_list, relisted, NoGain}
 use Rattle.adm_match.proofs.RanksAndBlocks.{has_tells, at_All, All_at, same_rank, wish_at_rank}
-use Rattle.adm_match.proofs.FirstBlock.{found_at, rank_upto}
+use Rattle.adm_match.proofs.FoundWishes.{found_at, rank_upto}
 use Rattle.adm_match.proofs.Posed.{Posed, posed, list_any_not}
 use Rattle.adm_match.specs.Distinct.{Distinct}
 use Rattle.adm_match.proofs.Distinct.{distinct}
 use Rattle.adm_match.proofs.Existence.{best_exists}
 use Rattle.adm_match.specs.Distinct.{Seated}
-use Rattle.adm_match.proofs.Placed.{same_placed, on_list}
+use Rattle.adm_match.proofs.Placed.{on_list}
 use Rattle.adm_match.proofs.Moved.{Differs}
 use Rattle.adm_match.proofs.NoGain.{Listing, no_gain}
 
@@ -107,30 +107,3 @@ no_gain_law m child schools best other ok b o =
     (differs_relisted m schools k e (distinct m h) ek) (listing e schools) (distinct m h) (seated m h) (tenant_last m h k e ek) b
     (subst (λ n. IsStable (relisted m n schools) other) (sym is) o.stable) in
     subst (λ n. assigned_rank e.list (best n) ≤ assigned_rank e.list (other n)) is gain)
-
-pub same_placed_law : SamePlaced
-same_placed_law m a other ok h g =
-    let p = posed m ok in
-    let best = best_exists m (distinct m p) in
-    All_at (λ e. is_some (a e.child) ≡ true → is_some (other e.child) ≡ true) m.entrants
-    (λ k e ek t. same_placed m best.0 a other (seated m p) best.1 h g k e ek t)
-
-pub one_best_law : OneBest
-one_best_law m ok =
-    let best = best_exists m (distinct m (posed m ok)) in (
-      best.0,
-      best.1,
-      λ other o. All_at (λ e. best.0 e.child ≡ other e.child) m.entrants (λ k e ek.
-          let there = at_All (λ e. assigned_rank e.list (best.0 e.child) ≤ assigned_rank e.list (other e.child)) m.entrants k e (best.1.none_better other o.stable) ek in
-          let back = at_All (λ e. assigned_rank e.list (other e.child) ≤ assigned_rank e.list (best.0 e.child)) m.entrants k e (o.none_better best.0 best.1.stable) ek in
-          let same : assigned_rank e.list (other e.child) ≡ assigned_rank e.list (best.0 e.child) = omega (arith, there, back) in
-          same_thing m best.0 other k e (best.0 e.child) (other e.child) refl refl best.1.stable o.stable ek same),
-    )
-  where
-    same_thing : (m : Market) (a b : Allocation) (k : ℕ) (e : Candidate) (o p : Option Code) → a e.child ≡ o → b e.child ≡ p → IsStable m a → IsStable m b
-        → slice_get m.entrants k ≡ Some e → assigned_rank e.list p ≡ assigned_rank e.list o → o ≡ p
-    same_thing m a b k e None None ao bp h g ek same = refl
-    same_thing m a b k e None (Some t) ao bp h g ek same = absurd (omega (arith, same, on_list m b k e t g.acceptable ek bp))
-    same_thing m a b k e (Some s) p ao bp h g ek same =
-        let w = wish_at_rank e.list s (on_list m a k e s h.acceptable ek ao) in
-        ap Some (sym w.2) ∙ sym (same_rank e.list p (preference_rank e.list s) w.0 w.1 same)

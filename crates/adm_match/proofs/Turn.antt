@@ -70,16 +70,6 @@ starts m =
       none_lost = λ o wide a stable k e r ek rk. omega (arith, ap (λ (x : Progress). x.rejections) (row k e r ek rk));
     }
 
--- the wish that the code reads is the next one
-pub next_wish : (es : List Candidate) (rows : List Progress) (i : ℕ) (free : IsFree es rows i) (e : Candidate) (items : List Wish) (row : Progress) (w : Wish)
-    → e ≡ get_or es i e → items ≡ e.list → w ≡ get_or items (get_or rows i row).rejections w → slice_get free.0.list free.1.rejections ≡ Some w
-next_wish es rows i free e items row w e_is list_is w_is =
-    let e_same : e ≡ free.0 = e_is ∙ get_or_from_slice_get es i free.0 e free.2 in
-    let row_same : get_or rows i row ≡ free.1 = get_or_from_slice_get rows i free.1 row free.3 in
-    let items_same : items ≡ free.0.list = list_is ∙ ap (λ (x : Candidate). x.list) e_same in
-    let read : w ≡ get_or free.0.list free.1.rejections w = w_is ∙ (λ j. get_or (items_same j) (row_same j).rejections w) in
-    slice_get_read free.0.list (length free.0.list) free.1.rejections w refl free.5 read
-
 -- the entrant proposes to the school of its next wish
 pub came : (m : Market) (rows now : List Progress) (i : ℕ) (w : Wish) (free : IsFree m.entrants rows i) → Sound m rows → slice_get free.0.list free.1.rejections ≡ Some w
     → now ≡ set rows i (held_by free.1 w.school) → Arrived m now i w.school × (turns_left m.entrants now + 1 ≡ turns_left m.entrants rows)
@@ -87,15 +77,6 @@ came m rows now i w free h next now_is = (
   subst (λ (x : List Progress). Arrived m x i w.school) (sym now_is) (arrive m rows i free.0 free.1 w h free.2 free.3 free.4 next),
   ap (λ (x : List Progress). turns_left m.entrants x + 1) now_is ∙ turns_left_arrive m rows i free.1 w.school h.shaped free.3 free.4,
 )
-
--- the guest that ranks last leaves
-pub left_school : (m : Market) (rows now : List Progress) (i : ℕ) (s : Code) (k : ℕ) (last : IsLast m.entrants rows s k) → first_fault m ≡ None → Arrived m rows i s
-    → quota_of m.seats s < held_at rows s → now ≡ set rows k (with_rejection last.1.1.0) → Sound m now × (turns_left m.entrants now ≡ turns_left m.entrants rows)
-left_school m rows now i s k last ok h over now_is =
-    let g = last.1 in (
-      subst (λ (x : List Progress). Sound m x) (sym now_is) (leave m rows i s k last.0 g.1.0 (well_listed m (posed m ok)) h g.0 g.1.1 g.1.2 g.2 over last.2),
-      ap (λ (x : List Progress). turns_left m.entrants x) now_is ∙ turns_left_leave m rows k g.1.0 s g.1.1 g.1.2,
-    )
 
 -- the guest that ranks last has the school on its list
 pub last_listed : (m : Market) (rows : List Progress) (s : Code) (k : ℕ) (last : IsLast m.entrants rows s k) → Shaped m rows → (e : Candidate) (row : Progress)

@@ -20,7 +20,7 @@ use Rattle.adm_match.specs.Market.{Code, Candidate, Market, market_of, is_tenant
 use Rattle.adm_match.specs.Stability.{Allotment, IsBest, school_of}
 use Rattle.adm_match.specs.Distinct.{Distinct, Seated}
 use Rattle.adm_match.specs.Relisting.{wishes_among, with_list, relist, relisted, is_wanted, may_list, list_fault, what_if_fault, IsWhatIf, IsNoGain}
-use Rattle.adm_match.proofs.FirstBlock.{found_at}
+use Rattle.adm_match.proofs.FoundWishes.{found_at}
 use Rattle.adm_match.proofs.Posed.{posed, rank_is, key_is}
 use Rattle.adm_match.proofs.Distinct.{distinct}
 use Rattle.adm_match.proofs.NoGain.{Part, part_distinct, part_seated}

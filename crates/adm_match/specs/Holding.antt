@@ -4,7 +4,6 @@ use Rattle.std.specs.Ordering.{nat_cmp, ordering_then}
 use Rattle.std.specs.Option.{option_to_list}
 use Rattle.std.specs.declared.cmp.Ordering.{Ordering}
 use Rattle.adm_types.specs.Code.{has}
-use Rattle.adm_types.specs.Numbers.{highest_child}
 use Rattle.adm_rank.specs.declared.keys.RankKey.{RankKey}
 use Rattle.adm_match.specs.declared.held.Guest.{Guest}
 use Rattle.adm_match.specs.declared.problem.Seats.{Seats}
@@ -95,10 +94,6 @@ guests_of = guests_from 0
 -- the same guests, as often: every test passes as often on the one side as on the other
 abbrev pub SameBag : List Guest → List Guest → Type 0
 SameBag xs ys = (p : Guest → Bool) → count_by p xs ≡ count_by p ys
-
--- the guest is known by the number of a child
-abbrev pub IsChild : Guest → Type 0
-IsChild guest = (1 ≤ guest.child) × (guest.child ≤ highest_child)
 
 -- what a school holds before anybody comes
 abbrev pub nobody_held : Seats → Holding

@@ -1,13 +1,9 @@
 pub mod Market
 pub mod Stability
-pub mod Generous
 pub mod Turns
 pub mod Distinct
-pub mod Blocks
 pub mod Relisting
 pub mod Holding
 pub mod Places
 pub mod Queue
 pub mod Claims
-pub mod FullSchools
-pub mod AnyList

@@ -1,5 +1,5 @@
 -- A problem in which one child lists its wanted schools in another order, or leaves some out (this profile).
-use Rattle.std.specs.Prelude.{◌≡◌, ℕ, ◌≤◌, Bool, true, not, ◌&&◌, ◌==◌, if◌then◌else◌, List, ◌++◌, map, Option, None, Some, is_some, All, bytes_eq, find}
+use Rattle.std.specs.Prelude.{◌≡◌, ℕ, ◌≤◌, Bool, true, not, ◌&&◌, ◌==◌, if◌then◌else◌, List, ◌++◌, map, Option, None, Some, All, bytes_eq, find}
 use Rattle.std.specs.List.{filter_map, list_any, list_all}
 use Rattle.std.specs.Option.{option_to_list}
 use Rattle.adm_match.specs.declared.problem.Wish.{Wish}
@@ -31,13 +31,6 @@ NoGain =
     (m : Market) (child : ℕ) (schools : List Code) (best other : Allocation)
     → first_fault m ≡ None → IsBest m best → IsBest (relisted m child schools) other
     → All (λ entrant. entrant.child ≡ child → assigned_rank entrant.list (best child) ≤ assigned_rank entrant.list (other child)) m.entrants
-
--- All stable allocations of a problem place the same children.
-abbrev pub SamePlaced : Type 0
-SamePlaced =
-    (m : Market) (a other : Allocation)
-    → first_fault m ≡ None → IsStable m a → IsStable m other
-    → All (λ entrant. is_some (a entrant.child) ≡ true → is_some (other entrant.child) ≡ true) m.entrants
 
 -- Each problem has a best allocation, and no two that differ for an entrant.
 abbrev pub OneBest : Type 0

@@ -4,7 +4,6 @@ ghost use Rattle.std.specs.BinaryHeap.{heap_items, IsHeap};
 ghost use Rattle.adm_match.specs.Holding.{Holding, Considers, ConsidersAt, RanksLast, guest_cmp};
 
 use adm_rank::RankKey;
-use adm_types::ChildNo;
 use std::alloc::{AllocError, Global};
 use std::collections::BinaryHeap;
 use std::marker::Model;
@@ -54,7 +53,7 @@ impl HeldByIndex {
     ghost use Rattle.adm_match.specs.Holding.{holding_of};
 
     /// Holds nobody. It takes no memory.
-    pub(crate) fn new(alloc: Global, quota: u32) -> HeldByIndex
+    pub fn new(alloc: Global, quota: u32) -> HeldByIndex
         ensures { result ≡ holding_of quota [] [] }
     {
         HeldByIndex {
@@ -64,8 +63,9 @@ impl HeldByIndex {
         }
     }
 
-    /// Considers the proposal of the child at the index, as `Held::consider` does.
-    pub(crate) fn consider(
+    /// Considers the proposal of the child at the index: it is held too. Where more than the quota are
+    /// then held and some of them is no tenant, the guest that ranks last is rejected, and is the answer.
+    pub fn consider(
         &mut self,
         child: usize,
         key: RankKey,
@@ -83,55 +83,6 @@ impl HeldByIndex {
             return Ok(None);
         }
         Ok(pop_last(&mut self.guests))
-    }
-}
-
-/// Whom a school tentatively holds, each by its number.
-#[derive(Drop)]
-pub struct Held {
-    held: HeldByIndex,
-}
-
-impl Model for Held {
-    ghost use Rattle.std.specs.Prelude.{All};
-    ghost use Rattle.adm_match.specs.Holding.{Holding, IsChild};
-
-    ghost Value = { Holding };
-
-    ghost view = { λ k. k.held };
-
-    ghost invariant = { λ k. All IsChild k.held.guests };
-}
-
-impl Held {
-    ghost use Rattle.adm_match.specs.Holding.{holding_of};
-
-    /// Holds nobody. It takes no memory.
-    pub fn new(alloc: Global, quota: u32) -> Held
-        ensures { result ≡ holding_of quota [] [] }
-    {
-        Held {
-            held: HeldByIndex::new(alloc, quota),
-        }
-    }
-
-    /// Considers the child's proposal: it is held too. Where more than the quota are then held and
-    /// some of them is no tenant, the guest that ranks last is rejected, and is the answer.
-    pub fn consider(
-        &mut self,
-        child: ChildNo,
-        key: RankKey,
-        tenant: bool,
-    ) -> Result<Option<ChildNo>, AllocError>
-        ensures ok { IfOk result (Considers self.old self.new (record { child = child; key = key; tenant = tenant })) }
-        // After an error it holds whom it held.
-        ensures err { OnErr result (self.new ≡ self.old) }
-    {
-        let out = self.held.consider(child.get() as usize, key, tenant)?;
-        let Some(number) = out else {
-            return Ok(None);
-        };
-        Ok(ChildNo::new(number as u32))
     }
 }
 

@@ -1,7 +1,6 @@
 // Problems of allocation: entrants with their lists, and the seats of the schools.
 ghost use Rattle.std.specs.Prelude.{◌≡◌, bytes_eq};
 ghost use Rattle.std.specs.List.{position};
-ghost use Rattle.adm_match.specs.Market.{quota_of};
 
 use crate::faults::first_fault;
 use crate::places::{Places, places_of};
@@ -36,7 +35,7 @@ impl Model for Entrant {
 }
 
 impl Entrant {
-    ghost use Rattle.adm_match.specs.Market.{preference_rank, assigned_rank, is_tenant, key_at, ranks_before};
+    ghost use Rattle.adm_match.specs.Market.{preference_rank, is_tenant};
 
     fn position(&self, school: SchoolCode) -> Option<usize>
         ensures { result ≡ position (λ wish. bytes_eq wish.school school) self.now.list }
@@ -46,50 +45,19 @@ impl Entrant {
 
     /// The rank of the school among the child's preferences: its index on the list, or the list's
     /// length where it is not on it.
-    pub(crate) fn preference_rank(&self, school: SchoolCode) -> usize
+    pub fn preference_rank(&self, school: SchoolCode) -> usize
         ensures { result ≡ preference_rank self.now.list school }
     {
         self.position(school).unwrap_or(self.list.len())
     }
 
-    /// The rank among the child's preferences of what it is assigned: none comes after every
-    /// school.
-    pub(crate) fn assigned_rank(&self, school: Option<SchoolCode>) -> usize
-        ensures { result ≡ assigned_rank self.now.list school }
-    {
-        match school {
-            Some(school) => self.preference_rank(school),
-            None => self.list.len(),
-        }
-    }
-
     /// Whether the child is a tenant of the school.
-    pub(crate) fn is_tenant_of(&self, school: SchoolCode) -> bool
+    pub fn is_tenant_of(&self, school: SchoolCode) -> bool
         ensures { result ≡ is_tenant self.now school }
     {
         match self.tenant {
             Some(home) => home == school,
             None => false,
-        }
-    }
-
-    /// The key by which the child ranks at the school, if its list names it.
-    pub(crate) fn key_at(&self, school: SchoolCode) -> Option<RankKey>
-        ensures { result ≡ key_at self.now.list school }
-    {
-        self.list
-            .iter()
-            .find(|wish| wish.school == school)
-            .map(|wish| wish.key)
-    }
-
-    /// Whether this child ranks before the other one at the school, by their keys there.
-    pub(crate) fn ranks_before(&self, other: &Entrant, school: SchoolCode) -> bool
-        ensures { result ≡ ranks_before school self.now other.now }
-    {
-        match (self.key_at(school), other.key_at(school)) {
-            (Some(one), Some(another)) => one < another,
-            _ => false,
         }
     }
 }
@@ -185,15 +153,19 @@ impl Problem {
             places,
         })
     }
-}
 
-/// The quota of a school.
-pub(crate) fn quota_of(seats: &[Seats], school: SchoolCode) -> u32
-    ensures { result ≡ quota_of seats.now school }
-{
-    seats
-        .iter()
-        .find(|seat| seat.code == school)
-        .map(|seat| seat.quota)
-        .unwrap_or(0)
+    /// The entrants, in the order in which they were given.
+    pub fn entrants(&self) -> &[Entrant]
+        ensures value { result.now ≡ self.now.entrants }
+        ensures faultless { first_fault self.now ≡ None }
+    {
+        &self.entrants
+    }
+
+    /// The seats, in the order in which they were given.
+    pub fn seats(&self) -> &[Seats]
+        ensures { result.now ≡ self.now.seats }
+    {
+        &self.seats
+    }
 }

@@ -1,6 +1,5 @@
 // The state of the entrants between two turns, and what their rows give.
 ghost use Rattle.std.specs.Prelude.{◌≡◌, ◌<◌, IfOk, Some, length, map, ℕ, slice_get, slice_set, sum_by, ◌^◌};
-ghost use Rattle.adm_types.specs.Code.{has};
 ghost use Rattle.adm_match.specs.Turns.{start_of, held_by, with_rejection, reached};
 
 use crate::problem::Entrant;
@@ -14,17 +13,6 @@ pub struct Progress {
     pub child: ChildNo,
     pub school: Option<SchoolCode>,
     pub rejections: usize,
-}
-
-impl Progress {
-    pub(crate) fn is_at(&self, school: SchoolCode) -> bool
-        ensures { result ≡ has self.now.school school }
-    {
-        match self.school {
-            Some(other) => other == school,
-            None => false,
-        }
-    }
 }
 
 /// Every entrant before the first turn.

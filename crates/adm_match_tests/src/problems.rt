@@ -1,7 +1,6 @@
 // Problems, from short tables.
-use adm_match::{
-    BadProblem, Entrant, Offers, Problem, Seats, Wish, first_block, offers, offers_by_scan,
-};
+use adm_match::{BadProblem, Entrant, Offers, Problem, Seats, Wish, offers};
+use adm_match_laws::{first_block, offers_by_scan};
 use adm_rank::RankKey;
 use adm_types::{ChildNo, SchoolCode};
 use std::alloc::Global;

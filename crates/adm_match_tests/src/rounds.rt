@@ -1,6 +1,7 @@
 // Rounds: who gets which school.
 use crate::problems::{Table, allot, child, code, has, has_none, problem};
-use adm_match::{Held, first_block, offers};
+use adm_match::offers;
+use adm_match_laws::{Kept, first_block};
 use adm_rank::RankKey;
 use std::test::Fail;
 
@@ -148,9 +149,9 @@ fn a_full_school_rejects_the_one_that_ranks_last(rt: HostRuntime) -> Result<(), 
         distance: 5,
         lot: 2,
     };
-    let mut held = Held::new(rt.alloc(), 1);
-    assert!(rt; held.consider(child(1)?, far, false)?.is_none());
-    assert!(rt; held.consider(child(2)?, near, false)? == Some(child(1)?));
-    assert!(rt; held.consider(child(3)?, far, true)? == Some(child(2)?));
+    let mut held = Kept::new(rt.alloc(), 1);
+    assert!(rt; held.take(child(1)?, far, false)?.is_none());
+    assert!(rt; held.take(child(2)?, near, false)? == Some(child(1)?));
+    assert!(rt; held.take(child(3)?, far, true)? == Some(child(2)?));
     Ok(())
 }

@@ -10,8 +10,8 @@ use Rattle.adm_types.specs.Seasons.{SeasonFacts, IsRising}
 use Rattle.adm_types.specs.declared.seasons.Phase.{Phase}
 use Rattle.adm_words.specs.declared.actions.Action.{Action}
 use Rattle.adm_words.specs.declared.actions.Action.TheVariants as action
-use Rattle.adm_words.specs.declared.faults.ArgumentsFault.{ArgumentsFault}
-use Rattle.adm_words.specs.declared.faults.ArgumentsFault.TheVariants as arguments
+use Rattle.adm_words.specs.declared.faults.WordsFault.{WordsFault}
+use Rattle.adm_words.specs.declared.faults.WordsFault.TheVariants as arguments
 use Rattle.sqlite.specs.Files.{file_state}
 use Rattle.sqlite.specs.Held.{Held}
 use Rattle.adm_desk.specs.Lines.{AnswersLine}
@@ -109,7 +109,7 @@ unmade (action.RoundReport file round) = inr refl
 unmade (action.Pairs file school) = inr refl
 
 -- arguments that are a usage error
-pub refused : (fault : ArgumentsFault) → ExitsBy (Err fault) (exit_code (exit_of_arguments fault))
+pub refused : (fault : WordsFault) → ExitsBy (Err fault) (exit_code (exit_of_arguments fault))
 refused (arguments.Usage e) = refl
 refused arguments.BadDate = refl
 refused arguments.BadWord = refl

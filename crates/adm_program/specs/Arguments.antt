@@ -10,7 +10,7 @@ use Rattle.sqlite_store.specs.declared.store.FileStore.{FileStore}
 use Rattle.sqlite.specs.declared.error.Error.{Error}
 use Rattle.adm_words.specs.Lines.{ReadsArguments}
 use Rattle.adm_words.specs.declared.actions.Action.{Action}
-use Rattle.adm_words.specs.declared.faults.ArgumentsFault.{ArgumentsFault}
+use Rattle.adm_words.specs.declared.faults.WordsFault.{WordsFault}
 use Rattle.adm_host.specs.Exits.{has_many_holidays, IsCauseIn, ending_of, error_of, exit_of_result, exit_code, exit_of_arguments, fault_line}
 use Rattle.adm_wire.specs.Streams.{Stream}
 use Rattle.adm_host.specs.Reports.{ReportsText, ReportsOutcome, ReportsArguments}
@@ -34,7 +34,7 @@ pub record ActionFails (action : Action) (input output errors : Stream) (status 
   pub exits : status ≡ 1
 
 -- the arguments are a usage error, or could not be read because memory ran out, which is reported; nothing was read or written
-pub record IsUsageError (fault : ArgumentsFault) (input output errors : Stream) (status : ℕ) : Type 0 where
+pub record IsUsageError (fault : WordsFault) (input output errors : Stream) (status : ℕ) : Type 0 where
   pub unread : input.new ≡ input.old
   pub unwritten : output.new ≡ output.old
   pub reported : ReportsArguments fault errors
@@ -51,12 +51,12 @@ module _ {D : Type 0} (g : disk.Ghosts D) where
     pub exits : status ≡ exit_code (exit_of_result (ending_of ended (error_of closed)))
 
   -- what follows from the arguments, by what they were read as
-  abbrev pub FollowsFrom : Image → Result Action ArgumentsFault → (List ℕ → Stream) → Stream → Stream → Stream → ℕ → Type 0
+  abbrev pub FollowsFrom : Image → Result Action WordsFault → (List ℕ → Stream) → Stream → Stream → Stream → ℕ → Type 0
   FollowsFrom image (Ok action) rows input output errors status = Acts image action rows input output errors status ⊎ ActionFails action input output errors status
   FollowsFrom image (Err fault) rows input output errors status = IsUsageError fault input output errors status
 
   -- the arguments are read, and this follows from them, over files that held what the start says
   pub record ActsOn {S : Type 0} (first : start.Ghosts S) (arguments : List (Bor (List ℕ))) (rows : List ℕ → Stream) (input output errors : Stream) (status : ℕ) : Type 0 where
-    pub read : Result Action ArgumentsFault
+    pub read : Result Action WordsFault
     pub reads : ReadsArguments (texts arguments) read
     pub follows : FollowsFrom (image_at first) read rows input output errors status

@@ -6,7 +6,7 @@ use Rattle.adm_http.specs.declared.serve.ServeFault.{ServeFault}
 use Rattle.adm_words.specs.Lines.{ReadsArguments}
 use Rattle.adm_words.specs.declared.actions.Action.{Action}
 use Rattle.adm_words.specs.declared.actions.Action.TheVariants as action
-use Rattle.adm_words.specs.declared.faults.ArgumentsFault.{ArgumentsFault}
+use Rattle.adm_words.specs.declared.faults.WordsFault.{WordsFault}
 
 -- what is printed of one: that it could not be accepted, or its error
 abbrev pub IsConnectionLine : List ℕ → Type 0
@@ -17,10 +17,10 @@ abbrev pub PrintsConnections : Errors → Errors → Type 0
 PrintsConnections old new = (lines : List (List ℕ)) × AllByRecursion IsConnectionLine lines × Prints old new (flat_map (λ line. line) lines)
 
 -- the others print nothing there
-abbrev pub LogsBy : Result Action ArgumentsFault → Errors → Errors → Type 0
+abbrev pub LogsBy : Result Action WordsFault → Errors → Errors → Type 0
 LogsBy (Ok (action.Serve file port count)) old new = PrintsConnections old new
 LogsBy read old new = new ≡ old
 
 -- the same by the arguments, as they are read
 abbrev pub Logs : List (List ℕ) → Errors → Errors → Type 0
-Logs given old new = (read : Result Action ArgumentsFault) × ReadsArguments given read × LogsBy read old new
+Logs given old new = (read : Result Action WordsFault) × ReadsArguments given read × LogsBy read old new

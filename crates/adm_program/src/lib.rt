@@ -4,4 +4,4 @@
 mod run;
 mod serving;
 
-pub use run::run_arguments;
+pub use run::run_words;

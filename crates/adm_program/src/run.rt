@@ -27,7 +27,7 @@ use sqlite_disk::Disk;
 /// line was refused, invalid or ran out of memory; 4 the store failed. What goes wrong with single
 /// connections while `serve` runs is printed to `log`, and nothing else is. `rows` opens the file
 /// that `import` reads.
-pub fn run_arguments<S: Start, F: Rows, I: Input, O: Output, E: Output, L: Output>(
+pub fn run_words<S: Start, F: Rows, I: Input, O: Output, E: Output, L: Output>(
     rt: &HostRuntime,
     arguments: &[&str],
     start: S,

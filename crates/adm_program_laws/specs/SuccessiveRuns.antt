@@ -18,7 +18,7 @@ use Rattle.sqlite.specs.Tree.{Trees}
 use Rattle.adm_types.specs.Seasons.{SeasonFacts}
 use Rattle.adm_types.specs.declared.commands.Command.{Command}
 use Rattle.adm_types.specs.declared.commands.Command.TheVariants.{Import}
-use Rattle.adm_types.specs.declared.rows.ImportRow.{ImportRow}
+use Rattle.adm_types.specs.declared.rows.Row.{Row as ImportRow}
 use Rattle.adm_register.specs.State.{only_season, State as Register}
 use Rattle.adm_commands.specs.Imports.{Reaches}
 use Rattle.adm_rows.specs.Faults.{IsNoRegister}
@@ -136,7 +136,7 @@ module _ {D : Type 0} {g : disk.Ghosts D} where
   StartsClean image (action.Pairs file school) rows input output e closed did = OpensClean did.1
 
 module _ {D : Type 0} (g : disk.Ghosts D) where
-  -- One run, as `run_arguments` says of it, over files that held `before`, after which they hold `after`, whether it ended or a crash came.
+  -- One run, as `run_words` says of it, over files that held `before`, after which they hold `after`, whether it ended or a crash came.
   pub record RunsOver (before : Image) (run : ProgramRun) (after : Image) : Type 0 where
     pub acts : Acts g before run.action run.rows run.input run.output run.errors run.status
     pub clean : StartsClean before run.action run.rows run.input run.output acts.ended acts.closed acts.does

@@ -8,7 +8,7 @@ use Rattle.adm_types.specs.Limits.{code_cmp}
 use Rattle.adm_types.specs.declared.rows.School.{School}
 use Rattle.adm_types.specs.declared.rows.Child.{Child}
 use Rattle.adm_types.specs.declared.rows.Application.{Application}
-use Rattle.adm_types.specs.declared.rows.ImportRow.{ImportRow}
+use Rattle.adm_types.specs.declared.rows.Row.{Row as ImportRow}
 use Rattle.adm_types.specs.declared.rows.PlaceRow.{PlaceRow}
 use Rattle.adm_types.specs.declared.rows.LeftPair.{LeftPair}
 use Rattle.adm_types.specs.declared.draws.Draw.{Draw}
@@ -16,7 +16,7 @@ use Rattle.adm_types.specs.contracts.seasons.Season.{the_row as season_row}
 use Rattle.adm_types.specs.contracts.rows.School.{the_row as school_row}
 use Rattle.adm_types.specs.contracts.rows.Child.{the_row as child_row}
 use Rattle.adm_types.specs.contracts.rows.Application.{the_row as application_row}
-use Rattle.adm_types.specs.contracts.rows.ImportRow.{the_row as import_row}
+use Rattle.adm_types.specs.contracts.rows.Row.{the_row as import_row}
 use Rattle.adm_types.specs.contracts.rows.PlaceRow.{the_row as place_row}
 use Rattle.adm_types.specs.contracts.rows.LeftPair.{the_row as left_row}
 use Rattle.adm_types.specs.contracts.draws.Draw.{the_row as draw_row}

@@ -7,7 +7,7 @@ ghost use Rattle.adm_register.specs.RowTests.{fits_child, is_child, fits_applica
 use crate::checks::Checked;
 use crate::tables::Tables;
 use adm_types::limits::{MOST_PREFERENCES, is_child_in_range, is_name, is_without_repeat};
-use adm_types::{Application, Child, ChildNo, Day, ImportRow, SchoolCode};
+use adm_types::{Application, Child, ChildNo, Day, Row, SchoolCode};
 
 impl Checked<ChildNo> for Child {
     ghost fits = { λ s. fits_child s.schools };
@@ -59,7 +59,7 @@ pub fn is_preference_list(list: &[SchoolCode]) -> bool
     count && is_without_repeat(list)
 }
 
-impl Checked<ChildNo> for ImportRow {
+impl Checked<ChildNo> for Row {
     ghost fits = { λ s. fits_import (lists_end s.season) s.schools s.children };
 
     fn fits_in(&self, tables: &Tables, number: &ChildNo) -> bool {

@@ -5,7 +5,7 @@ ghost use Rattle.adm_register.specs.Difference.{differing};
 
 use crate::tables::Tables;
 use adm_table::Shared;
-use adm_types::{Application, Child, ChildNo, Draw, ImportRow, LeftPair, PlaceRow, School, Seq};
+use adm_types::{Application, Child, ChildNo, Draw, LeftPair, PlaceRow, Row, School, Seq};
 use std::alloc::Global;
 
 /// The rows of a new register that the old one has not, each table's in the order of its key, and
@@ -17,7 +17,7 @@ pub struct Difference {
     pub places: Seq<PlaceRow>,
     pub left: Seq<LeftPair>,
     pub draws: Seq<Shared<Draw>>,
-    pub imported: Seq<Shared<ImportRow>>,
+    pub imported: Seq<Shared<Row>>,
     /// The children that had an application and have none.
     pub ended: Seq<ChildNo>,
     /// The children that had a place and have none.

@@ -4,7 +4,7 @@ ghost use Rattle.std.specs.Prelude.{◌≡◌, []};
 
 use adm_table::{Shared, Table};
 use adm_types::{
-    Application, Child, ChildNo, Draw, ImportRow, LeftPair, PlaceRow, School, SchoolCode, Season,
+    Application, Child, ChildNo, Draw, LeftPair, PlaceRow, Row, School, SchoolCode, Season,
 };
 
 /// The season, its schools and children, and who applies.
@@ -20,7 +20,7 @@ pub(crate) struct Course {
     pub(crate) places: Table<ChildNo, PlaceRow>,
     pub(crate) left: Table<LeftPair, LeftPair>,
     pub(crate) draws: Table<u32, Shared<Draw>>,
-    pub(crate) imported: Table<ChildNo, Shared<ImportRow>>,
+    pub(crate) imported: Table<ChildNo, Shared<Row>>,
 }
 
 // Written by hand, and not derived: what lets go of a group then calls this, in place of going

@@ -1,7 +1,6 @@
 // The rows of a register, as lists.
 use adm_types::{
-    Application, Child, DrawRow, ImportRow, LeftPair, LotRow, OfferRow, PlaceRow, School, Season,
-    Seq,
+    Application, Child, DrawRow, LeftPair, LotRow, OfferRow, PlaceRow, Row, School, Season, Seq,
 };
 
 /// The rows of a register: its season, and each table's rows.
@@ -25,5 +24,5 @@ pub struct Rows {
     /// The lots of all draws, by the draw's number, then by the school's code, and then by the child's number.
     pub lots: Seq<LotRow>,
     /// The imported rows, by their children's numbers.
-    pub imported: Seq<ImportRow>,
+    pub imported: Seq<Row>,
 }

@@ -1,7 +1,6 @@
 // The rows of a register in the groups of its tables.
 use adm_types::{
-    Application, Child, DrawRow, ImportRow, LeftPair, LotRow, OfferRow, PlaceRow, School, Season,
-    Seq,
+    Application, Child, DrawRow, LeftPair, LotRow, OfferRow, PlaceRow, Row, School, Season, Seq,
 };
 
 /// The rows of the first tables.
@@ -19,7 +18,7 @@ pub(crate) struct CourseRows {
     pub(crate) places: Seq<PlaceRow>,
     pub(crate) left: Seq<LeftPair>,
     pub(crate) drawn: DrawRows,
-    pub(crate) imported: Seq<ImportRow>,
+    pub(crate) imported: Seq<Row>,
 }
 
 /// The rows of the draws.

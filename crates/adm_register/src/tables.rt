@@ -10,7 +10,7 @@ ghost use Rattle.adm_register.specs.WellFormed.{are_schools, places_outside_plan
 use crate::groups::{Base, Course};
 use adm_table::{Keyed, Piece};
 use adm_types::{
-    Application, Child, ChildNo, Draw, ImportRow, LeftPair, Place, PlaceRow, PlaceState, School,
+    Application, Child, ChildNo, Draw, LeftPair, Place, PlaceRow, PlaceState, Row, School,
     SchoolCode, Season,
 };
 use std::marker::Model;
@@ -78,7 +78,7 @@ impl Tables {
     }
 
     /// The imported row of a child.
-    pub fn imported_row(&self, child: ChildNo) -> Option<&ImportRow>
+    pub fn imported_row(&self, child: ChildNo) -> Option<&Row>
         ensures { option_copied result ≡ map.get self.now.imported child }
     {
         self.course.imported.row(&child)

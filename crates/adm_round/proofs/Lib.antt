@@ -5,4 +5,3 @@ pub mod ListedSchools
 pub mod Faultless
 pub mod GivenToApplicants
 pub mod OneBest
-pub mod MoreQuotas

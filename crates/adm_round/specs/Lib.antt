@@ -2,4 +2,3 @@ pub mod Round
 pub mod Ranks
 pub mod Lookups
 pub mod Outcomes
-pub mod Raised

@@ -7,7 +7,6 @@ mod laws;
 mod lots;
 mod outcomes;
 mod problems;
-mod raised;
 mod round_index;
 mod wanting;
 
@@ -17,4 +16,3 @@ pub use laws::{allotment_fits, one_allotment, posed_without_fault};
 pub use lots::{assign_lots, wanted_pairs};
 pub use outcomes::{Totals, counts};
 pub use problems::problem_of;
-pub use raised::no_loss_by_quotas;

@@ -16,7 +16,7 @@ use Rattle.std.proofs.lemmas.Map.Keys.{IsDistinct-head, IsDistinct-tail, IsDisti
 use Rattle.std.proofs.lemmas.Map.Lookups.{exact_pairs}
 use Rattle.adm_types.specs.Children.{present_row, present_of_child, present_of_import, presents_of}
 use Rattle.adm_types.specs.declared.rows.Child.{Child}
-use Rattle.adm_types.specs.declared.rows.ImportRow.{ImportRow}
+use Rattle.adm_types.specs.declared.rows.Row.{Row as ImportRow}
 use Rattle.adm_types.specs.declared.rows.PresentRow.{PresentRow}
 use Rattle.adm_lists.proofs.Orders.{tied}
 use Rattle.adm_lists.proofs.Members.{In, all_in, in_all, in_map, from_map, from_append, from_flat_map, in_right}

@@ -5,7 +5,7 @@ use Rattle.std.proofs.lemmas.List.{nil_from_length, take-append-le, take_all}
 use Rattle.std.proofs.lemmas.List.Sorted.{IsPermutation-sym, IsPermutation-trans, IsPermutation-append_right}
 use Rattle.adm_types.specs.Children.{bare_child, bare_import, present_of_child, present_of_import, presents_of}
 use Rattle.adm_types.specs.declared.rows.Child.{Child}
-use Rattle.adm_types.specs.declared.rows.ImportRow.{ImportRow}
+use Rattle.adm_types.specs.declared.rows.Row.{Row as ImportRow}
 use Rattle.adm_types.specs.declared.rows.PresentRow.{PresentRow}
 use Rattle.adm_lists.proofs.Members.{In, all_in, contains, in_map, from_map, in_moved, in_right, from_append}
 use Rattle.adm_rows.specs.Joins.{IsJoin, IsWithout, present_left_at, present_key, import_no}

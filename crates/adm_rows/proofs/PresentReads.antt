@@ -19,7 +19,7 @@ use Rattle.adm_lists.proofs.Maps.{entries_in_order}
 use Rattle.adm_lists.proofs.Keys.{at_key, in_key}
 use Rattle.adm_types.specs.Children.{with_present, bare_child, bare_import, present_row, present_of_child, present_of_import, presents_of}
 use Rattle.adm_types.specs.declared.rows.Child.{Child}
-use Rattle.adm_types.specs.declared.rows.ImportRow.{ImportRow}
+use Rattle.adm_types.specs.declared.rows.Row.{Row as ImportRow}
 use Rattle.adm_types.specs.declared.rows.PresentRow.{PresentRow}
 use Rattle.adm_rows.specs.Present.{present_columns}
 use Rattle.adm_rows.proofs.Entries.{own_entry}

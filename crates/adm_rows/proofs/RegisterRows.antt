@@ -7,7 +7,7 @@ use Rattle.std.proofs.lemmas.List.{nil_from_length}
 use Rattle.std.proofs.lemmas.Simd.{map-map}
 use Rattle.sqlite_rules.proofs.ListLemmas.{test_from, test_has, has_contained, contains_had}
 use Rattle.adm_types.specs.Children.{bare_child, bare_import, present_row, present_of_child, present_of_import, presents_of}
-use Rattle.adm_types.specs.declared.rows.ImportRow.{ImportRow}
+use Rattle.adm_types.specs.declared.rows.Row.{Row as ImportRow}
 use Rattle.adm_types.specs.declared.rows.PresentRow.{PresentRow}
 use Rattle.std.specs.List.Sorted.{IsPermutation}
 use Rattle.std.specs.FinMap.{values}

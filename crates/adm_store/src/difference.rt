@@ -14,9 +14,7 @@ use crate::to_rows::to_rows;
 use adm_draws::{draw_rows, lot_rows, offer_rows};
 use adm_register::{Difference, Register};
 use adm_table::Shared;
-use adm_types::{
-    Application, Child, ChildNo, ImportRow, PlaceRow, PresentRow, School, SchoolCode, Seq,
-};
+use adm_types::{Application, Child, ChildNo, PlaceRow, PresentRow, Row, School, SchoolCode, Seq};
 use std::alloc::{AllocError, Global};
 use std::mem;
 
@@ -143,10 +141,7 @@ fn add_present(
 }
 
 /// Adds the present schools of these imported rows.
-fn add_imported(
-    rows: &mut Vec<PresentRow>,
-    imported: &[Shared<ImportRow>],
-) -> Result<(), AllocError>
+fn add_imported(rows: &mut Vec<PresentRow>, imported: &[Shared<Row>]) -> Result<(), AllocError>
     ensures { OnOk result (rows.new.items ≡ rows.old.items ++ flat_map present_of_import imported.now) }
 {
     'imported: for row in imported {

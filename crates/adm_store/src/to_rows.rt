@@ -8,7 +8,7 @@ ghost use Rattle.sqlite.specs.Order.{Row as Columns};
 use crate::rows::{ApplicationRow, ChildRow, ImportedRow, SchoolRow, SeasonRow};
 use adm_rows::lists;
 use adm_table::Shared;
-use adm_types::{Application, Child, ChildNo, Day, ImportRow, School, Season, Text};
+use adm_types::{Application, Child, ChildNo, Day, Row as ImportRow, School, Season, Text};
 use std::alloc::{AllocError, Global};
 
 /// A value of a register, which is written as a row of a table.

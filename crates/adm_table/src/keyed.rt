@@ -1,9 +1,7 @@
 // Rows that have their keys in them, and where.
 ghost use Rattle.std.specs.Prelude.{◌≡◌};
 
-use adm_types::{
-    Application, Child, ChildNo, Draw, ImportRow, LeftPair, PlaceRow, School, SchoolCode,
-};
+use adm_types::{Application, Child, ChildNo, Draw, LeftPair, PlaceRow, Row, School, SchoolCode};
 
 /// A row that has its key in it.
 pub trait Keyed<K> {
@@ -46,7 +44,7 @@ impl Keyed<ChildNo> for PlaceRow {
     }
 }
 
-impl Keyed<ChildNo> for ImportRow {
+impl Keyed<ChildNo> for Row {
     ghost key = { λ row. row.child.no };
 
     fn key(&self) -> ChildNo {

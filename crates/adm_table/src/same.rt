@@ -4,7 +4,7 @@ ghost use Rattle.adm_table.specs.Same.{is_same_school, is_same_child, is_same_ap
 
 use crate::Shared;
 use adm_fields::child_refs;
-use adm_types::{Application, Child, Draw, ImportRow, LeftPair, PlaceRow, School};
+use adm_types::{Application, Child, Draw, LeftPair, PlaceRow, Row, School};
 
 /// A row, or a value in one, that can be compared with another.
 pub trait Same {
@@ -74,10 +74,10 @@ impl Same for Draw {
     }
 }
 
-impl Same for ImportRow {
+impl Same for Row {
     ghost same = { is_same_import };
 
-    fn is_same(&self, other: &ImportRow) -> bool {
+    fn is_same(&self, other: &Row) -> bool {
         self.child.is_same(&other.child)
             && self.day == other.day
             && self.preferences.as_slice() == other.preferences.as_slice()

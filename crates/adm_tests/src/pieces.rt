@@ -1,6 +1,6 @@
 // What no clause says and no program reaches: pieces of any size, and a reader that fails at each call.
 use adm_csv::{Fault, RowFault, read_rows};
-use adm_types::ImportRow;
+use adm_types::Row;
 use adm_wire::Watched;
 use std::alloc::Global;
 use std::io;
@@ -30,7 +30,7 @@ impl<'a> Read for Pieces<'a> {
     }
 }
 
-fn read(alloc: Global, size: usize, calls: usize) -> Result<Vec<ImportRow>, RowFault> {
+fn read(alloc: Global, size: usize, calls: usize) -> Result<Vec<Row>, RowFault> {
     let pieces = Pieces {
         bytes: FILE,
         size,
@@ -39,7 +39,7 @@ fn read(alloc: Global, size: usize, calls: usize) -> Result<Vec<ImportRow>, RowF
     read_rows(alloc, &mut Watched::new(pieces))
 }
 
-fn is_first(row: &ImportRow) -> bool {
+fn is_first(row: &Row) -> bool {
     let child = &row.child;
     child.no.get() == 1
         && child.name.as_str() == "C1"
@@ -52,7 +52,7 @@ fn is_first(row: &ImportRow) -> bool {
         && row.preferences.len() == 2
 }
 
-fn is_second(row: &ImportRow) -> bool {
+fn is_second(row: &Row) -> bool {
     let child = &row.child;
     child.no.get() == 2
         && child.looked_after

@@ -1,6 +1,6 @@
 // What no clause says: worked examples, and that clap refuses arguments that lack a value.
 use adm_types::Phase;
-use adm_words::{Action, ArgumentsFault, action, fault_text};
+use adm_words::{Action, WordsFault, action, fault_text};
 use std::test::Fail;
 
 #[test]
@@ -121,7 +121,7 @@ const WRONG: [&[&str]; 20] = [
 #[test]
 fn wrong_words(rt: HostRuntime) {
     for words in WRONG {
-        assert!(rt; matches!(action(rt.alloc(), words), Err(ArgumentsFault::Usage(_))));
+        assert!(rt; matches!(action(rt.alloc(), words), Err(WordsFault::Usage(_))));
     }
 }
 
@@ -185,7 +185,7 @@ const NOT_SERVED: [&[&str]; 15] = [
 #[test]
 fn wrong_words_serve_nothing(rt: HostRuntime) {
     for words in NOT_SERVED {
-        assert!(rt; matches!(action(rt.alloc(), words), Err(ArgumentsFault::Usage(_))));
+        assert!(rt; matches!(action(rt.alloc(), words), Err(WordsFault::Usage(_))));
     }
 }
 
@@ -209,7 +209,7 @@ fn bad_dates(rt: HostRuntime) {
             "2025-01-01",
             date,
         ];
-        assert!(rt; matches!(action(rt.alloc(), &words), Err(ArgumentsFault::BadDate)));
+        assert!(rt; matches!(action(rt.alloc(), &words), Err(WordsFault::BadDate)));
     }
 }
 
@@ -253,16 +253,16 @@ fn bad_words(rt: HostRuntime) {
         ("round-report", "+1"),
     ] {
         let words = ["admissions", name, "f", word];
-        assert!(rt; matches!(action(rt.alloc(), &words), Err(ArgumentsFault::BadWord)));
+        assert!(rt; matches!(action(rt.alloc(), &words), Err(WordsFault::BadWord)));
     }
 }
 
 #[test]
 fn faults_are_told(rt: HostRuntime) -> Result<(), Fail> {
     let alloc = rt.alloc();
-    assert!(rt; fault_text(alloc, &ArgumentsFault::BadDate)?.as_str() == "fault: BadDate\n");
-    assert!(rt; fault_text(alloc, &ArgumentsFault::BadWord)?.as_str() == "fault: BadWord\n");
-    assert!(rt; fault_text(alloc, &ArgumentsFault::Memory)?.as_str() == "fault: Memory\n");
+    assert!(rt; fault_text(alloc, &WordsFault::BadDate)?.as_str() == "fault: BadDate\n");
+    assert!(rt; fault_text(alloc, &WordsFault::BadWord)?.as_str() == "fault: BadWord\n");
+    assert!(rt; fault_text(alloc, &WordsFault::Memory)?.as_str() == "fault: Memory\n");
     match action(alloc, &["admissions", "open", "f"]) {
         Err(fault) => {
             let text = fault_text(alloc, &fault)?;

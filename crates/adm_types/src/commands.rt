@@ -1,5 +1,5 @@
 // The commands of a register, its replies, and why it refuses.
-use crate::{Application, Child, ChildNo, Day, ImportRow, School, SchoolCode, Seq};
+use crate::{Application, Child, ChildNo, Day, Row, School, SchoolCode, Seq};
 
 /// A command to the register.
 #[derive(Drop)]
@@ -68,7 +68,7 @@ pub enum Command {
     },
     /// Adds children with their applications, all of them or none. A row that was imported before
     /// is known, and changes nothing.
-    Import(Seq<ImportRow>),
+    Import(Seq<Row>),
 }
 
 /// What an accepted command answers.

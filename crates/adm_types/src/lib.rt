@@ -27,7 +27,7 @@ pub use exact::Exact;
 pub use fields::plain;
 pub use flags::{Flag, flag_bits};
 pub use rows::{
-    Application, Child, ImportRow, LeftPair, Place, PlaceRow, PlaceState, Point, PresentRow, School,
+    Application, Child, LeftPair, Place, PlaceRow, PlaceState, Point, PresentRow, Row, School,
 };
 pub use school_code::SchoolCode;
 pub use seasons::{Phase, Season, SeasonFault};

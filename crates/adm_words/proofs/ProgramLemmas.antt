@@ -9,8 +9,8 @@ use Rattle.clap.specs.declared.builder.value_parser.ValueParser.{ValueParser}
 use Rattle.clap.specs.declared.builder.value_parser.ValueParser.TheVariants as parser
 use Rattle.clap.proofs.OnLiterals.{clap_on_literals}
 use Rattle.adm_words.specs.declared.actions.Action.{Action}
-use Rattle.adm_words.specs.declared.faults.ArgumentsFault.{ArgumentsFault}
-use Rattle.adm_words.specs.declared.faults.ArgumentsFault.TheVariants.{Usage, BadDate, BadWord, Memory}
+use Rattle.adm_words.specs.declared.faults.WordsFault.{WordsFault}
+use Rattle.adm_words.specs.declared.faults.WordsFault.TheVariants.{Usage, BadDate, BadWord, Memory}
 use Rattle.adm_words.specs.Program.{IsPhases, program_app}
 use Rattle.adm_words.specs.Lines.{Line, init_line, do_line, what_if_line, import_line, serve_line, letter_line, list_line, report_line, pairs_line, Reads, ReadsLine, ReadsArguments, line_in}
 
@@ -53,7 +53,7 @@ no_words (list_line file word) e h = h
 no_words (report_line file word) e h = h
 no_words (pairs_line file word) e h = h
 
-pub reads_from : (phases : ValueParser) (arguments : List Text) (r : Result Action ArgumentsFault) (name : Text) (rows : List Row) → IsPhases phases
+pub reads_from : (phases : ValueParser) (arguments : List Text) (r : Result Action WordsFault) (name : Text) (rows : List Row) → IsPhases phases
     → fault_of (program_app phases) arguments ≡ [] → subcommand_of (program_app phases) arguments ≡ Some (name, rows) → ReadsLine (line_in name rows) r → ReadsArguments arguments r
 reads_from phases arguments (Ok action) name rows h none is reads = (phases, h, none, name, rows, is, reads)
 reads_from phases arguments (Err BadDate) name rows h none is reads = (phases, h, none, name, rows, is, reads)

@@ -16,8 +16,8 @@ use Rattle.clap.specs.declared.error.kind.ErrorKind.{ErrorKind}
 use Rattle.adm_words.specs.Program.{IsPhases, program_app}
 use Rattle.adm_words.specs.declared.actions.Action.{Action}
 use Rattle.adm_words.specs.declared.actions.Action.TheVariants as action
-use Rattle.adm_words.specs.declared.faults.ArgumentsFault.{ArgumentsFault}
-use Rattle.adm_words.specs.declared.faults.ArgumentsFault.TheVariants.{Usage, BadDate, BadWord, Memory}
+use Rattle.adm_words.specs.declared.faults.WordsFault.{WordsFault}
+use Rattle.adm_words.specs.declared.faults.WordsFault.TheVariants.{Usage, BadDate, BadWord, Memory}
 
 -- a line, with its holidays, and the number or the code after its file, as texts; a port and a count are numbers
 pub data Line : Type 0 where
@@ -174,7 +174,7 @@ HasNoDay [] = ⊥
 HasNoDay (t ∷ ts) = ((day : ℕ) → IsDayText t day → ⊥) ⊎ HasNoDay ts
 
 -- the days of the texts, or BadDate where one is that of no day
-abbrev pub ReadsDays : List Text → Result (List ℕ) ArgumentsFault → Type 0
+abbrev pub ReadsDays : List Text → Result (List ℕ) WordsFault → Type 0
 ReadsDays texts (Ok days) = AreDays texts days
 ReadsDays texts (Err (Usage e)) = ⊥
 ReadsDays texts (Err BadDate) = HasNoDay texts
@@ -182,13 +182,13 @@ ReadsDays texts (Err BadWord) = ⊥
 ReadsDays texts (Err Memory) = Unit {0}
 
 -- what an argument is read as, or BadWord where it is not of its kind, for a private clause
-abbrev pub ReadsArgument : {A : Type 0} → Option A → Result A ArgumentsFault → Type 0
+abbrev pub ReadsArgument : {A : Type 0} → Option A → Result A WordsFault → Type 0
 ReadsArgument read (Ok value) = read ≡ Some value
 ReadsArgument read (Err BadWord) = read ≡ None
 ReadsArgument read (Err fault) = ⊥
 
 -- the action of the line, or BadDate where a holiday is no day, or BadWord where a number or a code is none
-abbrev pub Reads : Line → Result Action ArgumentsFault → Type 0
+abbrev pub Reads : Line → Result Action WordsFault → Type 0
 Reads (init_line file phase year texts) (Ok (action.Init f p y days)) = (f.now ≡ file) × (p ≡ phase) × (y ≡ year) × AreDays texts days
 Reads (do_line file) (Ok (action.Do f)) = f.now ≡ file
 Reads (what_if_line file) (Ok (action.WhatIf f)) = f.now ≡ file
@@ -211,11 +211,11 @@ abbrev pub IsLine : Option Line → Type 0
 IsLine found = (line : Line) × (found ≡ Some line)
 
 -- there is a line, and this is its action
-abbrev pub ReadsLine : Option Line → Result Action ArgumentsFault → Type 0
+abbrev pub ReadsLine : Option Line → Result Action WordsFault → Type 0
 ReadsLine found result = (line : Line) × (found ≡ Some line) × Reads line result
 
 -- clap accepts the arguments, and this is the action of the line that it found
-abbrev pub TakesArguments : List Text → Result Action ArgumentsFault → Type 0
+abbrev pub TakesArguments : List Text → Result Action WordsFault → Type 0
 TakesArguments arguments result = (phases : ValueParser) × IsPhases phases × (fault_of (program_app phases) arguments ≡ []) × (name : Text) × (rows : List Row) × (subcommand_of (program_app phases) arguments ≡ Some (name, rows)) × ReadsLine (line_in name rows) result
 
 -- clap refuses the arguments, and this is the kind of its error
@@ -223,7 +223,7 @@ abbrev pub Refuses : List Text → ErrorKind → Type 0
 Refuses arguments kind = (phases : ValueParser) × IsPhases phases × IsAmong kind (fault_of (program_app phases) arguments)
 
 -- the action of the arguments, or that clap refuses them, unless memory ran out
-abbrev pub ReadsArguments : List Text → Result Action ArgumentsFault → Type 0
+abbrev pub ReadsArguments : List Text → Result Action WordsFault → Type 0
 ReadsArguments arguments (Ok a) = TakesArguments arguments (Ok a)
 ReadsArguments arguments (Err (Usage e)) = Refuses arguments (kind_of e)
 ReadsArguments arguments (Err BadDate) = TakesArguments arguments (Err BadDate)
@@ -237,7 +237,7 @@ IsInRange (action.Serve f p n) = ((1 ≤ p) × (p ≤ 65535)) × ((1 ≤ n) × (
 IsInRange action = Unit {0}
 
 -- `fault: `, an error's name and LF. The text of clap is its own.
-abbrev pub IsFaultText : ArgumentsFault → List ℕ → Type 0
+abbrev pub IsFaultText : WordsFault → List ℕ → Type 0
 IsFaultText (Usage e) text = Unit {0}
 IsFaultText BadDate text = text ≡ codes "fault: BadDate\n"
 IsFaultText BadWord text = text ≡ codes "fault: BadWord\n"

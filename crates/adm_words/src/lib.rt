@@ -15,5 +15,5 @@ mod serving;
 mod subcommands;
 
 pub use actions::Action;
-pub use faults::{ArgumentsFault, fault_text};
+pub use faults::{WordsFault, fault_text};
 pub use reading::action;

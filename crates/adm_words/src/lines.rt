@@ -5,7 +5,7 @@ ghost use Rattle.adm_words.specs.Lines.{IsLine, ReadsLine, ReadsDays, IsInRange,
 
 use crate::pairs::{import, reading};
 use crate::serving::serve;
-use crate::{Action, ArgumentsFault};
+use crate::{Action, WordsFault};
 use adm_types::{Day, Phase, Seq};
 use clap::ArgMatches;
 use std::alloc::Global;
@@ -89,27 +89,27 @@ fn year_in(found: &ArgMatches<'_>) -> Option<u32>
 }
 
 /// The days that texts name.
-fn read_days(alloc: Global, texts: &[&str]) -> Result<Seq<Day>, ArgumentsFault>
+fn read_days(alloc: Global, texts: &[&str]) -> Result<Seq<Day>, WordsFault>
     ensures { ReadsDays (map (λ t. t.now) texts.now) result }
 {
     let mut days = Vec::new(alloc);
     for text in texts {
         match Day::parse(text) {
             Some(day) => days.push(day)?,
-            None => return Err(ArgumentsFault::BadDate),
+            None => return Err(WordsFault::BadDate),
         }
     }
     Ok(Seq::from_vec(days))
 }
 
-fn holidays_in(alloc: Global, found: &ArgMatches<'_>) -> Result<Seq<Day>, ArgumentsFault>
+fn holidays_in(alloc: Global, found: &ArgMatches<'_>) -> Result<Seq<Day>, WordsFault>
     ensures { ReadsDays (holidays_in (rows_of (found_of found.now))) result }
 {
     read_days(alloc, texts_of(found, "holiday").unwrap_or(&[]))
 }
 
 /// The line `init`, whose values are there.
-fn init<'a>(alloc: Global, found: &ArgMatches<'a>) -> Result<Action<'a>, ArgumentsFault>
+fn init<'a>(alloc: Global, found: &ArgMatches<'a>) -> Result<Action<'a>, WordsFault>
     requires { IsLine (init_in (rows_of (found_of found.now))) }
     ensures reads { ReadsLine (init_in (rows_of (found_of found.now))) result }
     ensures in_range { IfOk result IsInRange }
@@ -135,7 +135,7 @@ fn init<'a>(alloc: Global, found: &ArgMatches<'a>) -> Result<Action<'a>, Argumen
 }
 
 /// The line `do`, whose file is there.
-fn do_lines<'a>(found: &ArgMatches<'a>) -> Result<Action<'a>, ArgumentsFault>
+fn do_lines<'a>(found: &ArgMatches<'a>) -> Result<Action<'a>, WordsFault>
     requires { IsLine (do_in (rows_of (found_of found.now))) }
     ensures reads { ReadsLine (do_in (rows_of (found_of found.now))) result }
     ensures in_range { IfOk result IsInRange }
@@ -147,7 +147,7 @@ fn do_lines<'a>(found: &ArgMatches<'a>) -> Result<Action<'a>, ArgumentsFault>
 }
 
 /// The line `what-if`, whose file is there.
-fn what_if<'a>(found: &ArgMatches<'a>) -> Result<Action<'a>, ArgumentsFault>
+fn what_if<'a>(found: &ArgMatches<'a>) -> Result<Action<'a>, WordsFault>
     requires { IsLine (what_if_line_in (rows_of (found_of found.now))) }
     ensures reads { ReadsLine (what_if_line_in (rows_of (found_of found.now))) result }
     ensures in_range { IfOk result IsInRange }
@@ -163,7 +163,7 @@ pub(crate) fn read_line<'a>(
     alloc: Global,
     name: &str,
     found: &ArgMatches<'a>,
-) -> Result<Action<'a>, ArgumentsFault>
+) -> Result<Action<'a>, WordsFault>
     requires { IsLine (line_in name.now (rows_of (found_of found.now))) }
     ensures reads { ReadsLine (line_in name.now (rows_of (found_of found.now))) result }
     ensures in_range { IfOk result IsInRange }

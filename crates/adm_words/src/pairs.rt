@@ -5,12 +5,12 @@ ghost use Rattle.adm_types.specs.Fields.{child_named};
 ghost use Rattle.adm_words.specs.Lines.{IsLine, ReadsLine, ReadsArgument, IsInRange, school_named, import_in, letter_in, list_in, report_in, pairs_in, reading_in};
 
 use crate::lines::text_of;
-use crate::{Action, ArgumentsFault};
+use crate::{Action, WordsFault};
 use adm_types::{ChildNo, SchoolCode, plain};
 use clap::ArgMatches;
 
 /// The line `import`, whose values are there.
-pub(crate) fn import<'a>(found: &ArgMatches<'a>) -> Result<Action<'a>, ArgumentsFault>
+pub(crate) fn import<'a>(found: &ArgMatches<'a>) -> Result<Action<'a>, WordsFault>
     requires { IsLine (import_in (rows_of (found_of found.now))) }
     ensures reads { ReadsLine (import_in (rows_of (found_of found.now))) result }
     ensures in_range { IfOk result IsInRange }
@@ -25,10 +25,10 @@ pub(crate) fn import<'a>(found: &ArgMatches<'a>) -> Result<Action<'a>, Arguments
 }
 
 /// What an argument is read as; BadWord where it is not of its kind.
-fn value<T>(read: Option<T>) -> Result<T, ArgumentsFault>
+fn value<T>(read: Option<T>) -> Result<T, WordsFault>
     ensures { ReadsArgument read result }
 {
-    read.ok_or(ArgumentsFault::BadWord)
+    read.ok_or(WordsFault::BadWord)
 }
 
 /// The child number that a text writes.
@@ -39,7 +39,7 @@ fn read_child(text: &str) -> Option<ChildNo>
 }
 
 /// The line `letter`, whose values are there.
-fn letter<'a>(found: &ArgMatches<'a>) -> Result<Action<'a>, ArgumentsFault>
+fn letter<'a>(found: &ArgMatches<'a>) -> Result<Action<'a>, WordsFault>
     requires { IsLine (letter_in (rows_of (found_of found.now))) }
     ensures reads { ReadsLine (letter_in (rows_of (found_of found.now))) result }
     ensures in_range { IfOk result IsInRange }
@@ -57,7 +57,7 @@ fn letter<'a>(found: &ArgMatches<'a>) -> Result<Action<'a>, ArgumentsFault>
 }
 
 /// The line `list`, whose values are there.
-fn list<'a>(found: &ArgMatches<'a>) -> Result<Action<'a>, ArgumentsFault>
+fn list<'a>(found: &ArgMatches<'a>) -> Result<Action<'a>, WordsFault>
     requires { IsLine (list_in (rows_of (found_of found.now))) }
     ensures reads { ReadsLine (list_in (rows_of (found_of found.now))) result }
     ensures in_range { IfOk result IsInRange }
@@ -75,7 +75,7 @@ fn list<'a>(found: &ArgMatches<'a>) -> Result<Action<'a>, ArgumentsFault>
 }
 
 /// The line `round-report`, whose values are there.
-fn report<'a>(found: &ArgMatches<'a>) -> Result<Action<'a>, ArgumentsFault>
+fn report<'a>(found: &ArgMatches<'a>) -> Result<Action<'a>, WordsFault>
     requires { IsLine (report_in (rows_of (found_of found.now))) }
     ensures reads { ReadsLine (report_in (rows_of (found_of found.now))) result }
     ensures in_range { IfOk result IsInRange }
@@ -106,7 +106,7 @@ fn read_school(argument: Option<&str>) -> Option<Option<SchoolCode>>
 }
 
 /// The line `pairs`, whose file is there.
-fn pairs<'a>(found: &ArgMatches<'a>) -> Result<Action<'a>, ArgumentsFault>
+fn pairs<'a>(found: &ArgMatches<'a>) -> Result<Action<'a>, WordsFault>
     requires { IsLine (pairs_in (rows_of (found_of found.now))) }
     ensures reads { ReadsLine (pairs_in (rows_of (found_of found.now))) result }
     ensures in_range { IfOk result IsInRange }
@@ -121,7 +121,7 @@ fn pairs<'a>(found: &ArgMatches<'a>) -> Result<Action<'a>, ArgumentsFault>
 }
 
 /// A line that reads a register, by its name.
-pub(crate) fn reading<'a>(name: &str, found: &ArgMatches<'a>) -> Result<Action<'a>, ArgumentsFault>
+pub(crate) fn reading<'a>(name: &str, found: &ArgMatches<'a>) -> Result<Action<'a>, WordsFault>
     requires { IsLine (reading_in name.now (rows_of (found_of found.now))) }
     ensures reads { ReadsLine (reading_in name.now (rows_of (found_of found.now))) result }
     ensures in_range { IfOk result IsInRange }

@@ -4,7 +4,7 @@ ghost use Rattle.adm_words.specs.Lines.{IsInRange, ReadsArguments};
 
 use crate::command::program;
 use crate::lines::read_line;
-use crate::{Action, ArgumentsFault};
+use crate::{Action, WordsFault};
 use clap::error::ErrorKind;
 use std::alloc::Global;
 
@@ -18,7 +18,7 @@ use std::alloc::Global;
 /// refuses them, a request for help included; BadDate where a HOLIDAY is no day YYYY-MM-DD from
 /// 1990-01-01 to 2110-12-31; BadWord where CHILD is no plain number from 1 to 9,999,999, ROUND no
 /// plain number or SCHOOL no code. The cost grows with the length of the arguments.
-pub fn action<'a>(alloc: Global, arguments: &'a [&'a str]) -> Result<Action<'a>, ArgumentsFault>
+pub fn action<'a>(alloc: Global, arguments: &'a [&'a str]) -> Result<Action<'a>, WordsFault>
     ensures reads { ReadsArguments (map (λ w. w.now) arguments.entry.now) result }
     ensures in_range { IfOk result IsInRange }
 {
@@ -29,8 +29,8 @@ pub fn action<'a>(alloc: Global, arguments: &'a [&'a str]) -> Result<Action<'a>,
             None => unreachable!(),
         },
         Err(error) => match error.kind() {
-            ErrorKind::OutOfMemory => Err(ArgumentsFault::Memory),
-            _ => Err(ArgumentsFault::Usage(error)),
+            ErrorKind::OutOfMemory => Err(WordsFault::Memory),
+            _ => Err(WordsFault::Usage(error)),
         },
     }
 }

@@ -4,7 +4,7 @@ ghost use Rattle.clap.specs.Words.{found_of, rows_of};
 ghost use Rattle.adm_words.specs.Lines.{IsLine, ReadsLine, IsInRange, port_of, port_in, count_in, serve_in};
 
 use crate::lines::{read_from, text_of};
-use crate::{Action, ArgumentsFault};
+use crate::{Action, WordsFault};
 use clap::ArgMatches;
 
 /// How many connections are served where the arguments do not say it.
@@ -42,7 +42,7 @@ fn count_in(found: &ArgMatches<'_>) -> Option<u32>
 }
 
 /// The line `serve`, whose values are there.
-pub(crate) fn serve<'a>(found: &ArgMatches<'a>) -> Result<Action<'a>, ArgumentsFault>
+pub(crate) fn serve<'a>(found: &ArgMatches<'a>) -> Result<Action<'a>, WordsFault>
     requires { IsLine (serve_in (rows_of (found_of found.now))) }
     ensures reads { ReadsLine (serve_in (rows_of (found_of found.now))) result }
     ensures in_range { IfOk result IsInRange }

@@ -2,7 +2,7 @@
 #![tactic(auto)]
 
 use adm_host::{FileRows, print_memory_fault};
-use adm_program::run_arguments;
+use adm_program::run_words;
 use adm_wire::Watched;
 use sqlite::Unknown;
 use std::io::ErrorKind;
@@ -31,7 +31,7 @@ fn run(rt: &HostRuntime) -> io::Result<u8> {
     for argument in &given {
         arguments.push(argument.as_str())?;
     }
-    Ok(run_arguments(
+    Ok(run_words(
         rt,
         arguments.as_slice(),
         Unknown,

@@ -1,7 +1,8 @@
 // Every problem of three entrants and two seats with quotas 0 to 2: both bodies, and every list of every child.
 use crate::cases::{CASES, Case, Names, case_of, problem_of};
 use crate::totals::{Totals, nothing, number_of};
-use adm_match::{BadProblem, Problem, offers, offers_by_scan, what_if};
+use adm_match::{BadProblem, Problem, offers, what_if};
+use adm_match_laws::offers_by_scan;
 use adm_types::{ChildNo, SchoolCode};
 use std::alloc::{AllocError, Global};
 use std::io;

@@ -1,6 +1,7 @@
 // What the sweep counts.
 use crate::cases::{Names, Side, listed};
-use adm_match::{Offers, Problem, first_block};
+use adm_match::{Offers, Problem};
+use adm_match_laws::first_block;
 use adm_types::SchoolCode;
 
 /// Counts over all problems, and over all lists that were asked about.

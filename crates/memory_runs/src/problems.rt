@@ -1,7 +1,8 @@
 // Calls on a problem of three entrants and two schools that take no memory.
 use crate::lists::print_code;
 use crate::window::{ample, refuse};
-use adm_match::{Entrant, Held, Offers, Problem, Seats, Wish, first_block, offers};
+use adm_match::{Entrant, Offers, Problem, Seats, Wish, offers};
+use adm_match_laws::{Kept, first_block};
 use adm_rank::RankKey;
 use adm_types::{ChildNo, SchoolCode};
 use std::alloc::Global;
@@ -99,10 +100,10 @@ fn look(
 fn hold(rt: &impl Print, alloc: Global, names: Names, refusal: &str) -> io::Result<()> {
     let [one, two, _] = names.children;
     refuse(rt, refusal)?;
-    let mut held = Held::new(alloc, 1);
+    let mut held = Kept::new(alloc, 1);
     ample(rt)?;
-    let first = held.consider(one, wish(names.a, 200, 10).key, false)?;
-    let second = held.consider(two, wish(names.a, 100, 20).key, false)?;
+    let first = held.take(one, wish(names.a, 200, 10).key, false)?;
+    let second = held.take(two, wish(names.a, 100, 20).key, false)?;
     println!(rt; "  rejected {} {}", first.is_none(), second == Some(one))
 }
 

@@ -2,8 +2,8 @@
 use crate::lists::{print_code, print_codes, print_criteria, print_days};
 use adm_register::{Register, Rows};
 use adm_types::{
-    Application, Child, DrawRow, ImportRow, LeftPair, LotRow, OfferRow, PlaceRow, PlaceState,
-    School, Season,
+    Application, Child, DrawRow, LeftPair, LotRow, OfferRow, PlaceRow, PlaceState, Row, School,
+    Season,
 };
 use std::alloc::Global;
 use std::io;
@@ -77,7 +77,7 @@ fn print_lot(rt: &impl Print, row: &LotRow) -> io::Result<()> {
     )
 }
 
-fn print_imported(rt: &impl Print, row: &ImportRow) -> io::Result<()> {
+fn print_imported(rt: &impl Print, row: &Row) -> io::Result<()> {
     print_child(rt, "imported", &row.child)?;
     let day = row.day.text();
     print!(rt; "  imported-application {} {}", row.child.no, day.as_str())?;

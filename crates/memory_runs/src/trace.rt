@@ -1,7 +1,7 @@
 // What the calls of a run answered, kept until there is ample memory to print it.
 use adm_csv::RowFault;
 use adm_desk::LineAnswer;
-use adm_letters::TextFault;
+use adm_letters::LetterFault;
 use adm_rows::OpenFault;
 use adm_store::CreateFault;
 use adm_types::SeasonFault;
@@ -22,7 +22,7 @@ pub(crate) enum Event {
     Open(Option<OpenFault>),
     Answer(LineAnswer),
     Rows(Option<RowFault>),
-    Letter(Result<String, TextFault>),
+    Letter(Result<String, LetterFault>),
     /// The desk has no register.
     NoRegister,
 }
@@ -59,7 +59,7 @@ pub(crate) fn print_answer(rt: &impl Print, alloc: Global, answer: LineAnswer) -
     println!(rt; "  answer {text}")
 }
 
-fn print_letter(rt: &impl Print, letter: &Result<String, TextFault>) -> io::Result<()> {
+fn print_letter(rt: &impl Print, letter: &Result<String, LetterFault>) -> io::Result<()> {
     match letter {
         Ok(text) => {
             println!(rt; "  letter done")?;

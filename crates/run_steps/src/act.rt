@@ -1,6 +1,6 @@
 // An act: what is done to a register, read from the words of a step.
 use adm_csv::read_rows;
-use adm_types::{Command, ImportRow, Phase, Season, Seq};
+use adm_types::{Command, Phase, Row, Season, Seq};
 use adm_wire::{Watched, read_command};
 use std::alloc::{AllocError, Global};
 
@@ -61,7 +61,7 @@ fn file_of(alloc: Global, rows: &str) -> Result<Vec<u8>, AllocError> {
     Ok(file)
 }
 
-fn rows_of(alloc: Global, file: Result<Vec<u8>, AllocError>) -> Option<Vec<ImportRow>> {
+fn rows_of(alloc: Global, file: Result<Vec<u8>, AllocError>) -> Option<Vec<Row>> {
     match file {
         Ok(file) => read_rows(alloc, &mut Watched::new(file.as_slice())).ok(),
         Err(_) => None,

@@ -2,7 +2,7 @@
 use crate::act::Act;
 use crate::copies::copy_of;
 use crate::same::are_same;
-use adm_commands::decide;
+use adm_command_laws::decide;
 use adm_register::{Register, Rows};
 use adm_types::{Command, Season};
 use std::alloc::{AllocError, Global};

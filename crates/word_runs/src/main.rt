@@ -1,4 +1,4 @@
-//! Runs of the command line by `run_arguments` within one process, over files of its folder and streams in memory, as the input says.
+//! Runs of the command line by `run_words` within one process, over files of its folder and streams in memory, as the input says.
 //!
 //! Each line of the input is a step, a remark (`#`) or empty; it is printed as it is, and below a run, indented, what it printed and its
 //! exit status.

@@ -1,6 +1,6 @@
 // A run with the lines that were given for it, and what it prints.
 use adm_host::FileRows;
-use adm_program::run_arguments;
+use adm_program::run_words;
 use adm_wire::Watched;
 use sqlite::Unknown;
 use std::alloc::Global;
@@ -82,7 +82,7 @@ impl Runs {
         let mut output = Watched::new(Vec::new(alloc));
         let mut errors = Watched::new(Vec::new(alloc));
         let mut log = Watched::new(Vec::new(alloc));
-        let status = run_arguments(
+        let status = run_words(
             rt,
             words.as_slice(),
             Unknown,

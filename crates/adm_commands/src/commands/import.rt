@@ -21,12 +21,12 @@ use crate::kept::kept_by_row;
 use adm_register::{Difference, Tables};
 use adm_table::{Same, Shared};
 use adm_types::limits::MOST_CHILDREN;
-use adm_types::{Application, Child, ChildNo, ImportRow, Refusal, Reply, Seq};
+use adm_types::{Application, Child, ChildNo, Refusal, Reply, Row, Seq};
 use std::alloc::{AllocError, Global};
 use std::collections::BTreeMap;
 
 /// The rows of an import that are new so far, by their children's numbers.
-type Added = BTreeMap<ChildNo, Shared<ImportRow>>;
+type Added = BTreeMap<ChildNo, Shared<Row>>;
 
 /// The rows that are new, in the order of their children's numbers, and how many there are beside
 /// those that were known; or the first row that is refused, with its number from 1. It takes memory
@@ -35,7 +35,7 @@ type Added = BTreeMap<ChildNo, Shared<ImportRow>>;
 pub(crate) fn evaluate(
     old: &Tables,
     alloc: Global,
-    rows: Seq<ImportRow>,
+    rows: Seq<Row>,
 ) -> Result<CommandResult, AllocError>
     ensures follows { IfOk result (Follows (rules rows) old.now) }
     ensures kept { AllByRecursion KeptByImportRow rows }
@@ -58,7 +58,7 @@ pub(crate) fn evaluate(
 
 /// The rows that are not known, each row beside those before it; or why there are none. The rows
 /// after the first that is refused are dropped.
-fn walk(old: &Tables, alloc: Global, rows: Seq<ImportRow>) -> Result<Added, NotDone>
+fn walk(old: &Tables, alloc: Global, rows: Seq<Row>) -> Result<Added, NotDone>
     ensures passes { OnOk result (None ≡ refused_from old.now 1 rows) }
     ensures added { IfOk result (λ added. IsPermutation (new_rows old.now rows) (values added)) }
     ensures numbers { IfOk result (λ added. map (λ row. row.child.no) (values added) ≡ keys added) }
@@ -86,7 +86,7 @@ fn take(
     alloc: Global,
     added: &mut Added,
     number: u64,
-    row: ImportRow,
+    row: Row,
 ) -> Result<(), NotDone>
     ensures passes { OnOk result ((seen : State) → IsBeside old.now added.old.entries seen → refusal_of_row seen row ≡ None) }
     ensures joins { OnOk result ((seen : State) → IsBeside old.now added.old.entries seen → added.new.entries ≡ (if is_known seen row then added.old.entries else insert_entry nat_cmp added.old.entries row.child.no row)) }
@@ -105,7 +105,7 @@ fn take(
 }
 
 /// Whether the row is equal to the imported row that is kept for its child.
-fn is_known(old: &Tables, added: &Added, row: &ImportRow) -> bool
+fn is_known(old: &Tables, added: &Added, row: &Row) -> bool
     ensures { (seen : State) → IsBeside old.now added.now.entries seen → result ≡ is_known seen row.now }
 {
     match kept_row(old, added, row.child.no) {
@@ -115,7 +115,7 @@ fn is_known(old: &Tables, added: &Added, row: &ImportRow) -> bool
 }
 
 /// The row that is kept for a child.
-fn kept_row<'a>(old: &'a Tables, added: &'a Added, child: ChildNo) -> Option<&'a ImportRow>
+fn kept_row<'a>(old: &'a Tables, added: &'a Added, child: ChildNo) -> Option<&'a Row>
     ensures { option_copied result ≡ option_or (row_at nat_cmp added.now.entries child) (get old.now.imported child) }
 {
     match added.get(&child) {
@@ -132,7 +132,7 @@ fn has_child(old: &Tables, added: &Added, child: ChildNo) -> bool
 }
 
 /// Why the row is refused.
-fn refusal_of_row(old: &Tables, added: &Added, row: &ImportRow) -> Option<Refusal>
+fn refusal_of_row(old: &Tables, added: &Added, row: &Row) -> Option<Refusal>
     ensures { (seen : State) → IsBeside old.now added.now.entries seen → result ≡ refusal_of_row seen row.now }
 {
     if is_known(old, added, row) {
@@ -149,7 +149,7 @@ fn refusal_of_row(old: &Tables, added: &Added, row: &ImportRow) -> Option<Refusa
 }
 
 /// The row joins those that are new.
-fn add(alloc: Global, added: &mut Added, row: ImportRow) -> Result<(), AllocError>
+fn add(alloc: Global, added: &mut Added, row: Row) -> Result<(), AllocError>
     ensures { OnOk result (added.new.entries ≡ insert_entry nat_cmp added.old.entries row.child.no row) }
 {
     let row = Shared::new(alloc, row)?;
@@ -160,7 +160,7 @@ fn add(alloc: Global, added: &mut Added, row: ImportRow) -> Result<(), AllocErro
 
 /// What these rows add: the children, their applications, and the rows themselves.
 #[tactic(auto, unfolding(crate::specs::Commands::Import::change_of))]
-fn rows_put(alloc: Global, added: Seq<Shared<ImportRow>>) -> Result<Difference, AllocError>
+fn rows_put(alloc: Global, added: Seq<Shared<Row>>) -> Result<Difference, AllocError>
     ensures { IfOk result (λ change. change ≡ change_of added) }
 {
     let mut change = Difference::none(alloc);
@@ -171,7 +171,7 @@ fn rows_put(alloc: Global, added: Seq<Shared<ImportRow>>) -> Result<Difference, 
 }
 
 /// The children of the rows.
-fn children_of(alloc: Global, rows: &[Shared<ImportRow>]) -> Result<Vec<Shared<Child>>, AllocError>
+fn children_of(alloc: Global, rows: &[Shared<Row>]) -> Result<Vec<Shared<Child>>, AllocError>
     ensures { IfOk result (λ children. children.items ≡ map (λ row. row.child) rows.now) }
 {
     let mut children = Vec::new(alloc);
@@ -185,7 +185,7 @@ fn children_of(alloc: Global, rows: &[Shared<ImportRow>]) -> Result<Vec<Shared<C
 /// Their applications.
 fn applications_of(
     alloc: Global,
-    rows: &[Shared<ImportRow>],
+    rows: &[Shared<Row>],
 ) -> Result<Vec<Shared<Application>>, AllocError>
     ensures { IfOk result (λ applications. applications.items ≡ map application_of rows.now) }
 {
@@ -197,7 +197,7 @@ fn applications_of(
     Ok(applications)
 }
 
-fn application_of(row: &ImportRow) -> Result<Application, AllocError>
+fn application_of(row: &Row) -> Result<Application, AllocError>
     ensures { IfOk result (λ application. application ≡ application_of row.now) }
 {
     Ok(Application {

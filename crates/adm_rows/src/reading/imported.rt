@@ -8,7 +8,7 @@ use crate::reading::fields::values_in;
 use crate::reading::reader::Reader;
 use adm_fields::{ImportColumns, bare_import_of};
 use adm_schema::tables::children::select_imported;
-use adm_types::{Day, ImportRow};
+use adm_types::{Day, Row as ImportRow};
 use sqlite::Row;
 use std::alloc::Global;
 

@@ -3,13 +3,13 @@ ghost use Rattle.std.specs.Prelude.{◌≡◌, ◌++◌, true, false, List, map,
 ghost use Rattle.std.specs.List.{flat_map, AllByRecursion};
 ghost use Rattle.std.specs.List.Sorted.{IsPermutation};
 ghost use Rattle.adm_types.specs.declared.rows.Child.{Child as ChildFacts};
-ghost use Rattle.adm_types.specs.declared.rows.ImportRow.{ImportRow as ImportFacts};
+ghost use Rattle.adm_types.specs.declared.rows.Row.{Row as ImportFacts};
 ghost use Rattle.adm_types.specs.Children.{bare_child, bare_import, present_of_child, present_of_import, presents_of};
 ghost use Rattle.adm_rows.specs.Faults.{IsNoRegister};
 ghost use Rattle.adm_rows.specs.Joins.{IsJoin, IsWithout, IsOnceEachKey, left_rows, import_no};
 
 use crate::OpenFault;
-use adm_types::{Child, ChildNo, ImportRow, PresentRow, SchoolCode};
+use adm_types::{Child, ChildNo, PresentRow, Row, SchoolCode};
 use std::alloc::Global;
 use std::collections::BTreeMap;
 
@@ -23,7 +23,7 @@ pub(super) fn join(
     alloc: Global,
     rows: &[PresentRow],
     children: &mut Vec<Child>,
-    imported: &mut Vec<ImportRow>,
+    imported: &mut Vec<Row>,
 ) -> Result<(), OpenFault>
     ensures same_children { map bare_child children.new.items ≡ map bare_child children.old.items }
     ensures same_imports { map bare_import imported.new.items ≡ map bare_import imported.old.items }
@@ -72,7 +72,7 @@ fn give_children(left: &mut Left, children: &mut [Child])
 }
 
 /// Each imported row takes its own school out of those that remain.
-fn give_imported(left: &mut Left, imported: &mut [ImportRow])
+fn give_imported(left: &mut Left, imported: &mut [Row])
     ensures same { map bare_import imported.new ≡ map bare_import imported.old }
     ensures given { IsPermutation (left_rows left.old) (flat_map present_of_import imported.new ++ left_rows left.new) }
     ensures taken { AllByRecursion (λ row. IsWithout (left_rows left.new) true (import_no row)) imported.new }

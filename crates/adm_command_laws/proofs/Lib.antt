@@ -1,0 +1,7 @@
+pub mod Repeats
+pub mod OneStep
+pub mod StepKeeps
+pub mod SomeStep
+pub mod History
+pub mod Imports
+pub mod NoBetterList

@@ -1,0 +1,4 @@
+pub mod Steps
+pub mod History
+pub mod Imports
+pub mod NextRound

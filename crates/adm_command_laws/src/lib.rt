@@ -1,0 +1,11 @@
+// Laws of commands: of each step, of repeats, rounds, imports and other lists. The program calls none of them.
+#![tactic(auto)]
+
+mod decisions;
+mod laws;
+
+pub use decisions::decide;
+pub use laws::{
+    draws_kept, import_once, no_better_list, one_step, repeat_safe, round_is_posed,
+    round_is_recorded, some_step, step_keeps,
+};

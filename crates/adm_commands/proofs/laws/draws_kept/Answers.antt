@@ -1,5 +1,0 @@
-use Rattle.adm_commands.proofs.History.{draws_kept_lem}
-use Rattle.adm_commands.proofs.laws.draws_kept.Goals as goal
-
-pub returns : goal.returns
-returns c = draws_kept_lem

@@ -1,5 +1,0 @@
-use Rattle.adm_commands.proofs.NoBetterList.{no_better_list_lem}
-use Rattle.adm_commands.proofs.laws.no_better_list.Goals as goal
-
-pub returns : goal.returns
-returns c = no_better_list_lem c.posed_without_fault.ensures c.no_gain.ensures

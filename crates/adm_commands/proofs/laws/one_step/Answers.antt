@@ -1,5 +1,0 @@
-use Rattle.adm_commands.proofs.OneStep.{one_step_lem}
-use Rattle.adm_commands.proofs.laws.one_step.Goals as goal
-
-pub returns : goal.returns
-returns c = one_step_lem c.one_allotment.ensures

@@ -1,5 +1,0 @@
-use Rattle.adm_commands.proofs.Posed.{posed}
-use Rattle.adm_commands.proofs.laws.round_is_posed.Goals as goal
-
-pub returns : goal.returns
-returns c = posed

@@ -1,5 +1,0 @@
-use Rattle.adm_commands.proofs.History.{round_is_recorded_lem}
-use Rattle.adm_commands.proofs.laws.round_is_recorded.Goals as goal
-
-pub returns : goal.returns
-returns c = round_is_recorded_lem

@@ -1,5 +1,0 @@
-use Rattle.adm_commands.proofs.StepKeeps.{step_keeps_lem}
-use Rattle.adm_commands.proofs.laws.step_keeps.Goals as goal
-
-pub returns : goal.returns
-returns c = step_keeps_lem c.allotment_fits.ensures

@@ -1,5 +1,0 @@
-use Rattle.adm_match.proofs.Generous.{no_loss_by_places_law}
-use Rattle.adm_match.proofs.laws.no_loss_by_places.Goals as goal
-
-pub returns : goal.returns
-returns c = no_loss_by_places_law

@@ -1,0 +1,5 @@
+use Rattle.adm_match_laws.proofs.Generous.{no_loss_by_places_law}
+use Rattle.adm_match_laws.proofs.laws.no_loss_by_places.Goals as goal
+
+pub returns : goal.returns
+returns c = no_loss_by_places_law

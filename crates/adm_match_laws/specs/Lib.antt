@@ -1,0 +1,5 @@
+pub mod Blocks
+pub mod Generous
+pub mod FullSchools
+pub mod AnyList
+pub mod Children

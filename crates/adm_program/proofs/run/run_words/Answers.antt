@@ -1,0 +1,40 @@
+use Rattle.std.proofs.Common.{ℕ, Ok, Err, refl, ap, ◌∙◌, sym, subst}
+use Rattle.adm_host.specs.Exits.{ExitsBy, exit_code}
+use Rattle.adm_wire.specs.Streams.{Stream}
+use Rattle.adm_program.proofs.Doing.{exits, refused}
+use Rattle.adm_program.proofs.Wording.{taken}
+use Rattle.adm_program.proofs.run.run_words.Goals as goal
+
+-- arguments that name an action
+pub returns-in-Ok-clause-does : goal.returns-in-Ok-clause-does
+returns-in-Ok-clause-does g c =
+    let errors : Stream = record { old = g.E.Output.contents c.args.errors.now; new = g.E.Output.contents c.end.new.errors; has_failed = g.E.Output.has_failed c.end.new.errors } in
+    let did = c.run_action-ended.ensures in
+    rw c.code.ensures (taken g.S.Start _ c.in-Ok.action _ _ _ errors c.run_action-ended.result c.end.result c.in-Ok.ensures.reads did.ok did.err did.many did.untouched c.end.ensures.exit c.end.ensures.reported)
+
+pub returns-in-Ok-clause-status : goal.returns-in-Ok-clause-status
+returns-in-Ok-clause-status g c =
+    let done = exits _ c.in-Ok.action _ _ _ c.run_action-ended.result c.end.result c.run_action-ended.ensures.ok c.end.ensures.exit in
+    (Ok c.in-Ok.action, c.in-Ok.ensures.reads, subst (λ (status : ℕ). ExitsBy (Ok c.in-Ok.action) status) (sym c.code.ensures) done)
+
+-- arguments that are a usage error
+pub returns-in-Err-clause-does : goal.returns-in-Err-clause-does
+returns-in-Err-clause-does g c =
+    record {
+      read = Err c.in-Err.fault;
+      reads = c.in-Err.ensures.reads;
+      follows = record { unread = refl; unwritten = refl; reported = c.refuse_arguments.ensures.reported; exits = c.code-in-Err.ensures ∙ ap exit_code c.refuse_arguments.ensures.exit };
+    }
+
+pub returns-in-Err-clause-status : goal.returns-in-Err-clause-status
+returns-in-Err-clause-status g c =
+    let reported = c.code-in-Err.ensures ∙ ap exit_code c.refuse_arguments.ensures.exit in
+    (Err c.in-Err.fault, c.in-Err.ensures.reads, subst (λ (status : ℕ). ExitsBy (Err c.in-Err.fault) status) (sym reported) (refused c.in-Err.fault))
+
+-- ---- what was printed of connections
+
+pub returns-in-Ok-clause-log : goal.returns-in-Ok-clause-log
+returns-in-Ok-clause-log g c = (Ok c.in-Ok.action, c.in-Ok.ensures.reads, c.run_action-ended.ensures.log)
+
+pub returns-in-Err-clause-log : goal.returns-in-Err-clause-log
+returns-in-Err-clause-log g c = (Err c.in-Err.fault, c.in-Err.ensures.reads, refl)
