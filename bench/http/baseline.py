@@ -10,7 +10,7 @@ import sys
 
 sys.path.insert(0, os.path.join(os.path.dirname(os.path.dirname(os.path.realpath(__file__))), "waiting"))
 sys.dont_write_bytecode = True
-from lists import standing
+from lists import rank
 
 REASONS = {200: "OK", 400: "Bad Request", 404: "Not Found", 409: "Conflict"}
 # those who wait at a school: it is on their list, above their place where they have one, and they have not left it
@@ -43,7 +43,7 @@ def wanted(conn, number, place):
 
 def position(conn, number, code):
     school = conn.execute("SELECT * FROM school WHERE code = ?", (code,)).fetchone()
-    ranks = {child[0]: standing(school, child) for child in conn.execute(WAITING, (code,))}
+    ranks = {child[0]: rank(school, child) for child in conn.execute(WAITING, (code,))}
     return 1 + sum(1 for it in ranks.values() if it < ranks[number])
 
 

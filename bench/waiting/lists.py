@@ -1,20 +1,20 @@
 #!/usr/bin/env python3
 """Prints the waiting list of a school from a register's file, without the program: lists.py FILE SCHOOL"""
-import math
+import os
 import sqlite3
 import sys
 
+sys.path.insert(0, os.path.join(os.path.dirname(os.path.realpath(__file__)), "..", "..", "tools"))
+sys.dont_write_bytecode = True
+from ranking_model import standing  # noqa: E402
 
-def standing(school, child):
-    """Class and distance."""
+
+def rank(school, child):
+    """Class and distance, of rows of the two tables."""
     code, _, _, east, north, criteria = school
-    number, _, x, y, looked_after, flags, siblings = child
-    metres = math.isqrt((east - x) ** 2 + (north - y) ** 2)
-    met = {"sibling": lambda _: code in siblings.split(";"), "within": lambda most: metres <= int(most), "flag": lambda flag: flags >> int(flag) & 1}
-    if looked_after:
-        return 0, metres
-    named = [it.partition(":") for it in criteria.split(";") if it]
-    return 1 + next((at for at, (kind, _, value) in enumerate(named) if met[kind](value)), len(named)), metres
+    _, _, x, y, looked_after, flags, siblings = child
+    given = {"east": x, "north": y, "looked_after": bool(looked_after), "flags": [it for it in range(16) if flags >> it & 1], "siblings": siblings.split(";")}
+    return standing({"school": code, "east": east, "north": north, "criteria": [it for it in criteria.split(";") if it]}, given)
 
 
 def main():
@@ -28,14 +28,14 @@ def main():
         listed = preferences.split(";")
         above = listed[: listed.index(places[child])] if child in places else listed
         if code in above and (child, code) not in left:
-            there.append((standing(school, conn.execute("SELECT * FROM child WHERE child = ?", (child,)).fetchone()), child))
+            there.append((rank(school, conn.execute("SELECT * FROM child WHERE child = ?", (child,)).fetchone()), child))
     there.sort()
     print(f"Waiting list of {code} {school[1]}")
     print("  Pos    Child Cls   Metres")
     position, before = 0, None
-    for index, (rank, child) in enumerate(there, 1):
-        position, before = (position, before) if rank == before else (index, rank)
-        print(f"{position:5}{child:9}{rank[0]:4}{rank[1]:9}")
+    for index, (ranked, child) in enumerate(there, 1):
+        position, before = (position, before) if ranked == before else (index, ranked)
+        print(f"{position:5}{child:9}{ranked[0]:4}{ranked[1]:9}")
     print(f"Waiting {len(there)}, vacancies {max(0, school[2] - sum(1 for it in places.values() if it == code))}")
 
 

@@ -6,10 +6,13 @@ Gale and Shapley described it in 1962, checks that no pair blocks and that no qu
 some children another school. It shares no code with the program.
 """
 import json
-import math
 import pathlib
 import random
 import sys
+
+sys.path.insert(0, str(pathlib.Path(__file__).resolve().parents[2] / "tools"))
+sys.dont_write_bytecode = True
+from ranking_model import standing  # noqa: E402
 
 HEADER = "child,name,east,north,looked_after,flags,siblings,day,preferences"
 SCHOOLS = [f"S{number}" for number in range(200)]
@@ -74,15 +77,10 @@ class Market:
             for number, lot in zip(them, random.sample(range(len(them)), len(them))):
                 self.lots[school, number] = lot
 
-    def metres(self, number, school):
-        child = self.made[number]
-        return math.isqrt((child["east"] - EAST[school]) ** 2 + child["north"] ** 2)
-
     def key(self, number, school):
-        """Class, distance and lot. The criteria of each school are sibling, within:3000 and flag:1."""
-        child = self.made[number]
-        met = [child["looked_after"], school in child["siblings"], self.metres(number, school) <= 3000, 1 in child["flags"], True]
-        return met.index(True), self.metres(number, school), self.lots[school, number]
+        """Class, distance and lot."""
+        there = {"school": school, "east": EAST[school], "north": 0, "criteria": ["sibling", "within:3000", "flag:1"]}
+        return *standing(there, self.made[number]), self.lots[school, number]
 
     def allotted(self, lists):
         held = {school: [] for school in SCHOOLS}

@@ -10,10 +10,13 @@ import csv
 import datetime
 import io
 import json
-import math
 import os
 import random
 import sys
+
+sys.path.insert(0, os.path.join(os.path.dirname(os.path.realpath(__file__)), "..", "..", "tools"))
+sys.dont_write_bytecode = True
+from ranking_model import metres, standing  # noqa: E402
 
 FIRST, SECOND = "2025-03-03", "2025-05-12"
 EPOCH = datetime.date(1970, 1, 1)
@@ -32,31 +35,6 @@ def csv_lines(*rows):
     out = io.StringIO()
     csv.writer(out, lineterminator="\n").writerows(rows)
     return out.getvalue().splitlines()
-
-
-def metres(a, b):
-    return math.isqrt((a["east"] - b["east"]) ** 2 + (a["north"] - b["north"]) ** 2)
-
-
-def meets(school, child, criterion):
-    if criterion == "sibling":
-        return school["school"] in child["siblings"]
-    kind, value = criterion.split(":")
-    if kind == "feeder":
-        return child.get("present") == value
-    if kind == "within":
-        return metres(school, child) <= int(value)
-    return int(value) in child["flags"]
-
-
-def standing(school, child):
-    """Class and distance: the smaller ranks first."""
-    if child["looked_after"]:
-        return (0, metres(school, child))
-    for at, criterion in enumerate(school["criteria"]):
-        if meets(school, child, criterion):
-            return (1 + at, metres(school, child))
-    return (1 + len(school["criteria"]), metres(school, child))
 
 
 class Season:
