@@ -17,7 +17,7 @@ seen_none old rows = record { why = refl; new = refl }
 
 module _ (old : State) (rows : List ImportRow) (seen : State) (number : ℕ) (row : ImportRow) (rest added : List ImportRow) (so_far : Seen old rows seen number (row ∷ rest) added) where
   -- a row that is refused is the first
-  pub refused_here : (refusal : Refusal) → refusal_of_row seen row ≡ Some refusal → refused_from old 1 rows ≡ Some (refusal, number)
+  pub refused_here : (refusal : Refusal) → refusal_of_row seen row ≡ Some refusal → refused_from old 1 rows ≡ Some (record { refusal = refusal; row = number })
   unfolding refused_from
   refused_here refusal refused = sym so_far.why ∙ ap (λ o. or_later number o (refused_from (after_row seen row) (number + 1) rest)) refused
 

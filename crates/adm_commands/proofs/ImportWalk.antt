@@ -21,6 +21,7 @@ use Rattle.adm_register.specs.WellFormed.{are_schools}
 use Rattle.adm_commands.specs.Commands.AddChild as add_child
 use Rattle.adm_commands.specs.Commands.Apply as apply
 use Rattle.adm_commands.specs.Commands.Import.{change_of, is_known, row_tests, refusal_of_row, with_row, after_row, refused_from, or_later, new_rows}
+use Rattle.adm_commands.specs.declared.command_result.RowRefusal.{RowRefusal}
 use Rattle.adm_commands.proofs.EachOf.{each_map}
 use Rattle.adm_types.specs.declared.commands.Refusal.TheVariants as refusal
 use Rattle.adm_commands.proofs.Passed.{passed, passed_rest, both_pass}
@@ -57,7 +58,7 @@ addable s row passes =
     )
 
 -- where no row is refused, neither the first nor a later one is
-none_refused : (number : ℕ) (first : Option Refusal) (later : Option (Refusal × ℕ)) → or_later number first later ≡ None → (first ≡ None) × (later ≡ None)
+none_refused : (number : ℕ) (first : Option Refusal) (later : Option RowRefusal) → or_later number first later ≡ None → (first ≡ None) × (later ≡ None)
 none_refused number None later none = (refl, none)
 none_refused number (Some reason) later none = cc
 

@@ -116,7 +116,7 @@ module _ (old : State) (rows : List ImportRow) (added : List (ℕ × ImportRow))
   walked_up Memory explains = tt
   walked_up (Refused refusal place) explains = go (refusal_of_row w.seen row) refl explains
     where
-      go : (o : Option Refusal) → refusal_of_row w.seen row ≡ o → or_later number o None ≡ Some (refusal, place) → refused_from old 1 rows ≡ Some (refusal, place)
+      go : (o : Option Refusal) → refusal_of_row w.seen row ≡ o → or_later number o None ≡ Some (record { refusal = refusal; row = place }) → refused_from old 1 rows ≡ Some (record { refusal = refusal; row = place })
       go None passes none = cc
       go (Some first) refused same = refused_here old rows w.seen number row rest w.new w.so_far first refused ∙ same
 

@@ -13,10 +13,10 @@ pub mod NamePlan
 pub mod RaisePan
 pub mod Remind
 pub mod Round
-use Rattle.std.specs.Prelude.{ℕ, Option}
+use Rattle.std.specs.Prelude.{Option}
 use Rattle.adm_types.specs.declared.commands.Command.{Command}
 use Rattle.adm_types.specs.declared.commands.Command.TheVariants as command
-use Rattle.adm_types.specs.declared.commands.Refusal.{Refusal}
+use Rattle.adm_commands.specs.declared.command_result.RowRefusal.{RowRefusal}
 use Rattle.adm_types.specs.declared.commands.Reply.{Reply}
 use Rattle.adm_register.specs.declared.difference.Difference.{Difference}
 use Rattle.adm_register.specs.State.{State}
@@ -57,8 +57,8 @@ rules_of (command.Import rows) = import.rules rows
 abbrev pub KeptByTypes : Command → Type 0
 KeptByTypes asked = (rules_of asked).kept
 
--- why a command is refused: by the first of its tests that fails. Beside it is 0; for an import, the number of the first row that is refused, from 1
-abbrev pub refused : State → Command → Option (Refusal × ℕ)
+-- why a command is refused: by the first of its tests that fails, and for an import at the first row that is refused
+abbrev pub refused : State → Command → Option RowRefusal
 refused old asked = (rules_of asked).refused old
 
 -- what an accepted command changes, and what it answers

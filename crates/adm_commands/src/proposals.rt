@@ -7,6 +7,7 @@ ghost use Rattle.adm_commands.specs.Commands.{KeptByTypes};
 ghost use Rattle.adm_commands.specs.Steps.{Decides, decision};
 
 use crate::NotDone;
+use crate::command_result::RowRefusal;
 use crate::commands::evaluate;
 use adm_register::{Difference, Register};
 use adm_round::allotment_fits;
@@ -25,7 +26,7 @@ pub fn propose(old: &Register, alloc: Global, command: Command) -> Result<Propos
 {
     allotment_fits();
     match evaluate(old.tables(), old.draws_so_far(), alloc, command)? {
-        Err((refusal, row)) => Err(NotDone::Refused { refusal, row }),
+        Err(RowRefusal { refusal, row }) => Err(NotDone::Refused { refusal, row }),
         Ok((whole, reply)) => {
             let (register, change) = old.changed(alloc, whole)?;
             Ok(Proposal {

@@ -39,7 +39,7 @@ pub record InFlight (register : Register) (command : Command) (left : Disk) : Ty
 -- Failed: the register stays that of the acknowledged commands; from then on each answer is Failed, and the connection stays.
 abbrev pub Handles : {C : Type 0} → (C → Disk) → DeskState C → Command → Answer → DeskState C → Type 0
 Handles disk old command (Done reply) new = (old.failed ≡ false) × Step old.register command (Ok reply) new.register × (new.failed ≡ false) × LeavesOnly new.register (disk new.conn)
-Handles disk old command (Refused refusal row) new = (old.failed ≡ false) × Step old.register command (Err (refusal, row)) old.register × (new ≡ old)
+Handles disk old command (Refused refusal row) new = (old.failed ≡ false) × Step old.register command (Err (record { refusal = refusal; row = row })) old.register × (new ≡ old)
 Handles disk old command Memory new = (old.failed ≡ false) × (new ≡ old)
 Handles disk old command Failed new = (new.failed ≡ true) × (new.register ≡ old.register) × (old.failed ≡ true → new ≡ old) × (old.failed ≡ false → InFlight old.register command (disk new.conn))
 

@@ -36,6 +36,6 @@ pub record IsRoundAfter (old : State) (command : Command) (numbers : List ℕ) (
 
 -- The command is refused, or the lots pose no round once it is done; or there was no memory.
 abbrev pub IsNotOffered : State → Command → List ℕ → NotOffered → Type 0
-IsNotOffered old command numbers (Refused refusal row) = refused old command ≡ Some (refusal, row)
+IsNotOffered old command numbers (Refused refusal row) = refused old command ≡ Some (record { refusal = refusal; row = row })
 IsNotOffered old command numbers (Lots fault) = (new : State) × Accepts old command new × (lots_fault new numbers ≡ Some fault)
 IsNotOffered old command numbers Memory = ⊤

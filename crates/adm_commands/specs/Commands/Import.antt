@@ -12,6 +12,7 @@ use Rattle.adm_table.specs.Same.{is_same_import}
 use Rattle.adm_register.specs.declared.difference.Difference.{Difference}
 use Rattle.adm_register.specs.State.{State, application_of}
 use Rattle.adm_register.specs.Change.{after, no_change, change_of_child}
+use Rattle.adm_commands.specs.declared.command_result.RowRefusal.{RowRefusal}
 use Rattle.adm_commands.specs.Tests.{first_failing}
 use Rattle.adm_commands.specs.Commands.AddChild as add_child
 use Rattle.adm_commands.specs.Commands.Apply as apply
@@ -49,13 +50,13 @@ with_row s row = after s (change_of (row ∷ []))
 unfoldable pub after_row : State → ImportRow → State
 after_row s row = if is_known s row then s else with_row s row
 
--- a row's refusal beside its number, or that of a later row
-abbrev pub or_later : ℕ → Option Refusal → Option (Refusal × ℕ) → Option (Refusal × ℕ)
+-- a row's refusal with its number, or that of a later row
+abbrev pub or_later : ℕ → Option Refusal → Option RowRefusal → Option RowRefusal
 or_later number None later = later
-or_later number (Some refusal) later = Some (refusal, number)
+or_later number (Some refusal) later = Some (record { refusal = refusal; row = number })
 
 -- the first row that is refused, with its number, where the first row has this one
-unfoldable pub refused_from : State → ℕ → List ImportRow → Option (Refusal × ℕ)
+unfoldable pub refused_from : State → ℕ → List ImportRow → Option RowRefusal
 refused_from s number [] = None
 refused_from s number (row ∷ rows) = or_later number (refusal_of_row s row) (refused_from (after_row s row) (number + 1) rows)
 

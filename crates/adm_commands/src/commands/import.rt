@@ -15,7 +15,7 @@ ghost use Rattle.adm_commands.specs.Rules.{Follows};
 ghost use Rattle.adm_register.specs.State.{State, application_of};
 
 use crate::NotDone;
-use crate::command_result::CommandResult;
+use crate::command_result::{CommandResult, RowRefusal};
 use crate::commands::{add_child, apply};
 use crate::kept::kept_by_row;
 use adm_register::{Difference, Tables};
@@ -43,7 +43,9 @@ pub(crate) fn evaluate(
     let length = rows.len();
     let added = match walk(old, alloc, rows) {
         Ok(added) => added,
-        Err(NotDone::Refused { refusal, row }) => return Ok(Err((refusal, row))),
+        Err(NotDone::Refused { refusal, row }) => {
+            return Ok(Err(RowRefusal { refusal, row }));
+        }
         Err(NotDone::Memory) => return Err(AllocError),
     };
     let count = added.len();
