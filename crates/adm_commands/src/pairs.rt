@@ -13,14 +13,14 @@ use std::alloc::{AllocError, Global};
 
 /// The schools of the next round, who takes part in it, and for whom its lots are drawn.
 #[derive(Drop)]
-pub(crate) struct Wants {
+pub(crate) struct RoundPairs {
     pub(crate) sites: Vec<Site>,
     pub(crate) applicants: Vec<Applicant>,
     pub(crate) pairs: Vec<Pair>,
 }
 
 /// They are worked out by the same steps whether a round is held or its pairs are queried.
-pub(crate) fn wants_of(old: &Tables, alloc: Global) -> Result<Wants, AllocError>
+pub(crate) fn round_pairs_of(old: &Tables, alloc: Global) -> Result<RoundPairs, AllocError>
     ensures sites { IfOk result (λ wants. wants.sites.items ≡ sites old.now) }
     ensures applicants { IfOk result (λ wants. wants.applicants.items ≡ round_applicants old.now) }
     ensures pairs { IfOk result (λ wants. wants.pairs.items ≡ round_pairs old.now) }
@@ -28,7 +28,7 @@ pub(crate) fn wants_of(old: &Tables, alloc: Global) -> Result<Wants, AllocError>
     let sites = sites(old, alloc)?;
     let applicants = round_applicants(old, alloc)?;
     let pairs = wanted_pairs(alloc, &sites, &applicants)?;
-    Ok(Wants {
+    Ok(RoundPairs {
         sites,
         applicants,
         pairs,
@@ -45,7 +45,7 @@ pub(crate) fn wants_of(old: &Tables, alloc: Global) -> Result<Wants, AllocError>
 pub fn round_pairs(register: &Register, alloc: Global) -> Result<Vec<Pair>, AllocError>
     ensures { IfOk result (λ pairs. pairs.items ≡ round_pairs register.now) }
 {
-    let wants = wants_of(register.tables(), alloc)?;
+    let wants = round_pairs_of(register.tables(), alloc)?;
     Ok(wants.pairs)
 }
 

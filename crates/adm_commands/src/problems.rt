@@ -4,7 +4,7 @@ ghost use Rattle.adm_commands.specs.Commands.Round.{round_applicants, sites, rou
 ghost use Rattle.adm_commands.specs.Problem.{lots_fault};
 ghost use Rattle.adm_commands.specs.declared.problems.DrawFault.TheVariants.{Memory};
 
-use crate::pairs::{Wants, drawn_lots, wants_of};
+use crate::pairs::{RoundPairs, drawn_lots, round_pairs_of};
 use adm_draws::has_repeated_lot;
 use adm_match::Problem;
 use adm_register::{Register, Tables};
@@ -33,7 +33,7 @@ impl From<AllocError> for DrawFault {
 
 /// What the next round's problem is made of, with numbers for its lots.
 #[derive(Drop)]
-pub(crate) struct Parts {
+pub(crate) struct RoundInputs {
     pub(crate) sites: Vec<Site>,
     pub(crate) applicants: Vec<Applicant>,
     /// The lots; none where there is not one number for each pair.
@@ -48,22 +48,26 @@ pub(crate) struct Parts {
 /// each site, list entry and lot, and while they are made for each application and place. What they
 /// cost grows with the list entries of those who take part and with the lots, times their logarithm,
 /// with the applications and the places, and with the schools times the places of plans.
-pub(crate) fn parts_of(old: &Tables, alloc: Global, lots: &[u32]) -> Result<Parts, AllocError>
+pub(crate) fn round_inputs_of(
+    old: &Tables,
+    alloc: Global,
+    lots: &[u32],
+) -> Result<RoundInputs, AllocError>
     ensures sites { IfOk result (λ parts. parts.sites.items ≡ sites old.now) }
     ensures applicants { IfOk result (λ parts. parts.applicants.items ≡ round_applicants old.now) }
     ensures counted { IfOk result (λ parts. parts.counted ≡ is_lot_count old.now lots.now) }
     ensures drawn { IfOk result (λ parts. (is_lot_count old.now lots.now ≡ true → parts.drawn.items ≡ round_lots old.now lots.now)) }
     ensures apart { IfOk result (λ parts. (is_lot_count old.now lots.now ≡ true → parts.apart ≡ are_lots_apart old.now lots.now)) }
 {
-    let Wants {
+    let RoundPairs {
         sites,
         applicants,
         pairs,
-    } = wants_of(old, alloc)?;
+    } = round_pairs_of(old, alloc)?;
     let counted = lots.len() == pairs.len();
     let drawn = drawn_lots(alloc, pairs, lots)?;
     let apart = !has_repeated_lot(alloc, &drawn)?;
-    Ok(Parts {
+    Ok(RoundInputs {
         sites,
         applicants,
         drawn,
@@ -82,13 +86,13 @@ pub fn problem(old: &Register, alloc: Global, lots: &[u32]) -> Result<Problem, D
     ensures lots { OnOk result (lots_fault old.now lots.now ≡ None) }
     ensures fault { IfErr result (λ fault. (lots_fault old.now lots.now ≡ Some fault) ⊎ (fault ≡ Memory)) }
 {
-    let Parts {
+    let RoundInputs {
         sites,
         applicants,
         drawn,
         counted,
         apart,
-    } = parts_of(old.tables(), alloc, lots)?;
+    } = round_inputs_of(old.tables(), alloc, lots)?;
     if !counted {
         return Err(DrawFault::LotCount);
     }

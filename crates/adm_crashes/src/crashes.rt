@@ -11,7 +11,7 @@ ghost use Rattle.adm_desk.specs.Files.{IsFileOf};
 ghost use Rattle.adm_crashes.specs.Crashes.{IsAnsweredFrom, IsCleanStart, IsRestartOf, IsUnhandled, KeepsEachDatabase, KeepsEveryImage};
 
 use crate::restart::restart;
-use crate::{Restarted, handle_all, open_files, rounds_are_recorded, rounds_stay};
+use crate::{Restart, handle_all, open_files, rounds_are_recorded, rounds_stay};
 use adm_command_laws::{draws_kept, round_is_recorded};
 use adm_desk::{Answer, Desk};
 use adm_rows::OpenFault;
@@ -109,7 +109,7 @@ pub fn run_until_crash<D: Crash + Drop>(
     alloc: Global,
     files: Files<D>,
     commands: Vec<Command>,
-) -> Result<Restarted<FileStore<D>>, NotHandled<D>>
+) -> Result<Restart<FileStore<D>>, NotHandled<D>>
     requires log { IsTrue (D.Disk.is_usable files.log) }
     requires db { IsTrue (D.Disk.is_usable files.db) }
     // Over files of a register: the one that is found may be found after the commands. No start reports NotOurs, Version or BadRow.
@@ -121,7 +121,7 @@ pub fn run_until_crash<D: Crash + Drop>(
     match run_commands(alloc, files, commands) {
         Ok(CommandRun { answers, store }) => {
             let opened = restart(alloc, store);
-            Ok(Restarted { answers, opened })
+            Ok(Restart { answers, opened })
         }
         Err(unhandled) => Err(unhandled),
     }

@@ -17,14 +17,14 @@ use std::alloc::Global;
 
 /// The answers of a run, and the result of the start after it: a desk, or the error and what
 /// remains of the store.
-pub struct Restarted<S: Alter> {
+pub struct Restart<S: Alter> {
     pub answers: Vec<Answer>,
     pub opened: Result<Desk<S>, (OpenFault, S)>,
 }
 
-impl<S: Alter + Drop> Drop for Restarted<S> {
+impl<S: Alter + Drop> Drop for Restart<S> {
     fn drop(self) {
-        let Restarted {
+        let Restart {
             answers: _,
             opened: _,
         } = self;

@@ -5,8 +5,8 @@ use Rattle.csv.specs.Machine.{step, is_end}
 use Rattle.csv.specs.Reading.{default_config, strip_bom}
 use Rattle.csv.specs.declared.parser.State.{State}
 use Rattle.csv.specs.declared.parser.State.TheVariants as st
-use Rattle.adm_csv.specs.declared.scan.At.{At}
-use Rattle.adm_csv.specs.declared.scan.At.TheVariants as at
+use Rattle.adm_csv.specs.declared.scan.ScanState.{ScanState}
+use Rattle.adm_csv.specs.declared.scan.ScanState.TheVariants as at
 use Rattle.adm_csv.specs.declared.scan.Scan.{Scan}
 use Rattle.adm_csv.specs.Kinds.{Text}
 use Rattle.adm_csv.specs.Rows.{IsReached, records_of}
@@ -57,7 +57,7 @@ RunsOutAt old new row =
 -- ---- for private clauses: what the scan keeps of bytes
 
 -- the state of the reader
-abbrev pub reader_state : At → State
+abbrev pub reader_state : ScanState → State
 reader_state at.RecordStart = st.StartRecord
 reader_state at.FieldStart = st.StartField
 reader_state at.Field = st.InField

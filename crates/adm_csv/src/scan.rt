@@ -11,7 +11,7 @@ const MARK: [u8; 3] = [0xEF, 0xBB, 0xBF];
 
 /// Where the next byte is, as far as the ends of records depend on it.
 #[derive(Clone, Copy, Debug, PartialEq, Eq)]
-pub(crate) enum At {
+pub(crate) enum ScanState {
     RecordStart,
     FieldStart,
     Field,
@@ -24,62 +24,62 @@ pub(crate) enum At {
 #[derive(Drop)]
 pub(crate) struct Scan {
     pub(crate) text: Vec<u8>,
-    pub(crate) at: At,
+    pub(crate) at: ScanState,
     pub(crate) ended: u64,
 }
 
-fn in_field(byte: u8) -> (At, bool)
+fn in_field(byte: u8) -> (ScanState, bool)
     ensures at { reader_state result.0 ≡ (in_field default_config byte).0 }
     ensures ends { result.1 ≡ is_end (in_field default_config byte).1 }
 {
     match byte {
-        b',' => (At::FieldStart, false),
-        b'\r' => (At::AfterReturn, true),
-        b'\n' => (At::RecordStart, true),
-        _ => (At::Field, false),
+        b',' => (ScanState::FieldStart, false),
+        b'\r' => (ScanState::AfterReturn, true),
+        b'\n' => (ScanState::RecordStart, true),
+        _ => (ScanState::Field, false),
     }
 }
 
-fn start_field(byte: u8) -> (At, bool)
+fn start_field(byte: u8) -> (ScanState, bool)
     ensures at { reader_state result.0 ≡ (start_field default_config byte).0 }
     ensures ends { result.1 ≡ is_end (start_field default_config byte).1 }
 {
     match byte {
-        b'"' => (At::Quoted, false),
+        b'"' => (ScanState::Quoted, false),
         _ => in_field(byte),
     }
 }
 
-fn start_record(byte: u8) -> (At, bool)
+fn start_record(byte: u8) -> (ScanState, bool)
     ensures at { reader_state result.0 ≡ (start_record default_config byte).0 }
     ensures ends { result.1 ≡ is_end (start_record default_config byte).1 }
 {
     match byte {
-        b'\r' | b'\n' => (At::RecordStart, false),
+        b'\r' | b'\n' => (ScanState::RecordStart, false),
         _ => start_field(byte),
     }
 }
 
-impl At {
+impl ScanState {
     /// Where the byte after this one is, and whether this one ends a record.
-    fn after(self, byte: u8) -> (At, bool)
+    fn after(self, byte: u8) -> (ScanState, bool)
         ensures at { reader_state result.0 ≡ (step default_config (reader_state self) byte).0 }
         ensures ends { result.1 ≡ is_end (step default_config (reader_state self) byte).1 }
     {
         match self {
-            At::RecordStart => start_record(byte),
-            At::FieldStart => start_field(byte),
-            At::Field => in_field(byte),
-            At::Quoted => match byte {
-                b'"' => (At::AfterQuote, false),
-                _ => (At::Quoted, false),
+            ScanState::RecordStart => start_record(byte),
+            ScanState::FieldStart => start_field(byte),
+            ScanState::Field => in_field(byte),
+            ScanState::Quoted => match byte {
+                b'"' => (ScanState::AfterQuote, false),
+                _ => (ScanState::Quoted, false),
             },
-            At::AfterQuote => match byte {
-                b'"' => (At::Quoted, false),
+            ScanState::AfterQuote => match byte {
+                b'"' => (ScanState::Quoted, false),
                 _ => in_field(byte),
             },
-            At::AfterReturn => match byte {
-                b'\n' => (At::RecordStart, false),
+            ScanState::AfterReturn => match byte {
+                b'\n' => (ScanState::RecordStart, false),
                 _ => start_record(byte),
             },
         }
@@ -92,7 +92,7 @@ impl Scan {
     {
         Scan {
             text: Vec::new(alloc),
-            at: At::RecordStart,
+            at: ScanState::RecordStart,
             ended: 0,
         }
     }
@@ -106,7 +106,7 @@ impl Scan {
     {
         self.text.push(byte)?;
         if self.text.as_slice() == MARK.as_slice() {
-            self.at = At::RecordStart;
+            self.at = ScanState::RecordStart;
             self.ended = 0;
             return Ok(());
         }

@@ -20,7 +20,7 @@ use Rattle.adm_rows.specs.declared.fault.OpenFault.TheVariants.{Disk}
 use Rattle.adm_desk.specs.DeskState.{DeskState}
 use Rattle.adm_host.specs.Exits.{of_open}
 use Rattle.adm_host.specs.Found.{Closes, IsFound}
-use Rattle.adm_host.specs.declared.ended.Ended.{Ended}
+use Rattle.adm_host.specs.declared.ended.LineEnd.{LineEnd}
 use Rattle.adm_host.specs.declared.exit.Exit.{Exit}
 use Rattle.adm_host.specs.declared.fault.Fault.{Fault}
 
@@ -49,7 +49,7 @@ module _ {D : Type 0} {g : disk.Ghosts D} where
     pub kept : Survives (file_state found) (file_state desk.conn) (IsMigrated (file_state found))
 
   -- a desk, or how the line ended without one
-  abbrev pub OpensAs : Image → Result (DeskState (Held (FileStore D g))) (Ended D g) → Type 0
+  abbrev pub OpensAs : Image → Result (DeskState (Held (FileStore D g))) (LineEnd D g) → Type 0
   OpensAs image (Ok desk) = IsOpened image desk
   OpensAs image (Err ended) = IsNotOpened image ended.exit ended.closed
 

@@ -3,7 +3,7 @@ ghost use Rattle.std.specs.Prelude.{◌≡◌, false};
 ghost use Rattle.adm_host.specs.Found.{Closes};
 
 use adm_desk::Desk;
-use adm_host::{Ended, Exit, Fault, close_files};
+use adm_host::{Exit, Fault, LineEnd, close_files};
 use sqlite::{Connection, FileStore};
 use sqlite_disk::Disk;
 
@@ -17,11 +17,11 @@ pub fn connection_of<D: Disk + Drop>(desk: Desk<FileStore<D>>) -> Connection<Fil
 }
 
 /// Closes the desk's connection, after a line that ended so.
-pub fn close<D: Disk + Drop>(desk: Desk<FileStore<D>>, exit: Result<Exit, Fault>) -> Ended<D>
+pub fn close<D: Disk + Drop>(desk: Desk<FileStore<D>>, exit: Result<Exit, Fault>) -> LineEnd<D>
     ensures exit { result.exit ≡ exit }
     ensures closes { Closes desk.conn result.closed }
 {
-    Ended {
+    LineEnd {
         exit,
         closed: close_files(connection_of(desk)),
     }

@@ -14,7 +14,7 @@ use crate::opening::open_desk;
 use crate::outcome::exit_of_answer;
 use adm_csv::read_rows;
 use adm_desk::{Answer, Desk};
-use adm_host::{Ended, Exit, Fault, OpenError, Rows, put};
+use adm_host::{Exit, Fault, LineEnd, OpenError, Rows, put};
 use adm_types::{Command, Row as ImportRow, Seq};
 use adm_wire::{Input, Output};
 use sqlite::{Alter, FileFrom, FileStore, Start};
@@ -58,7 +58,7 @@ fn import_rows<D: Disk + Drop, I: Input, O: Output>(
     mut desk: Desk<FileStore<D>>,
     rows: &mut I,
     output: &mut O,
-) -> Ended<D>
+) -> LineEnd<D>
     ensures { Imports desk
         (reader I.Input rows.old rows.new)
         (writer O.Output output.old output.new)
@@ -80,7 +80,7 @@ fn import_file<D: Disk + Drop, F: Rows, O: Output>(
     csv: &str,
     rows: &mut F,
     output: &mut O,
-) -> Ended<D>
+) -> LineEnd<D>
     ensures { ImportsFile desk (files F.Rows rows.old rows.new csv.now) (writer O.Output output.old output.new)
         result.exit result.closed }
 {
@@ -99,7 +99,7 @@ pub fn import<S: Start, F: Rows, O: Output>(
     start: S,
     rows: &mut F,
     output: &mut O,
-) -> Result<Ended<FileFrom<S>>, OpenError<FileFrom<S>>>
+) -> Result<LineEnd<FileFrom<S>>, OpenError<FileFrom<S>>>
     ensures ok { IfOk result (λ ended. ImportsInto (image_at S.Start) (files F.Rows rows.old rows.new csv.now)
         (writer O.Output output.old output.new)
         ended.exit ended.closed) }

@@ -14,7 +14,7 @@ use crate::closing::close;
 use crate::opening::open_desk;
 use crate::outcome::{exit_of, fault_of_run};
 use adm_desk::Desk;
-use adm_host::{Ended, OpenError};
+use adm_host::{LineEnd, OpenError};
 use adm_wire::{Input, Output};
 use sqlite::{FileFrom, FileStore, Start};
 use sqlite_disk::Disk;
@@ -27,7 +27,7 @@ pub fn do_lines<S: Start, I: Input, O: Output>(
     start: S,
     input: &mut I,
     output: &mut O,
-) -> Result<Ended<FileFrom<S>>, OpenError<FileFrom<S>>>
+) -> Result<LineEnd<FileFrom<S>>, OpenError<FileFrom<S>>>
     ensures ok { IfOk result (λ ended. OpensAndRuns (AnswersLine (Handles file_state)) (image_at S.Start)
         (reader I.Input input.old input.new)
         (writer O.Output output.old output.new)
@@ -48,7 +48,7 @@ fn run_desk<D: Disk + Drop, I: Input, O: Output>(
     mut desk: Desk<FileStore<D>>,
     input: &mut I,
     output: &mut O,
-) -> Ended<D>
+) -> LineEnd<D>
     ensures { Runs (AnswersLine (Handles file_state)) desk
         (reader I.Input input.old input.new)
         (writer O.Output output.old output.new)
@@ -68,7 +68,7 @@ pub fn answer_questions<S: Start, I: Input, O: Output>(
     start: S,
     input: &mut I,
     output: &mut O,
-) -> Result<Ended<FileFrom<S>>, OpenError<FileFrom<S>>>
+) -> Result<LineEnd<FileFrom<S>>, OpenError<FileFrom<S>>>
     ensures ok { IfOk result (λ ended. OpensAndRuns AnswersQuestionLine (image_at S.Start)
         (reader I.Input input.old input.new)
         (writer O.Output output.old output.new)
@@ -89,7 +89,7 @@ fn run_questions<D: Disk + Drop, I: Input, O: Output>(
     desk: Desk<FileStore<D>>,
     input: &mut I,
     output: &mut O,
-) -> Ended<D>
+) -> LineEnd<D>
     ensures { Runs AnswersQuestionLine desk
         (reader I.Input input.old input.new)
         (writer O.Output output.old output.new)

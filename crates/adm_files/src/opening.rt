@@ -8,13 +8,13 @@ ghost use Rattle.adm_files.specs.Opened.{IsOpened, OpensAs};
 use crate::closing::{close, connection_of};
 use adm_desk::Desk;
 use adm_host::{
-    Ended, Exit, Fault, Found, OpenError, Trial, before_close, before_open, changed, close_files,
+    Exit, Fault, Found, LineEnd, OpenError, Trial, before_close, before_open, changed, close_files,
     open_file,
 };
 use sqlite::{FileFrom, FileStore, Start, Unknown};
 
 /// A desk over the register in a file, or how the line ended without one.
-pub type Opened<D> = Result<Desk<FileStore<D>>, Ended<D>>;
+pub type OpenResult<D> = Result<Desk<FileStore<D>>, LineEnd<D>>;
 
 /// Opens the register in the file, which is there: an open makes no file here. The `Err` is why the
 /// file was not opened, with what remained of it.
@@ -27,7 +27,7 @@ pub fn open_desk<S: Start>(
     rt: &HostRuntime,
     file: &str,
     start: S,
-) -> Result<Opened<FileFrom<S>>, OpenError<FileFrom<S>>>
+) -> Result<OpenResult<FileFrom<S>>, OpenError<FileFrom<S>>>
     ensures ok { IfOk result (OpensAs (image_at S.Start)) }
     ensures err { IfErr result (λ e. IsOpenFault e.fault) }
     ensures left { IfErr result (λ e. LeavesAsFound (image_at S.Start) e.remains) }
@@ -46,7 +46,7 @@ fn open_after_trial<S: Start>(
     file: &str,
     found: &Found,
     start: S,
-) -> Result<Opened<FileFrom<S>>, OpenError<FileFrom<S>>>
+) -> Result<OpenResult<FileFrom<S>>, OpenError<FileFrom<S>>>
     ensures ok { IfOk result (OpensAs (image_at S.Start)) }
     ensures err { IfErr result (λ e. IsOpenFault e.fault) }
     ensures left { IfErr result (λ e. LeavesAsFound (image_at S.Start) e.remains) }
@@ -96,7 +96,7 @@ fn refuse<S: Start>(
     rt: &HostRuntime,
     trial: &Trial,
     start: S,
-) -> Result<Opened<FileFrom<S>>, OpenError<FileFrom<S>>>
+) -> Result<OpenResult<FileFrom<S>>, OpenError<FileFrom<S>>>
     ensures ok { IfOk result (OpensAs (image_at S.Start)) }
     ensures refused { IfOk result IsErr }
     ensures err { IfErr result (λ e. IsOpenFault e.fault) }
@@ -125,7 +125,7 @@ fn open_at<S: Start>(
     rt: &HostRuntime,
     path: &str,
     start: S,
-) -> Result<Opened<FileFrom<S>>, OpenError<FileFrom<S>>>
+) -> Result<OpenResult<FileFrom<S>>, OpenError<FileFrom<S>>>
     ensures ok { IfOk result (OpensAs (image_at S.Start)) }
     ensures err { IfErr result (λ e. IsOpenFault e.fault) }
     ensures left { IfErr result (λ e. LeavesAsFound (image_at S.Start) e.remains) }
@@ -133,7 +133,7 @@ fn open_at<S: Start>(
     let conn = open_file(rt, path, start)?;
     match Desk::open(rt.alloc(), conn) {
         Ok(desk) => Ok(Ok(desk)),
-        Err((fault, conn)) => Ok(Err(Ended {
+        Err((fault, conn)) => Ok(Err(LineEnd {
             exit: Err(Fault::from(fault)),
             closed: close_files(conn),
         })),

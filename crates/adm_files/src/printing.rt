@@ -10,7 +10,7 @@ ghost use Rattle.adm_files.specs.Runs.{Prints};
 use crate::closing::close;
 use crate::opening::open_desk;
 use adm_desk::Desk;
-use adm_host::{Document, Ended, Exit, Fault, OpenError};
+use adm_host::{Document, Exit, Fault, LineEnd, OpenError};
 use adm_wire::Output;
 use sqlite::{Alter, FileFrom, FileStore, Start};
 use sqlite_disk::Disk;
@@ -39,7 +39,7 @@ fn print_document<D: Disk + Drop, O: Output>(
     desk: Desk<FileStore<D>>,
     document: Document,
     output: &mut O,
-) -> Ended<D>
+) -> LineEnd<D>
     requires { desk.failed ≡ false }
     ensures printed { PrintsAs (document_text desk.register document)
         (writer O.Output output.old output.new) result.exit }
@@ -57,7 +57,7 @@ pub fn print<S: Start, O: Output>(
     start: S,
     document: Document,
     output: &mut O,
-) -> Result<Ended<FileFrom<S>>, OpenError<FileFrom<S>>>
+) -> Result<LineEnd<FileFrom<S>>, OpenError<FileFrom<S>>>
     ensures ok { IfOk result (λ ended. Prints (image_at S.Start) document
         (writer O.Output output.old output.new)
         ended.exit ended.closed) }

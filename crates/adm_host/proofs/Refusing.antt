@@ -14,7 +14,7 @@ use Rattle.adm_store.specs.Migration.{IsMigrated}
 use Rattle.adm_host.specs.Found.{IsFound, LeavesAsFound}
 use Rattle.adm_host.specs.Creation.{CreatesAs}
 use Rattle.adm_host.specs.declared.connecting.OpenError.{OpenError}
-use Rattle.adm_host.specs.declared.connecting.Remains.TheVariants.{Connection}
+use Rattle.adm_host.specs.declared.connecting.Remainder.TheVariants.{Connection}
 use Rattle.adm_host.specs.declared.exit.Exit.{Exit}
 use Rattle.adm_host.specs.declared.fault.Fault.{Fault}
 

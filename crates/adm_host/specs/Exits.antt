@@ -23,7 +23,7 @@ use Rattle.sqlite.specs.declared.error.ErrorCode.TheVariants as code
 use Rattle.adm_host.specs.declared.cause.Cause.{Cause}
 use Rattle.adm_host.specs.declared.cause.Cause.TheVariants as cause
 use Rattle.adm_host.specs.declared.connecting.OpenError.{OpenError}
-use Rattle.adm_host.specs.declared.ended.Ended.{Ended}
+use Rattle.adm_host.specs.declared.ended.LineEnd.{LineEnd}
 use Rattle.adm_host.specs.declared.fault.Fault.{Fault}
 use Rattle.adm_host.specs.declared.fault.Fault.TheVariants.{TooManyHolidays, YearRange, InUse, NotOurs, Version, BadRow, Disk, Memory, Read, Write, UnknownChild, UnknownSchool, NoRound, Listen, NotRead, Row}
 use Rattle.adm_host.specs.declared.exit.Exit.{Exit}
@@ -195,7 +195,7 @@ error_of (Ok files) = None
 error_of (Err e) = Some e.0
 
 -- how a line ended, whether it began or not
-abbrev pub line_outcome : {D : Type 0} {g : disk.Ghosts D} → Result (Ended D g) (OpenError D g) → Result Exit Fault
+abbrev pub line_outcome : {D : Type 0} {g : disk.Ghosts D} → Result (LineEnd D g) (OpenError D g) → Result Exit Fault
 line_outcome (Ok e) = ending_of e.exit (error_of e.closed)
 line_outcome (Err error) = Err error.fault
 

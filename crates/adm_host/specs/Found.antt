@@ -14,8 +14,8 @@ use Rattle.sqlite.specs.Files.{image_of, file_state, IsClosed, IsCleanLeft, Leav
 use Rattle.sqlite.specs.Closing.{IsCopied}
 use Rattle.sqlite.specs.Start.{FindsIn}
 use Rattle.adm_store.specs.Migration.{IsMigrated}
-use Rattle.adm_host.specs.declared.connecting.Remains.{Remains}
-use Rattle.adm_host.specs.declared.connecting.Remains.TheVariants as remains
+use Rattle.adm_host.specs.declared.connecting.Remainder.{Remainder}
+use Rattle.adm_host.specs.declared.connecting.Remainder.TheVariants as remains
 
 -- the files hold this, and so does all that a crash may leave of them
 pub record AreAsFound {D : Type 0} (g : disk.Ghosts D) (image : Image) (files : Files D) : Type 0 where
@@ -34,7 +34,7 @@ module _ {D : Type 0} {g : disk.Ghosts D} where
 
   -- what remained of files that held this, where they were not opened as a register: they were not opened at all; or a clean disk has what an open of `sqlite` that
   -- fails leaves of such files; or they were opened, and a crash leaves them as they were, or in the second version for the same register
-  abbrev pub LeavesAsFound : Image → Remains D g → Type 0
+  abbrev pub LeavesAsFound : Image → Remainder D g → Type 0
   LeavesAsFound image (remains.Untouched it) = ⊤
   LeavesAsFound image (remains.Files left) = (files : Files D) × AreAsFound g image files × (IsCleanLeft left → LeavesFiles files left)
   LeavesAsFound image (remains.Connection c) = (found : Held (FileStore D g)) × IsFound image found × Survives (file_state found) (file_state c) (IsMigrated (file_state found))

@@ -19,12 +19,12 @@ use std::marker::PhantomData;
 /// Why a file was not opened, and what remained of it and its log.
 pub struct OpenError<D: Disk> {
     pub fault: Fault,
-    pub remains: Remains<D>,
+    pub remains: Remainder<D>,
 }
 
 /// What remained of a file and its log where an open failed. No variant is of files that were
 /// changed.
-pub enum Remains<D: Disk> {
+pub enum Remainder<D: Disk> {
     /// They were not opened.
     Untouched(Untouched<D>),
     /// `sqlite` opened them, and failed then.
@@ -54,12 +54,12 @@ impl<D: Disk + Drop> Drop for Untouched<D> {
     }
 }
 
-impl<D: Disk + Drop> Drop for Remains<D> {
+impl<D: Disk + Drop> Drop for Remainder<D> {
     fn drop(self) {
         match self {
-            Remains::Untouched(_untouched) => {}
-            Remains::Files(_left) => {}
-            Remains::Connection(_conn) => {}
+            Remainder::Untouched(_untouched) => {}
+            Remainder::Files(_left) => {}
+            Remainder::Connection(_conn) => {}
         }
     }
 }
@@ -71,17 +71,17 @@ pub fn before_open<S: Start>(fault: Fault, _start: S) -> OpenError<FileFrom<S>>
 {
     OpenError {
         fault,
-        remains: Remains::Untouched(Untouched { disk: PhantomData }),
+        remains: Remainder::Untouched(Untouched { disk: PhantomData }),
     }
 }
 
 /// The error that the file changed after its trial: it was opened, and nothing was done with it.
 pub fn changed<D: Disk>(conn: Connection<FileStore<D>>) -> OpenError<D>
-    ensures { result ≡ record { fault = Fault.Disk (Some Changed); remains = Remains.Connection conn } }
+    ensures { result ≡ record { fault = Fault.Disk (Some Changed); remains = Remainder.Connection conn } }
 {
     OpenError {
         fault: Fault::Disk(Some(Cause::Changed)),
-        remains: Remains::Connection(conn),
+        remains: Remainder::Connection(conn),
     }
 }
 
@@ -97,13 +97,13 @@ fn fault_of_open(rt: &HostRuntime, file: &str, error: Error) -> Fault
 }
 
 /// What remained of the files after an open of `sqlite` that failed.
-fn remains_of<S: Start>(left: Option<Leftover<FileFrom<S>>>) -> Remains<FileFrom<S>>
+fn remains_of<S: Start>(left: Option<Leftover<FileFrom<S>>>) -> Remainder<FileFrom<S>>
     requires { IfSome left (λ it. (files : _) × IsFresh true files.log × IsFresh false files.db × (IsCleanLeft it → LeavesFiles files it)) }
     ensures { LeavesAsFound (image_at S.Start) result }
 {
     match left {
-        Some(left) => Remains::Files(left),
-        None => Remains::Untouched(Untouched { disk: PhantomData }),
+        Some(left) => Remainder::Files(left),
+        None => Remainder::Untouched(Untouched { disk: PhantomData }),
     }
 }
 

@@ -8,7 +8,7 @@ ghost use Rattle.adm_host.specs.Creation.{Creates, CreatesIn};
 
 use crate::cause::Cause;
 use crate::connecting::{OpenError, before_open, changed, open_file};
-use crate::ended::{Ended, before_close, close_files};
+use crate::ended::{LineEnd, before_close, close_files};
 use crate::exit::Exit;
 use crate::fault::Fault;
 use crate::found::{Found, Head, is_reserved, make_empty};
@@ -30,7 +30,7 @@ pub fn init<S: Start>(
     file: &str,
     start: S,
     season: &Season,
-) -> Result<Ended<FileFrom<S>>, OpenError<FileFrom<S>>>
+) -> Result<LineEnd<FileFrom<S>>, OpenError<FileFrom<S>>>
     ensures ok { IfOk result (λ ended. Creates (image_at S.Start) season.now ended.exit ended.closed) }
     ensures err { IfErr result (λ e. IsOpenFault e.fault) }
     ensures left { IfErr result (λ e. LeavesAsFound (image_at S.Start) e.remains) }
@@ -75,7 +75,7 @@ fn create_after_trial<S: Start>(
     found: &Found,
     start: S,
     season: &Season,
-) -> Result<Ended<FileFrom<S>>, OpenError<FileFrom<S>>>
+) -> Result<LineEnd<FileFrom<S>>, OpenError<FileFrom<S>>>
     ensures ok { IfOk result (λ ended. Creates (image_at S.Start) season.now ended.exit ended.closed) }
     ensures err { IfErr result (λ e. IsOpenFault e.fault) }
     ensures left { IfErr result (λ e. LeavesAsFound (image_at S.Start) e.remains) }
@@ -125,7 +125,7 @@ fn refuse<S: Start>(
     trial: &Trial,
     start: S,
     season: &Season,
-) -> Result<Ended<FileFrom<S>>, OpenError<FileFrom<S>>>
+) -> Result<LineEnd<FileFrom<S>>, OpenError<FileFrom<S>>>
     ensures ok { IfOk result (λ ended. Creates (image_at S.Start) season.now ended.exit ended.closed) }
     ensures refused { IfOk result (λ ended. IsErr ended.exit) }
     ensures err { IfErr result (λ e. IsOpenFault e.fault) }
@@ -157,7 +157,7 @@ fn create_at<S: Start>(
     path: &str,
     start: S,
     season: &Season,
-) -> Result<Ended<FileFrom<S>>, OpenError<FileFrom<S>>>
+) -> Result<LineEnd<FileFrom<S>>, OpenError<FileFrom<S>>>
     ensures ok { IfOk result (λ ended. Creates (image_at S.Start) season.now ended.exit ended.closed) }
     ensures err { IfErr result (λ e. IsOpenFault e.fault) }
     ensures left { IfErr result (λ e. LeavesAsFound (image_at S.Start) e.remains) }
@@ -171,16 +171,16 @@ fn create_register<D: Disk + Drop>(
     alloc: Global,
     mut conn: Connection<FileStore<D>>,
     season: &Season,
-) -> Ended<D>
+) -> LineEnd<D>
     requires { conn.in_transaction ≡ false }
     ensures { CreatesIn conn season.now result.exit result.closed }
 {
     match create(alloc, &mut conn, season) {
-        Ok(()) => Ended {
+        Ok(()) => LineEnd {
             exit: Ok(Exit::Done),
             closed: close_files(conn),
         },
-        Err(fault) => Ended {
+        Err(fault) => LineEnd {
             exit: Err(Fault::from(fault)),
             closed: close_files(conn),
         },

@@ -9,17 +9,17 @@ use sqlite::{Connection, Error, FileStore, Files};
 use sqlite_disk::Disk;
 
 /// What a connection's close gives: the files, or why it failed and the store that remains.
-pub type Closed<D> = Result<Files<D>, (Error, FileStore<D>)>;
+pub type CloseResult<D> = Result<Files<D>, (Error, FileStore<D>)>;
 
 /// How a line ended, and what the close of its connection left.
-pub struct Ended<D: Disk> {
+pub struct LineEnd<D: Disk> {
     pub exit: Result<Exit, Fault>,
-    pub closed: Closed<D>,
+    pub closed: CloseResult<D>,
 }
 
 /// Closes a connection. What closes one is proved with all methods of its store, so this one call serves
 /// all.
-pub fn close_files<D: Disk + Drop>(conn: Connection<FileStore<D>>) -> Closed<D>
+pub fn close_files<D: Disk + Drop>(conn: Connection<FileStore<D>>) -> CloseResult<D>
     ensures { Closes conn result }
 {
     conn.close_files()
@@ -27,10 +27,10 @@ pub fn close_files<D: Disk + Drop>(conn: Connection<FileStore<D>>) -> Closed<D>
 
 /// How the line as a whole ended: an error before all else, and a close that failed is one, but not
 /// after Failed.
-pub fn ending<D: Disk + Drop>(ended: Ended<D>) -> Result<Exit, Fault>
+pub fn ending<D: Disk + Drop>(ended: LineEnd<D>) -> Result<Exit, Fault>
     ensures { result ≡ ending_of ended.exit (error_of ended.closed) }
 {
-    let Ended { exit, closed } = ended;
+    let LineEnd { exit, closed } = ended;
     match exit {
         Ok(Exit::Failed) => Ok(Exit::Failed),
         Ok(exit) => match closed {
@@ -42,7 +42,7 @@ pub fn ending<D: Disk + Drop>(ended: Ended<D>) -> Result<Exit, Fault>
 }
 
 /// How the line ended before its close, whatever that gave.
-pub fn before_close<D: Disk + Drop>(ended: Ended<D>) -> Result<Exit, Fault>
+pub fn before_close<D: Disk + Drop>(ended: LineEnd<D>) -> Result<Exit, Fault>
     ensures { result ≡ ended.exit }
 {
     let exit = ended.exit;

@@ -14,10 +14,10 @@ mod rows;
 mod trial;
 
 pub use cause::Cause;
-pub use connecting::{OpenError, Remains, Untouched, before_open, changed, open_file};
+pub use connecting::{OpenError, Remainder, Untouched, before_open, changed, open_file};
 pub use creating::init;
 pub use document::{Document, put};
-pub use ended::{Closed, Ended, before_close, close_files};
+pub use ended::{CloseResult, LineEnd, before_close, close_files};
 pub use exit::Exit;
 pub use fault::Fault;
 pub use found::Found;

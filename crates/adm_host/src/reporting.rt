@@ -6,7 +6,7 @@ ghost use Rattle.adm_host.specs.Reports.{ReportsText, ReportsOutcome, ReportsArg
 ghost use Rattle.adm_host.specs.declared.fault.Fault.TheVariants.{Memory};
 
 use crate::connecting::OpenError;
-use crate::ended::{Ended, ending};
+use crate::ended::{LineEnd, ending};
 use crate::exit::Exit;
 use crate::fault::{Fault, print_text};
 use adm_wire::{Output, WriteFailed};
@@ -24,7 +24,10 @@ pub fn print_memory_fault<E: Output>(errors: &mut E) -> u8
 }
 
 /// The exit of a line, whose error is printed.
-pub fn end<D: Disk + Drop, E: Output>(ended: Result<Ended<D>, OpenError<D>>, errors: &mut E) -> Exit
+pub fn end<D: Disk + Drop, E: Output>(
+    ended: Result<LineEnd<D>, OpenError<D>>,
+    errors: &mut E,
+) -> Exit
     ensures exit { result ≡ exit_of_result (line_outcome ended) }
     ensures reported { ReportsOutcome (line_outcome ended) (writer E.Output errors.old errors.new) }
 {

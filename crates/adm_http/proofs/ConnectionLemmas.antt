@@ -9,7 +9,7 @@ use Rattle.adm_http.specs.Responses.{Responds}
 use Rattle.adm_http.specs.Connections.{Traffic, IsIdle, Takes, Ends, Exchanges, ServesOpen, Errors, Prints, PrintsAccepts, accept_lines, Moment, ServesTurn, ServesEach, AnswersOne, AnswersUpTo}
 use Rattle.adm_http.specs.declared.routes.Purpose.{Purpose}
 use Rattle.adm_http.specs.declared.routes.Resource.{Resource}
-use Rattle.adm_http.specs.declared.request_handler.Shown.{Shown}
+use Rattle.adm_http.specs.declared.request_handler.ShowResult.{ShowResult}
 use Rattle.adm_http.specs.declared.serve.ServeFault.{ServeFault}
 use Rattle.adm_http.specs.declared.serve.ServeFault.TheVariants.{Read, Write, Memory}
 
@@ -72,7 +72,7 @@ exchanges (Some t) (Some m) (Some new) unread written takes ends = (
 
 -- ---- a request
 
-module _ {S : Type 0} (runs : Purpose → S → List ℕ → LineAnswer → S → Type 0) (shows : S → Resource → Shown → Type 0) where
+module _ {S : Type 0} (runs : Purpose → S → List ℕ → LineAnswer → S → Type 0) (shows : S → Resource → ShowResult → Type 0) where
   pub unanswered : (old new : S) (unread left was written : Option (List ℕ)) (fault : ServeFault) → IsUnanswered runs shows old new unread left fault → Keeps was written
       → Served runs shows old new unread left was written (Err fault)
   unanswered old new unread left was written Read none kept = (none.0, none.1, none.2, kept)

@@ -9,12 +9,12 @@ use Rattle.adm_letters.specs.declared.fault.LetterFault.{LetterFault}
 use Rattle.adm_letters.specs.declared.fault.LetterFault.TheVariants as letter
 use Rattle.adm_http.specs.Routes.{text_in}
 use Rattle.adm_http.specs.Shows.{IsShown, IsShownAs, Shows}
-use Rattle.adm_http.specs.declared.request_handler.Shown.{Shown}
-use Rattle.adm_http.specs.declared.request_handler.Shown.TheVariants.{Text, Missing, Memory, Failed}
+use Rattle.adm_http.specs.declared.request_handler.ShowResult.{ShowResult}
+use Rattle.adm_http.specs.declared.request_handler.ShowResult.TheVariants.{Text, Missing, Memory, Failed}
 use Rattle.adm_http.specs.declared.routes.Resource.{Resource}
 
 -- what was given is shown
-pub given_shown : {A : Type 0} (text : Option (List ℕ)) (fault : LetterFault) (given : Result (String A) LetterFault) (shown : Shown)
+pub given_shown : {A : Type 0} (text : Option (List ℕ)) (fault : LetterFault) (given : Result (String A) LetterFault) (shown : ShowResult)
     → (fault ≡ letter.Memory → ⊥) → GivesText text fault given → IsShownAs given shown → IsShown text shown
 given_shown (Some text) fault (Ok given) (Text made) other gives is = ap Some (sym gives ∙ sym is)
 given_shown None fault (Ok given) (Text made) other gives is = absurd gives
@@ -30,7 +30,7 @@ given_shown text fault (Err e) Failed other gives is = absurd is
 
 module _ {C : Type 0} (desk : DeskState C) (resource : Resource) where
   -- of a desk that has not failed its register is shown
-  pub shows_register : (register : State) (shown : Shown) → Some register ≡ cond desk.failed None (Some desk.register)
+  pub shows_register : (register : State) (shown : ShowResult) → Some register ≡ cond desk.failed None (Some desk.register)
       → IsShown (text_in register resource) shown → Shows desk resource shown
   shows_register register shown found is = by desk.failed found
     where

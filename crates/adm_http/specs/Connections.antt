@@ -7,7 +7,7 @@ use Rattle.adm_http.specs.Reading.{Served}
 use Rattle.adm_http.specs.Responses.{Responds}
 use Rattle.adm_http.specs.declared.routes.Purpose.{Purpose}
 use Rattle.adm_http.specs.declared.routes.Resource.{Resource}
-use Rattle.adm_http.specs.declared.request_handler.Shown.{Shown}
+use Rattle.adm_http.specs.declared.request_handler.ShowResult.{ShowResult}
 use Rattle.adm_http.specs.declared.serve.ServeFault.{ServeFault}
 use Rattle.adm_http.specs.declared.serve.ServeFault.TheVariants.{Read, Write, Memory}
 
@@ -91,7 +91,7 @@ pub record Moment (S : Type 0) : Type 0 where
 abbrev pub moment : {S E : Type 0} → output.Ghosts E → S → Option Traffic → E → Moment S
 moment g desk traffic writer = record { desk = desk; traffic = traffic; errors = errors_of g writer }
 
-module _ {S : Type 0} (runs : Purpose → S → List ℕ → LineAnswer → S → Type 0) (shows : S → Resource → Shown → Type 0) where
+module _ {S : Type 0} (runs : Purpose → S → List ℕ → LineAnswer → S → Type 0) (shows : S → Resource → ShowResult → Type 0) where
   -- one request was answered, or none
   abbrev pub AnswersOne : S → S → Type 0
   AnswersOne old new = (new ≡ old) ⊎ ((input : List ℕ) × (output : List ℕ) × Responds runs shows old input output new)

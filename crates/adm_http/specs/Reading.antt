@@ -10,7 +10,7 @@ use Rattle.adm_http.specs.declared.heads.Judgement.TheVariants.{Whole, Malformed
 use Rattle.adm_http.specs.declared.routes.Purpose.{Purpose}
 use Rattle.adm_http.specs.declared.routes.Resource.{Resource}
 use Rattle.adm_desk.specs.declared.answer.LineAnswer.{LineAnswer}
-use Rattle.adm_http.specs.declared.request_handler.Shown.{Shown}
+use Rattle.adm_http.specs.declared.request_handler.ShowResult.{ShowResult}
 use Rattle.adm_http.specs.declared.serve.ServeFault.{ServeFault}
 use Rattle.adm_http.specs.declared.serve.ServeFault.TheVariants.{Read, Write, Memory}
 
@@ -54,7 +54,7 @@ pub record HasReadSome (old new : Option (List ℕ)) (got : List ℕ) : Type 0 w
 abbrev pub WritesFront : Option (List ℕ) → Option (List ℕ) → List ℕ → Type 0
 WritesFront old new bytes = (n : ℕ) × Appends old new (take n bytes)
 
-module _ {S : Type 0} (runs : Purpose → S → List ℕ → LineAnswer → S → Type 0) (shows : S → Resource → Shown → Type 0) where
+module _ {S : Type 0} (runs : Purpose → S → List ℕ → LineAnswer → S → Type 0) (shows : S → Resource → ShowResult → Type 0) where
   -- what serving one request leaves of the desk, the reader and the writer
   abbrev pub Served : S → S → Option (List ℕ) → Option (List ℕ) → Option (List ℕ) → Option (List ℕ) → Result ℕ ServeFault → Type 0
   -- the response to the bytes that were read was written, and this is its length
@@ -89,7 +89,7 @@ is_write_fault (Err Memory) = false
 
 -- ---- for a private clause
 
-module _ {S : Type 0} (runs : Purpose → S → List ℕ → LineAnswer → S → Type 0) (shows : S → Resource → Shown → Type 0) where
+module _ {S : Type 0} (runs : Purpose → S → List ℕ → LineAnswer → S → Type 0) (shows : S → Resource → ShowResult → Type 0) where
   -- a request was read, and these are the bytes of its response
   abbrev pub IsAnswered : S → S → Option (List ℕ) → Option (List ℕ) → List ℕ → Type 0
   IsAnswered old new unread left output = (got : List ℕ) × HasRead unread left got × Responds runs shows old got output new

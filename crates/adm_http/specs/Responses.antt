@@ -12,8 +12,8 @@ use Rattle.adm_http.specs.declared.heads.Verdict.{Verdict}
 use Rattle.adm_http.specs.declared.heads.Verdict.TheVariants.{Reject, NotAllowed, Show, Run}
 use Rattle.adm_http.specs.declared.heads.Judgement.{Judgement}
 use Rattle.adm_http.specs.declared.heads.Judgement.TheVariants.{Whole, Malformed, Unfinished}
-use Rattle.adm_http.specs.declared.request_handler.Shown.{Shown}
-use Rattle.adm_http.specs.declared.request_handler.Shown.TheVariants as shown
+use Rattle.adm_http.specs.declared.request_handler.ShowResult.{ShowResult}
+use Rattle.adm_http.specs.declared.request_handler.ShowResult.TheVariants as shown
 use Rattle.adm_desk.specs.declared.answer.LineAnswer.{LineAnswer}
 
 -- the response to what running a body answered: its text
@@ -21,20 +21,20 @@ abbrev pub of_answer : LineAnswer → Response
 of_answer answer = json (status_of answer) (line_text answer)
 
 -- the response to what reading a text gave
-abbrev pub of_shown : Resource → Shown → Response
+abbrev pub of_shown : Resource → ShowResult → Response
 of_shown resource (shown.Text text) = record (json 200 (string_bytes text)) { media = media_of resource }
 of_shown resource shown.Missing = bare 404
 of_shown resource shown.Memory = json 503 memory_text
 of_shown resource shown.Failed = json 503 failed_text
 
 -- `runs purpose old body answer new`: running the body as what it is for may answer this, and leave `new`; `shows old resource text`: reading a text may give this
-module _ {S : Type 0} (runs : Purpose → S → List ℕ → LineAnswer → S → Type 0) (shows : S → Resource → Shown → Type 0) where
+module _ {S : Type 0} (runs : Purpose → S → List ℕ → LineAnswer → S → Type 0) (shows : S → Resource → ShowResult → Type 0) where
   -- what a verdict on a head makes of the bytes that follow the head: at most the one command is run
   abbrev pub Carries : S → List ℕ → Verdict → Response → S → Type 0
   Carries old rest (Reject status) response new = (response ≡ bare status) × (new ≡ old)
   Carries old rest (NotAllowed verb) response new = (response ≡ not_allowed verb) × (new ≡ old)
   Carries old rest (Show resource) response new =
-      (text : Shown) × shows old resource text × (response ≡ of_shown resource text) × (new ≡ old)
+      (text : ShowResult) × shows old resource text × (response ≡ of_shown resource text) × (new ≡ old)
   Carries old rest (Run purpose n) response new =
       MatchBool (nat_le n (length rest))
       ((answer : LineAnswer) × runs purpose old (take n rest) answer new × (response ≡ of_answer answer))

@@ -43,7 +43,7 @@ impl Arrival {
 
 /// What a look at a connection finds.
 #[derive(Clone, Copy, PartialEq, Eq)]
-enum Look {
+enum Readiness {
     /// Nothing has come yet.
     Waits,
     /// Bytes have come, or it has ended.
@@ -107,9 +107,9 @@ impl Arrivals {
         for at in 0..self.waiting.len() {
             let arrival = &self.waiting[at];
             match look_at(&arrival.stream, at == 0) {
-                Look::Waits if is_over(clock, arrival.since) => return Some((at, false)),
-                Look::Waits => {}
-                look => return Some((at, look == Look::Broken)),
+                Readiness::Waits if is_over(clock, arrival.since) => return Some((at, false)),
+                Readiness::Waits => {}
+                look => return Some((at, look == Readiness::Broken)),
             }
         }
         None
@@ -151,7 +151,7 @@ fn accept<C: Clock, E: Output>(clock: &C, listener: &TcpListener, errors: &mut E
 }
 
 /// Looks whether bytes have come, and takes none.
-fn look_at(stream: &TcpStream, may_wait: bool) -> Look {
+fn look_at(stream: &TcpStream, may_wait: bool) -> Readiness {
     let mut first = [0u8; 1];
     let seen = if may_wait {
         let look = Duration::from_millis(MILLISECONDS_OF_A_LOOK);
@@ -167,10 +167,10 @@ fn look_at(stream: &TcpStream, may_wait: bool) -> Look {
     };
     let is_blocking = may_wait || stream.set_nonblocking(false).is_ok();
     match seen {
-        Ok(_) if is_blocking => Look::HasCome,
-        Err(error) if is_blocking && error.kind() == ErrorKind::WouldBlock => Look::Waits,
-        Err(error) if is_blocking && error.kind() == ErrorKind::Interrupted => Look::Waits,
-        _ => Look::Broken,
+        Ok(_) if is_blocking => Readiness::HasCome,
+        Err(error) if is_blocking && error.kind() == ErrorKind::WouldBlock => Readiness::Waits,
+        Err(error) if is_blocking && error.kind() == ErrorKind::Interrupted => Readiness::Waits,
+        _ => Readiness::Broken,
     }
 }
 

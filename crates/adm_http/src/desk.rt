@@ -7,7 +7,7 @@ ghost use Rattle.adm_http.specs.Responses.{Responds};
 ghost use Rattle.adm_http.specs.Reading.{Served, is_read_fault, is_write_fault};
 ghost use Rattle.adm_http.specs.Shows.{Shows};
 
-use crate::request_handler::{RequestHandler, Shown};
+use crate::request_handler::{RequestHandler, ShowResult};
 use crate::respond::respond;
 use crate::router::Routes;
 use crate::routes::{Purpose, Resource, show};
@@ -74,10 +74,10 @@ impl<S: Alter> RequestHandler for Desk<S> {
         }
     }
 
-    fn show(&self, alloc: Global, resource: &Resource) -> Shown {
+    fn show(&self, alloc: Global, resource: &Resource) -> ShowResult {
         match self.register() {
             Some(register) => show(alloc, register, resource),
-            None => Shown::Failed,
+            None => ShowResult::Failed,
         }
     }
 }

@@ -7,7 +7,7 @@ use std::time::{Clock, Duration, Instant};
 /// all together wait for so long at most. Then a read takes what has come already, and is an error
 /// where that is nothing, and each write is an error. So is each where the clock cannot be read.
 #[derive(Drop)]
-pub struct Patient<'a, C: Clock> {
+pub struct TimedStream<'a, C: Clock> {
     stream: TcpStream,
     clock: &'a C,
     time: Duration,
@@ -15,7 +15,7 @@ pub struct Patient<'a, C: Clock> {
     is_broken: bool,
 }
 
-impl<'a, C: Clock> Patient<'a, C> {
+impl<'a, C: Clock> TimedStream<'a, C> {
     /// A side whose time begins at an instant, or where there is none at its first call. Where the
     /// connection is broken, each read is an error.
     pub(crate) fn new(
@@ -25,7 +25,7 @@ impl<'a, C: Clock> Patient<'a, C> {
         since: Option<Instant>,
         is_broken: bool,
     ) -> Self {
-        Patient {
+        TimedStream {
             stream,
             clock,
             time,
@@ -36,7 +36,7 @@ impl<'a, C: Clock> Patient<'a, C> {
 
     /// A side of the same connection, whose time begins at its first call.
     pub(crate) fn another(self, time: Duration) -> Self {
-        Patient::new(self.stream, self.clock, time, None, self.is_broken)
+        TimedStream::new(self.stream, self.clock, time, None, self.is_broken)
     }
 
     /// Ends the sending side.
@@ -58,7 +58,7 @@ impl<'a, C: Clock> Patient<'a, C> {
     }
 }
 
-impl<C: Clock> Read for Patient<'_, C> {
+impl<C: Clock> Read for TimedStream<'_, C> {
     fn read(&mut self, buf: &mut [u8]) -> io::Result<usize> {
         if self.is_broken {
             return Err(io::Error::from(ErrorKind::ConnectionReset));
@@ -75,7 +75,7 @@ impl<C: Clock> Read for Patient<'_, C> {
     }
 }
 
-impl<C: Clock> Write for Patient<'_, C> {
+impl<C: Clock> Write for TimedStream<'_, C> {
     fn write(&mut self, buf: &[u8]) -> io::Result<usize> {
         let remaining = self.remaining()?;
         // no time at all is an error

@@ -3,7 +3,7 @@ ghost use Rattle.std.specs.Prelude.{None};
 
 use crate::arrivals::{Arrivals, SECONDS_OF_REQUEST};
 use crate::connections::Connections;
-use crate::patience::Patient;
+use crate::patience::TimedStream;
 use adm_wire::{Input, Output, Watched, WriteFailed};
 use std::alloc::Global;
 use std::net::TcpListener;
@@ -50,13 +50,13 @@ impl<'a, C: Clock> Port<'a, C> {
 }
 
 impl<'a, C: Clock> Connections for Port<'a, C> {
-    type Connection = Watched<Patient<'a, C>>;
+    type Connection = Watched<TimedStream<'a, C>>;
 
     ghost traffic = { λ _. None };
 
     fn next<E: Output>(&mut self, most: usize, errors: &mut E) -> Option<Self::Connection> {
         let arrival = self.arrivals.next(self.clock, self.listener, most, errors)?;
-        Some(Watched::new(Patient::new(
+        Some(Watched::new(TimedStream::new(
             arrival.stream,
             self.clock,
             Duration::from_secs(SECONDS_OF_REQUEST),
@@ -79,7 +79,7 @@ impl<'a, C: Clock> Connections for Port<'a, C> {
 }
 
 // Ends the sending side, and reads and drops what still comes.
-fn take_rest<C: Clock>(response: Patient<'_, C>) {
+fn take_rest<C: Clock>(response: TimedStream<'_, C>) {
     if response.end_sending().is_err() {
         return;
     }

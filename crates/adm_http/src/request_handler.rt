@@ -9,7 +9,7 @@ use std::alloc::Global;
 
 /// What reading a text gave.
 #[derive(Drop)]
-pub enum Shown {
+pub enum ShowResult {
     Text(String),
     /// There is no such child, school or round.
     Missing,
@@ -22,7 +22,7 @@ pub(crate) trait RequestHandler {
     ghost use Rattle.adm_desk.specs.declared.answer.LineAnswer.{LineAnswer};
     ghost use Rattle.adm_http.specs.declared.routes.Purpose.{Purpose as Use};
     ghost use Rattle.adm_http.specs.declared.routes.Resource.{Resource};
-    ghost use Rattle.adm_http.specs.declared.request_handler.Shown.{Shown};
+    ghost use Rattle.adm_http.specs.declared.request_handler.ShowResult.{ShowResult};
 
     // The handler, as contracts see it.
     ghost View: { Type 0 };
@@ -33,25 +33,25 @@ pub(crate) trait RequestHandler {
     ghost runs: { Use → View → List ℕ → LineAnswer → View → Type 0 };
 
     // What reading a text may give.
-    ghost shows: { View → Resource → Shown → Type 0 };
+    ghost shows: { View → Resource → ShowResult → Type 0 };
 
     /// Reads the body as what it is for: runs a command, or answers a question.
     fn run(&mut self, alloc: Global, purpose: Purpose, body: &[u8]) -> LineAnswer
         ensures { runs purpose (view self.old) body.now result (view self.new) };
 
     /// The requested text.
-    fn show(&self, alloc: Global, resource: &Resource) -> Shown
+    fn show(&self, alloc: Global, resource: &Resource) -> ShowResult
         ensures { shows (view self.now) resource.now result };
 }
 
 /// What a call that makes a text gave.
-pub(crate) fn given(text: Result<String, LetterFault>) -> Shown
+pub(crate) fn given(text: Result<String, LetterFault>) -> ShowResult
     ensures { IsShownAs text result }
 {
     match text {
-        Ok(text) => Shown::Text(text),
-        Err(LetterFault::Memory) => Shown::Memory,
+        Ok(text) => ShowResult::Text(text),
+        Err(LetterFault::Memory) => ShowResult::Memory,
         Err(LetterFault::UnknownChild | LetterFault::UnknownSchool | LetterFault::NoRound) =>
-            Shown::Missing,
+            ShowResult::Missing,
     }
 }

@@ -6,7 +6,7 @@ ghost use Rattle.adm_http.specs.Replies.{status_of, status_of_command, status_of
 ghost use Rattle.adm_http.specs.Responses.{of_answer, of_shown, Carries, Responds};
 
 use crate::heads::{HEAD_LIMIT, Judgement, Verdict, judge};
-use crate::request_handler::{RequestHandler, Shown};
+use crate::request_handler::{RequestHandler, ShowResult};
 use crate::responses::{Media, bare, response};
 use crate::router::Routes;
 use crate::routes::{Resource, media};
@@ -155,14 +155,24 @@ fn status_of_fault(fault: WireFault) -> StatusCode
 }
 
 // The response to what reading a text gave.
-fn shown_response(alloc: Global, resource: Resource, shown: Shown) -> Result<Vec<u8>, AllocError>
+fn shown_response(
+    alloc: Global,
+    resource: Resource,
+    shown: ShowResult,
+) -> Result<Vec<u8>, AllocError>
     ensures { IfOk result (λ output. output.items ≡ response_bytes (of_shown resource shown)) }
 {
     match shown {
-        Shown::Text(text) => response(alloc, StatusCode::OK, None, media(resource), text.as_str()),
-        Shown::Missing => bare(alloc, StatusCode::NOT_FOUND, None),
-        Shown::Memory => unavailable(alloc, memory_text()),
-        Shown::Failed => unavailable(alloc, failed_text()),
+        ShowResult::Text(text) => response(
+            alloc,
+            StatusCode::OK,
+            None,
+            media(resource),
+            text.as_str(),
+        ),
+        ShowResult::Missing => bare(alloc, StatusCode::NOT_FOUND, None),
+        ShowResult::Memory => unavailable(alloc, memory_text()),
+        ShowResult::Failed => unavailable(alloc, failed_text()),
     }
 }
 

@@ -4,7 +4,7 @@ ghost use Rattle.adm_types.specs.Fields.{child_named};
 ghost use Rattle.adm_http.specs.Routes.{named_by, media_of, text_in, all_routes};
 ghost use Rattle.adm_http.specs.Shows.{IsShown};
 
-use crate::request_handler::{Shown, given};
+use crate::request_handler::{ShowResult, given};
 use crate::responses::Media;
 use crate::router::add;
 use crate::states::child_text;
@@ -98,7 +98,7 @@ pub(crate) fn media(resource: Resource) -> Media
 
 /// The requested text, if the register has such a child, school or round.
 #[tactic(auto, using(crate::proofs::ShowLemmas::given_shown))]
-pub(crate) fn show(alloc: Global, register: &Register, resource: &Resource) -> Shown
+pub(crate) fn show(alloc: Global, register: &Register, resource: &Resource) -> ShowResult
     ensures { IsShown (text_in register.now resource.now) result }
 {
     match resource {

@@ -34,7 +34,7 @@ use Rattle.adm_program.specs.Does.{Does}
 use Rattle.adm_host.specs.declared.document.Document.{Document}
 use Rattle.adm_host.specs.declared.document.Document.TheVariants as document
 use Rattle.adm_host.specs.declared.connecting.OpenError.{OpenError}
-use Rattle.adm_host.specs.declared.ended.Ended.{Ended}
+use Rattle.adm_host.specs.declared.ended.LineEnd.{LineEnd}
 use Rattle.adm_host.specs.declared.exit.Exit.{Exit}
 use Rattle.adm_host.specs.declared.exit.Exit.TheVariants as exit
 use Rattle.adm_host.specs.declared.fault.Fault.{Fault}
@@ -189,7 +189,7 @@ module _ {D : Type 0} {g : disk.Ghosts D} where
   made image (action.Pairs file school) rows input output e closed does = document_exit image (document.Pairs school) output e closed does.1
 
   -- the status of an action
-  pub exits : (image : Image) (a : Action) (rows : List ℕ → Stream) (input output : Stream) (r : Result (Ended D g) (OpenError D g)) (x : Exit)
+  pub exits : (image : Image) (a : Action) (rows : List ℕ → Stream) (input output : Stream) (r : Result (LineEnd D g) (OpenError D g)) (x : Exit)
       → IfOk r (λ ended. Does image a rows input output ended.exit ended.closed) → x ≡ exit_of_result (line_outcome r) → ExitsBy (Ok a) (exit_code x)
   exits image a rows input output (Ok ended) x does reported = subst (λ (y : Exit). ExitsBy (Ok a) (exit_code y)) (sym reported) (made image a rows input output ended.exit ended.closed does)
   exits image a rows input output (Err f) x does reported = subst (λ (y : Exit). ExitsBy (Ok a) (exit_code y)) (sym reported) (unmade a)

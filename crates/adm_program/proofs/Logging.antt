@@ -8,7 +8,7 @@ use Rattle.std.proofs.lemmas.List.{append-nil}
 use Rattle.adm_desk.specs.declared.answer.LineAnswer.{LineAnswer}
 use Rattle.adm_desk.proofs.Known.{Appends-nothing}
 use Rattle.adm_http.specs.Connections.{Errors, Moment, Prints, ServesTurn, ServesEach, accept_lines, outcome_line}
-use Rattle.adm_http.specs.declared.request_handler.Shown.{Shown}
+use Rattle.adm_http.specs.declared.request_handler.ShowResult.{ShowResult}
 use Rattle.adm_http.specs.declared.routes.Purpose.{Purpose}
 use Rattle.adm_http.specs.declared.routes.Resource.{Resource}
 use Rattle.adm_http.specs.declared.serve.ServeFault.{ServeFault}
@@ -59,7 +59,7 @@ prints_more old mid new first more = (
       (early.0, subst (λ (t : List ℕ). Appends old.printed new.printed t) (sym (flat_map-append (λ line. line) first.0 more.0)) (Appends-trans old.printed mid.printed new.printed (joined first.0) (joined more.0) early.1 late.1)),
 )
 
-module _ {S : Type 0} (runs : Purpose → S → List ℕ → LineAnswer → S → Type 0) (shows : S → Resource → Shown → Type 0) where
+module _ {S : Type 0} (runs : Purpose → S → List ℕ → LineAnswer → S → Type 0) (shows : S → Resource → ShowResult → Type 0) where
   turn : (old new : Moment S) → ServesTurn runs shows old new → PrintsConnections old.errors new.errors
   turn old new (inl none) = prints old.errors new.errors _ (of_accepts none.printed.0) none.printed.1
   turn old new (inr one) = prints old.errors new.errors _ (both _ _ (of_accepts one.failed) (of_outcome one.result)) one.printed

@@ -13,12 +13,12 @@ use Rattle.adm_host.specs.Reports.{ReportsOutcome}
 use Rattle.adm_program.specs.Does.{Does}
 use Rattle.adm_program.specs.Arguments.{ActsOn, texts}
 use Rattle.adm_host.specs.declared.connecting.OpenError.{OpenError}
-use Rattle.adm_host.specs.declared.ended.Ended.{Ended}
+use Rattle.adm_host.specs.declared.ended.LineEnd.{LineEnd}
 use Rattle.adm_host.specs.declared.exit.Exit.{Exit}
 use Rattle.adm_host.specs.declared.fault.Fault.TheVariants.{TooManyHolidays}
 
 -- arguments that name an action
-pub taken : {D S : Type 0} {g : disk.Ghosts D} (first : start.Ghosts S) (arguments : List (Bor (List ℕ))) (a : Action) (rows : List ℕ → Stream) (input output errors : Stream) (r : Result (Ended D g) (OpenError D g)) (x : Exit)
+pub taken : {D S : Type 0} {g : disk.Ghosts D} (first : start.Ghosts S) (arguments : List (Bor (List ℕ))) (a : Action) (rows : List ℕ → Stream) (input output errors : Stream) (r : Result (LineEnd D g) (OpenError D g)) (x : Exit)
     → ReadsArguments (texts arguments) (Ok a) → IfOk r (λ ended. Does (image_at first) a rows input output ended.exit ended.closed) → IfErr r (λ e. IsCauseIn a e.fault)
     → (IsTrue (has_many_holidays a) → IsErrAnd r (λ e. e.fault ≡ TooManyHolidays)) → OnErr r ((input.new ≡ input.old) × (output.new ≡ output.old))
     → x ≡ exit_of_result (line_outcome r) → ReportsOutcome (line_outcome r) errors → ActsOn g first arguments rows input output errors (exit_code x)

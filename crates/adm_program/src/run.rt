@@ -15,7 +15,9 @@ ghost use Rattle.adm_program.specs.Arguments.{ActsOn, texts};
 
 use crate::serving::serve_connections;
 use adm_files::{answer_questions, do_lines, import, open_desk, print};
-use adm_host::{Document, Ended, Fault, OpenError, Rows, before_open, end, init, refuse_arguments};
+use adm_host::{
+    Document, Fault, LineEnd, OpenError, Rows, before_open, end, init, refuse_arguments,
+};
 use adm_types::Season;
 use adm_wire::{Input, Output};
 use adm_words::{Action, action};
@@ -62,7 +64,7 @@ fn run_action<S: Start, F: Rows, I: Input, O: Output, L: Output>(
     input: &mut I,
     output: &mut O,
     log: &mut L,
-) -> Result<Ended<FileFrom<S>>, OpenError<FileFrom<S>>>
+) -> Result<LineEnd<FileFrom<S>>, OpenError<FileFrom<S>>>
     ensures ok { IfOk result (λ ended. Does (image_at S.Start) action.entry (files F.Rows rows.old rows.new)
         (reader I.Input input.old input.new)
         (writer O.Output output.old output.new)
@@ -110,7 +112,7 @@ fn serve<S: Start, O: Output, L: Output>(
     count: u32,
     output: &mut O,
     log: &mut L,
-) -> Result<Ended<FileFrom<S>>, OpenError<FileFrom<S>>>
+) -> Result<LineEnd<FileFrom<S>>, OpenError<FileFrom<S>>>
     ensures ok { IfOk result (λ ended. ServesOver (image_at S.Start) port count
         (writer O.Output output.old output.new)
         ended.exit ended.closed) }

@@ -8,7 +8,7 @@ ghost use Rattle.adm_host.specs.Texts.{Puts};
 
 use adm_desk::Desk;
 use adm_files::close;
-use adm_host::{Ended, Exit, Fault, put};
+use adm_host::{Exit, Fault, LineEnd, put};
 use adm_http::{Port, Routes, serve_on};
 use adm_wire::Output;
 use sqlite::FileStore;
@@ -57,7 +57,7 @@ pub fn serve_connections<D: Disk + Drop, O: Output, L: Output>(
     count: u32,
     output: &mut O,
     log: &mut L,
-) -> Ended<D>
+) -> LineEnd<D>
     ensures serves { Serves desk port count
         (writer O.Output output.old output.new)
         result.exit result.closed }

@@ -19,7 +19,7 @@ use adm_types::{ChildNo, Draw, LeftPair, Lot, Outcome, PlaceRow, PlaceState, Sch
 use std::alloc::{AllocError, Global};
 
 /// A row that is tested beside the other rows of its register.
-pub(crate) trait Checked<K> {
+pub(crate) trait RowCheck<K> {
     ghost use Rattle.std.specs.Prelude.{Bool};
     ghost use Rattle.adm_register.specs.State.{State};
 
@@ -72,20 +72,20 @@ fn all_hold(tests: &[bool]) -> bool
 }
 
 /// Whether each row of a table fits.
-fn all_fit<K: Ord, V: Checked<K>>(tables: &Tables, rows: &Table<K, V>) -> bool
+fn all_fit<K: Ord, V: RowCheck<K>>(tables: &Tables, rows: &Table<K, V>) -> bool
     ensures tested { result ≡ list_all (λ entry. V.fits tables.now entry.0 entry.1) rows.now }
     ensures ordered { IsStrictlySortedBy K.cmp (keys_of rows.now) }
 {
     all_pieces_fit(tables, rows.pieces())
 }
 
-fn all_pieces_fit<K: Ord, V: Checked<K>>(tables: &Tables, pieces: &[Piece<K, V>]) -> bool
+fn all_pieces_fit<K: Ord, V: RowCheck<K>>(tables: &Tables, pieces: &[Piece<K, V>]) -> bool
     ensures { result ≡ list_all (λ piece. list_all (λ entry. V.fits tables.now entry.0 entry.1) piece.rows.value.entries) pieces.now }
 {
     pieces.iter().all(|piece| all_of_piece_fit(tables, piece))
 }
 
-fn all_of_piece_fit<K: Ord, V: Checked<K>>(tables: &Tables, piece: &Piece<K, V>) -> bool
+fn all_of_piece_fit<K: Ord, V: RowCheck<K>>(tables: &Tables, piece: &Piece<K, V>) -> bool
     ensures { result ≡ list_all (λ entry. V.fits tables.now entry.0 entry.1) piece.now.rows.value.entries }
 {
     piece
@@ -94,8 +94,8 @@ fn all_of_piece_fit<K: Ord, V: Checked<K>>(tables: &Tables, piece: &Piece<K, V>)
         .all(|(key, row)| row.fits_in(tables, key))
 }
 
-impl<K, T: Checked<K>> Checked<K> for Shared<T> {
-    ghost fits = { T.Checked.fits };
+impl<K, T: RowCheck<K>> RowCheck<K> for Shared<T> {
+    ghost fits = { T.RowCheck.fits };
 
     fn fits_in(&self, tables: &Tables, key: &K) -> bool {
         self.as_ref().fits_in(tables, key)
@@ -109,7 +109,7 @@ fn are_few(tables: &Tables) -> bool
     tables.school_count() <= MOST_SCHOOLS && tables.child_count() <= MOST_CHILDREN
 }
 
-impl Checked<SchoolCode> for School {
+impl RowCheck<SchoolCode> for School {
     ghost fits = { λ s. fits_school_with s.places };
 
     fn fits_in(&self, tables: &Tables, code: &SchoolCode) -> bool {
@@ -128,7 +128,7 @@ fn is_school(school: &School) -> bool
     is_name(&school.name) && is_school_in_range(school)
 }
 
-impl Checked<ChildNo> for PlaceRow {
+impl RowCheck<ChildNo> for PlaceRow {
     ghost fits = { λ s. fits_place s.schools s.children s.applications (has_first_round s.draws) };
 
     fn fits_in(&self, tables: &Tables, number: &ChildNo) -> bool {
@@ -184,7 +184,7 @@ fn is_entitled(tables: &Tables, row: &PlaceRow) -> bool
     }
 }
 
-impl Checked<LeftPair> for LeftPair {
+impl RowCheck<LeftPair> for LeftPair {
     ghost fits = { λ s. fits_left s.schools s.children s.places };
 
     fn fits_in(&self, tables: &Tables, key: &LeftPair) -> bool {
@@ -201,7 +201,7 @@ fn is_left(tables: &Tables, pair: &LeftPair) -> bool
         && !tables.is_outside_plan(pair.child, pair.school)
 }
 
-impl Checked<u32> for Draw {
+impl RowCheck<u32> for Draw {
     ghost fits = { λ s. fits_known_draw s.schools s.children };
 
     fn fits_in(&self, tables: &Tables, number: &u32) -> bool {

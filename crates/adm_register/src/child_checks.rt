@@ -4,12 +4,12 @@ ghost use Rattle.adm_types.specs.Limits.{is_from, is_without_repeat, most_prefer
 ghost use Rattle.adm_types.specs.Seasons.{lists_end};
 ghost use Rattle.adm_register.specs.RowTests.{fits_child, is_child, fits_application, is_application, fits_import};
 
-use crate::checks::Checked;
+use crate::checks::RowCheck;
 use crate::tables::Tables;
 use adm_types::limits::{MOST_PREFERENCES, is_child_in_range, is_name, is_without_repeat};
 use adm_types::{Application, Child, ChildNo, Day, Row, SchoolCode};
 
-impl Checked<ChildNo> for Child {
+impl RowCheck<ChildNo> for Child {
     ghost fits = { λ s. fits_child s.schools };
 
     fn fits_in(&self, tables: &Tables, number: &ChildNo) -> bool {
@@ -30,7 +30,7 @@ fn is_child(tables: &Tables, child: &Child) -> bool
         && tables.are_schools(child.siblings.as_slice())
 }
 
-impl Checked<ChildNo> for Application {
+impl RowCheck<ChildNo> for Application {
     ghost fits = { λ s. fits_application (lists_end s.season) s.schools s.children };
 
     fn fits_in(&self, tables: &Tables, number: &ChildNo) -> bool {
@@ -59,7 +59,7 @@ pub fn is_preference_list(list: &[SchoolCode]) -> bool
     count && is_without_repeat(list)
 }
 
-impl Checked<ChildNo> for Row {
+impl RowCheck<ChildNo> for Row {
     ghost fits = { λ s. fits_import (lists_end s.season) s.schools s.children };
 
     fn fits_in(&self, tables: &Tables, number: &ChildNo) -> bool {

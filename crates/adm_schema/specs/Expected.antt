@@ -12,10 +12,10 @@ use Rattle.sqlite.specs.declared.types.Value.TheVariants.{Int}
 use Rattle.sqlite_sql.specs.declared.ops.BinaryOp.TheVariants.{Compare}
 use Rattle.sqlite_sql.specs.declared.ops.CompareOp.TheVariants.{Eq}
 use Rattle.sqlite_schema.specs.declared.schema.Index.{Index}
-use Rattle.adm_schema.specs.declared.expected.KeysAre.{KeysAre}
-use Rattle.adm_schema.specs.declared.expected.KeysAre.TheVariants.{Rowid, One, Unique}
-use Rattle.adm_schema.specs.declared.expected.TableIs.{TableIs}
-use Rattle.adm_schema.specs.declared.expected.IndexIs.{IndexIs}
+use Rattle.adm_schema.specs.declared.expected.ExpectedKeys.{ExpectedKeys}
+use Rattle.adm_schema.specs.declared.expected.ExpectedKeys.TheVariants.{Rowid, One, Unique}
+use Rattle.adm_schema.specs.declared.expected.ExpectedTable.{ExpectedTable}
+use Rattle.adm_schema.specs.declared.expected.ExpectedIndex.{ExpectedIndex}
 use Rattle.adm_schema.specs.Columns.{column_of}
 use Rattle.adm_schema.specs.Schema.{table_of, index_of}
 
@@ -47,13 +47,13 @@ abbrev pub one_row_table : List ℕ → ℕ → List Column → Table
 one_row_table name tree columns = record (rowid_table name tree columns) { checks = op2 (Compare Eq Binary) (col 1 0) (lit (Int (pos 1))) ∷ [] }
 
 -- the table, and the index, that is expected
-abbrev pub table_of_keys : KeysAre → List ℕ → ℕ → List Column → Table
+abbrev pub table_of_keys : ExpectedKeys → List ℕ → ℕ → List Column → Table
 table_of_keys Rowid name tree columns = rowid_table name tree columns
 table_of_keys One name tree columns = one_row_table name tree columns
 table_of_keys (Unique primary uniques) name tree columns = keyed_table name tree columns primary.now (places_of uniques.now) (ascending uniques.now)
 
-abbrev pub table_is : TableIs → Table
+abbrev pub table_is : ExpectedTable → Table
 table_is t = table_of_keys t.keys t.name.now t.tree (strict_columns t.columns.now)
 
-abbrev pub index_is : IndexIs → Index
+abbrev pub index_is : ExpectedIndex → Index
 index_is i = index_of i.name.now i.tree i.table i.columns.now

@@ -6,7 +6,7 @@ ghost use Rattle.adm_schema.specs.Schema.{schema_of};
 ghost use Rattle.adm_schema.specs.Expected.{strict_columns, places_of, ascending, no_stamps, rowid_table, one_row_table, keyed_table, table_is, index_is};
 
 use crate::Version;
-use crate::expected::{ColumnIs, IndexIs, KeysAre, TableIs};
+use crate::expected::{ExpectedColumn, ExpectedIndex, ExpectedKeys, ExpectedTable};
 use crate::one_test::is_one_test;
 use crate::tables::{INDEXES, TABLES};
 use sqlite_items::Items;
@@ -25,7 +25,7 @@ fn is_null(value: &Value) -> bool
 }
 
 /// Whether the column is this one of a STRICT table, compared by its bytes and with no default.
-fn is_column(column: &Column, expected: &ColumnIs<'_>) -> bool
+fn is_column(column: &Column, expected: &ExpectedColumn<'_>) -> bool
     ensures { IsTrue result ↔ (column.now ≡ column_of expected.now.0.now expected.now.1 expected.now.2) }
 {
     let (name, kind, not_null) = *expected;
@@ -37,7 +37,7 @@ fn is_column(column: &Column, expected: &ColumnIs<'_>) -> bool
 }
 
 /// Whether the columns are these, in this order.
-fn are_columns(columns: &[Column], expected: &[ColumnIs<'_>]) -> bool
+fn are_columns(columns: &[Column], expected: &[ExpectedColumn<'_>]) -> bool
     ensures { IsTrue result ↔ (columns.now ≡ strict_columns expected.now) }
 {
     match (columns.split_first(), expected.split_first()) {
@@ -99,7 +99,7 @@ fn has_no_terms(terms: &Terms) -> bool
 }
 
 /// Whether the table has this name, tree and columns.
-fn is_named(table: &Table, name: &str, tree: u32, columns: &[ColumnIs<'_>]) -> bool
+fn is_named(table: &Table, name: &str, tree: u32, columns: &[ExpectedColumn<'_>]) -> bool
     ensures { IsTrue result ↔ ((table.now.name ≡ name.now) × (table.now.tree ≡ tree) × (table.now.columns ≡ strict_columns columns.now)) }
 {
     let named = table.name.as_slice() == name.as_bytes();
@@ -126,7 +126,7 @@ fn has_keys(table: &Table, primary: &[usize], uniques: &[&[usize]]) -> bool
 }
 
 /// Whether it is a table of this name, tree and columns whose first column is its rowid.
-fn is_rowid_table(table: &Table, name: &str, tree: u32, columns: &[ColumnIs<'_>]) -> bool
+fn is_rowid_table(table: &Table, name: &str, tree: u32, columns: &[ExpectedColumn<'_>]) -> bool
     ensures { IsTrue result ↔ (table.now ≡ rowid_table name.now tree (strict_columns columns.now)) }
 {
     is_named(table, name, tree, columns)
@@ -136,7 +136,7 @@ fn is_rowid_table(table: &Table, name: &str, tree: u32, columns: &[ColumnIs<'_>]
 }
 
 /// Whether it is such a table whose CHECK is that the first column is 1.
-fn is_one_row_table(table: &Table, name: &str, tree: u32, columns: &[ColumnIs<'_>]) -> bool
+fn is_one_row_table(table: &Table, name: &str, tree: u32, columns: &[ExpectedColumn<'_>]) -> bool
     ensures { IsTrue result ↔ (table.now ≡ one_row_table name.now tree (strict_columns columns.now)) }
 {
     is_named(table, name, tree, columns)
@@ -150,7 +150,7 @@ fn is_keyed_table(
     table: &Table,
     name: &str,
     tree: u32,
-    columns: &[ColumnIs<'_>],
+    columns: &[ExpectedColumn<'_>],
     primary: &[usize],
     uniques: &[&[usize]],
 ) -> bool
@@ -163,26 +163,26 @@ fn is_keyed_table(
 }
 
 /// Whether it is this table.
-fn is_table(table: &Table, expected: &TableIs<'_>) -> bool
+fn is_table(table: &Table, expected: &ExpectedTable<'_>) -> bool
     ensures { IsTrue result ↔ (table.now ≡ table_is expected.now) }
 {
-    let TableIs {
+    let ExpectedTable {
         name,
         tree,
         columns,
         keys,
     } = expected;
     match keys {
-        KeysAre::Rowid => is_rowid_table(table, name, *tree, columns),
-        KeysAre::One => is_one_row_table(table, name, *tree, columns),
-        KeysAre::Unique(primary, uniques) => {
+        ExpectedKeys::Rowid => is_rowid_table(table, name, *tree, columns),
+        ExpectedKeys::One => is_one_row_table(table, name, *tree, columns),
+        ExpectedKeys::Unique(primary, uniques) => {
             is_keyed_table(table, name, *tree, columns, primary, uniques)
         }
     }
 }
 
 /// Whether the tables are these, in this order.
-fn are_tables(tables: &[Table], expected: &[TableIs<'_>]) -> bool
+fn are_tables(tables: &[Table], expected: &[ExpectedTable<'_>]) -> bool
     ensures { IsTrue result ↔ (tables.now ≡ map table_is expected.now) }
 {
     match (tables.split_first(), expected.split_first()) {
@@ -195,10 +195,10 @@ fn are_tables(tables: &[Table], expected: &[TableIs<'_>]) -> bool
 }
 
 /// Whether it is this index of a unique key of a table.
-fn is_index(index: &Index, expected: &IndexIs<'_>) -> bool
+fn is_index(index: &Index, expected: &ExpectedIndex<'_>) -> bool
     ensures { IsTrue result ↔ (index.now ≡ index_is expected.now) }
 {
-    let IndexIs {
+    let ExpectedIndex {
         name,
         tree,
         table,
@@ -215,7 +215,7 @@ fn is_index(index: &Index, expected: &IndexIs<'_>) -> bool
 }
 
 /// Whether the indexes are these, in this order.
-fn are_indexes(indexes: &[Index], expected: &[IndexIs<'_>]) -> bool
+fn are_indexes(indexes: &[Index], expected: &[ExpectedIndex<'_>]) -> bool
     ensures { IsTrue result ↔ (indexes.now ≡ map index_is expected.now) }
 {
     match (indexes.split_first(), expected.split_first()) {
@@ -228,7 +228,7 @@ fn are_indexes(indexes: &[Index], expected: &[IndexIs<'_>]) -> bool
 }
 
 /// Whether the schema has just these tables and indexes, in this order, and no view.
-fn is_schema(schema: &Schema, tables: &[TableIs<'_>], indexes: &[IndexIs<'_>]) -> bool
+fn is_schema(schema: &Schema, tables: &[ExpectedTable<'_>], indexes: &[ExpectedIndex<'_>]) -> bool
     ensures { IsTrue result ↔ (schema.now ≡ record { tables = map table_is tables.now; indexes = map index_is indexes.now; views = [] }) }
 {
     are_tables(schema.tables.as_slice(), tables)

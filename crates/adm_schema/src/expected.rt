@@ -2,10 +2,10 @@
 use sqlite_schema::schema::Kind;
 
 /// A column's name, its type, and whether it is NOT NULL.
-pub(crate) type ColumnIs<'a> = (&'a str, Kind, bool);
+pub(crate) type ExpectedColumn<'a> = (&'a str, Kind, bool);
 
 /// The keys of a table, as the places of their columns, which count from 0 at the rowid.
-pub(crate) enum KeysAre<'a> {
+pub(crate) enum ExpectedKeys<'a> {
     /// The rowid alone, which is the first column.
     Rowid,
     /// The same, and a CHECK that it is 1.
@@ -15,16 +15,16 @@ pub(crate) enum KeysAre<'a> {
 }
 
 /// A STRICT table without references, defaults and computed columns.
-pub(crate) struct TableIs<'a> {
+pub(crate) struct ExpectedTable<'a> {
     pub(crate) name: &'a str,
     /// The number of its tree in the file.
     pub(crate) tree: u32,
-    pub(crate) columns: &'a [ColumnIs<'a>],
-    pub(crate) keys: KeysAre<'a>,
+    pub(crate) columns: &'a [ExpectedColumn<'a>],
+    pub(crate) keys: ExpectedKeys<'a>,
 }
 
 /// The index of a unique key.
-pub(crate) struct IndexIs<'a> {
+pub(crate) struct ExpectedIndex<'a> {
     pub(crate) name: &'a str,
     /// The number of its tree in the file.
     pub(crate) tree: u32,

@@ -8,7 +8,7 @@ pub mod places;
 pub mod present;
 pub mod schools;
 
-use crate::expected::{IndexIs, TableIs};
+use crate::expected::{ExpectedIndex, ExpectedTable};
 use crate::tables::applications::APPLICATION;
 use crate::tables::children::{CHILD, IMPORTED};
 use crate::tables::draws::{DRAW, LOT, OFFER};
@@ -18,7 +18,7 @@ use crate::tables::places::PLACE;
 use crate::tables::present::PRESENT;
 use crate::tables::schools::SCHOOL;
 
-pub(crate) const TABLES: &[TableIs<'static>] = &[
+pub(crate) const TABLES: &[ExpectedTable<'static>] = &[
     META,
     SCHOOL,
     CHILD,
@@ -32,38 +32,38 @@ pub(crate) const TABLES: &[TableIs<'static>] = &[
     PRESENT,
 ];
 
-pub(crate) const INDEXES: &[IndexIs<'static>] = &[
-    IndexIs {
+pub(crate) const INDEXES: &[ExpectedIndex<'static>] = &[
+    ExpectedIndex {
         name: "sqlite_autoindex_school_1",
         tree: 2,
         table: 1,
         columns: &[1],
     },
-    IndexIs {
+    ExpectedIndex {
         name: "sqlite_autoindex_left_list_1",
         tree: 7,
         table: 6,
         columns: &[1, 2],
     },
-    IndexIs {
+    ExpectedIndex {
         name: "sqlite_autoindex_offer_1",
         tree: 10,
         table: 9,
         columns: &[1, 2],
     },
-    IndexIs {
+    ExpectedIndex {
         name: "sqlite_autoindex_lot_1",
         tree: 12,
         table: 11,
         columns: &[1, 2, 3],
     },
-    IndexIs {
+    ExpectedIndex {
         name: "sqlite_autoindex_lot_2",
         tree: 13,
         table: 11,
         columns: &[1, 2, 4],
     },
-    IndexIs {
+    ExpectedIndex {
         name: "sqlite_autoindex_present_1",
         tree: 16,
         table: 15,

@@ -5,9 +5,9 @@ ghost use Rattle.adm_store.specs.Writes.{Puts, Cuts, key_row};
 
 use crate::lent::run_rows;
 use crate::rows::ApplicationRow;
-use crate::statement::{Eights, Keyed, Statement, run_all};
+use crate::statement::{EightRows, Keyed, Statement, run_all};
 use crate::to_rows::WishRow;
-use crate::written::{WrittenRow, run_row};
+use crate::written::{RowValues, run_row};
 use adm_schema::tables::applications::{
     delete_application, insert_application, insert_applications, put_application,
 };
@@ -48,8 +48,8 @@ impl Statement for AddApplication {
     }
 }
 
-impl WrittenRow for ApplicationRow {
-    ghost count = { ⟦<(ChildNo, WishRow) as WrittenRow>⟧.count };
+impl RowValues for ApplicationRow {
+    ghost count = { ⟦<(ChildNo, WishRow) as RowValues>⟧.count };
 
     ghost row_of = { written_application };
 
@@ -58,11 +58,11 @@ impl WrittenRow for ApplicationRow {
     }
 
     fn count() -> usize {
-        <(ChildNo, WishRow) as WrittenRow>::count()
+        <(ChildNo, WishRow) as RowValues>::count()
     }
 }
 
-impl Eights for AddApplication {
+impl EightRows for AddApplication {
     fn run_eight<S: Alter>(
         tx: &mut Transaction<'_, S>,
         rows: &[ApplicationRow],

@@ -5,9 +5,9 @@ ghost use Rattle.adm_store.specs.Writes.{Puts};
 
 use crate::lent::run_rows;
 use crate::rows::ChildRow;
-use crate::statement::{Eights, Keyed, Statement, run_all};
+use crate::statement::{EightRows, Keyed, Statement, run_all};
 use crate::to_rows::HomeRow;
-use crate::written::{WrittenRow, run_row};
+use crate::written::{RowValues, run_row};
 use adm_schema::tables::children::{insert_child, insert_children, put_child};
 use sqlite::types::ValueRef;
 use sqlite::{Alter, Error, Transaction};
@@ -45,8 +45,8 @@ impl Statement for AddChild {
     }
 }
 
-impl WrittenRow for ChildRow {
-    ghost count = { ⟦<HomeRow<()> as WrittenRow>⟧.count };
+impl RowValues for ChildRow {
+    ghost count = { ⟦<HomeRow<()> as RowValues>⟧.count };
 
     ghost row_of = { written_child };
 
@@ -55,11 +55,11 @@ impl WrittenRow for ChildRow {
     }
 
     fn count() -> usize {
-        <HomeRow<()> as WrittenRow>::count()
+        <HomeRow<()> as RowValues>::count()
     }
 }
 
-impl Eights for AddChild {
+impl EightRows for AddChild {
     fn run_eight<S: Alter>(tx: &mut Transaction<'_, S>, rows: &[ChildRow]) -> Result<(), Error> {
         run_rows(tx, insert_children(), rows)
     }

@@ -5,9 +5,9 @@ ghost use Rattle.adm_store.specs.Writes.{Adds};
 
 use crate::lent::run_rows;
 use crate::rows::ImportedRow;
-use crate::statement::{Eights, Statement};
+use crate::statement::{EightRows, Statement};
 use crate::to_rows::{HomeRow, WishRow};
-use crate::written::{WrittenRow, run_row};
+use crate::written::{RowValues, run_row};
 use adm_schema::tables::children::{insert_imported, insert_imported_rows};
 use sqlite::types::ValueRef;
 use sqlite::{Alter, Error, Transaction};
@@ -28,8 +28,8 @@ impl Statement for AddImported {
     }
 }
 
-impl WrittenRow for ImportedRow {
-    ghost count = { ⟦<HomeRow<WishRow> as WrittenRow>⟧.count };
+impl RowValues for ImportedRow {
+    ghost count = { ⟦<HomeRow<WishRow> as RowValues>⟧.count };
 
     ghost row_of = { written_imported };
 
@@ -38,11 +38,11 @@ impl WrittenRow for ImportedRow {
     }
 
     fn count() -> usize {
-        <HomeRow<WishRow> as WrittenRow>::count()
+        <HomeRow<WishRow> as RowValues>::count()
     }
 }
 
-impl Eights for AddImported {
+impl EightRows for AddImported {
     fn run_eight<S: Alter>(tx: &mut Transaction<'_, S>, rows: &[ImportedRow]) -> Result<(), Error> {
         run_rows(tx, insert_imported_rows(), rows)
     }

@@ -7,7 +7,7 @@ ghost use Rattle.sqlite.specs.State.{Survives};
 ghost use Rattle.sqlite.specs.Values.{bound, bound_value};
 ghost use Rattle.adm_store.specs.Writes.{RunsText};
 
-use crate::written::WrittenRow;
+use crate::written::RowValues;
 use sqlite::types::ValueRef;
 use sqlite::{Alter, Error, Transaction};
 
@@ -21,7 +21,7 @@ pub(crate) fn set_value<'v>(parameters: &mut [ValueRef<'v>], at: usize, value: V
 }
 
 /// Sets the parameters from a place on to the values of these rows, and gives the place after them.
-fn lend_all<'v, R: WrittenRow>(rows: &'v [R], parameters: &mut [ValueRef<'v>], at: usize) -> usize
+fn lend_all<'v, R: RowValues>(rows: &'v [R], parameters: &mut [ValueRef<'v>], at: usize) -> usize
     requires narrow { R.count ≤ 12 }
     requires few { at + length rows.now * 12 ≤ length parameters.old }
     ensures long { length parameters.new ≡ length parameters.old }
@@ -38,7 +38,7 @@ fn lend_all<'v, R: WrittenRow>(rows: &'v [R], parameters: &mut [ValueRef<'v>], a
 }
 
 /// Runs a text with the values of eight rows of twelve columns at the most. It takes no memory of its own.
-pub(crate) fn run_rows<S: Alter, R: WrittenRow>(
+pub(crate) fn run_rows<S: Alter, R: RowValues>(
     tx: &mut Transaction<'_, S>,
     text: &str,
     rows: &[R],

@@ -4,8 +4,8 @@ ghost use Rattle.adm_rows.specs.DrawForms.{lot_row};
 ghost use Rattle.adm_store.specs.Writes.{Adds};
 
 use crate::lent::{run_rows, set_value};
-use crate::statement::{Eights, Statement};
-use crate::written::WrittenRow;
+use crate::statement::{EightRows, Statement};
+use crate::written::RowValues;
 use adm_schema::tables::draws::{insert_lot, insert_lots};
 use adm_types::LotRow;
 use sqlite::types::{ToSql, ValueRef};
@@ -30,7 +30,7 @@ impl Statement for AddLot {
     }
 }
 
-impl WrittenRow for LotRow {
+impl RowValues for LotRow {
     ghost count = { 4 };
 
     ghost row_of = { lot_row };
@@ -47,7 +47,7 @@ impl WrittenRow for LotRow {
     }
 }
 
-impl Eights for AddLot {
+impl EightRows for AddLot {
     fn run_eight<S: Alter>(tx: &mut Transaction<'_, S>, rows: &[LotRow]) -> Result<(), Error> {
         run_rows(tx, insert_lots(), rows)
     }

@@ -8,8 +8,8 @@ ghost use Rattle.adm_rows.specs.DrawForms.{offer_row};
 ghost use Rattle.adm_store.specs.Writes.{Adds};
 
 use crate::lent::{run_rows, set_value};
-use crate::statement::{Eights, Statement};
-use crate::written::WrittenRow;
+use crate::statement::{EightRows, Statement};
+use crate::written::RowValues;
 use adm_schema::tables::draws::{insert_offer, insert_offers};
 use adm_types::{OfferRow, SchoolCode};
 use sqlite::types::{ToSql, ValueRef};
@@ -47,7 +47,7 @@ impl Statement for AddOffer {
     }
 }
 
-impl WrittenRow for OfferRow {
+impl RowValues for OfferRow {
     ghost count = { 4 };
 
     ghost row_of = { offer_row };
@@ -64,7 +64,7 @@ impl WrittenRow for OfferRow {
     }
 }
 
-impl Eights for AddOffer {
+impl EightRows for AddOffer {
     fn run_eight<S: Alter>(tx: &mut Transaction<'_, S>, rows: &[OfferRow]) -> Result<(), Error> {
         run_rows(tx, insert_offers(), rows)
     }

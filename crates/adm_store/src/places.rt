@@ -8,8 +8,8 @@ ghost use Rattle.adm_store.specs.Writes.{Puts, Cuts, key_row};
 
 use crate::lent::{run_rows, set_value};
 use crate::rows::number_of;
-use crate::statement::{Eights, Keyed, Statement, run_all};
-use crate::written::WrittenRow;
+use crate::statement::{EightRows, Keyed, Statement, run_all};
+use crate::written::RowValues;
 use adm_schema::tables::places::{delete_place, insert_places, put_place};
 use adm_types::{ChildNo, Day, PlaceRow, PlaceState};
 use sqlite::types::{ToSql, ValueRef};
@@ -55,7 +55,7 @@ impl Statement for PutPlace {
     }
 }
 
-impl WrittenRow for PlaceRow {
+impl RowValues for PlaceRow {
     ghost count = { 5 };
 
     ghost row_of = { place_row };
@@ -75,7 +75,7 @@ impl WrittenRow for PlaceRow {
 }
 
 /// Eight places are added: it fails where one of the children has a place.
-impl Eights for PutPlace {
+impl EightRows for PutPlace {
     fn run_eight<S: Alter>(tx: &mut Transaction<'_, S>, rows: &[PlaceRow]) -> Result<(), Error> {
         run_rows(tx, insert_places(), rows)
     }

@@ -44,7 +44,7 @@ pub(crate) fn run_each<W: Statement, S: Alter>(
 }
 
 /// A statement that writes one row of a table, and one that writes eight.
-pub(crate) trait Eights: Statement {
+pub(crate) trait EightRows: Statement {
     fn run_eight<S: Alter>(tx: &mut Transaction<'_, S>, items: &[Self::Item]) -> Result<(), Error>
         requires { length items.now ≡ 8 }
         ensures same_reference { tx.new.conn.ghost_name ≡ tx.old.conn.ghost_name }
@@ -53,7 +53,7 @@ pub(crate) trait Eights: Statement {
 }
 
 /// Runs the statements for these items: for eight at a time, and for each of the rest. A statement costs much beside a row.
-pub(crate) fn run_all<W: Eights, S: Alter>(
+pub(crate) fn run_all<W: EightRows, S: Alter>(
     tx: &mut Transaction<'_, S>,
     items: &[W::Item],
 ) -> Result<(), Error>

@@ -15,7 +15,7 @@ use sqlite::types::ValueRef;
 use sqlite::{Alter, Error, Transaction};
 
 /// A value as a column takes it.
-pub(crate) trait Written: Drop {
+pub(crate) trait ColumnValue: Drop {
     ghost value: { Self → Columned };
 
     fn lend(&self) -> ValueRef<'_>
@@ -25,7 +25,7 @@ pub(crate) trait Written: Drop {
     ghost plain: { (x : Self) → bound_value (value x) ≡ value x };
 }
 
-impl Written for u32 {
+impl ColumnValue for u32 {
     ghost value = { λ n. Int (pos n) };
 
     ghost plain = { λ _. refl };
@@ -35,7 +35,7 @@ impl Written for u32 {
     }
 }
 
-impl Written for ChildNo {
+impl ColumnValue for ChildNo {
     ghost value = { λ n. Int (pos n) };
 
     ghost plain = { λ _. refl };
@@ -45,7 +45,7 @@ impl Written for ChildNo {
     }
 }
 
-impl Written for Day {
+impl ColumnValue for Day {
     ghost value = { λ n. Int (pos n) };
 
     ghost plain = { λ _. refl };
@@ -55,7 +55,7 @@ impl Written for Day {
     }
 }
 
-impl Written for bool {
+impl ColumnValue for bool {
     ghost value = { λ truth. Int (pos (truth_code truth)) };
 
     ghost plain = { λ _. refl };
@@ -66,7 +66,7 @@ impl Written for bool {
 }
 
 /// Sixteen flags.
-impl Written for u16 {
+impl ColumnValue for u16 {
     ghost value = { λ flags. Int (pos flags) };
 
     ghost plain = { λ _. refl };
@@ -76,7 +76,7 @@ impl Written for u16 {
     }
 }
 
-impl Written for Text {
+impl ColumnValue for Text {
     ghost value = { TextValue };
 
     ghost plain = { λ _. refl };
@@ -87,7 +87,7 @@ impl Written for Text {
 }
 
 /// A row, as a statement takes it: `()` no column, and `(value, values)` a column and then others.
-pub(crate) trait WrittenRow: Drop {
+pub(crate) trait RowValues: Drop {
     ghost count: { ℕ };
 
     ghost row_of: { Self → RowOf };
@@ -103,7 +103,7 @@ pub(crate) trait WrittenRow: Drop {
         ensures { result ≡ count };
 }
 
-impl WrittenRow for () {
+impl RowValues for () {
     ghost count = { 0 };
 
     ghost row_of = { λ _. [] };
@@ -115,7 +115,7 @@ impl WrittenRow for () {
     }
 }
 
-impl<T: Written, Others: WrittenRow> WrittenRow for (T, Others) {
+impl<T: ColumnValue, Others: RowValues> RowValues for (T, Others) {
     ghost count = { suc Others.count };
 
     ghost row_of = { λ xs. T.value xs.0 ∷ Others.row_of xs.1 };
@@ -131,7 +131,7 @@ impl<T: Written, Others: WrittenRow> WrittenRow for (T, Others) {
 }
 
 /// Runs a text with the values of a row of sixteen columns at the most. It takes no memory of its own.
-pub(crate) fn run_row<S: Alter, R: WrittenRow>(
+pub(crate) fn run_row<S: Alter, R: RowValues>(
     tx: &mut Transaction<'_, S>,
     text: &str,
     row: &R,

@@ -1,6 +1,6 @@
 // A run of commands over disks that stop, a crash of both, and what the start after it finds.
 
-use adm_crashes::{NotHandled, Restarted, run_until_crash};
+use adm_crashes::{NotHandled, Restart, run_until_crash};
 use adm_desk::Answer;
 use adm_register::{Register, Rows};
 use adm_rows::OpenFault;
@@ -29,7 +29,7 @@ fn commands_of(alloc: Global, input: &[u8]) -> io::Result<Option<Vec<Command>>> 
 }
 
 /// The answers, and what the start after the crash finds; or why no command was handled, and what is left.
-type Ran = Result<Restarted<FileStore<Fuse<Memory>>>, NotHandled<Fuse<Memory>>>;
+type Ran = Result<Restart<FileStore<Fuse<Memory>>>, NotHandled<Fuse<Memory>>>;
 
 /// Runs the commands over files that hold what the disks hold, and stop after so many calls. `None`: such files cannot be used.
 fn run(
@@ -51,7 +51,7 @@ fn run(
 }
 
 /// The rows of the register that was found.
-fn rows_of(alloc: Global, restarted: &Restarted<FileStore<Fuse<Memory>>>) -> Option<Rows> {
+fn rows_of(alloc: Global, restarted: &Restart<FileStore<Fuse<Memory>>>) -> Option<Rows> {
     match &restarted.opened {
         Ok(desk) => match desk.register() {
             Some(register) => register.rows(alloc).ok(),
@@ -88,7 +88,7 @@ fn print_left(
 fn print_came(
     rt: &impl Print,
     alloc: Global,
-    restarted: &Restarted<FileStore<Fuse<Memory>>>,
+    restarted: &Restart<FileStore<Fuse<Memory>>>,
 ) -> io::Result<()> {
     for answer in &restarted.answers {
         let answer: &Answer = answer;

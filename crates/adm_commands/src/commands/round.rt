@@ -11,7 +11,7 @@ ghost use Rattle.adm_round.specs.Outcomes.{is_kept};
 use crate::command_result::{CommandResult, refused};
 use crate::failing::first_failing;
 use crate::one_row::one;
-use crate::problems::{Parts, parts_of};
+use crate::problems::{RoundInputs, round_inputs_of};
 use adm_register::draws_so_far::{DrawsSoFar, is_due};
 use adm_register::{Difference, Tables};
 use adm_round::{allot, counts};
@@ -66,13 +66,13 @@ pub(crate) fn evaluate(
     requires within { IsWithin so_far.now }
     ensures { IfOk result (Follows (rules draw day lots.now) old.now) }
 {
-    let Parts {
+    let RoundInputs {
         sites,
         applicants,
         drawn,
         counted,
         apart,
-    } = parts_of(old, alloc, lots.as_slice())?;
+    } = round_inputs_of(old, alloc, lots.as_slice())?;
     let why = refusal_of(old, so_far, draw, day, lots, counted, apart);
     if let Some(refusal) = why {
         return Ok(refused(refusal));

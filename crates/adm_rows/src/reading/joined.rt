@@ -14,7 +14,7 @@ use std::alloc::Global;
 use std::collections::BTreeMap;
 
 /// The schools of rows that are not given yet, by the child and whether its row is an imported one.
-type Left = BTreeMap<(ChildNo, bool), SchoolCode>;
+type PresentSchools = BTreeMap<(ChildNo, bool), SchoolCode>;
 
 /// Gives each child and each imported row its present school, or none where no row says one. A row
 /// that is nobody's, or is repeated, is a bad row, and then some may have been given theirs. Takes
@@ -43,7 +43,7 @@ pub(super) fn join(
 }
 
 /// The schools of these rows; a bad row where two have one key.
-fn by_child(alloc: Global, rows: &[PresentRow]) -> Result<Left, OpenFault>
+fn by_child(alloc: Global, rows: &[PresentRow]) -> Result<PresentSchools, OpenFault>
     ensures ok { IfOk result (λ left. IsPermutation rows.now (left_rows left)) }
     ensures bad { IfErr result (λ fault. fault ≡ OpenFault.BadRow → IsOnceEachKey rows.now → ⊥) }
     ensures first { IfErr result (λ e. IsNoRegister e → e ≡ OpenFault.BadRow) }
@@ -61,7 +61,7 @@ fn by_child(alloc: Global, rows: &[PresentRow]) -> Result<Left, OpenFault>
 }
 
 /// Each child takes its own school out of those that remain.
-fn give_children(left: &mut Left, children: &mut [Child])
+fn give_children(left: &mut PresentSchools, children: &mut [Child])
     ensures same { map bare_child children.new ≡ map bare_child children.old }
     ensures given { IsPermutation (left_rows left.old) (flat_map present_of_child children.new ++ left_rows left.new) }
     ensures taken { AllByRecursion (λ child. IsWithout (left_rows left.new) false child.no) children.new }
@@ -72,7 +72,7 @@ fn give_children(left: &mut Left, children: &mut [Child])
 }
 
 /// Each imported row takes its own school out of those that remain.
-fn give_imported(left: &mut Left, imported: &mut [Row])
+fn give_imported(left: &mut PresentSchools, imported: &mut [Row])
     ensures same { map bare_import imported.new ≡ map bare_import imported.old }
     ensures given { IsPermutation (left_rows left.old) (flat_map present_of_import imported.new ++ left_rows left.new) }
     ensures taken { AllByRecursion (λ row. IsWithout (left_rows left.new) true (import_no row)) imported.new }

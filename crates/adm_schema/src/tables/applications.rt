@@ -4,10 +4,10 @@ ghost use Rattle.adm_schema.specs.Creations.{create_application};
 ghost use Rattle.adm_schema.specs.Texts.{select_applications};
 ghost use Rattle.adm_schema.specs.RowTexts.{put_application, insert_application, insert_applications, delete_application};
 
-use crate::expected::{KeysAre, TableIs};
+use crate::expected::{ExpectedKeys, ExpectedTable};
 use sqlite_schema::schema::Kind;
 
-pub(crate) const APPLICATION: TableIs<'static> = TableIs {
+pub(crate) const APPLICATION: ExpectedTable<'static> = ExpectedTable {
     name: "application",
     tree: 4,
     columns: &[
@@ -15,7 +15,7 @@ pub(crate) const APPLICATION: TableIs<'static> = TableIs {
         ("day", Kind::Integer, true),
         ("preferences", Kind::Text, true),
     ],
-    keys: KeysAre::Rowid,
+    keys: ExpectedKeys::Rowid,
 };
 
 /// Makes the table.

@@ -4,10 +4,10 @@ ghost use Rattle.adm_schema.specs.Creations.{create_child, create_imported};
 ghost use Rattle.adm_schema.specs.Texts.{select_children, insert_imported, insert_imported_rows, select_imported};
 ghost use Rattle.adm_schema.specs.RowTexts.{put_child, insert_child, insert_children};
 
-use crate::expected::{KeysAre, TableIs};
+use crate::expected::{ExpectedKeys, ExpectedTable};
 use sqlite_schema::schema::Kind;
 
-pub(crate) const CHILD: TableIs<'static> = TableIs {
+pub(crate) const CHILD: ExpectedTable<'static> = ExpectedTable {
     name: "child",
     tree: 3,
     columns: &[
@@ -19,10 +19,10 @@ pub(crate) const CHILD: TableIs<'static> = TableIs {
         ("flags", Kind::Integer, true),
         ("siblings", Kind::Text, true),
     ],
-    keys: KeysAre::Rowid,
+    keys: ExpectedKeys::Rowid,
 };
 
-pub(crate) const IMPORTED: TableIs<'static> = TableIs {
+pub(crate) const IMPORTED: ExpectedTable<'static> = ExpectedTable {
     name: "imported",
     tree: 14,
     columns: &[
@@ -36,7 +36,7 @@ pub(crate) const IMPORTED: TableIs<'static> = TableIs {
         ("day", Kind::Integer, true),
         ("preferences", Kind::Text, true),
     ],
-    keys: KeysAre::Rowid,
+    keys: ExpectedKeys::Rowid,
 };
 
 /// Makes the table `child`.

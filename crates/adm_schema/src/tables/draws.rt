@@ -4,10 +4,10 @@ ghost use Rattle.adm_schema.specs.Creations.{create_draw, create_offer, create_l
 ghost use Rattle.adm_schema.specs.Texts.{insert_draw, select_draws, select_offers, select_lots};
 ghost use Rattle.adm_schema.specs.RowTexts.{insert_offer, insert_offers, insert_lot, insert_lots};
 
-use crate::expected::{KeysAre, TableIs};
+use crate::expected::{ExpectedKeys, ExpectedTable};
 use sqlite_schema::schema::Kind;
 
-pub(crate) const DRAW: TableIs<'static> = TableIs {
+pub(crate) const DRAW: ExpectedTable<'static> = ExpectedTable {
     name: "draw",
     tree: 8,
     columns: &[
@@ -16,10 +16,10 @@ pub(crate) const DRAW: TableIs<'static> = TableIs {
         ("school", Kind::Text, false),
         ("day", Kind::Integer, true),
     ],
-    keys: KeysAre::Rowid,
+    keys: ExpectedKeys::Rowid,
 };
 
-pub(crate) const OFFER: TableIs<'static> = TableIs {
+pub(crate) const OFFER: ExpectedTable<'static> = ExpectedTable {
     name: "offer",
     tree: 9,
     columns: &[
@@ -28,10 +28,10 @@ pub(crate) const OFFER: TableIs<'static> = TableIs {
         ("school", Kind::Text, false),
         ("fresh", Kind::Integer, true),
     ],
-    keys: KeysAre::Unique(&[1, 2], &[&[1, 2]]),
+    keys: ExpectedKeys::Unique(&[1, 2], &[&[1, 2]]),
 };
 
-pub(crate) const LOT: TableIs<'static> = TableIs {
+pub(crate) const LOT: ExpectedTable<'static> = ExpectedTable {
     name: "lot",
     tree: 11,
     columns: &[
@@ -40,7 +40,7 @@ pub(crate) const LOT: TableIs<'static> = TableIs {
         ("child", Kind::Integer, true),
         ("lot", Kind::Integer, true),
     ],
-    keys: KeysAre::Unique(&[1, 2, 3], &[&[1, 2, 3], &[1, 2, 4]]),
+    keys: ExpectedKeys::Unique(&[1, 2, 3], &[&[1, 2, 3], &[1, 2, 4]]),
 };
 
 /// Makes the table `draw`.

@@ -3,14 +3,14 @@ ghost use Rattle.std.specs.Prelude.{◌≡◌};
 ghost use Rattle.adm_schema.specs.Creations.{create_left_list};
 ghost use Rattle.adm_schema.specs.Texts.{insert_left_list, select_left_list};
 
-use crate::expected::{KeysAre, TableIs};
+use crate::expected::{ExpectedKeys, ExpectedTable};
 use sqlite_schema::schema::Kind;
 
-pub(crate) const LEFT_LIST: TableIs<'static> = TableIs {
+pub(crate) const LEFT_LIST: ExpectedTable<'static> = ExpectedTable {
     name: "left_list",
     tree: 6,
     columns: &[("child", Kind::Integer, true), ("school", Kind::Text, true)],
-    keys: KeysAre::Unique(&[1, 2], &[&[1, 2]]),
+    keys: ExpectedKeys::Unique(&[1, 2], &[&[1, 2]]),
 };
 
 /// Makes the table.

@@ -3,10 +3,10 @@ ghost use Rattle.std.specs.Prelude.{◌≡◌};
 ghost use Rattle.adm_schema.specs.Creations.{create_meta};
 ghost use Rattle.adm_schema.specs.Texts.{insert_meta, update_meta, mark_version, select_meta};
 
-use crate::expected::{KeysAre, TableIs};
+use crate::expected::{ExpectedKeys, ExpectedTable};
 use sqlite_schema::schema::Kind;
 
-pub(crate) const META: TableIs<'static> = TableIs {
+pub(crate) const META: ExpectedTable<'static> = ExpectedTable {
     name: "meta",
     tree: 0,
     columns: &[
@@ -17,7 +17,7 @@ pub(crate) const META: TableIs<'static> = TableIs {
         ("holidays", Kind::Text, true),
         ("draws", Kind::Integer, true),
     ],
-    keys: KeysAre::One,
+    keys: ExpectedKeys::One,
 };
 
 /// Makes the table.

@@ -4,10 +4,10 @@ ghost use Rattle.adm_schema.specs.Creations.{create_place};
 ghost use Rattle.adm_schema.specs.Texts.{select_places};
 ghost use Rattle.adm_schema.specs.RowTexts.{put_place, insert_places, delete_place};
 
-use crate::expected::{KeysAre, TableIs};
+use crate::expected::{ExpectedKeys, ExpectedTable};
 use sqlite_schema::schema::Kind;
 
-pub(crate) const PLACE: TableIs<'static> = TableIs {
+pub(crate) const PLACE: ExpectedTable<'static> = ExpectedTable {
     name: "place",
     tree: 5,
     columns: &[
@@ -17,7 +17,7 @@ pub(crate) const PLACE: TableIs<'static> = TableIs {
         ("day", Kind::Integer, false),
         ("reminded", Kind::Integer, false),
     ],
-    keys: KeysAre::Rowid,
+    keys: ExpectedKeys::Rowid,
 };
 
 /// Makes the table.

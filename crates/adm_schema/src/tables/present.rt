@@ -4,10 +4,10 @@ ghost use Rattle.adm_schema.specs.Creations.{create_present};
 ghost use Rattle.adm_schema.specs.Texts.{select_present};
 ghost use Rattle.adm_schema.specs.RowTexts.{insert_present, find_present, delete_present};
 
-use crate::expected::{KeysAre, TableIs};
+use crate::expected::{ExpectedKeys, ExpectedTable};
 use sqlite_schema::schema::Kind;
 
-pub(crate) const PRESENT: TableIs<'static> = TableIs {
+pub(crate) const PRESENT: ExpectedTable<'static> = ExpectedTable {
     name: "present",
     tree: 15,
     columns: &[
@@ -15,7 +15,7 @@ pub(crate) const PRESENT: TableIs<'static> = TableIs {
         ("imported", Kind::Integer, true),
         ("school", Kind::Text, true),
     ],
-    keys: KeysAre::Unique(&[1, 2], &[&[1, 2]]),
+    keys: ExpectedKeys::Unique(&[1, 2], &[&[1, 2]]),
 };
 
 /// Makes the table.

@@ -4,10 +4,10 @@ ghost use Rattle.adm_schema.specs.Creations.{create_school};
 ghost use Rattle.adm_schema.specs.Texts.{insert_school, select_schools};
 ghost use Rattle.adm_schema.specs.RowTexts.{find_school, update_school, delete_school};
 
-use crate::expected::{KeysAre, TableIs};
+use crate::expected::{ExpectedKeys, ExpectedTable};
 use sqlite_schema::schema::Kind;
 
-pub(crate) const SCHOOL: TableIs<'static> = TableIs {
+pub(crate) const SCHOOL: ExpectedTable<'static> = ExpectedTable {
     name: "school",
     tree: 1,
     columns: &[
@@ -18,7 +18,7 @@ pub(crate) const SCHOOL: TableIs<'static> = TableIs {
         ("north", Kind::Integer, true),
         ("criteria", Kind::Text, true),
     ],
-    keys: KeysAre::Unique(&[1], &[&[1]]),
+    keys: ExpectedKeys::Unique(&[1], &[&[1]]),
 };
 
 /// Makes the table.

@@ -2,7 +2,7 @@ use Rattle.std.proofs.Common.{◌+◌, arith}
 use Rattle.adm_store.proofs.DrawWrites.{bound_school}
 use Rattle.adm_store.proofs.LentLemmas.{four_after, as_many}
 use Rattle.adm_store.proofs.WriteLemmas.{truth_is}
-use Rattle.adm_store.proofs.offers.OfferRowWrittenRow.lend_at.Goals as goal
+use Rattle.adm_store.proofs.offers.OfferRowRowValues.lend_at.Goals as goal
 
 pub returns-clause-lent : goal.returns-clause-lent
 returns-clause-lent c =

@@ -3,7 +3,7 @@ use Rattle.sqlite.specs.declared.types.Value.TheVariants.{Int, Text}
 use Rattle.sqlite.specs.Values.{bound}
 use Rattle.adm_store.proofs.LentLemmas.{five_after, as_many}
 use Rattle.adm_store.proofs.WriteLemmas.{bound_number}
-use Rattle.adm_store.proofs.places.PlaceRowWrittenRow.lend_at.Goals as goal
+use Rattle.adm_store.proofs.places.PlaceRowRowValues.lend_at.Goals as goal
 
 pub returns-clause-lent : goal.returns-clause-lent
 returns-clause-lent c =

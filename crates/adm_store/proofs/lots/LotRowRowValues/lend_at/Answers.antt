@@ -1,6 +1,6 @@
 use Rattle.std.proofs.Common.{◌+◌, arith}
 use Rattle.adm_store.proofs.LentLemmas.{four_after, as_many}
-use Rattle.adm_store.proofs.lots.LotRowWrittenRow.lend_at.Goals as goal
+use Rattle.adm_store.proofs.lots.LotRowRowValues.lend_at.Goals as goal
 
 pub returns-clause-lent : goal.returns-clause-lent
 returns-clause-lent c =

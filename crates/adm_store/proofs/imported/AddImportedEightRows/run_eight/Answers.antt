@@ -1,7 +1,7 @@
 use Rattle.std.proofs.lemmas.Result.{on_ok_weaker}
 use Rattle.sqlite.specs.Held.{state}
 use Rattle.adm_store.proofs.WriteLemmas.{adds_imported_rows}
-use Rattle.adm_store.proofs.imported.AddImportedEights.run_eight.Goals as goal
+use Rattle.adm_store.proofs.imported.AddImportedEightRows.run_eight.Goals as goal
 
 pub returns-clause-writes : goal.returns-clause-writes
 returns-clause-writes g c =
