@@ -8,6 +8,7 @@ use Rattle.std.specs.Prelude.{option_and_then, slice_get, All}
 use Rattle.std.specs.List.{enumerate_from}
 use Rattle.std.specs.Cmp.{tied_then}
 use Rattle.std.proofs.lemmas.Option.{none-some, slice_get_within, get_or_from_slice_get}
+use Rattle.std.proofs.lemmas.List.{get_or-map, length-map}
 use Rattle.std.proofs.lemmas.List.Elements.{filter_map-append}
 use Rattle.std.proofs.lemmas.Map.Text.{is_eq-slice_cmp}
 use Rattle.adm_lists.proofs.Orders.{eq_number}
@@ -41,6 +42,22 @@ first_more cmp rows back row old new less at was up key =
     chosen : {K V : Type 0} (b : Bool) (r : K × V) (o : Option (K × V)) → cond b (Some r.1) (option_map (λ x. x.1) o) ≡ option_map (λ x. x.1) (cond b (Some r) o)
     chosen true r o = refl
     chosen false r o = refl
+
+abbrev row_of_lot : Lot → Pair × ℕ
+row_of_lot lot = (pair_of lot, lot.lot)
+
+-- one more lot, from the last one on
+pub lots_more : (lots : List Lot) (back : ℕ) (lot : Lot) (old new : BTreeMap Pair ℕ) → back < length lots
+    → lot ≡ get_or lots (length lots - 1 - back) lot → HasFirst pair_cmp (drop (length lots - back) (map row_of_lot lots)) old
+    → Updates pair_cmp old new (pair_of lot) (Some lot.lot) → HasFirst pair_cmp (drop (length lots - (back + 1)) (map row_of_lot lots)) new
+lots_more lots back lot old new less at was up =
+    subst More (length-map lots row_of_lot) (first_more pair_cmp (map row_of_lot lots) back (row_of_lot lot) old new) less
+    (ap row_of_lot at ∙ sym (get_or-map row_of_lot lots (length lots - 1 - back) lot (row_of_lot lot) (omega arith))) was up
+  where
+    More : ℕ → Type 0
+    More n =
+        back < n → row_of_lot lot ≡ get_or (map row_of_lot lots) (n - 1 - back) (row_of_lot lot) → HasFirst pair_cmp (drop (n - back) (map row_of_lot lots)) old
+        → Updates pair_cmp old new (pair_of lot) (Some lot.lot) → HasFirst pair_cmp (drop (n - (back + 1)) (map row_of_lot lots)) new
 
 both_equal : (s t : Code) (a b : ℕ) → is_eq (ordering_then (slice_cmp nat_cmp s t) (nat_cmp a b)) ≡ (bytes_eq s t && a == b)
 both_equal s t a b =

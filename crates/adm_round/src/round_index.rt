@@ -3,7 +3,7 @@ ghost use Rattle.std.specs.Prelude.{◌≡◌, IfOk, map};
 ghost use Rattle.std.specs.List.{enumerate_from};
 ghost use Rattle.std.specs.Option.{option_copied};
 ghost use Rattle.adm_round.specs.Round.{code_of_site, pair_of};
-ghost use Rattle.adm_round.specs.Lookups.{HasFirst, site_in, lot_in, IsRoundIndex};
+ghost use Rattle.adm_round.specs.Lookups.{HasFirst, pair_cmp, site_in, lot_in, IsRoundIndex};
 
 use crate::applicants::{Pair, Site};
 use adm_types::{ChildNo, Lot, SchoolCode};
@@ -45,21 +45,25 @@ fn index_rows(alloc: Global, sites: &[Site]) -> Result<Vec<(SchoolCode, usize)>,
     Ok(rows)
 }
 
-fn lot_row(lot: &Lot) -> (Pair, u32)
-    ensures { result ≡ (pair_of lot.now, lot.now.lot) }
+fn pair_of(lot: &Lot) -> Pair
+    ensures { result ≡ pair_of lot.now }
 {
-    let pair = Pair {
+    Pair {
         school: lot.school,
         child: lot.child,
-    };
-    (pair, lot.lot)
+    }
 }
 
-/// Each lot behind its pair.
-fn lot_rows(alloc: Global, lots: &[Lot]) -> Result<Vec<(Pair, u32)>, AllocError>
-    ensures { IfOk result (λ rows. rows.items ≡ map (λ lot. (pair_of lot, lot.lot)) lots.now) }
+/// The lot of each pair. The lots go in from the last one on, so that the first one of a pair stays.
+fn lots_by_pair(alloc: Global, lots: &[Lot]) -> Result<BTreeMap<Pair, u32>, AllocError>
+    ensures { IfOk result (HasFirst pair_cmp (map (λ lot. (pair_of lot, lot.lot)) lots.now)) }
 {
-    lots.iter().map(|lot| lot_row(lot)).collect(alloc)
+    let mut values = BTreeMap::new(alloc);
+    for back in 0..lots.len() {
+        let lot = &lots[lots.len() - 1 - back];
+        values.insert(pair_of(lot), lot.lot)?;
+    }
+    Ok(values)
 }
 
 /// The directory of the sites and lots. The cost grows with both, times their logarithm.
@@ -72,8 +76,7 @@ pub(crate) fn round_index_of(
 {
     let index_rows = index_rows(alloc, sites)?;
     let indices = first_values(alloc, &index_rows)?;
-    let lot_rows = lot_rows(alloc, lots)?;
-    let lots = first_values(alloc, &lot_rows)?;
+    let lots = lots_by_pair(alloc, lots)?;
     Ok(RoundIndex { indices, lots })
 }
 
