@@ -87,15 +87,13 @@ impl<S: Alter> Desk<S> {
         ensures ended { IfErr result (λ e. e.1.in_transaction ≡ false) }
         ensures left { IfErr result (λ e. Survives (state S.Store conn) (state S.Store e.1) (IsMigrated (state S.Store conn))) }
     {
-        match adm_store::open(alloc, conn) {
-            Ok((store, register)) => Ok(Desk {
-                alloc,
-                store,
-                register,
-                failed: false,
-            }),
-            Err(refused) => Err(refused),
-        }
+        let (store, register) = adm_store::open(alloc, conn)?;
+        Ok(Desk {
+            alloc,
+            store,
+            register,
+            failed: false,
+        })
     }
 
     /// The connection. It takes no memory.

@@ -105,13 +105,9 @@ fn take_byte<H: LineHandler, W: Output>(
 {
     if byte == b'\n' {
         let alloc = *pending.allocator();
-        match run_line(alloc, handler, output, run, pending.as_slice()) {
-            Ok(()) => {
-                pending.clear();
-                Ok(())
-            }
-            Err(fault) => Err(fault),
-        }
+        run_line(alloc, handler, output, run, pending.as_slice())?;
+        pending.clear();
+        Ok(())
     } else if pending.push(byte).is_ok() {
         Ok(())
     } else {
@@ -133,10 +129,7 @@ fn take_bytes<H: LineHandler, W: Output>(
     ensures writer { WriterFailsBy result (W.has_failed output.old) (W.has_failed output.new) }
 {
     for byte in bytes {
-        match take_byte(handler, output, run, pending, *byte) {
-            Ok(()) => {}
-            Err(fault) => return Err(fault),
-        }
+        take_byte(handler, output, run, pending, *byte)?;
     }
     Ok(())
 }
@@ -158,10 +151,8 @@ fn finish<H: LineHandler, W: Output>(
     if pending.is_empty() {
         return Ok(run);
     }
-    match run_line(alloc, handler, output, &mut run, pending) {
-        Ok(()) => Ok(run),
-        Err(fault) => Err(fault),
-    }
+    run_line(alloc, handler, output, &mut run, pending)?;
+    Ok(run)
 }
 
 /// Answers the lines that the reader gives, to its end, and writes an answer for each. An error of
@@ -194,10 +185,7 @@ pub(crate) fn run_lines<H: LineHandler, R: Input, W: Output>(
         if count == 0 {
             return finish(alloc, handler, output, run, pending.as_slice());
         }
-        match take_bytes(handler, output, &mut run, &mut pending, &buffer[..count]) {
-            Ok(()) => {}
-            Err(fault) => return Err(fault),
-        }
+        take_bytes(handler, output, &mut run, &mut pending, &buffer[..count])?;
     }
     Err(RunFault::Memory)
 }

@@ -34,13 +34,9 @@ impl Document {
         ensures { PrintsAs (document_text register.now self)
             (writer O.Output output.old output.new) result }
     {
-        match self.text(alloc, register) {
-            Ok(text) => match put(output, text.as_str()) {
-                Ok(()) => Ok(Exit::Done),
-                Err(fault) => Err(fault),
-            },
-            Err(fault) => Err(fault),
-        }
+        let text = self.text(alloc, register)?;
+        put(output, text.as_str())?;
+        Ok(Exit::Done)
     }
 
     /// Its text, over the register. The `Err` is why there is none, or out of memory.

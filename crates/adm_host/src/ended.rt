@@ -31,13 +31,12 @@ pub fn ending<D: Disk + Drop>(ended: LineEnd<D>) -> Result<Exit, Fault>
     ensures { result ≡ ending_of ended.exit (error_of ended.closed) }
 {
     let LineEnd { exit, closed } = ended;
-    match exit {
-        Ok(Exit::Failed) => Ok(Exit::Failed),
-        Ok(exit) => match closed {
+    match exit? {
+        Exit::Failed => Ok(Exit::Failed),
+        exit => match closed {
             Ok(_files) => Ok(exit),
             Err((error, _store)) => Err(Fault::from(error)),
         },
-        Err(fault) => Err(fault),
     }
 }
 

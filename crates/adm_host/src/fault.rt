@@ -84,10 +84,7 @@ impl Fault {
 pub fn print_text<E: Output>(text: &str, errors: &mut E) -> Result<(), WriteFailed>
     ensures { PrintsText text.now (writer E.Output errors.old errors.new) result }
 {
-    match errors.put(text.as_bytes()) {
-        Ok(()) => Ok(()),
-        Err(failed) => Err(failed),
-    }
+    errors.put(text.as_bytes())
 }
 
 /// The name of the error, and where its cause is known a second line.

@@ -51,10 +51,7 @@ fn replaced(
 fn present_in(old: &Register, child: ChildNo) -> Option<SchoolCode>
     ensures { result ≡ was_present old.now.children child }
 {
-    match old.child(child) {
-        Some(child) => child.present,
-        None => None,
-    }
+    old.child(child)?.present
 }
 
 /// Adds the child, where it had a present school, and has another or none.

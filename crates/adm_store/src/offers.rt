@@ -19,10 +19,7 @@ use sqlite::{Alter, Error, Transaction, params};
 pub(crate) fn code_in(school: &Option<SchoolCode>) -> Option<&str>
     ensures { or_null (λ code. Text code.now) result ≡ school_value school.now }
 {
-    match school {
-        Some(code) => Some(code.as_str()),
-        None => None,
-    }
+    Some(school.as_ref()?.as_str())
 }
 
 pub(crate) struct AddOffer;

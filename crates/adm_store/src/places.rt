@@ -18,10 +18,7 @@ use sqlite::{Alter, Error, Transaction, params};
 fn number_in(day: &Option<Day>) -> Option<u32>
     ensures { result ≡ day.now }
 {
-    match day {
-        Some(day) => Some(number_of(*day)),
-        None => None,
-    }
+    day.map(number_of)
 }
 
 /// The kind of a place, its day and the day of its reminder.

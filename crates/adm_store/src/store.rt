@@ -97,10 +97,7 @@ fn read<S: Alter>(alloc: Global, conn: &mut Connection<S>) -> Result<(Version, R
     let mut tx = conn.transaction();
     let found = register_in(alloc, &mut tx, version);
     tx.rollback();
-    match found {
-        Ok(found) => Ok(found),
-        Err(fault) => Err(fault),
-    }
+    found
 }
 
 /// Why a file of the first version did not become one of the second.

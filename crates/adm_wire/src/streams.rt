@@ -99,10 +99,8 @@ impl<W: Write> Output for Watched<W> {
     fn put(&mut self, bytes: &[u8]) -> Result<(), WriteFailed> {
         let mut rest = bytes;
         while !rest.is_empty() {
-            match self.put_some(rest) {
-                Ok(count) => rest = &rest[count..],
-                Err(error) => return Err(error),
-            }
+            let count = self.put_some(rest)?;
+            rest = &rest[count..];
         }
         Ok(())
     }

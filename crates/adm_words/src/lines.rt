@@ -49,15 +49,11 @@ pub(crate) fn read_from(text: &str, least: u32, most: u32) -> Option<u32>
     ensures value { result ≡ number_from least most text.now }
     ensures in_range { IfSome result (λ number. (least ≤ number) × (number ≤ most)) }
 {
-    match read_number(text) {
-        Some(number) => {
-            if least <= number && number <= most {
-                Some(number)
-            } else {
-                None
-            }
-        }
-        None => None,
+    let number = read_number(text)?;
+    if least <= number && number <= most {
+        Some(number)
+    } else {
+        None
     }
 }
 
@@ -72,20 +68,14 @@ fn read_year(text: &str) -> Option<u32>
 fn phase_in(found: &ArgMatches<'_>) -> Option<Phase>
     ensures { result ≡ phase_in (rows_of (found_of found.now)) }
 {
-    match text_of(found, "phase") {
-        Some(text) => read_phase(text),
-        None => None,
-    }
+    read_phase(text_of(found, "phase")?)
 }
 
 fn year_in(found: &ArgMatches<'_>) -> Option<u32>
     ensures value { result ≡ year_in (rows_of (found_of found.now)) }
     ensures in_range { IfSome result (λ year. (2000 ≤ year) × (year ≤ 2100)) }
 {
-    match text_of(found, "year") {
-        Some(text) => read_year(text),
-        None => None,
-    }
+    read_year(text_of(found, "year")?)
 }
 
 /// The days that texts name.
@@ -123,15 +113,13 @@ fn init<'a>(alloc: Global, found: &ArgMatches<'a>) -> Result<Action<'a>, WordsFa
     let Some(year) = year_in(found) else {
         unreachable!()
     };
-    match holidays_in(alloc, found) {
-        Ok(holidays) => Ok(Action::Init {
-            file,
-            phase,
-            year,
-            holidays,
-        }),
-        Err(fault) => Err(fault),
-    }
+    let holidays = holidays_in(alloc, found)?;
+    Ok(Action::Init {
+        file,
+        phase,
+        year,
+        holidays,
+    })
 }
 
 /// The line `do`, whose file is there.

@@ -50,10 +50,8 @@ fn letter<'a>(found: &ArgMatches<'a>) -> Result<Action<'a>, WordsFault>
     let Some(argument) = text_of(found, "child") else {
         unreachable!()
     };
-    match value(read_child(argument)) {
-        Ok(child) => Ok(Action::Letter { file, child }),
-        Err(fault) => Err(fault),
-    }
+    let child = value(read_child(argument))?;
+    Ok(Action::Letter { file, child })
 }
 
 /// The line `list`, whose values are there.
@@ -68,10 +66,8 @@ fn list<'a>(found: &ArgMatches<'a>) -> Result<Action<'a>, WordsFault>
     let Some(argument) = text_of(found, "school") else {
         unreachable!()
     };
-    match value(SchoolCode::new(argument)) {
-        Ok(school) => Ok(Action::List { file, school }),
-        Err(fault) => Err(fault),
-    }
+    let school = value(SchoolCode::new(argument))?;
+    Ok(Action::List { file, school })
 }
 
 /// The line `round-report`, whose values are there.
@@ -86,10 +82,8 @@ fn report<'a>(found: &ArgMatches<'a>) -> Result<Action<'a>, WordsFault>
     let Some(argument) = text_of(found, "round") else {
         unreachable!()
     };
-    match value(plain(argument)) {
-        Ok(round) => Ok(Action::RoundReport { file, round }),
-        Err(fault) => Err(fault),
-    }
+    let round = value(plain(argument))?;
+    Ok(Action::RoundReport { file, round })
 }
 
 /// The school of a code, if a code is written.
@@ -98,10 +92,7 @@ fn read_school(argument: Option<&str>) -> Option<Option<SchoolCode>>
 {
     match argument {
         None => Some(None),
-        Some(argument) => match SchoolCode::new(argument) {
-            Some(school) => Some(Some(school)),
-            None => None,
-        },
+        Some(argument) => SchoolCode::new(argument).map(Some),
     }
 }
 
@@ -114,10 +105,8 @@ fn pairs<'a>(found: &ArgMatches<'a>) -> Result<Action<'a>, WordsFault>
     let Some(file) = text_of(found, "file") else {
         unreachable!()
     };
-    match value(read_school(text_of(found, "school"))) {
-        Ok(school) => Ok(Action::Pairs { file, school }),
-        Err(fault) => Err(fault),
-    }
+    let school = value(read_school(text_of(found, "school")))?;
+    Ok(Action::Pairs { file, school })
 }
 
 /// A line that reads a register, by its name.

@@ -15,20 +15,15 @@ fn read_port(text: &str) -> Option<u16>
     ensures value { result ≡ port_of text.now }
     ensures in_range { IfSome result (λ port. (1 ≤ port) × (port ≤ 65535)) }
 {
-    match read_from(text, 1, 65_535) {
-        Some(port) => Some(port as u16),
-        None => None,
-    }
+    let port = read_from(text, 1, 65_535)?;
+    Some(port as u16)
 }
 
 fn port_in(found: &ArgMatches<'_>) -> Option<u16>
     ensures value { result ≡ port_in (rows_of (found_of found.now)) }
     ensures in_range { IfSome result (λ port. (1 ≤ port) × (port ≤ 65535)) }
 {
-    match text_of(found, "port") {
-        Some(text) => read_port(text),
-        None => None,
-    }
+    read_port(text_of(found, "port")?)
 }
 
 fn count_in(found: &ArgMatches<'_>) -> Option<u32>

@@ -75,8 +75,5 @@ pub(super) fn codes_at(alloc: Global, row: &Row, at: usize) -> Result<Seq<School
     ensures disk { IfErr result (λ e. e ≡ OpenFault.Disk → ⊥) }
 {
     let text: String = value_at(row, at)?;
-    match codes_in(alloc, &text) {
-        Ok(list) => Ok(list),
-        Err(fault) => Err(fault),
-    }
+    codes_in(alloc, &text)
 }

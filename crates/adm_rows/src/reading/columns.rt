@@ -42,10 +42,8 @@ pub(super) fn text_at(row: &Row, at: usize) -> Result<Text, OpenFault>
     ensures first { IfErr result (λ e. IsNoRegister e → e ≡ OpenFault.BadRow) }
     ensures disk { IfErr result (λ e. e ≡ OpenFault.Disk → ⊥) }
 {
-    match value_at(row, at) {
-        Ok(text) => Ok(Text::from_string(text)),
-        Err(fault) => Err(fault),
-    }
+    let text = value_at(row, at)?;
+    Ok(Text::from_string(text))
 }
 
 /// A number below 2^32.

@@ -98,10 +98,7 @@ impl Reader for PlaceReader {
             kind,
             day,
             reminded,
-        } = match place_columns(row) {
-            Ok(columns) => columns,
-            Err(fault) => return Err(fault),
-        };
+        } = place_columns(row)?;
         let Some(state) = state_of(kind, day, reminded) else {
             return Err(OpenFault::BadRow);
         };

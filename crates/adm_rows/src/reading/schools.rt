@@ -51,14 +51,8 @@ fn criteria_in(alloc: Global, text: &str) -> Result<Vec<Criterion>, OpenFault>
     ensures first { IfErr result (λ e. IsNoRegister e → e ≡ OpenFault.BadRow) }
     ensures disk { IfErr result (λ e. e ≡ OpenFault.Disk → ⊥) }
 {
-    let criteria = match read_criteria(alloc, text) {
-        Ok(criteria) => criteria,
-        Err(fault) => return Err(fault),
-    };
-    let same = match is_text_of_criteria(alloc, text, criteria.as_slice()) {
-        Ok(same) => same,
-        Err(fault) => return Err(fault),
-    };
+    let criteria = read_criteria(alloc, text)?;
+    let same = is_text_of_criteria(alloc, text, criteria.as_slice())?;
     if same {
         Ok(criteria)
     } else {
@@ -121,17 +115,11 @@ impl Reader for SchoolReader {
     }
 
     fn read(&self, alloc: Global, row: &Row) -> Result<School, OpenFault> {
-        let columns = match school_columns(row) {
-            Ok(columns) => columns,
-            Err(fault) => return Err(fault),
-        };
+        let columns = school_columns(row)?;
         let Some(code) = SchoolCode::new(&columns.code) else {
             return Err(OpenFault::BadRow);
         };
-        let criteria = match criteria_in(alloc, &columns.criteria) {
-            Ok(criteria) => criteria,
-            Err(fault) => return Err(fault),
-        };
+        let criteria = criteria_in(alloc, &columns.criteria)?;
         Ok(School {
             code,
             name: Text::from_string(columns.name),

@@ -165,18 +165,9 @@ fn season_with(alloc: Global, columns: &SeasonColumns) -> Result<Season, OpenFau
     ensures first { IfErr result (λ e. IsNoRegister e → e ≡ OpenFault.BadRow) }
     ensures disk { IfErr result (λ e. e ≡ OpenFault.Disk → ⊥) }
 {
-    let days = match read_days(alloc, &columns.holidays) {
-        Ok(days) => days,
-        Err(fault) => return Err(fault),
-    };
-    let season = match season_on(alloc, columns.phase, columns.year, days.as_slice()) {
-        Ok(season) => season,
-        Err(fault) => return Err(fault),
-    };
-    let same = match is_text_of_days(alloc, &columns.holidays, season.holidays()) {
-        Ok(same) => same,
-        Err(fault) => return Err(fault),
-    };
+    let days = read_days(alloc, &columns.holidays)?;
+    let season = season_on(alloc, columns.phase, columns.year, days.as_slice())?;
+    let same = is_text_of_days(alloc, &columns.holidays, season.holidays())?;
     if same {
         Ok(season)
     } else {
@@ -192,22 +183,14 @@ fn season_in(alloc: Global, row: &Row) -> Result<MetaRow, OpenFault>
     ensures first { IfErr result (λ e. IsNoRegister e → e ≡ first_open_fault (row.now ∷ [])) }
     ensures disk { IfErr result (λ e. e ≡ OpenFault.Disk → ⊥) }
 {
-    let version = match version_in(row) {
-        Ok(version) => version,
-        Err(fault) => return Err(fault),
-    };
-    let columns = match season_columns(row, version) {
-        Ok(columns) => columns,
-        Err(fault) => return Err(fault),
-    };
-    match season_with(alloc, &columns) {
-        Ok(season) => Ok(MetaRow {
-            version,
-            season,
-            draws: columns.draws,
-        }),
-        Err(fault) => Err(fault),
-    }
+    let version = version_in(row)?;
+    let columns = season_columns(row, version)?;
+    let season = season_with(alloc, &columns)?;
+    Ok(MetaRow {
+        version,
+        season,
+        draws: columns.draws,
+    })
 }
 
 /// The season and the count of draws of the one row that there may be.

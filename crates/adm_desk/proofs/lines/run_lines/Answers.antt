@@ -1,5 +1,5 @@
 use Rattle.std.proofs.Common.{rules, refl, ◌∙◌, ◌||◌, Bool, true, false, Err, ◌≡◌, [], ◌++◌, take}
-use Rattle.std.proofs.lemmas.Result.{IfOk-weaker, on_err_weaker}
+use Rattle.std.proofs.lemmas.Result.{IfOk-weaker, on_err_weaker, err_from_is_err_and}
 use Rattle.adm_desk.specs.declared.run.Run.{Run}
 use Rattle.adm_desk.proofs.Known.{Consumes-nothing, Consumes-then}
 use Rattle.adm_desk.proofs.AnswerLemmas.{Takes-nothing, Takes-then, Takes-breaks}
@@ -20,8 +20,8 @@ loop-turn-preserved g c =
     let i = c.loop-turn.invariant in (
       i.0 ++ take c.in-Ok.count c.read_some.new.buffer,
       Consumes-then _ _ _ i.0 _ i.1 c.in-Ok.ensures.bytes.0,
-      Takes-then g.H.LineHandler.runs _ _ _ _ _ _ _ _ _ _ _ _ i.0 _ i.2 c.in-Ok-take_bytes.ensures.taken,
-      c.in-Ok-take_bytes.ensures.writer ∙ i.3,
+      Takes-then g.H.LineHandler.runs _ _ _ _ _ _ _ _ _ _ _ _ i.0 _ i.2 c.in_ok-take_bytes.ensures.taken,
+      c.in_ok-take_bytes.ensures.writer ∙ i.3,
       goes_on _ _ c.in-Ok.ensures.fails ∙ i.4,
     )
 
@@ -49,17 +49,18 @@ returns-then-count-eq0-clause-ends g c =
     c.finish.ensures.fault
     c.finish.ensures.writer
 
-pub returns-in-Err-take_bytes-clause-ends : goal.returns-in-Err-take_bytes-clause-ends
-returns-in-Err-take_bytes-clause-ends g c =
+pub returns-in_err-take_bytes-clause-ends : goal.returns-in_err-take_bytes-clause-ends
+returns-in_err-take_bytes-clause-ends g c =
     let i = c.loop-turn.invariant in
     let bytes = i.0 ++ take c.in-Ok.count c.read_some.new.buffer in
-    ends_from g.H.LineHandler.runs _ _ _ _ _ (Err c.in-Err-take_bytes.fault) tt (
+    let p = err_from_is_err_and c.from_residual.result c.from_residual.ensures.1 in
+    rw (p.1, p.2) (ends_from g.H.LineHandler.runs _ _ _ _ _ (Err _) tt (
       bytes,
       Consumes-then _ _ _ i.0 _ i.1 c.in-Ok.ensures.bytes.0,
-      broken_from g.H.LineHandler.runs _ _ _ _ _ bytes (Takes-breaks g.H.LineHandler.runs _ _ _ _ _ _ _ _ _ _ i.0 _ i.2 c.in-Err-take_bytes.ensures.broken),
+      broken_from g.H.LineHandler.runs _ _ _ _ _ bytes (Takes-breaks g.H.LineHandler.runs _ _ _ _ _ _ _ _ _ _ i.0 _ i.2 c.in_err-take_bytes.ensures.broken),
     )
-    c.in-Err-take_bytes.ensures.fault
-    c.in-Err-take_bytes.ensures.writer
+    c.in_err-take_bytes.ensures.fault
+    c.in_err-take_bytes.ensures.writer)
 
 pub returns-clause-ends : goal.returns-clause-ends
 returns-clause-ends g c =
@@ -81,11 +82,15 @@ returns-then-count-eq0-clause-writer g c = writer_left c.finish.result _ _ _ c.l
 pub returns-then-count-eq0-clause-reader : goal.returns-then-count-eq0-clause-reader
 returns-then-count-eq0-clause-reader g c = reader_left c.finish.result _ _ (goes_on _ _ c.in-Ok.ensures.fails ∙ c.loop-turn.invariant.4) c.finish.ensures.fault
 
-pub returns-in-Err-take_bytes-clause-writer : goal.returns-in-Err-take_bytes-clause-writer
-returns-in-Err-take_bytes-clause-writer g c = writer_left {A = Run} (Err c.in-Err-take_bytes.fault) _ _ _ c.loop-turn.invariant.3 c.in-Err-take_bytes.ensures.writer
+pub returns-in_err-take_bytes-clause-writer : goal.returns-in_err-take_bytes-clause-writer
+returns-in_err-take_bytes-clause-writer g c =
+    let p = err_from_is_err_and c.from_residual.result c.from_residual.ensures.1 in
+    rw (p.1, p.2) (writer_left {A = Run} (Err _) _ _ _ c.loop-turn.invariant.3 c.in_err-take_bytes.ensures.writer)
 
-pub returns-in-Err-take_bytes-clause-reader : goal.returns-in-Err-take_bytes-clause-reader
-returns-in-Err-take_bytes-clause-reader g c = reader_left {A = Run} (Err c.in-Err-take_bytes.fault) _ _ (goes_on _ _ c.in-Ok.ensures.fails ∙ c.loop-turn.invariant.4) c.in-Err-take_bytes.ensures.fault
+pub returns-in_err-take_bytes-clause-reader : goal.returns-in_err-take_bytes-clause-reader
+returns-in_err-take_bytes-clause-reader g c =
+    let p = err_from_is_err_and c.from_residual.result c.from_residual.ensures.1 in
+    rw (p.1, p.2) (reader_left {A = Run} (Err _) _ _ (goes_on _ _ c.in-Ok.ensures.fails ∙ c.loop-turn.invariant.4) c.in_err-take_bytes.ensures.fault)
 
 pub returns-clause-writer : goal.returns-clause-writer
 returns-clause-writer g c = c.loop-turn.invariant.3
