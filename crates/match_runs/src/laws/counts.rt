@@ -1,6 +1,6 @@
 // Counts of problems, and of what each law says of their changes.
-use crate::groups::{Groups, no_groups};
-use crate::tables::{Given, Table, better_off, count_at, fills_alike, is_no_worse};
+use crate::laws::groups::{Groups, no_groups};
+use crate::laws::tables::{Given, Table, better_off, count_at, fills_alike, is_no_worse};
 use std::io;
 
 /// How many changes were compared, how many entrants have a better school by them, and how often one

@@ -1,11 +1,14 @@
 // Each change of a problem that a law speaks of: by the program, beside the search.
-use crate::cases::{CASES, chosen, table_of};
-use crate::counts::{Counts, nothing};
-use crate::drawn::{Numbers, another_list, some_table};
-use crate::groups::{drawn_group, members, restated, small_group};
-use crate::problems::{Names, code_of, entrants_of, given_by, make_names, seats_of, wishes_of};
-use crate::search::{all_stable, is_stable};
-use crate::tables::{ABSENT, Given, Row, Table, at, first_schools, length, place_on};
+use crate::cases::CASES;
+use crate::laws::cases::{chosen, table_of};
+use crate::laws::counts::{Counts, nothing};
+use crate::laws::drawn::{Numbers, another_list, some_table};
+use crate::laws::groups::{drawn_group, members, restated, small_group};
+use crate::laws::problems::{
+    Names, code_of, entrants_of, given_by, make_names, seats_of, wishes_of,
+};
+use crate::laws::search::{all_stable, is_stable};
+use crate::laws::tables::{ABSENT, Given, Row, Table, at, first_schools, length, place_on};
 use adm_laws::{
     offers_with_list, offers_with_lists, offers_with_quota, offers_with_shorter_list,
     offers_without, taken_at,

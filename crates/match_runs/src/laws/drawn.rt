@@ -1,5 +1,5 @@
 // Tables of up to five entrants and four schools, and changes of them, drawn from a fixed sequence of numbers.
-use crate::tables::{ABSENT, List, Row, Table, at, place_on};
+use crate::laws::tables::{ABSENT, List, Row, Table, at, place_on};
 
 /// A sequence of numbers.
 #[derive(Drop)]

@@ -1,5 +1,5 @@
 // The entrants and seats of a table, and what the program offers as a row of numbers.
-use crate::tables::{Given, List, Row, Table, at};
+use crate::laws::tables::{Given, List, Row, Table, at};
 use adm_match::{Entrant, Offers, Seats, Wish};
 use adm_rank::RankKey;
 use adm_types::{ChildNo, SchoolCode};

@@ -1,5 +1,5 @@
 // The stable allocations of a table: a search over all, by the definition alone.
-use crate::tables::{Given, Row, Table, at, count_at, length};
+use crate::laws::tables::{Given, Row, Table, at, count_at, length};
 use std::alloc::{AllocError, Global};
 
 fn is_guest(table: &Table, given: Given, index: usize, school: u32) -> bool {

@@ -1,7 +1,7 @@
 // Groups of children that state other lists together, and counts of what they have by it.
-use crate::cases::chosen;
-use crate::drawn::{Numbers, another_list, order_of_five};
-use crate::tables::{ABSENT, Given, Row, Table, place_on};
+use crate::laws::cases::chosen;
+use crate::laws::drawn::{Numbers, another_list, order_of_five};
+use crate::laws::tables::{ABSENT, Given, Row, Table, place_on};
 use std::io;
 
 /// How many groups were tried, how many of their members have a better and a worse school by it on
