@@ -1,7 +1,7 @@
 #!/usr/bin/env python3
-"""The counts that crates/law_runs prints, by a search over all allocations alone.
+"""The counts of the laws that crates/match_runs prints, by a search over all allocations alone.
 
-    python3 bench/laws/search.py | diff crates/law_runs/stdout -
+    python3 bench/laws/search.py | diff <(sed -n '/^small/,$p' crates/match_runs/stdout) -
 
 It shares no code with the program and knows no deferred acceptance: the best allocation is the stable one that no other stable one beats
 for any child. It takes some minutes.

@@ -47,8 +47,8 @@ impl Names {
 #[derive(Clone, Copy)]
 pub struct Case {
     pub options: [u32; 3],
-    quotas: [u32; 2],
-    rankings: [u32; 2],
+    pub quotas: [u32; 2],
+    pub rankings: [u32; 2],
 }
 
 /// The problem of a number below `CASES`.
@@ -72,7 +72,7 @@ pub fn listed(option: u32) -> [Option<Side>; 2] {
 }
 
 /// The school of which the entrant of a choice is a tenant: the last of its list, or none.
-fn tenancy(option: u32) -> Option<Side> {
+pub fn tenancy(option: u32) -> Option<Side> {
     match option {
         5 | 8 => Some(Side::A),
         6 | 7 => Some(Side::B),
@@ -80,7 +80,8 @@ fn tenancy(option: u32) -> Option<Side> {
     }
 }
 
-fn rank(ranking: u32, index: usize) -> u32 {
+/// The place of an entrant in a ranking.
+pub fn rank(ranking: u32, index: usize) -> u32 {
     let row = RANKINGS[(ranking % 6) as usize];
     row[index % 3]
 }

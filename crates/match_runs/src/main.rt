@@ -1,9 +1,11 @@
-// Allots places in all small problems and in one market, or in a market of a given size alone.
-// Without arguments it goes through every small problem, and then allots a market of 100 entrants. With a size as its arguments
-// (entrants, wishes, schools) it allots that market alone, and prints the microseconds that it took.
+// Allots places in all small problems and in one market, and tries the laws of a round; or allots a market of a given size alone.
+// Without arguments it goes through every small problem, allots a market of 100 entrants, and compares each law of a round with a
+// search over all allocations. With a size as its arguments (entrants, wishes, schools) it allots that market alone, and prints the
+// microseconds that it took.
 #![tactic(auto)]
 
 mod cases;
+mod laws;
 mod market;
 mod sweep;
 mod totals;
@@ -84,7 +86,8 @@ fn main(rt: HostRuntime) -> io::Result<()> {
         Some(size) => run(&rt, size, true),
         None => {
             sweep::run(&rt)?;
-            run(&rt, SMALL, false)
+            run(&rt, SMALL, false)?;
+            laws::run(&rt)
         }
     }
 }

@@ -1,0 +1,11 @@
+// The laws of a round, each compared with a search over all allocations of small problems.
+mod cases;
+mod changes;
+mod counts;
+mod drawn;
+mod groups;
+mod problems;
+mod search;
+mod tables;
+
+pub use changes::run;

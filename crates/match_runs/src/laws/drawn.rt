@@ -1,0 +1,127 @@
+// Tables of up to five entrants and four schools, and changes of them, drawn from a fixed sequence of numbers.
+use crate::laws::tables::{ABSENT, List, Row, Table, at, place_on};
+
+/// A sequence of numbers.
+#[derive(Drop)]
+pub struct Numbers {
+    state: u64,
+}
+
+impl Numbers {
+    pub fn new(seed: u64) -> Numbers {
+        Numbers { state: seed }
+    }
+
+    /// The next number, below the bound; 0 where the bound is 0.
+    pub fn below(&mut self, bound: u32) -> u32 {
+        let product = self.state.wrapping_mul(6_364_136_223_846_793_005);
+        self.state = product.wrapping_add(1_442_695_040_888_963_407);
+        let number = (self.state >> 33) as u32;
+        number.checked_rem(bound).unwrap_or(0)
+    }
+}
+
+/// The numbers from 0 to 4 in some order.
+pub fn order_of_five(numbers: &mut Numbers) -> [u32; 5] {
+    let mut order = [0, 1, 2, 3, 4];
+    for last in 1..5 {
+        let other = (numbers.below(5) as usize) % (last + 1);
+        let kept = order[last % 5];
+        order[last % 5] = order[other % 5];
+        order[other % 5] = kept;
+    }
+    order
+}
+
+/// Some of the four schools, in some order.
+fn some_list(numbers: &mut Numbers) -> List {
+    let order = order_of_five(numbers);
+    let length = numbers.below(5);
+    let mut list: List = [0; 4];
+    let mut count: u32 = 0;
+    for school in order {
+        if school != 0 && count < length {
+            list[(count % 4) as usize] = school;
+            count = count.wrapping_add(1);
+        }
+    }
+    list
+}
+
+/// The last school of a list, or none.
+fn last_of(list: List) -> u32 {
+    let mut last = 0;
+    for school in list {
+        if school != 0 {
+            last = school;
+        }
+    }
+    last
+}
+
+/// A row without ranks: one in three is a tenant of the last school of its list.
+fn some_row(numbers: &mut Numbers) -> Row {
+    let list = some_list(numbers);
+    let is_tenant = numbers.below(3) == 0;
+    let tenant = if is_tenant { last_of(list) } else { 0 };
+    Row {
+        takes_part: true,
+        list,
+        tenant,
+        ranks: [0; 4],
+    }
+}
+
+/// A table of the first entrants, with quotas 0 to 2. Ranks are odd.
+pub fn some_table(numbers: &mut Numbers, entrants: u32) -> Table {
+    let mut rows = [ABSENT; 5];
+    for index in 0..5 {
+        if (index as u32) < entrants {
+            rows[index] = some_row(numbers);
+        }
+    }
+    let mut quotas = [0; 4];
+    for school in 0..4 {
+        quotas[school] = numbers.below(3);
+        let order = order_of_five(numbers);
+        for index in 0..5 {
+            rows[index].ranks[school] = order[index].wrapping_mul(2).wrapping_add(1);
+        }
+    }
+    Table { rows, quotas }
+}
+
+/// The list without a school, and that school last.
+fn with_last(list: List, school: u32) -> List {
+    let mut moved: List = [0; 4];
+    let mut count: u32 = 0;
+    for listed in list {
+        if listed != 0 && listed != school {
+            moved[(count % 4) as usize] = listed;
+            count = count.wrapping_add(1);
+        }
+    }
+    moved[(count % 4) as usize] = school;
+    moved
+}
+
+/// The row by any list, with even ranks at the schools that it does not truly list. A tenant keeps its
+/// school, as the last of the list, or gives it up.
+pub fn another_list(own: &Row, numbers: &mut Numbers) -> Row {
+    let list = some_list(numbers);
+    let keeps = numbers.below(2) == 0 && own.tenant != 0;
+    let mut row = *own;
+    row.list = if keeps {
+        with_last(list, own.tenant)
+    } else {
+        list
+    };
+    row.tenant = if keeps { own.tenant } else { 0 };
+    for school in 1..5 {
+        let rank = numbers.below(6).wrapping_mul(2);
+        if place_on(own.list, school) == 4 {
+            row.ranks[at(school)] = rank;
+        }
+    }
+    row
+}

@@ -1,0 +1,121 @@
+// The entrants and seats of a table, and what the program offers as a row of numbers.
+use crate::laws::tables::{Given, List, Row, Table, at};
+use adm_match::{Entrant, Offers, Seats, Wish};
+use adm_rank::RankKey;
+use adm_types::{ChildNo, SchoolCode};
+use std::alloc::{AllocError, Global};
+
+/// The codes of the schools and the numbers of the children.
+#[derive(Clone, Copy)]
+pub struct Names {
+    pub codes: [SchoolCode; 4],
+    pub children: [ChildNo; 5],
+}
+
+pub fn make_names() -> Option<Names> {
+    Some(Names {
+        codes: [
+            SchoolCode::new("A")?,
+            SchoolCode::new("B")?,
+            SchoolCode::new("C")?,
+            SchoolCode::new("D")?,
+        ],
+        children: [
+            ChildNo::new(1)?,
+            ChildNo::new(2)?,
+            ChildNo::new(3)?,
+            ChildNo::new(4)?,
+            ChildNo::new(5)?,
+        ],
+    })
+}
+
+/// The school of a number, or none.
+pub fn code_of(names: &Names, school: u32) -> Option<SchoolCode> {
+    if school == 0 {
+        None
+    } else {
+        Some(names.codes[at(school)])
+    }
+}
+
+/// The wishes of a list, with a row's rank at each school.
+pub fn wishes_of(
+    alloc: Global,
+    names: &Names,
+    list: List,
+    ranks: [u32; 4],
+) -> Result<Vec<Wish>, AllocError> {
+    let mut wishes = Vec::new(alloc);
+    for school in list {
+        if school != 0 {
+            wishes.push(Wish {
+                school: names.codes[at(school)],
+                key: RankKey {
+                    class: 1,
+                    distance: 7,
+                    lot: ranks[at(school)],
+                },
+            })?;
+        }
+    }
+    Ok(wishes)
+}
+
+fn entrant_of(
+    alloc: Global,
+    names: &Names,
+    row: &Row,
+    child: ChildNo,
+) -> Result<Entrant, AllocError> {
+    Ok(Entrant {
+        child,
+        list: wishes_of(alloc, names, row.list, row.ranks)?,
+        tenant: code_of(names, row.tenant),
+    })
+}
+
+pub fn entrants_of(
+    alloc: Global,
+    names: &Names,
+    table: &Table,
+) -> Result<Vec<Entrant>, AllocError> {
+    let mut entrants = Vec::new(alloc);
+    for index in 0..5 {
+        if table.rows[index].takes_part {
+            let child = names.children[index];
+            entrants.push(entrant_of(alloc, names, &table.rows[index], child)?)?;
+        }
+    }
+    Ok(entrants)
+}
+
+pub fn seats_of(alloc: Global, names: &Names, table: &Table) -> Result<Vec<Seats>, AllocError> {
+    let mut seats = Vec::new(alloc);
+    for index in 0..4 {
+        seats.push(Seats {
+            code: names.codes[index],
+            quota: table.quotas[index],
+        })?;
+    }
+    Ok(seats)
+}
+
+fn number_of(names: &Names, school: Option<SchoolCode>) -> u32 {
+    match school {
+        None => 0,
+        Some(code) if code == names.codes[0] => 1,
+        Some(code) if code == names.codes[1] => 2,
+        Some(code) if code == names.codes[2] => 3,
+        Some(_) => 4,
+    }
+}
+
+/// What the program offers each of the five.
+pub fn given_by(names: &Names, offers: &Offers) -> Given {
+    let mut given: Given = [0; 5];
+    for index in 0..5 {
+        given[index] = number_of(names, offers.of(names.children[index]));
+    }
+    given
+}
