@@ -118,11 +118,7 @@ pub fn run_until_crash<D: Crash + Drop>(
     ensures alive { IfOk result (λ it. IfOk it.opened (λ new. (new.failed ≡ false) × LeavesOnly new.register (file_state new.conn))) }
     ensures unhandled { (r : Register) → IsFileOf r (image_of D.Disk files) → IfErr result (λ e. IsUnhandled r files e) }
 {
-    match run_commands(alloc, files, commands) {
-        Ok(CommandRun { answers, store }) => {
-            let opened = restart(alloc, store);
-            Ok(Restart { answers, opened })
-        }
-        Err(unhandled) => Err(unhandled),
-    }
+    let CommandRun { answers, store } = run_commands(alloc, files, commands)?;
+    let opened = restart(alloc, store);
+    Ok(Restart { answers, opened })
 }

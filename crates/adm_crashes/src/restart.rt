@@ -82,10 +82,7 @@ pub(crate) fn restart<S: Alter + Reopen + Drop>(
     ensures left { IfErr result (λ e. IsClean (S.Store.view e.1) → IsClean (S.Store.view store) × LeavesSame (S.Store.recovers store) (S.Store.recovers e.1)) }
     ensures never { IfErr result (λ e. IsClean (S.Store.view e.1) → IsNoRegister e.0 → FindsNone (S.Store.recovers store)) }
 {
-    let conn = match start_again(alloc, store) {
-        Ok(conn) => conn,
-        Err(refused) => return Err(refused),
-    };
+    let conn = start_again(alloc, store)?;
     // a call of the law says that a file represents one register
     one_register();
     match Desk::open(alloc, conn) {

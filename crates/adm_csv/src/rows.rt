@@ -141,8 +141,6 @@ pub fn read_rows<R: Input>(alloc: Global, reader: &mut R) -> Result<Vec<Row>, Ro
     // No more was read than was needed, whatever the result.
     ensures needed { ReadsNeeded (R.remaining reader.old) (R.remaining reader.new) }
 {
-    match read_text(alloc, reader) {
-        Ok(text) => rows_of(alloc, text.as_slice()),
-        Err(fault) => Err(fault),
-    }
+    let text = read_text(alloc, reader)?;
+    rows_of(alloc, text.as_slice())
 }

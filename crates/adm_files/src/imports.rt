@@ -46,10 +46,8 @@ fn handle_rows<S: Alter, O: Output>(
         (writer O.Output output.old output.new) result }
 {
     let answer = desk.handle(Command::Import(Seq::from_vec(rows)));
-    match put_answer(alloc, output, &answer) {
-        Ok(()) => Ok(exit_of_answer(answer)),
-        Err(fault) => Err(fault),
-    }
+    put_answer(alloc, output, &answer)?;
+    Ok(exit_of_answer(answer))
 }
 
 /// Imports the rows that the reader gives, and closes the connection, whatever comes.
