@@ -11,7 +11,7 @@ ghost use Rattle.adm_desk.specs.Files.{IsFileOf};
 ghost use Rattle.adm_crashes.specs.Crashes.{IsAnsweredFrom, IsCleanStart, IsRestartOf, IsUnhandled, KeepsEachDatabase, KeepsEveryImage};
 
 use crate::restart::restart;
-use crate::{Restart, handle_all, open_files, rounds_are_recorded, rounds_stay};
+use crate::{CrashOutcome, handle_all, open_files, rounds_are_recorded, rounds_stay};
 use adm_command_laws::{draws_kept, round_is_recorded};
 use adm_desk::{Answer, Desk};
 use adm_rows::OpenFault;
@@ -109,7 +109,7 @@ pub fn run_until_crash<D: Crash + Drop>(
     alloc: Global,
     files: Files<D>,
     commands: Vec<Command>,
-) -> Result<Restart<FileStore<D>>, NotHandled<D>>
+) -> Result<CrashOutcome<FileStore<D>>, NotHandled<D>>
     requires log { IsTrue (D.Disk.is_usable files.log) }
     requires db { IsTrue (D.Disk.is_usable files.db) }
     // Over files of a register: the one that is found may be found after the commands. No start reports NotOurs, Version or BadRow.
@@ -120,5 +120,5 @@ pub fn run_until_crash<D: Crash + Drop>(
 {
     let CommandRun { answers, store } = run_commands(alloc, files, commands)?;
     let opened = restart(alloc, store);
-    Ok(Restart { answers, opened })
+    Ok(CrashOutcome { answers, opened })
 }

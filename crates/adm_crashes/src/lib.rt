@@ -11,4 +11,4 @@ pub use crashes::{CommandRun, NotHandled, run_commands, run_until_crash};
 pub use files::{close_files, open_files};
 pub use handler::handle_all;
 pub use laws::{one_after, rounds_are_recorded, rounds_stay};
-pub use restart::Restart;
+pub use restart::CrashOutcome;

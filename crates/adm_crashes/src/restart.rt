@@ -17,14 +17,14 @@ use std::alloc::Global;
 
 /// The answers of a run, and the result of the start after it: a desk, or the error and what
 /// remains of the store.
-pub struct Restart<S: Alter> {
+pub struct CrashOutcome<S: Alter> {
     pub answers: Vec<Answer>,
     pub opened: Result<Desk<S>, (OpenFault, S)>,
 }
 
-impl<S: Alter + Drop> Drop for Restart<S> {
+impl<S: Alter + Drop> Drop for CrashOutcome<S> {
     fn drop(self) {
-        let Restart {
+        let CrashOutcome {
             answers: _,
             opened: _,
         } = self;

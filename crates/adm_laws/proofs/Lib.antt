@@ -1,6 +1,6 @@
 pub mod Zips
 pub mod Posed
-pub mod Quotas
+pub mod QuotaLemmas
 pub mod MoreQuotas
 pub mod MorePlaces
 pub mod ShorterList

@@ -3,7 +3,7 @@
 use crate::disks::{Disks, calls_until};
 use crate::registers::print_register;
 use crate::steps::Which;
-use adm_crashes::{NotHandled, Restart, run_until_crash};
+use adm_crashes::{CrashOutcome, NotHandled, run_until_crash};
 use adm_desk::Answer;
 use adm_register::{Register, Rows};
 use adm_rows::OpenFault;
@@ -30,7 +30,7 @@ fn commands_of(alloc: Global, input: &[u8]) -> io::Result<Option<Vec<Command>>> 
 }
 
 /// The answers, and what the start after the crash finds; or why no command was handled, and what is left.
-type Ran = Result<Restart<FileStore<Fuse<Memory>>>, NotHandled<Fuse<Memory>>>;
+type Ran = Result<CrashOutcome<FileStore<Fuse<Memory>>>, NotHandled<Fuse<Memory>>>;
 
 /// Runs the commands over files that hold what the disks hold, and stop after so many calls. `None`: such files cannot be used.
 fn run(
@@ -52,7 +52,7 @@ fn run(
 }
 
 /// The rows of the register that was found.
-fn rows_of(alloc: Global, restarted: &Restart<FileStore<Fuse<Memory>>>) -> Option<Rows> {
+fn rows_of(alloc: Global, restarted: &CrashOutcome<FileStore<Fuse<Memory>>>) -> Option<Rows> {
     match &restarted.opened {
         Ok(desk) => match desk.register() {
             Some(register) => register.rows(alloc).ok(),
@@ -89,7 +89,7 @@ fn print_left(
 fn print_came(
     rt: &impl Print,
     alloc: Global,
-    restarted: &Restart<FileStore<Fuse<Memory>>>,
+    restarted: &CrashOutcome<FileStore<Fuse<Memory>>>,
 ) -> io::Result<()> {
     for answer in &restarted.answers {
         let answer: &Answer = answer;

@@ -2,7 +2,7 @@ use Rattle.adm_match.specs.Market.{market_of}
 use Rattle.adm_match.specs.Stability.{school_of}
 use Rattle.adm_laws.specs.Changed.{quotas_with}
 use Rattle.adm_laws.proofs.Posed.{made_of, best_of, faultless_of}
-use Rattle.adm_laws.proofs.Quotas.{no_fewer}
+use Rattle.adm_laws.proofs.QuotaLemmas.{no_fewer}
 use Rattle.adm_laws.proofs.places.offers_with_quota.Goals as goal
 
 pub returns-clause-no_loss : goal.returns-clause-no_loss
