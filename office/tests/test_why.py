@@ -1,4 +1,6 @@
 """admissions-why beside a search over the round's problem that shares no code with it (bench/questions), and beside admissions-audit on the example season."""
+import importlib.machinery
+import importlib.util
 import os
 import random
 import re
@@ -17,11 +19,12 @@ ROUNDS = 400
 
 def search():
     """The definitions of bench/questions, without a run of it."""
-    source = (ROOT / "bench" / "questions" / "run").read_text("utf-8")
-    assert source.endswith("\n\nmain()\n")
-    found = {"__name__": "search"}
-    exec(compile(source.removesuffix("main()\n"), "questions", "exec"), found)  # pylint: disable=exec-used
-    return found
+    loader = importlib.machinery.SourceFileLoader("questions", str(ROOT / "bench" / "questions" / "run"))
+    spec = importlib.util.spec_from_loader("questions", loader)
+    assert spec
+    module = importlib.util.module_from_spec(spec)
+    loader.exec_module(module)
+    return vars(module)
 
 
 def one_round(questions, seed, folder):
