@@ -87,6 +87,8 @@ def made(
     program.write_text("#!/bin/sh\n")
     program.chmod(0o755)
     version = package.releases()[0][0]
+    # (the commands that make a package need not be on this machine)
+    monkeypatch.setattr(package, "NEEDED", {})
     monkeypatch.setattr(package, "program_version", lambda _: f"admissions {version}")
     monkeypatch.setattr(package, "file_version", lambda _: 2)
     package.make(argparse.Namespace(program=str(program), verdict=verdict))
