@@ -14,6 +14,7 @@ CHILDREN, SCHOOLS = 2000, 50
 SECONDS = 5
 FAMILY = ["Abel", "O'Neil", "Tŷ-Owen", "שרה", "مريم", "<script>document.title='hit'</script>", '"Quote"', "=SUM(A1)", "Ångström", "李", "Ní Bhriain", "-",
     "e\u0301clair", "\u202egnol"]
+HOSTILE = ['"', "\\", '\\"\\u0041', "\U0001f9d2" * 20, "\u202e\u2066gnol\u2069", "</script>&quot;", "\u2028"]
 GIVEN = ["Ann", "Bo", "Zoë", "Đorđe", "Łukasz", "Siân", "D’Arcy", "Mary, May"]
 
 
@@ -61,12 +62,26 @@ def check(world, see):
         seconds(world, page, see)
         finding(page, see)
         bulk(world, page, see, offered)
+        as_json(world, page, see)
         see("no script failed with 2,000 children", page.errors, [])
         world.end(page.process)
     finally:
         world.end(world.desk)
         world.file = before
         world.start_desk()
+
+
+def as_json(world, page, see):
+    """The names of the register as JSON, as Python and the browser read them."""
+    wanted = [[child, name(child)] for child in range(1, CHILDREN + 1)]
+    for child, hostile in enumerate(HOSTILE, 1):
+        wanted[child - 1][1] = hostile
+        amended = {"cmd": "amend", "child": child, "name": hostile, "east": 0, "north": 0, "looked_after": False, "flags": [], "siblings": []}
+        see(f"child {child} is named {hostile!a}", world.ask("/command", "jane", json.dumps(amended)).body, '{"done":true}')
+    document = json.loads(world.ask("/register", "jane").body)
+    see("the register as JSON has each name as it was sent", [[it["child"], it["name"]] for it in document["children"]] == wanted)
+    see("and the browser reads the same",
+        page.value("fetch('/register').then((it) => it.json()).then((it) => it.children.map((one) => [one.child, one.name]))") == wanted)
 
 
 def signed_in(world):

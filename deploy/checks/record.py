@@ -3,7 +3,7 @@
 import json
 import shutil
 
-from checks.site import raw, status_of
+from checks.site import HEAD, raw, status_of
 from checks.world import NAME
 
 # Has the installed admissions-sent read the logs of a folder: the package's folder, that of the logs, and the arguments
@@ -44,6 +44,20 @@ def check(world, see):
     see("the log is taken in", world.run("admissions", "do", world.file).returncode, 0)
     replay(world, see, copy, start)
     world.start_desk()
+    imported(world, see)
+
+
+def imported(world, see):
+    """An import over the site: it is done, and the record has its rows."""
+    rows, logs, folder = HEAD + "41,Row,0,700,no,,,2025-06-02,B\n", world.room / "logs/y", world.room / "rows"
+    start = len(world.logged().encode("utf-8", "surrogateescape"))
+    see("rows are imported over the site", world.ask("/import", "jane", rows, kind="text/csv").body, '{"added":1,"done":true,"known":0}')
+    see("and the register has the child", [it["name"] for it in json.loads(world.ask("/register", "jane").body)["children"] if it["child"] == 41], ["Row"])
+    logs.mkdir()
+    (logs / "asked.log").write_bytes((world.room / "log/asked.log").read_bytes()[start:])
+    printed = world.run("/usr/bin/python3", "-B", "-c", SENT, world.prefix / "share/admissions", logs.parent, "y", "2000-01-01", "--rows", folder)
+    see("the record names the import, and has its rows", (printed.returncode, printed.stdout, printed.stderr, (folder / "0.csv").read_text()),
+        (1, "", f"admissions-sent: {logs}/asked.log, line 1: an import was done after 0 of the printed commands: import its rows there, from {folder}/0.csv\n", rows))
 
 
 def attacks(world, see):
@@ -89,4 +103,4 @@ def replay(world, see, copy, start):
     (logs / "asked.log").write_bytes(torn + data[half:])
     more = sent()
     see("an entry that was torn costs itself alone, and is named", (more.returncode, more.stdout, more.stderr),
-        (1, printed.stdout, f"admissions-sent: {logs}/asked.log, line 1: an entry cannot be read: look whether its command is done\n"))
+        (1, printed.stdout, f"admissions-sent: {logs}/asked.log, line 1: an entry cannot be read: look whether it is done\n"))

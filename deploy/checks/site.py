@@ -11,6 +11,11 @@ from checks.world import HAS_IPV6, NAME
 
 ACCEPT = '{"cmd":"accept","child":1,"school":"A"}'
 QUESTION = '{"child":3,"lots":[1,2,3],"preferences":["B"]}'
+# what shows all children
+WHOLE = ("/register", "/draw/1", "/pairs", "/pairs/A")
+HEAD = "child,name,east,north,looked_after,flags,siblings,day,preferences\n"
+# (of a child that was added by a command: it is refused)
+ROWS = HEAD + "1,Row,0,700,no,,,2025-06-02,B\n"
 
 
 def check(world, see):
@@ -19,7 +24,7 @@ def check(world, see):
     sign_in(world, see)
     office(world, see)
     school(world, see)
-    see("a family that signs in gets nothing", [world.ask(path, "smith").status for path in ("/", "/child/1", "/child/1/letter", "/school/A/waiting", "/round/1")], [403] * 5)
+    see("a family that signs in gets nothing", [world.ask(path, "smith").status for path in ("/", "/child/1", "/child/1/letter", "/school/A/waiting", "/round/1", *WHOLE)], [403] * 9)
     see("a family sends no command", world.ask("/command", "smith", ACCEPT).status, 403)
     other_pages(world, see)
     bounds(world, see)
@@ -31,6 +36,10 @@ def check(world, see):
     see("none of these has changed the child", world.ask("/child/1/letter", "jane").body, before)
     see("a command of the office is done", (lambda it: (it.status, it.body))(world.ask("/command", "jane", ACCEPT)), (200, '{"done":true}'))
     see("and refused when it is repeated", (lambda it: (it.status, it.body))(world.ask("/command", "jane", ACCEPT)), (409, '{"name":"NotOffered","refused":15}'))
+    see("a type in other letters is the same", world.ask("/command", "jane", ACCEPT, kind="application/json; charset=UTF-8").status, 409)
+    rows = [world.ask("/import", "jane", it, kind=kind) for it, kind in ((HEAD, "text/csv"), (ROWS, "text/csv; charset=utf-8"), (ROWS + "42\n", "text/csv"))]
+    see("rows of the office are imported, and refused or not read with their number", [(it.status, it.body) for it in rows],
+        [(200, '{"added":0,"done":true,"known":0}'), (409, '{"name":"RowDiffers","refused":20,"row":1}'), (400, '{"fault":2,"name":"FieldCount","row":2}')])
     see("a body in chunks is passed on whole", world.ask("/command", "jane", ACCEPT, options=("--header", "Transfer-Encoding: chunked")).body, '{"name":"NotOffered","refused":15}')
     passwords = world.settings / "passwords"
     passwords.write_text("".join(line for line in passwords.read_text().splitlines(True) if not line.startswith("smith:")))
@@ -41,7 +50,7 @@ def check(world, see):
 
 
 def sign_in(world, see):
-    for path in ("/", "/page.js", "/child/1", "/child/1/letter", "/school/A/waiting", "/round/1", "/nothing"):
+    for path in ("/", "/page.js", "/child/1", "/child/1/letter", "/school/A/waiting", "/round/1", "/nothing", *WHOLE):
         see(f"not signed in: {path}", world.ask(path).status, 401)
     see("the internal query for a permission cannot be requested", world.ask("/may", "jane").status, 404)
     see("not signed in: a command", world.ask("/command", body=ACCEPT).status, 401)
@@ -70,7 +79,7 @@ def office(world, see):
 def school(world, see):
     own = world.ask("/school/A/waiting", "alpha")
     see("a school reads its own list", (own.status, own.body.startswith("Waiting list of A ")), (200, True))
-    for path in ("/school/B/waiting", "/school/AA/waiting", "/school/a/waiting", "/child/2", "/child/2/letter", "/round/1", "/", "/page.js", "/nothing"):
+    for path in ("/school/B/waiting", "/school/AA/waiting", "/school/a/waiting", "/child/2", "/child/2/letter", "/round/1", "/", "/page.js", "/nothing", *WHOLE):
         see(f"a school does not read {path}", world.ask(path, "alpha").status, 403)
     for path in ("/school/A/../B/waiting", "/school/B/waiting?/school/A/waiting", "//school/B/waiting", "/school/%42/waiting", "/school/B%2Fwaiting", "/school/A/waiting/../../B/waiting",
                  "/school/A/waiting?"):
@@ -86,6 +95,11 @@ def other_pages(world, see):
         see(f"a command from {sender}", world.ask("/command", "jane", ACCEPT, origin=origin).status, 403)
     for kind in ("application/x-www-form-urlencoded", "text/plain", "multipart/form-data; boundary=x", "application/json, text/plain", ""):
         see(f"a command as {kind or 'no type'}", world.ask("/command", "jane", ACCEPT, kind=kind).status, 415)
+    for kind in ("application/json", "text/plain", "text/csv, text/plain", ""):
+        see(f"rows as {kind or 'no type'}", world.ask("/import", "jane", ROWS, kind=kind).status, 415)
+    see("rows from another site", world.ask("/import", "jane", ROWS, origin="https://evil.example", kind="text/csv").status, 403)
+    see("a command as rows are", world.ask("/command", "jane", ACCEPT, kind="text/csv").status, 415)
+    see("rows from nobody, a family and a school", [world.ask("/import", who, ROWS, kind="text/csv").status for who in (None, "smith", "alpha")], [401, 403, 403])
     see("a question from another site", world.ask("/what-if", "jane", QUESTION, origin="https://evil.example").status, 403)
     asked = world.ask("/command", "jane", options=("--request", "OPTIONS", "--header", "Origin: https://evil.example", "--header", "Access-Control-Request-Method: POST"))
     see("no leave is given to another site", (asked.status, [name for name in asked.fields if name.startswith("access-control")]), (501, []))
@@ -154,7 +168,7 @@ def answers(world, see):
         "a name without a role": (world.ask("/child/1", "smith"), 403, "the name that signed in may not do this"),
         "another school": (world.ask("/school/B/waiting", "alpha"), 403, "the name that signed in may not do this"),
         "another site": (post("jane", origin="https://evil.example"), 403, "a POST must come from a page of this site: a program sends the address of the site as Origin"),
-        "no JSON": (post("jane", kind="text/plain"), 415, "a POST must be application/json"),
+        "no JSON": (post("jane", kind="text/plain"), 415, "a POST must be application/json, and one to /import text/csv"),
         "no such file": (world.ask("/nothing.js", "jane"), 404, "there is no such page"),
         "a POST to the page": (world.ask("/", "jane", ACCEPT), 405, "the page takes no such request"),
         "a long body": (world.ask("/command", "jane", f"@{big}"), 413, "a body has at most 1,048,576 bytes"),

@@ -41,14 +41,14 @@ def logs_fixture(tmp_path):
     return folder
 
 
-def sent(logs, since="2025-03-01"):
+def sent(logs, since="2025-03-01", *options):
     """Its exit status, what it prints, and its errors."""
-    run = subprocess.run([sys.executable, "-c", RUN, ROOT, logs.parent, "x", since], capture_output=True, check=False, timeout=60)
+    run = subprocess.run([sys.executable, "-c", RUN, ROOT, logs.parent, "x", since, *options], capture_output=True, check=False, timeout=60)
     return run.returncode, run.stdout, run.stderr.decode()
 
 
 def unread(path, line):
-    return f"admissions-sent: {path}, line {line}: an entry cannot be read: look whether its command is done\n"
+    return f"admissions-sent: {path}, line {line}: an entry cannot be read: look whether it is done\n"
 
 
 def test_a_body_of_several_lines_is_one_line_of_the_same_value(logs):
@@ -82,19 +82,35 @@ def test_bytes_that_are_no_text_stop_nothing(logs):
 
 
 @pytest.mark.parametrize("more", [{"status": b"409"}, {"status": b"400"}, {"status": b"503", "desk": b"502"}, {"target": b"/what-if"}, {"target": b"/command?"},
-    {"method": b"GET"}, {"status": b"502", "target": b"/what-if"}])
+    {"method": b"GET"}, {"status": b"502", "target": b"/what-if"}, {"status": b"409", "target": b"/import"}, {"status": b"400", "target": b"/import"},
+    {"status": b"503", "desk": b"502", "target": b"/import"}, {"target": b"/import?"}, {"target": b"/register", "method": b"GET"}])
 def test_what_was_not_done_is_not_printed(logs, more):
     (logs / "asked.log").write_bytes(entry(1, CHILD % (1, "Ann"), **more) + b"\n" + entry(2, CHILD % (2, "Bo")) + b"\n")
     assert sent(logs) == (0, (CHILD % (2, "Bo")).encode() + b"\n", "")
 
 
+@pytest.mark.parametrize("target, what", [(b"/command", "a command"), (b"/import", "an import")])
 @pytest.mark.parametrize("status, desk", [(b"502", b"502"), (b"502", b"504"), (b"503", b"503"), (b"504", b"504"), (b"500", b"")])
-def test_what_may_be_done_is_named(logs, status, desk):
+def test_what_may_be_done_is_named(logs, status, desk, target, what):
     """In its place, and only from the moment on."""
-    (logs / "asked.log").write_bytes(entry(1, CHILD % (1, "Ann"), status=status, desk=desk) + b"\n" + entry(2, CHILD % (2, "Bo")) + b"\n")
-    said = f"admissions-sent: {logs}/asked.log, line 1: a command ended with the status {status.decode()}: look whether its command is done\n"
+    (logs / "asked.log").write_bytes(entry(1, CHILD % (1, "Ann"), target=target, status=status, desk=desk) + b"\n" + entry(2, CHILD % (2, "Bo")) + b"\n")
+    said = f"admissions-sent: {logs}/asked.log, line 1: {what} ended with the status {status.decode()}: look whether it is done\n"
     assert sent(logs) == (1, (CHILD % (2, "Bo")).encode() + b"\n", said)
     assert sent(logs, "2025-03-03T10:00:02+00:00") == (0, (CHILD % (2, "Bo")).encode() + b"\n", "")
+
+
+def test_the_rows_of_an_import_are_written_and_its_place_is_named(logs, tmp_path):
+    rows = 'child,name,east,north,looked_after,flags,siblings,day,preferences\r\n41,"T\u0177 ""T""",0,0,no,,,2025-03-01,A\r\n'
+    (logs / "asked.log").write_bytes(b"\n".join(
+        [entry(1, CHILD % (1, "Ann")), entry(2, rows, target=b"/import"), entry(3, rows + "x", target=b"/import"), entry(4, CHILD % (2, "Bo"))]) + b"\n")
+    out = b"".join((CHILD % it).encode() + b"\n" for it in ((1, "Ann"), (2, "Bo")))
+    said = "admissions-sent: {}/asked.log, line {}: an import was done after 1 of the printed commands: import its rows there{}\n"
+    assert sent(logs) == (1, out, "".join(said.format(logs, line, "") for line in (2, 3)))
+    folder = tmp_path / "rows"
+    wanted = "".join(said.format(logs, line, f", from {folder}/{name}") for line, name in ((2, "1.csv"), (3, "1-2.csv")))
+    assert sent(logs, "2025-03-01", "--rows", folder) == (1, out, wanted)
+    assert {it.name: it.read_bytes() for it in folder.iterdir()} == {"1.csv": rows.encode(), "1-2.csv": (rows + "x").encode()}
+    assert sent(logs, "2025-03-01", "--rows", folder)[:2] == (1, b"")
 
 
 @pytest.mark.parametrize("cut", [1, 7, 8, 30, 60, 100, 150, 200, -1])
