@@ -7,6 +7,8 @@ use Rattle.adm_csv.specs.declared.fault.Fault.{Fault as CsvFault}
 use Rattle.adm_csv.specs.declared.fault.Fault.TheVariants as csv
 use Rattle.adm_letters.specs.declared.fault.LetterFault.{LetterFault}
 use Rattle.adm_letters.specs.declared.fault.LetterFault.TheVariants as letter
+use Rattle.adm_view.specs.declared.fault.ViewFault.{ViewFault}
+use Rattle.adm_view.specs.declared.fault.ViewFault.TheVariants as view
 use Rattle.adm_words.specs.Lines.{ReadsArguments}
 use Rattle.adm_words.specs.declared.actions.Action.{Action}
 use Rattle.adm_words.specs.declared.actions.Action.TheVariants as action
@@ -25,7 +27,7 @@ use Rattle.adm_host.specs.declared.cause.Cause.TheVariants as cause
 use Rattle.adm_host.specs.declared.connecting.OpenError.{OpenError}
 use Rattle.adm_host.specs.declared.ended.LineEnd.{LineEnd}
 use Rattle.adm_host.specs.declared.fault.Fault.{Fault}
-use Rattle.adm_host.specs.declared.fault.Fault.TheVariants.{TooManyHolidays, YearRange, InUse, NotOurs, Version, BadRow, Disk, Memory, Read, Write, UnknownChild, UnknownSchool, NoRound, Listen, NotRead, Row}
+use Rattle.adm_host.specs.declared.fault.Fault.TheVariants.{TooManyHolidays, YearRange, InUse, NotOurs, Version, BadRow, Disk, Memory, Read, Write, UnknownChild, UnknownSchool, NoRound, NoDraw, Listen, NotRead, Row}
 use Rattle.adm_host.specs.declared.exit.Exit.{Exit}
 use Rattle.adm_host.specs.declared.exit.Exit.TheVariants as exit
 
@@ -81,6 +83,7 @@ fault_line Write = codes "fault: Write\n"
 fault_line UnknownChild = codes "fault: UnknownChild\n"
 fault_line UnknownSchool = codes "fault: UnknownSchool\n"
 fault_line NoRound = codes "fault: NoRound\n"
+fault_line NoDraw = codes "fault: NoDraw\n"
 fault_line Listen = codes "fault: Listen\n"
 fault_line (NotRead cause) = not_read_text cause
 fault_line (Row fault) = row_fault_text fault.row (row_fault_end fault.fault)
@@ -112,6 +115,11 @@ of_letter letter.UnknownSchool = UnknownSchool
 of_letter letter.NoRound = NoRound
 of_letter letter.Memory = Memory
 
+-- the program's error where there is no document of a draw, by the same name
+abbrev pub of_view : ViewFault → Fault
+of_view view.NoDraw = NoDraw
+of_view view.Memory = Memory
+
 -- Memory where the store ran out of memory; every other error of the store is Disk, with the cause where it names one
 abbrev pub of_error : Error → Fault
 of_error (error.SqliteFailure code.OutOfMemory) = Memory
@@ -140,6 +148,7 @@ has_many_holidays (action.Letter file child) = false
 has_many_holidays (action.List file school) = false
 has_many_holidays (action.RoundReport file round) = false
 has_many_holidays (action.Pairs file school) = false
+has_many_holidays (action.Show file draw) = false
 
 -- why an action failed before it began: the year or the holidays are no season's, or the file was not opened, or memory ran out
 abbrev pub IsCauseIn : Action → Fault → Type 0
@@ -153,6 +162,7 @@ IsCauseIn (action.Letter file child) f = IsOpenFault f
 IsCauseIn (action.List file school) f = IsOpenFault f
 IsCauseIn (action.RoundReport file round) f = IsOpenFault f
 IsCauseIn (action.Pairs file school) f = IsOpenFault f
+IsCauseIn (action.Show file draw) f = IsOpenFault f
 
 -- ---- exits
 
@@ -210,6 +220,7 @@ ExitsBy (Ok (action.Letter file child)) status = (status ≡ 0) ⊎ (status ≡ 
 ExitsBy (Ok (action.List file school)) status = (status ≡ 0) ⊎ (status ≡ 1)
 ExitsBy (Ok (action.RoundReport file round)) status = (status ≡ 0) ⊎ (status ≡ 1)
 ExitsBy (Ok (action.Pairs file school)) status = (status ≡ 0) ⊎ (status ≡ 1)
+ExitsBy (Ok (action.Show file draw)) status = (status ≡ 0) ⊎ (status ≡ 1)
 ExitsBy (Err arguments.Memory) status = status ≡ 1
 ExitsBy (Err _) status = status ≡ 2
 

@@ -1,12 +1,17 @@
 -- How a text is written, and what is printed of a register.
-use Rattle.std.specs.Prelude.{◌≡◌, ℕ, true, List, take, Option, Some, None, Result, Ok, Err, IfOk, string_bytes}
+use Rattle.std.specs.Prelude.{◌≡◌, ℕ, true, List, ◌++◌, codes, take, Option, Some, None, option_map, Result, Ok, Err, IfOk, string_bytes}
+use Rattle.std.specs.FinMap.{get}
 use Rattle.std.specs.Io.KnownBytes.{Appends}
 use Rattle.std.specs.declared.string.String.{String}
+use Rattle.serde_json.specs.Written.{compact_text}
+use Rattle.adm_types.specs.declared.draws.Draw.{Draw}
 use Rattle.adm_register.specs.State.{State}
 use Rattle.adm_letters.specs.Letters.{letter_text}
 use Rattle.adm_letters.specs.Lists.{list_text}
 use Rattle.adm_letters.specs.Pairs.{pairs_text}
 use Rattle.adm_letters.specs.Reports.{round_text}
+use Rattle.adm_view.specs.Draws.{draw_data_with_lots}
+use Rattle.adm_view.specs.Register.{register_data}
 use Rattle.adm_wire.specs.Streams.{Stream}
 use Rattle.adm_host.specs.declared.document.Document.{Document}
 use Rattle.adm_host.specs.declared.document.Document.TheVariants as document
@@ -27,12 +32,26 @@ abbrev pub text_or : Fault → Option (List ℕ) → Result (List ℕ) Fault
 text_or f (Some text) = Ok text
 text_or f None = Err f
 
+-- a text as a line, which ends with LF
+abbrev pub line_of : List ℕ → List ℕ
+line_of text = text ++ codes "\n"
+
+-- the register as a line of JSON
+unfoldable pub register_line : State → List ℕ
+register_line s = line_of (compact_text (register_data s))
+
+-- a draw with its lots as a line of JSON
+unfoldable pub draw_line : Draw → List ℕ
+draw_line draw = line_of (compact_text (draw_data_with_lots draw))
+
 -- the text of a document of a register
 abbrev pub document_text : State → Document → Result (List ℕ) Fault
 document_text s (document.Letter child) = text_or fault.UnknownChild (letter_text s child)
 document_text s (document.List school) = text_or fault.UnknownSchool (list_text s school)
 document_text s (document.Report round) = text_or fault.NoRound (round_text s round)
 document_text s (document.Pairs school) = text_or fault.UnknownSchool (pairs_text s school)
+document_text s document.Register = Ok (register_line s)
+document_text s (document.Draw number) = text_or fault.NoDraw (option_map draw_line (get s.draws number))
 
 -- printing a text is done where it was written; where there is none, its error is reported and nothing is written
 abbrev pub PrintsAs : Result (List ℕ) Fault → Stream → Result Exit Fault → Type 0

@@ -1,6 +1,6 @@
 // Why a line of the command line failed, and what is printed of it.
 ghost use Rattle.std.specs.Prelude.{◌≡◌, MatchResult};
-ghost use Rattle.adm_host.specs.Exits.{fault_line, disk_text, not_read_text, row_fault_text, row_fault_end, of_season, of_create, of_open, of_letter, of_error, IsOpenFault};
+ghost use Rattle.adm_host.specs.Exits.{fault_line, disk_text, not_read_text, row_fault_text, row_fault_end, of_season, of_create, of_open, of_letter, of_view, of_error, IsOpenFault};
 ghost use Rattle.adm_wire.specs.Streams.{writer};
 ghost use Rattle.adm_host.specs.Reports.{PrintsText};
 ghost use Rattle.adm_host.specs.declared.fault.Fault.TheVariants.{Memory};
@@ -11,6 +11,7 @@ use adm_letters::LetterFault;
 use adm_rows::OpenFault;
 use adm_store::CreateFault;
 use adm_types::SeasonFault;
+use adm_view::ViewFault;
 use adm_wire::{Output, WriteFailed};
 use itoa::Buffer;
 use sqlite::{Error, ErrorCode};
@@ -34,6 +35,7 @@ pub enum Fault {
     UnknownChild,
     UnknownSchool,
     NoRound,
+    NoDraw,
     /// The port cannot be taken.
     Listen,
     /// The file of an import was not opened, with what is known of the cause.
@@ -73,6 +75,7 @@ impl Fault {
             Fault::UnknownChild => Ok("fault: UnknownChild\n"),
             Fault::UnknownSchool => Ok("fault: UnknownSchool\n"),
             Fault::NoRound => Ok("fault: NoRound\n"),
+            Fault::NoDraw => Ok("fault: NoDraw\n"),
             Fault::Listen => Ok("fault: Listen\n"),
             Fault::NotRead(cause) => Ok(not_read_text(cause)),
             Fault::Row(fault) => Err(fault),
@@ -192,6 +195,17 @@ impl From<LetterFault> for Fault {
             LetterFault::UnknownSchool => Fault::UnknownSchool,
             LetterFault::NoRound => Fault::NoRound,
             LetterFault::Memory => Fault::Memory,
+        }
+    }
+}
+
+impl From<ViewFault> for Fault {
+    ghost from_gives = { λ error fault. fault ≡ of_view error };
+
+    fn from(fault: ViewFault) -> Fault {
+        match fault {
+            ViewFault::NoDraw => Fault::NoDraw,
+            ViewFault::Memory => Fault::Memory,
         }
     }
 }

@@ -3,8 +3,8 @@ use Rattle.std.proofs.Common.{◌≡◌, ◌⊎◌, ℕ, zero, suc, ◌+◌, ◌
 use Rattle.std.specs.Prelude.{codes, is_err, MatchResult}
 use Rattle.std.specs.Io.KnownBytes.{Appends, Keeps}
 use Rattle.std.proofs.KnownBytes.{Appends-trans}
-use Rattle.adm_desk.specs.declared.answer.LineAnswer.{LineAnswer}
-use Rattle.adm_http.specs.Reading.{HasRead, Served, IsUnanswered}
+use Rattle.adm_http.specs.declared.body_answer.BodyAnswer.{BodyAnswer}
+use Rattle.adm_http.specs.Reading.{Request, HasRead, Served, IsUnanswered}
 use Rattle.adm_http.specs.Responses.{Responds}
 use Rattle.adm_http.specs.Connections.{Traffic, IsIdle, Takes, Ends, Exchanges, ServesOpen, Errors, Prints, PrintsAccepts, accept_lines, Moment, ServesTurn, ServesEach, AnswersOne, AnswersUpTo}
 use Rattle.adm_http.specs.declared.routes.Purpose.{Purpose}
@@ -72,16 +72,16 @@ exchanges (Some t) (Some m) (Some new) unread written takes ends = (
 
 -- ---- a request
 
-module _ {S : Type 0} (runs : Purpose → S → List ℕ → LineAnswer → S → Type 0) (shows : S → Resource → ShowResult → Type 0) where
-  pub unanswered : (old new : S) (unread left was written : Option (List ℕ)) (fault : ServeFault) → IsUnanswered runs shows old new unread left fault → Keeps was written
-      → Served runs shows old new unread left was written (Err fault)
-  unanswered old new unread left was written Read none kept = (none.0, none.1, none.2, kept)
-  unanswered old new unread left was written Write none kept = absurd none
-  unanswered old new unread left was written Memory none kept = (none.0, none.1, kept, none.2)
+module _ {S : Type 0} (runs : Purpose → S → List ℕ → BodyAnswer → S → Type 0) (shows : S → Resource → ShowResult → Type 0) where
+  pub unanswered : (r : Request S) (was written : Option (List ℕ)) (fault : ServeFault) → IsUnanswered runs shows r fault → Keeps was written
+      → Served runs shows r was written (Err fault)
+  unanswered r was written Read none kept = (none.0, none.1, none.2, kept)
+  unanswered r was written Write none kept = absurd none
+  unanswered r was written Memory none kept = (none.0, none.1, kept, none.2)
 
   -- a connection that was answered
   pub answered_turn : (old new : Moment S) (mid : Option Traffic) (unread : Option (List ℕ)) (n : ℕ) → Takes old.traffic mid (Some unread) → PrintsAccepts old.errors new.errors
-      → ServesOpen runs shows old.desk new.desk mid new.traffic unread (Ok n) → ServesTurn runs shows old new
+      → ServesOpen runs shows (record { desk = old.desk; traffic = mid }) (record { desk = new.desk; traffic = new.traffic }) unread (Ok n) → ServesTurn runs shows old new
   answered_turn old new mid unread n takes accepts served = inr
       (record {
         unread = unread;
@@ -94,20 +94,19 @@ module _ {S : Type 0} (runs : Purpose → S → List ℕ → LineAnswer → S �
         printed = subst (Prints old.errors new.errors) (sym (append-nil (accept_lines accepts.0))) accepts.1;
       })
 
-  of_served : (old new : S) (unread left was written : Option (List ℕ)) (result : Result ℕ ServeFault) → Served runs shows old new unread left was written result
-      → AnswersOne runs shows old new
-  of_served old new unread left was written (Ok n) served = inr (served.0, served.1, served.3)
-  of_served old new unread left was written (Err Write) served = inr (served.0, served.1, served.3)
-  of_served old new unread left was written (Err Read) served = inl served.2
-  of_served old new unread left was written (Err Memory) served = either served.3
+  of_served : (r : Request S) (was written : Option (List ℕ)) (result : Result ℕ ServeFault) → Served runs shows r was written result → AnswersOne runs shows r.before r.after
+  of_served r was written (Ok n) served = inr (served.0, served.1, served.3)
+  of_served r was written (Err Write) served = inr (served.0, served.1, served.3)
+  of_served r was written (Err Read) served = inl served.2
+  of_served r was written (Err Memory) served = either served.3
     where
-      either : (new ≡ old) ⊎ ((output : List ℕ) × HasRead unread left served.0 × Responds runs shows old served.0 output new) → AnswersOne runs shows old new
+      either : (r.after ≡ r.before) ⊎ ((output : List ℕ) × HasRead r.unread r.left served.0 × Responds runs shows r.before served.0 output r.after) → AnswersOne runs shows r.before r.after
       either (inl same) = inl same
       either (inr made) = inr (served.0, made.0, made.2)
 
   answers_one : (old new : Moment S) → ServesTurn runs shows old new → AnswersOne runs shows old.desk new.desk
   answers_one old new (inl none) = inl none.desk
-  answers_one old new (inr one) = of_served old.desk new.desk one.unread one.left (Some []) (Some one.written) one.result one.served
+  answers_one old new (inr one) = of_served _ (Some []) (Some one.written) one.result one.served
 
   -- at most as many requests are answered as there are turns
   pub answers_up_to : (n : ℕ) (old new : Moment S) → ServesEach runs shows n old new → AnswersUpTo runs shows n old.desk new.desk

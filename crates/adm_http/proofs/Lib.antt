@@ -12,3 +12,4 @@ pub mod LawLemmas
 pub mod StateLemmas
 pub mod ShowLemmas
 pub mod BodyLemmas
+pub mod ImportLemmas

@@ -1,5 +1,5 @@
 -- Each route: what the router finds for its targets, and what its parameter takes of them.
-use Rattle.std.proofs.Common.{◌≡◌, ℕ, ◌==◌, List, [], ◌∷◌, ◌++◌, ◌⊎◌, inl, inr, ⊎_elim, Option, Some, None, Bool, true, false, cond, refl, sym, ap, ◌∙◌, subst, lit<, codes, option_and_then}
+use Rattle.std.proofs.Common.{◌≡◌, ℕ, ◌==◌, List, [], ◌∷◌, ◌++◌, ◌⊎◌, inl, inr, ⊎_elim, Some, None, Bool, true, false, cond, refl, sym, ap, ◌∙◌, subst, lit<, codes, option_and_then}
 use Rattle.std.specs.Prelude.{IsUtf8}
 use Rattle.matchit.specs.Params.{walk}
 use Rattle.matchit.specs.Rows.{Rows, RowsOf, prepend, param_token}
@@ -8,7 +8,7 @@ use Rattle.matchit.specs.Router.{RouteOf, map_key}
 use Rattle.matchit.proofs.RenameLemmas.{first-rename}
 use Rattle.adm_http.specs.Routes.{after_prefix, Found, or_found, at_end, with_part, child_after, route_of, row_of, all_routes}
 use Rattle.adm_http.specs.declared.routes.Route.{Route}
-use Rattle.adm_http.specs.declared.routes.Route.TheVariants.{Command, Child, Letter, Waiting, Round, WhatIf}
+use Rattle.adm_http.specs.declared.routes.Route.TheVariants.{Command, Import, Child, Letter, Pairs, SchoolPairs, Waiting, Round, WhatIf, Register, Draw}
 use Rattle.adm_http.proofs.RowLemmas.{text_by_test}
 use Rattle.adm_http.proofs.FindLemmas.{IsBytes, key_of, ends, part_ends, suffix_ends, either_ends, last_found, next_found}
 use Rattle.adm_http.proofs.FormLemmas.{Takes, takes_end, takes_suffix, of_either, under, under_either, under_end}
@@ -22,6 +22,11 @@ key Command = 2
 key Round = 3
 key Waiting = 4
 key WhatIf = 5
+key Pairs = 6
+key SchoolPairs = 7
+key Import = 8
+key Register = 9
+key Draw = 10
 
 abbrev pub route_row : Route → RouteOf Route
 route_row route = (row_of route).1
@@ -33,7 +38,12 @@ row_at k =
     (cond (k == 2) (route_row Command)
     (cond (k == 3) (route_row Round)
     (cond (k == 4) (route_row Waiting)
-    (route_row WhatIf)))))
+    (cond (k == 5) (route_row WhatIf)
+    (cond (k == 6) (route_row Pairs)
+    (cond (k == 7) (route_row SchoolPairs)
+    (cond (k == 8) (route_row Import)
+    (cond (k == 9) (route_row Register)
+    (route_row Draw))))))))))
 
 own_row : (r : Route) → r ≡ (route_row r).value
 own_row Letter = refl
@@ -42,6 +52,11 @@ own_row Command = refl
 own_row Round = refl
 own_row Waiting = refl
 own_row WhatIf = refl
+own_row Pairs = refl
+own_row SchoolPairs = refl
+own_row Import = refl
+own_row Register = refl
+own_row Draw = refl
 
 row_of_key : (r : Route) → row_at (key r) ≡ route_row r
 unfolding row_at
@@ -51,6 +66,11 @@ row_of_key Command = refl
 row_of_key Round = refl
 row_of_key Waiting = refl
 row_of_key WhatIf = refl
+row_of_key Pairs = refl
+row_of_key SchoolPairs = refl
+row_of_key Import = refl
+row_of_key Register = refl
+row_of_key Draw = refl
 
 -- ---- what is found
 
@@ -78,8 +98,23 @@ from_school = prepend (codes "/school/") (prepend (param_token ∷ []) school_ro
 abbrev from_round : Rows
 from_round = prepend (codes "/round/") (prepend (param_token ∷ []) (([], key Round) ∷ [])) ++ from_school
 
+abbrev from_register : Rows
+from_register = prepend (codes "/register") (([], key Register) ∷ []) ++ from_round
+
+abbrev from_pairs : Rows
+from_pairs = prepend (codes "/pairs") (([], key Pairs) ∷ []) ++ from_register
+
+abbrev from_school_pairs : Rows
+from_school_pairs = prepend (codes "/pairs/") (prepend (param_token ∷ []) (([], key SchoolPairs) ∷ [])) ++ from_pairs
+
+abbrev from_import : Rows
+from_import = prepend (codes "/import") (([], key Import) ∷ []) ++ from_school_pairs
+
+abbrev from_draw : Rows
+from_draw = prepend (codes "/draw/") (prepend (param_token ∷ []) (([], key Draw) ∷ [])) ++ from_import
+
 abbrev from_command : Rows
-from_command = prepend (codes "/command") (([], key Command) ∷ []) ++ from_round
+from_command = prepend (codes "/command") (([], key Command) ∷ []) ++ from_draw
 
 abbrev all_rows : Rows
 all_rows = prepend (codes "/child/") (prepend (param_token ∷ []) child_rows) ++ from_command
@@ -88,16 +123,28 @@ all_found : (t : List ℕ) → IsBytes t → first all_rows t ≡ key_of key (ro
 unfolding route_of
 all_found t small =
     next_found key t small (codes "/child/") (prepend (param_token ∷ []) child_rows) from_command child_after _
-    (text_by_test (codes "/child/") refl) (lit< tt, refl, refl, refl, (lit< tt, refl, refl, refl, (lit< tt, refl, refl, refl, tt)))
+    (text_by_test (codes "/child/") refl) (lit< tt, refl, refl, (lit< tt, refl, refl, (lit< tt, refl, refl, tt)))
     (either_ends key child_rows Letter (codes "letter") (text_by_test (codes "/letter") refl) longest_child refl Child refl)
-    (next_found key t small (codes "/command") (([], key Command) ∷ []) from_round (at_end Command) _
-    (text_by_test (codes "/command") refl) (lit< tt, refl, refl, refl, (lit< tt, refl, refl, refl, tt)) (ends key Command)
+    (next_found key t small (codes "/command") (([], key Command) ∷ []) from_draw (at_end Command) _
+    (text_by_test (codes "/command") refl) (lit< tt, refl, refl, (lit< tt, refl, refl, tt)) (ends key Command)
+    (next_found key t small (codes "/draw/") (prepend (param_token ∷ []) (([], key Draw) ∷ [])) from_import (with_part Draw []) _
+    (text_by_test (codes "/draw/") refl) (lit< tt, refl, refl, (lit< tt, refl, refl, tt)) (part_ends key Draw)
+    (next_found key t small (codes "/import") (([], key Import) ∷ []) from_school_pairs (at_end Import) _
+    (text_by_test (codes "/import") refl) (lit< tt, refl, refl, (lit< tt, refl, refl, tt)) (ends key Import)
+    (next_found key t small (codes "/pairs/") (prepend (param_token ∷ []) (([], key SchoolPairs) ∷ [])) from_pairs (with_part SchoolPairs []) _
+    (text_by_test (codes "/pairs/") refl)
+    (lit< tt, refl, refl, (lit< tt, refl, refl, (lit< tt, refl, refl, (lit< tt, refl, refl, (lit< tt, refl, refl, (lit< tt, refl, refl, (lit< tt, refl, refl, tt)))))))
+    (part_ends key SchoolPairs)
+    (next_found key t small (codes "/pairs") (([], key Pairs) ∷ []) from_register (at_end Pairs) _
+    (text_by_test (codes "/pairs") refl) (lit< tt, refl, refl, (lit< tt, refl, refl, tt)) (ends key Pairs)
+    (next_found key t small (codes "/register") (([], key Register) ∷ []) from_round (at_end Register) _
+    (text_by_test (codes "/register") refl) (lit< tt, refl, refl, (lit< tt, refl, refl, (lit< tt, refl, refl, tt))) (ends key Register)
     (next_found key t small (codes "/round/") (prepend (param_token ∷ []) (([], key Round) ∷ [])) from_school (with_part Round []) _
-    (text_by_test (codes "/round/") refl) (lit< tt, refl, refl, refl, (lit< tt, refl, refl, refl, tt)) (part_ends key Round)
+    (text_by_test (codes "/round/") refl) (lit< tt, refl, refl, (lit< tt, refl, refl, tt)) (part_ends key Round)
     (next_found key t small (codes "/school/") (prepend (param_token ∷ []) school_rows) question_rows (with_part Waiting (codes "/waiting")) _
-    (text_by_test (codes "/school/") refl) (lit< tt, refl, refl, refl, (lit< tt, refl, refl, refl, tt))
+    (text_by_test (codes "/school/") refl) (lit< tt, refl, refl, (lit< tt, refl, refl, tt))
     (suffix_ends key school_rows Waiting (codes "waiting") (text_by_test (codes "/waiting") refl) longest_school refl refl)
-    (last_found key t small (codes "/what-if") (([], key WhatIf) ∷ []) (at_end WhatIf) (text_by_test (codes "/what-if") refl) (ends key WhatIf)))))
+    (last_found key t small (codes "/what-if") (([], key WhatIf) ∷ []) (at_end WhatIf) (text_by_test (codes "/what-if") refl) (ends key WhatIf))))))))))
 
 every_found : (t : List ℕ) → IsBytes t → first all_routes t ≡ map_key row_at (key_of key (route_of t))
 unfolding all_routes row_at
@@ -136,7 +183,9 @@ TakesPart x t = (((route_row x.0).names ≡ []) × (x.1 ≡ [])) ⊎ Takes (rout
 takes_part : (t : List ℕ) (x : Route × List ℕ) → IsUtf8 t → route_of t ≡ Some x → TakesPart x t
 unfolding route_of
 takes_part t x text e =
-    of_either a from_b x child (of_either b from_d x command (of_either d from_f x round (of_either f h x school question))) e
+    of_either a from_b x child
+    (of_either b from_m x command (of_either m from_j x draw (of_either j from_i x rows_import (of_either i from_g x school_pairs
+    (of_either g from_n x pairs (of_either n from_d x register (of_either d from_f x round (of_either f h x school question)))))))) e
   where
     a : Found
     a = option_and_then child_after (after_prefix (codes "/child/") t)
@@ -150,8 +199,23 @@ takes_part t x text e =
     f : Found
     f = option_and_then (with_part Waiting (codes "/waiting")) (after_prefix (codes "/school/") t)
 
+    g : Found
+    g = option_and_then (at_end Pairs) (after_prefix (codes "/pairs") t)
+
+    j : Found
+    j = option_and_then (at_end Import) (after_prefix (codes "/import") t)
+
+    i : Found
+    i = option_and_then (with_part SchoolPairs []) (after_prefix (codes "/pairs/") t)
+
     h : Found
     h = option_and_then (at_end WhatIf) (after_prefix (codes "/what-if") t)
+
+    m : Found
+    m = option_and_then (with_part Draw []) (after_prefix (codes "/draw/") t)
+
+    n : Found
+    n = option_and_then (at_end Register) (after_prefix (codes "/register") t)
 
     from_f : Found
     from_f = or_found f h
@@ -159,8 +223,23 @@ takes_part t x text e =
     from_d : Found
     from_d = or_found d from_f
 
+    from_n : Found
+    from_n = or_found n from_d
+
+    from_g : Found
+    from_g = or_found g from_n
+
+    from_i : Found
+    from_i = or_found i from_g
+
+    from_j : Found
+    from_j = or_found j from_i
+
+    from_m : Found
+    from_m = or_found m from_j
+
     from_b : Found
-    from_b = or_found b from_d
+    from_b = or_found b from_m
 
     back : (r : Route) → x.0 ≡ r → Takes (route_row r) t x.1 → TakesPart x t
     back r is takes = inr (subst (λ k. Takes (route_row k) t x.1) (sym is) takes)
@@ -178,6 +257,25 @@ takes_part t x text e =
 
     command : b ≡ Some x → TakesPart x t
     command e = unnamed Command refl (under_end Command (codes "/command") t x e)
+
+    rows_import : j ≡ Some x → TakesPart x t
+    rows_import e = unnamed Import refl (under_end Import (codes "/import") t x e)
+
+    pairs : g ≡ Some x → TakesPart x t
+    pairs e = unnamed Pairs refl (under_end Pairs (codes "/pairs") t x e)
+
+    school_pairs : i ≡ Some x → TakesPart x t
+    school_pairs e =
+        let is = under SchoolPairs (codes "/pairs/") [] t x e in
+        back SchoolPairs is.route_is (takes_end SchoolPairs (codes "/pairs/") (codes "/pairs/{code}") (8, 12) refl refl t x.1 text is.target_is)
+
+    register : n ≡ Some x → TakesPart x t
+    register e = unnamed Register refl (under_end Register (codes "/register") t x e)
+
+    draw : m ≡ Some x → TakesPart x t
+    draw e =
+        let is = under Draw (codes "/draw/") [] t x e in
+        back Draw is.route_is (takes_end Draw (codes "/draw/") (codes "/draw/{no}") (7, 9) refl refl t x.1 text is.target_is)
 
     question : h ≡ Some x → TakesPart x t
     question e = unnamed WhatIf refl (under_end WhatIf (codes "/what-if") t x e)

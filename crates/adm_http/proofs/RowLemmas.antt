@@ -24,7 +24,7 @@ abbrev pub Diverges : List ℕ → Rows → Type 0
 Diverges w [] = Unit {0}
 Diverges [] (r ∷ s) = ⊥
 Diverges (x ∷ w) (r ∷ s) =
-    (x < 256) × (own (r ∷ s) ≡ None) × (step param_token (r ∷ s) ≡ []) × (step catch_all_token (r ∷ s) ≡ []) × Diverges w (step x (r ∷ s))
+    (x < 256) × (step param_token (r ∷ s) ≡ []) × (step catch_all_token (r ∷ s) ≡ []) × Diverges w (step x (r ∷ s))
 
 pub first-union : (w : List ℕ) (r s : Rows) (t : List ℕ) → Diverges w s
     → first (prepend w r ++ s) t ≡ or_else (first (prepend w r) t) (first s t)
@@ -40,10 +40,10 @@ first-union (x ∷ w) r (q ∷ s) (b ∷ p) d =
     let n2 : x ≢ catch_all_token = λ e. omega arith in
     let p1 = step-miss param_token x w r n1 in
     let p2 = step-miss catch_all_token x w r n2 in
-    let both1 : step param_token (P ++ S) ≡ [] = step-append param_token P S ∙ ap (λ l. l ++ step param_token S) p1 ∙ d.2 in
-    let both2 : step catch_all_token (P ++ S) ≡ [] = step-append catch_all_token P S ∙ ap (λ l. l ++ step catch_all_token S) p2 ∙ d.3 in
-    seek-plain (P ++ S) b p both1 both2 ∙ ap (λ l. seek 0 l p) (step-append b P S) ∙ by (x == b) refl (first-union w r (step x (q ∷ s)) p d.4)
-    ∙ sym (ap (λ a. or_else a (seek 0 S (b ∷ p))) (seek-plain P b p p1 p2) ∙ ap (or_else (seek 0 (step b P) p)) (seek-plain S b p d.2 d.3))
+    let both1 : step param_token (P ++ S) ≡ [] = step-append param_token P S ∙ ap (λ l. l ++ step param_token S) p1 ∙ d.1 in
+    let both2 : step catch_all_token (P ++ S) ≡ [] = step-append catch_all_token P S ∙ ap (λ l. l ++ step catch_all_token S) p2 ∙ d.2 in
+    seek-plain (P ++ S) b p both1 both2 ∙ ap (λ l. seek 0 l p) (step-append b P S) ∙ by (x == b) refl (first-union w r (step x (q ∷ s)) p d.3)
+    ∙ sym (ap (λ a. or_else a (seek 0 S (b ∷ p))) (seek-plain P b p p1 p2) ∙ ap (or_else (seek 0 (step b P) p)) (seek-plain S b p d.1 d.2))
   where
     by : (v : Bool) → (x == b) ≡ v → first (prepend w r ++ step x (q ∷ s)) p ≡ or_else (first (prepend w r) p) (first (step x (q ∷ s)) p)
         → seek 0 (step b (prepend (x ∷ w) r) ++ step b (q ∷ s)) p ≡ or_else (seek 0 (step b (prepend (x ∷ w) r)) p) (seek 0 (step b (q ∷ s)) p)

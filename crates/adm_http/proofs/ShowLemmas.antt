@@ -1,14 +1,20 @@
 -- What is shown of a desk.
 use Rattle.std.proofs.Common.{◌≡◌, ℕ, List, Option, Some, None, Result, Ok, Err, Bool, true, false, cond, refl, sym, ap, ◌∙◌, subst}
-use Rattle.std.specs.Prelude.{MatchBool}
+use Rattle.std.specs.Prelude.{MatchBool, IfOk, option_map, string_bytes}
+use Rattle.std.specs.declared.alloc.AllocError.{AllocError}
 use Rattle.std.specs.declared.string.String.{String}
+use Rattle.serde_json.specs.Written.{compact_text}
+use Rattle.adm_types.specs.declared.draws.Draw.{Draw}
 use Rattle.adm_register.specs.State.{State}
 use Rattle.adm_desk.specs.DeskState.{DeskState}
 use Rattle.adm_letters.specs.Answers.{GivesText}
 use Rattle.adm_letters.specs.declared.fault.LetterFault.{LetterFault}
 use Rattle.adm_letters.specs.declared.fault.LetterFault.TheVariants as letter
+use Rattle.adm_view.specs.Answers.{GivesText as GivesDraw}
+use Rattle.adm_view.specs.Draws.{draw_data_with_lots}
+use Rattle.adm_view.specs.declared.fault.ViewFault.{ViewFault}
 use Rattle.adm_http.specs.Routes.{text_in}
-use Rattle.adm_http.specs.Shows.{IsShown, IsShownAs, Shows}
+use Rattle.adm_http.specs.Shows.{IsShown, IsShownAs, IsMadeAs, IsDrawAs, Shows}
 use Rattle.adm_http.specs.declared.request_handler.ShowResult.{ShowResult}
 use Rattle.adm_http.specs.declared.request_handler.ShowResult.TheVariants.{Text, Missing, Memory, Failed}
 use Rattle.adm_http.specs.declared.routes.Resource.{Resource}
@@ -27,6 +33,34 @@ given_shown None fault (Err e) Missing other gives is = refl
 given_shown (Some text) fault (Err e) Memory other gives is = (text, refl)
 given_shown None fault (Err e) Memory other gives is = absurd (other (sym gives ∙ is))
 given_shown text fault (Err e) Failed other gives is = absurd is
+
+-- the same of a text that is made unless memory runs out
+pub always_shown : {A : Type 0} (text : List ℕ) (given : Result (String A) AllocError) (shown : ShowResult)
+    → IfOk given (λ made. string_bytes made ≡ text) → IsMadeAs given shown → IsShown (Some text) shown
+always_shown text (Ok given) (Text made) gives is = ap Some (sym gives ∙ sym is)
+always_shown text (Ok given) Missing gives is = absurd is
+always_shown text (Ok given) Memory gives is = absurd is
+always_shown text (Ok given) Failed gives is = absurd is
+always_shown text (Err e) (Text made) gives is = absurd is
+always_shown text (Err e) Missing gives is = absurd is
+always_shown text (Err e) Memory gives is = (text, refl)
+always_shown text (Err e) Failed gives is = absurd is
+
+-- the same of the text of a draw
+pub draw_shown : {A : Type 0} (wanted : Option Draw) (given : Result (String A) ViewFault) (shown : ShowResult)
+    → GivesDraw (option_map draw_data_with_lots wanted) given → IsDrawAs given shown
+    → IsShown (option_map (λ draw. compact_text (draw_data_with_lots draw)) wanted) shown
+draw_shown (Some draw) (Ok given) (Text made) gives is = ap Some (sym gives ∙ sym is)
+draw_shown None (Ok given) (Text made) gives is = absurd gives
+draw_shown wanted (Ok given) Missing gives is = absurd is
+draw_shown wanted (Ok given) Memory gives is = absurd is
+draw_shown wanted (Ok given) Failed gives is = absurd is
+draw_shown wanted (Err e) (Text made) gives is = absurd is
+draw_shown (Some draw) (Err e) Missing gives is = absurd (cc (sym gives ∙ is))
+draw_shown None (Err e) Missing gives is = refl
+draw_shown (Some draw) (Err e) Memory gives is = (compact_text (draw_data_with_lots draw), refl)
+draw_shown None (Err e) Memory gives is = absurd (cc (sym gives ∙ is))
+draw_shown wanted (Err e) Failed gives is = absurd is
 
 module _ {C : Type 0} (desk : DeskState C) (resource : Resource) where
   -- of a desk that has not failed its register is shown

@@ -1,29 +1,28 @@
--- Texts of values, one after another, and joined: for the state of a child.
-use Rattle.std.proofs.Common.{◌≡◌, ◌∙◌, ap, refl, List, [], ◌∷◌, ◌++◌, map}
-use Rattle.std.specs.Prelude.{Result, Ok, Err, IfOk}
+-- Texts that grow piece by piece: for the state of a child.
+use Rattle.std.proofs.Common.{◌≡◌, ◌∙◌, ap, sym, ℕ, ◌+◌, ◌<◌, List, [], ◌∷◌, ◌++◌, append_assoc, append-nil, take, get_or, length}
+use Rattle.std.specs.Prelude.{Result, Ok, Err, IfOk, codes}
 use Rattle.std.specs.List.{flat_map, join_by}
+use Rattle.std.proofs.lemmas.Grind.{flat_map-append}
+use Rattle.adm_lists.proofs.Walks.{next_of}
+use Rattle.adm_http.specs.States.{head_json, state_json}
 
--- what a call gives, in another form
-pub same_after : {X A E : Type 0} (given : Result X E) (view : X → A) (a b : A) → a ≡ b → IfOk given (λ x. view x ≡ a) → IfOk given (λ x. view x ≡ b)
-same_after (Ok x) view a b same is = is ∙ same
-same_after (Err e) view a b same is = tt
+-- the text of the next of some elements is added to those of the elements before it
+pub next_text : {X : Type 0} (f : X → List ℕ) (xs : List X) (i : ℕ) (x : X) (old text new : List ℕ) → i < length xs → x ≡ get_or xs i x
+    → text ≡ old ++ flat_map f (take i xs) → new ≡ text ++ f x → new ≡ old ++ flat_map f (take (i + 1) xs)
+next_text f xs i x old text new within is before added =
+    let more : flat_map f (take (i + 1) xs) ≡ flat_map f (take i xs) ++ f x =
+    ap (flat_map f) (next_of xs i x within is) ∙ flat_map-append f (take i xs) (x ∷ []) ∙ ap (λ l. flat_map f (take i xs) ++ l) (append-nil (f x)) in
+    added ∙ ap (λ l. l ++ f x) before ∙ append_assoc old (flat_map f (take i xs)) (f x) ∙ ap (λ l. old ++ l) (sym more)
 
--- the same texts are joined to the same
-pub join_same : {X Y A : Type 0} (f : X → List A) (g : Y → List A) (separator : List A) (xs : List X) (ys : List Y) → map f xs ≡ map g ys
-    → join_by f separator xs ≡ join_by g separator ys
-join_same f g separator [] [] e = refl
-join_same f g separator [] (y ∷ ys) e = absurd (cc e)
-join_same f g separator (x ∷ xs) [] e = absurd (cc e)
-join_same {X} {Y} f g separator (x ∷ xs) (y ∷ ys) e =
-    let head : f x ≡ g y = cc e in
-    let tail : map f xs ≡ map g ys = cc e in
-    ap (λ l. l ++ flat_map (λ z. separator ++ f z) xs) head ∙ ap (λ l. g y ++ l) (each xs ys tail)
-  where
-    each : (us : List X) (vs : List Y) → map f us ≡ map g vs → flat_map (λ z. separator ++ f z) us ≡ flat_map (λ z. separator ++ g z) vs
-    each [] [] h = refl
-    each [] (v ∷ vs) h = absurd (cc h)
-    each (u ∷ us) [] h = absurd (cc h)
-    each (u ∷ us) (v ∷ vs) h =
-        let first : f u ≡ g v = cc h in
-        let rest : map f us ≡ map g vs = cc h in
-        ap (λ l. (separator ++ l) ++ flat_map (λ z. separator ++ f z) us) first ∙ ap (λ l. (separator ++ g v) ++ l) (each us vs rest)
+-- the text of the first and then those of the others, each after a separator
+pub joined_text : {X A E : Type 0} (f : X → List ℕ) (separator : List ℕ) (xs others : List X) (x : X) (old mid new : List ℕ) (result : Result A E) → xs ≡ x ∷ others → mid ≡ old ++ f x
+    → IfOk result (λ _. new ≡ mid ++ flat_map (λ y. separator ++ f y) others) → IfOk result (λ _. new ≡ old ++ join_by f separator xs)
+joined_text f separator xs others x old mid new (Ok a) parts first rest =
+    rest ∙ ap (λ l. l ++ flat_map (λ y. separator ++ f y) others) first ∙ append_assoc old (f x) (flat_map (λ y. separator ++ f y) others)
+    ∙ ap (λ ys. old ++ join_by f separator ys) (sym parts)
+joined_text f separator xs others x old mid new (Err e) parts first rest = tt
+
+-- the state of a child, from the pieces that were added to a text which was empty
+pub state_whole : (start head placed between waiting all : List ℕ) (child : ℕ) (place waits : List ℕ) → start ≡ [] → head ≡ start ++ head_json child → placed ≡ head ++ place
+    → between ≡ placed ++ codes ",\"waiting\":[" → waiting ≡ between ++ waits → all ≡ waiting ++ codes "]}" → all ≡ state_json child place waits
+state_whole start head placed between waiting all child place waits none is1 is2 is3 is4 is5 = is5 ∙ rw (is4, is3, is2, is1, none) (simp append_assoc)

@@ -1,7 +1,7 @@
 -- What serving connections, one after the other, answers, leaves and prints.
 use Rattle.std.specs.Prelude.{◌≡◌, ℕ, zero, suc, ◌⊎◌, Bool, true, false, List, [], ◌∷◌, ◌++◌, codes, Option, None, Some, Result, Ok, Err, ⊤}
 use Rattle.std.specs.Io.KnownBytes.{Appends}
-use Rattle.adm_desk.specs.declared.answer.LineAnswer.{LineAnswer}
+use Rattle.adm_http.specs.declared.body_answer.BodyAnswer.{BodyAnswer}
 use Rattle.adm_wire.specs.declared.streams.Output as output
 use Rattle.adm_http.specs.Reading.{Served}
 use Rattle.adm_http.specs.Responses.{Responds}
@@ -91,7 +91,12 @@ pub record Moment (S : Type 0) : Type 0 where
 abbrev pub moment : {S E : Type 0} → output.Ghosts E → S → Option Traffic → E → Moment S
 moment g desk traffic writer = record { desk = desk; traffic = traffic; errors = errors_of g writer }
 
-module _ {S : Type 0} (runs : Purpose → S → List ℕ → LineAnswer → S → Type 0) (shows : S → Resource → ShowResult → Type 0) where
+-- a desk and the connections to it, for a private clause
+pub record Service (S : Type 0) : Type 0 where
+  pub desk : S
+  pub traffic : Option Traffic
+
+module _ {S : Type 0} (runs : Purpose → S → List ℕ → BodyAnswer → S → Type 0) (shows : S → Resource → ShowResult → Type 0) where
   -- one request was answered, or none
   abbrev pub AnswersOne : S → S → Type 0
   AnswersOne old new = (new ≡ old) ⊎ ((input : List ℕ) × (output : List ℕ) × Responds runs shows old input output new)
@@ -114,7 +119,7 @@ module _ {S : Type 0} (runs : Purpose → S → List ℕ → LineAnswer → S �
     pub written : List ℕ
     pub result : Result ℕ ServeFault
     pub exchanged : Exchanges old.traffic new.traffic unread written
-    pub served : Served runs shows old.desk new.desk unread left (Some []) (Some written) result
+    pub served : Served runs shows (record { before = old.desk; after = new.desk; unread = unread; left = left }) (Some []) (Some written) result
     pub failed : ℕ
     pub printed : Prints old.errors new.errors (accept_lines failed ++ outcome_line result)
 
@@ -130,6 +135,8 @@ module _ {S : Type 0} (runs : Purpose → S → List ℕ → LineAnswer → S �
   -- ---- for a private clause
 
   -- a request of these bytes was answered to the connection that is open, which was ended
-  abbrev pub ServesOpen : S → S → Option Traffic → Option Traffic → Option (List ℕ) → Result ℕ ServeFault → Type 0
-  ServesOpen old new before after unread result =
-      (left : Option (List ℕ)) × (written : List ℕ) × Served runs shows old new unread left (Some []) (Some written) result × Ends before after written
+  abbrev pub ServesOpen : Service S → Service S → Option (List ℕ) → Result ℕ ServeFault → Type 0
+  ServesOpen old new unread result =
+      (left : Option (List ℕ)) × (written : List ℕ)
+      × Served runs shows (record { before = old.desk; after = new.desk; unread = unread; left = left }) (Some []) (Some written) result
+      × Ends old.traffic new.traffic written

@@ -9,7 +9,7 @@ use Rattle.adm_http.specs.declared.heads.Judgement.{Judgement}
 use Rattle.adm_http.specs.declared.heads.Judgement.TheVariants.{Whole, Malformed, Unfinished}
 use Rattle.adm_http.specs.declared.routes.Purpose.{Purpose}
 use Rattle.adm_http.specs.declared.routes.Resource.{Resource}
-use Rattle.adm_desk.specs.declared.answer.LineAnswer.{LineAnswer}
+use Rattle.adm_http.specs.declared.body_answer.BodyAnswer.{BodyAnswer}
 use Rattle.adm_http.specs.declared.request_handler.ShowResult.{ShowResult}
 use Rattle.adm_http.specs.declared.serve.ServeFault.{ServeFault}
 use Rattle.adm_http.specs.declared.serve.ServeFault.TheVariants.{Read, Write, Memory}
@@ -54,24 +54,31 @@ pub record HasReadSome (old new : Option (List ℕ)) (got : List ℕ) : Type 0 w
 abbrev pub WritesFront : Option (List ℕ) → Option (List ℕ) → List ℕ → Type 0
 WritesFront old new bytes = (n : ℕ) × Appends old new (take n bytes)
 
-module _ {S : Type 0} (runs : Purpose → S → List ℕ → LineAnswer → S → Type 0) (shows : S → Resource → ShowResult → Type 0) where
+-- what handles a request, before it and after it; and the reader's bytes before they are read, and what is left of them
+pub record Request (S : Type 0) : Type 0 where
+  pub before : S
+  pub after : S
+  pub unread : Option (List ℕ)
+  pub left : Option (List ℕ)
+
+module _ {S : Type 0} (runs : Purpose → S → List ℕ → BodyAnswer → S → Type 0) (shows : S → Resource → ShowResult → Type 0) where
   -- what serving one request leaves of the desk, the reader and the writer
-  abbrev pub Served : S → S → Option (List ℕ) → Option (List ℕ) → Option (List ℕ) → Option (List ℕ) → Result ℕ ServeFault → Type 0
+  abbrev pub Served : Request S → Option (List ℕ) → Option (List ℕ) → Result ℕ ServeFault → Type 0
   -- the response to the bytes that were read was written, and this is its length
-  Served old new unread left was written (Ok n) =
-      (got : List ℕ) × (output : List ℕ) × HasRead unread left got × Responds runs shows old got output new
+  Served r was written (Ok n) =
+      (got : List ℕ) × (output : List ℕ) × HasRead r.unread r.left got × Responds runs shows r.before got output r.after
       × Appends was written output × (n ≡ length output)
   -- a beginning of it was written
-  Served old new unread left was written (Err Write) =
-      (got : List ℕ) × (output : List ℕ) × HasRead unread left got × Responds runs shows old got output new
+  Served r was written (Err Write) =
+      (got : List ℕ) × (output : List ℕ) × HasRead r.unread r.left got × Responds runs shows r.before got output r.after
       × WritesFront was written output
   -- no command was run, and nothing was written
-  Served old new unread left was written (Err Read) =
-      (got : List ℕ) × HasReadSome unread left got × (new ≡ old) × Keeps was written
+  Served r was written (Err Read) =
+      (got : List ℕ) × HasReadSome r.unread r.left got × (r.after ≡ r.before) × Keeps was written
   -- nothing was written; the desk is as before, or as a response to the bytes says
-  Served old new unread left was written (Err Memory) =
-      (got : List ℕ) × HasReadSome unread left got × Keeps was written
-      × ((new ≡ old) ⊎ ((output : List ℕ) × HasRead unread left got × Responds runs shows old got output new))
+  Served r was written (Err Memory) =
+      (got : List ℕ) × HasReadSome r.unread r.left got × Keeps was written
+      × ((r.after ≡ r.before) ⊎ ((output : List ℕ) × HasRead r.unread r.left got × Responds runs shows r.before got output r.after))
 
 -- whether the error is the reader's
 abbrev pub is_read_fault : {A : Type 0} → Result A ServeFault → Bool
@@ -89,18 +96,18 @@ is_write_fault (Err Memory) = false
 
 -- ---- for a private clause
 
-module _ {S : Type 0} (runs : Purpose → S → List ℕ → LineAnswer → S → Type 0) (shows : S → Resource → ShowResult → Type 0) where
+module _ {S : Type 0} (runs : Purpose → S → List ℕ → BodyAnswer → S → Type 0) (shows : S → Resource → ShowResult → Type 0) where
   -- a request was read, and these are the bytes of its response
-  abbrev pub IsAnswered : S → S → Option (List ℕ) → Option (List ℕ) → List ℕ → Type 0
-  IsAnswered old new unread left output = (got : List ℕ) × HasRead unread left got × Responds runs shows old got output new
+  abbrev pub IsAnswered : Request S → List ℕ → Type 0
+  IsAnswered r output = (got : List ℕ) × HasRead r.unread r.left got × Responds runs shows r.before got output r.after
 
   -- there is no response, for this cause
-  abbrev pub IsUnanswered : S → S → Option (List ℕ) → Option (List ℕ) → ServeFault → Type 0
-  IsUnanswered old new unread left Read = (got : List ℕ) × HasReadSome unread left got × (new ≡ old)
-  IsUnanswered old new unread left Write = ⊥
-  IsUnanswered old new unread left Memory =
-      (got : List ℕ) × HasReadSome unread left got
-      × ((new ≡ old) ⊎ ((output : List ℕ) × HasRead unread left got × Responds runs shows old got output new))
+  abbrev pub IsUnanswered : Request S → ServeFault → Type 0
+  IsUnanswered r Read = (got : List ℕ) × HasReadSome r.unread r.left got × (r.after ≡ r.before)
+  IsUnanswered r Write = ⊥
+  IsUnanswered r Memory =
+      (got : List ℕ) × HasReadSome r.unread r.left got
+      × ((r.after ≡ r.before) ⊎ ((output : List ℕ) × HasRead r.unread r.left got × Responds runs shows r.before got output r.after))
 
 -- the bytes may be judged as not settled
 abbrev pub MayNeedMore : List ℕ → Type 0

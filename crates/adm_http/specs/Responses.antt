@@ -2,8 +2,7 @@
 use Rattle.std.specs.Prelude.{◌≡◌, ℕ, List, [], ◌∷◌, length, take, drop, nat_le, MatchBool, string_bytes}
 use Rattle.adm_http.specs.Heads.{IsJudgement, verdict_at_end}
 use Rattle.adm_wire.specs.Texts.{memory_text, failed_text}
-use Rattle.adm_desk.specs.Lines.{line_text}
-use Rattle.adm_http.specs.Replies.{status_of}
+use Rattle.adm_http.specs.Replies.{status_of, body_text}
 use Rattle.adm_http.specs.Routes.{media_of}
 use Rattle.adm_http.specs.Texts.{Response, response_bytes, json, bare, not_allowed}
 use Rattle.adm_http.specs.declared.routes.Purpose.{Purpose}
@@ -14,11 +13,11 @@ use Rattle.adm_http.specs.declared.heads.Judgement.{Judgement}
 use Rattle.adm_http.specs.declared.heads.Judgement.TheVariants.{Whole, Malformed, Unfinished}
 use Rattle.adm_http.specs.declared.request_handler.ShowResult.{ShowResult}
 use Rattle.adm_http.specs.declared.request_handler.ShowResult.TheVariants as shown
-use Rattle.adm_desk.specs.declared.answer.LineAnswer.{LineAnswer}
+use Rattle.adm_http.specs.declared.body_answer.BodyAnswer.{BodyAnswer}
 
 -- the response to what running a body answered: its text
-abbrev pub of_answer : LineAnswer → Response
-of_answer answer = json (status_of answer) (line_text answer)
+abbrev pub of_answer : BodyAnswer → Response
+of_answer answer = json (status_of answer) (body_text answer)
 
 -- the response to what reading a text gave
 abbrev pub of_shown : Resource → ShowResult → Response
@@ -28,7 +27,7 @@ of_shown resource shown.Memory = json 503 memory_text
 of_shown resource shown.Failed = json 503 failed_text
 
 -- `runs purpose old body answer new`: running the body as what it is for may answer this, and leave `new`; `shows old resource text`: reading a text may give this
-module _ {S : Type 0} (runs : Purpose → S → List ℕ → LineAnswer → S → Type 0) (shows : S → Resource → ShowResult → Type 0) where
+module _ {S : Type 0} (runs : Purpose → S → List ℕ → BodyAnswer → S → Type 0) (shows : S → Resource → ShowResult → Type 0) where
   -- what a verdict on a head makes of the bytes that follow the head: at most the one command is run
   abbrev pub Carries : S → List ℕ → Verdict → Response → S → Type 0
   Carries old rest (Reject status) response new = (response ≡ bare status) × (new ≡ old)
@@ -37,7 +36,7 @@ module _ {S : Type 0} (runs : Purpose → S → List ℕ → LineAnswer → S �
       (text : ShowResult) × shows old resource text × (response ≡ of_shown resource text) × (new ≡ old)
   Carries old rest (Run purpose n) response new =
       MatchBool (nat_le n (length rest))
-      ((answer : LineAnswer) × runs purpose old (take n rest) answer new × (response ≡ of_answer answer))
+      ((answer : BodyAnswer) × runs purpose old (take n rest) answer new × (response ≡ of_answer answer))
       ((response ≡ bare 400) × (new ≡ old))
 
   -- by what the bytes are judged to be

@@ -1,7 +1,8 @@
 -- The state of a child: its place, and where it waits, as JSON. This profile's own form.
-use Rattle.std.specs.Prelude.{ℕ, List, ◌++◌, Option, Some, None, option_map, codes, decimal}
+use Rattle.std.specs.Prelude.{◌≡◌, ℕ, List, ◌++◌, Option, Some, None, option_map, codes, decimal, string_bytes}
 use Rattle.std.specs.List.{join_by}
 use Rattle.std.specs.FinMap.{get}
+use Rattle.std.specs.declared.string.String.{String}
 use Rattle.adm_types.specs.declared.rows.Place.{Place}
 use Rattle.adm_types.specs.declared.rows.PlaceState.{PlaceState}
 use Rattle.adm_types.specs.declared.rows.PlaceState.TheVariants.{Offered, Accepted, Plan}
@@ -44,3 +45,17 @@ child_json s child = state_json child (place_json (place_of s child)) (waits_jso
 -- the state of the child of a number, if there is such a child
 abbrev pub child_text : State → ℕ → Option (List ℕ)
 child_text s number = option_map (λ child. child_json s number) (get s.children number)
+
+-- ---- for private clauses
+
+-- what comes before the place of a child
+abbrev pub head_json : ℕ → List ℕ
+head_json child = codes "{\"child\":" ++ (decimal child ++ codes ",\"place\":")
+
+-- a school at which a child waits, where it is not the first
+abbrev pub after_comma : List ℕ × Standing → List ℕ
+after_comma wait = codes "," ++ wait_json wait
+
+-- the new text is the old one and then this
+abbrev pub Adds : {A : Type 0} → String A → List ℕ → String A → Type 0
+Adds old more new = string_bytes new ≡ string_bytes old ++ more

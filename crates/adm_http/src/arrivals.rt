@@ -4,7 +4,7 @@ ghost use Rattle.adm_http.specs.Connections.{PrintsAccepts, errors_of};
 
 use adm_wire::Output;
 use std::alloc::Global;
-use std::io::ErrorKind;
+use std::io::{self, ErrorKind};
 use std::net::{TcpListener, TcpStream};
 use std::thread;
 use std::time::{Clock, Duration, Instant};
@@ -152,18 +152,10 @@ fn accept<C: Clock, E: Output>(clock: &C, listener: &TcpListener, errors: &mut E
 
 /// Looks whether bytes have come, and takes none.
 fn look_at(stream: &TcpStream, may_wait: bool) -> Readiness {
-    let mut first = [0u8; 1];
     let seen = if may_wait {
-        let look = Duration::from_millis(MILLISECONDS_OF_A_LOOK);
-        match stream.set_read_timeout(Some(look)) {
-            Ok(()) => stream.peek(&mut first),
-            Err(error) => Err(error),
-        }
+        peek_for_a_moment(stream)
     } else {
-        match stream.set_nonblocking(true) {
-            Ok(()) => stream.peek(&mut first),
-            Err(error) => Err(error),
-        }
+        peek_at_once(stream)
     };
     let is_blocking = may_wait || stream.set_nonblocking(false).is_ok();
     match seen {
@@ -172,6 +164,18 @@ fn look_at(stream: &TcpStream, may_wait: bool) -> Readiness {
         Err(error) if is_blocking && error.kind() == ErrorKind::Interrupted => Readiness::Waits,
         _ => Readiness::Broken,
     }
+}
+
+/// How many of the first bytes have come, which are waited for a moment.
+fn peek_for_a_moment(stream: &TcpStream) -> io::Result<usize> {
+    stream.set_read_timeout(Some(Duration::from_millis(MILLISECONDS_OF_A_LOOK)))?;
+    stream.peek(&mut [0u8; 1])
+}
+
+/// The same without waiting. From then on no call on the connection waits.
+fn peek_at_once(stream: &TcpStream) -> io::Result<usize> {
+    stream.set_nonblocking(true)?;
+    stream.peek(&mut [0u8; 1])
 }
 
 /// Whether a request may take no longer. Where the clock cannot be read it may not.

@@ -13,8 +13,9 @@ pub fn judged_in_one_way()
     ensures { JudgedInOneWay }
 {}
 
-/// Serving requests changes a desk as at most as many lines of commands do, one after another. That
-/// these are bodies of those requests it does not say.
+/// Serving requests changes a desk as at most as many commands do, one after another, each of which
+/// some body is: one command, or the rows of an import. That these are the bodies of those requests
+/// it does not say.
 pub fn bodies_are_commands<S: Alter>()
     ensures { AnswersBodies (state S.Store) }
 {}

@@ -2,6 +2,8 @@
 #![tactic(auto)]
 
 mod arrivals;
+mod body_answer;
+mod body_reader;
 mod connections;
 mod desk;
 mod heads;

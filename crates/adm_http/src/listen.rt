@@ -94,7 +94,9 @@ fn serve_connection<A: RequestHandler, N: Connections>(
     mut connection: N::Connection,
 ) -> Result<usize, ServeFault>
     requires { IsOpen (N.traffic connections.old) }
-    ensures { ServesOpen A.runs A.shows (A.view desk.old) (A.view desk.new) (N.traffic connections.old) (N.traffic connections.new)
+    ensures { ServesOpen A.runs A.shows
+        (record { desk = A.view desk.old; traffic = N.traffic connections.old })
+        (record { desk = A.view desk.new; traffic = N.traffic connections.new })
         (N.Connection.remaining connection) result }
 {
     match answer_request(alloc, routes, desk, &mut connection) {

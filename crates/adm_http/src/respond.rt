@@ -2,15 +2,17 @@
 ghost use Rattle.std.specs.Prelude.{◌≡◌, IfOk, ℕ, List, nat_le, ◌≤◌, drop, length, if◌then◌else◌};
 ghost use Rattle.adm_http.specs.Heads.{IsJudgement, IsInside};
 ghost use Rattle.adm_http.specs.Texts.{Response, response_bytes, json};
-ghost use Rattle.adm_http.specs.Replies.{status_of, status_of_command, status_of_what_if, status_of_fault};
+ghost use Rattle.adm_http.specs.Replies.{status_of, status_of_command, status_of_what_if, status_of_fault, status_of_row_fault};
 ghost use Rattle.adm_http.specs.Responses.{of_answer, of_shown, Carries, Responds};
 
+use crate::body_answer::BodyAnswer;
 use crate::heads::{HEAD_LIMIT, Judgement, Verdict, judge};
 use crate::request_handler::{RequestHandler, ShowResult};
 use crate::responses::{Media, bare, response};
 use crate::router::Routes;
 use crate::routes::{Resource, media};
 use adm_commands::QuestionFault;
+use adm_csv::Fault;
 use adm_desk::{Answer, LineAnswer, WhatIfAnswer};
 use adm_wire::{WireFault, failed_text, memory_text};
 use http::StatusCode;
@@ -98,20 +100,21 @@ fn carry<A: RequestHandler>(
 }
 
 // The response to what running a body answered.
-fn answer_response(alloc: Global, answer: LineAnswer) -> Result<Vec<u8>, AllocError>
+fn answer_response(alloc: Global, answer: BodyAnswer) -> Result<Vec<u8>, AllocError>
     ensures { IfOk result (λ output. output.items ≡ response_bytes (of_answer answer)) }
 {
     let text = answer.text(alloc)?;
     response(alloc, status_of(answer), None, Media::Json, text.as_str())
 }
 
-fn status_of(answer: LineAnswer) -> StatusCode
+fn status_of(answer: BodyAnswer) -> StatusCode
     ensures { result ≡ status_of answer }
 {
     match answer {
-        LineAnswer::Handled(answer) => status_of_command(answer),
-        LineAnswer::Faulty(fault) => status_of_fault(fault),
-        LineAnswer::Queried(what_if_answer) => status_of_what_if(what_if_answer),
+        BodyAnswer::Line(LineAnswer::Handled(answer)) => status_of_command(answer),
+        BodyAnswer::Line(LineAnswer::Faulty(fault)) => status_of_fault(fault),
+        BodyAnswer::Line(LineAnswer::Queried(what_if_answer)) => status_of_what_if(what_if_answer),
+        BodyAnswer::Unread(fault) => status_of_row_fault(fault.fault),
     }
 }
 
@@ -151,6 +154,21 @@ fn status_of_fault(fault: WireFault) -> StatusCode
         | WireFault::MissingField
         | WireFault::WrongKind
         | WireFault::ExtraField => StatusCode::BAD_REQUEST,
+    }
+}
+
+fn status_of_row_fault(fault: Fault) -> StatusCode
+    ensures { result ≡ status_of_row_fault fault }
+{
+    match fault {
+        Fault::Memory => StatusCode::SERVICE_UNAVAILABLE,
+        Fault::Header
+        | Fault::FieldCount
+        | Fault::BadNumber
+        | Fault::BadDate
+        | Fault::BadText
+        | Fault::TooManyRows
+        | Fault::Read => StatusCode::BAD_REQUEST,
     }
 }
 

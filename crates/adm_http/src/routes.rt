@@ -4,13 +4,14 @@ ghost use Rattle.adm_types.specs.Fields.{child_named};
 ghost use Rattle.adm_http.specs.Routes.{named_by, media_of, text_in, all_routes};
 ghost use Rattle.adm_http.specs.Shows.{IsShown};
 
-use crate::request_handler::{ShowResult, given};
+use crate::request_handler::{ShowResult, given, given_always, given_of_draw};
 use crate::responses::Media;
 use crate::router::add;
 use crate::states::child_text;
-use adm_letters::{letter, list_text, round_text};
+use adm_letters::{letter, list_text, pairs_text, round_text};
 use adm_register::Register;
 use adm_types::{ChildNo, SchoolCode, plain};
+use adm_view::{draw_text, register_text};
 use matchit::Router;
 use std::alloc::{AllocError, Global};
 
@@ -18,11 +19,16 @@ use std::alloc::{AllocError, Global};
 #[derive(Clone, Copy)]
 pub enum Route {
     Command,
+    Import,
     Child,
     Letter,
+    Pairs,
+    SchoolPairs,
     Waiting,
     Round,
     WhatIf,
+    Register,
+    Draw,
 }
 
 /// What a body is read as.
@@ -30,6 +36,8 @@ pub enum Route {
 pub enum Purpose {
     /// A command, which is run.
     Command,
+    /// Rows of comma-separated values, which are imported as one command.
+    Import,
     /// A question: which place a child would have with another list. It changes nothing.
     Question,
 }
@@ -45,6 +53,12 @@ pub enum Resource {
     WaitingList(SchoolCode),
     /// The report of a round.
     RoundReport(u32),
+    /// For whom lots are drawn: for the next round, or for a fill at a school.
+    PairList(Option<SchoolCode>),
+    /// The register as one document, without its lots and imported rows.
+    WholeRegister,
+    /// A draw with its lots.
+    DrawWithLots(u32),
 }
 
 /// What a target names.
@@ -67,6 +81,11 @@ pub(crate) fn all_routes(alloc: Global) -> Result<Router<Route>, AllocError>
     add(&mut router, "/school/{code}/waiting", Route::Waiting)?;
     add(&mut router, "/round/{no}", Route::Round)?;
     add(&mut router, "/what-if", Route::WhatIf)?;
+    add(&mut router, "/pairs", Route::Pairs)?;
+    add(&mut router, "/pairs/{code}", Route::SchoolPairs)?;
+    add(&mut router, "/import", Route::Import)?;
+    add(&mut router, "/register", Route::Register)?;
+    add(&mut router, "/draw/{no}", Route::Draw)?;
     Ok(router)
 }
 
@@ -76,11 +95,16 @@ pub(crate) fn named(route: Route, part: &str) -> Option<Target>
 {
     match route {
         Route::Command => Some(Target::Body(Purpose::Command)),
+        Route::Import => Some(Target::Body(Purpose::Import)),
         Route::WhatIf => Some(Target::Body(Purpose::Question)),
         Route::Child => Some(Target::Text(Resource::ChildState(child_number(part)?))),
         Route::Letter => Some(Target::Text(Resource::ChildLetter(child_number(part)?))),
+        Route::Pairs => Some(Target::Text(Resource::PairList(None))),
+        Route::SchoolPairs => Some(Target::Text(Resource::PairList(Some(SchoolCode::new(part)?)))),
         Route::Waiting => Some(Target::Text(Resource::WaitingList(SchoolCode::new(part)?))),
         Route::Round => Some(Target::Text(Resource::RoundReport(plain(part)?))),
+        Route::Register => Some(Target::Text(Resource::WholeRegister)),
+        Route::Draw => Some(Target::Text(Resource::DrawWithLots(plain(part)?))),
     }
 }
 
@@ -89,15 +113,17 @@ pub(crate) fn media(resource: Resource) -> Media
     ensures { result ≡ media_of resource }
 {
     match resource {
-        Resource::ChildState(_) => Media::Json,
-        Resource::ChildLetter(_) | Resource::WaitingList(_) | Resource::RoundReport(_) => {
-            Media::PlainText
-        }
+        Resource::ChildState(_) | Resource::WholeRegister | Resource::DrawWithLots(_) =>
+            Media::Json,
+        Resource::ChildLetter(_)
+        | Resource::WaitingList(_)
+        | Resource::RoundReport(_)
+        | Resource::PairList(_) => Media::PlainText,
     }
 }
 
-/// The requested text, if the register has such a child, school or round.
-#[tactic(auto, using(crate::proofs::ShowLemmas::given_shown))]
+/// The requested text, if the register has such a child, school, round or draw.
+#[tactic(auto, using(crate::proofs::ShowLemmas::given_shown, crate::proofs::ShowLemmas::always_shown, crate::proofs::ShowLemmas::draw_shown))]
 pub(crate) fn show(alloc: Global, register: &Register, resource: &Resource) -> ShowResult
     ensures { IsShown (text_in register.now resource.now) result }
 {
@@ -106,6 +132,9 @@ pub(crate) fn show(alloc: Global, register: &Register, resource: &Resource) -> S
         Resource::ChildLetter(child) => given(letter(alloc, register, *child)),
         Resource::WaitingList(school) => given(list_text(alloc, register, *school)),
         Resource::RoundReport(round) => given(round_text(alloc, register, *round)),
+        Resource::PairList(school) => given(pairs_text(alloc, register, *school)),
+        Resource::WholeRegister => given_always(register_text(alloc, register)),
+        Resource::DrawWithLots(number) => given_of_draw(draw_text(alloc, register, *number)),
     }
 }
 

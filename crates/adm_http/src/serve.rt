@@ -35,15 +35,13 @@ pub(crate) fn serve<A: RequestHandler, R: Input, W: Output>(
     reader: &mut R,
     writer: &mut W,
 ) -> Result<usize, ServeFault>
-    ensures served { Served A.runs A.shows (A.view desk.old) (A.view desk.new) (R.remaining reader.old) (R.remaining reader.new)
+    ensures served { Served A.runs A.shows
+        (record { before = A.view desk.old; after = A.view desk.new; unread = R.remaining reader.old; left = R.remaining reader.new })
         (W.contents writer.old) (W.contents writer.new) result }
     ensures reader { R.has_failed reader.new ≡ (R.has_failed reader.old || is_read_fault result) }
     ensures writer { W.has_failed writer.new ≡ (W.has_failed writer.old || is_write_fault result) }
 {
-    let output = match answer_request(alloc, routes, desk, reader) {
-        Ok(output) => output,
-        Err(fault) => return Err(fault),
-    };
+    let output = answer_request(alloc, routes, desk, reader)?;
     match writer.put(&output) {
         Ok(()) => Ok(output.len()),
         Err(_) => Err(ServeFault::Write),
@@ -57,16 +55,15 @@ pub(crate) fn answer_request<A: RequestHandler, R: Input>(
     desk: &mut A,
     reader: &mut R,
 ) -> Result<Vec<u8>, ServeFault>
-    ensures ok { IfOk result (λ output. IsAnswered A.runs A.shows (A.view desk.old) (A.view desk.new)
-        (R.remaining reader.old) (R.remaining reader.new) output.items) }
-    ensures err { IfErr result (λ fault. IsUnanswered A.runs A.shows (A.view desk.old) (A.view desk.new)
-        (R.remaining reader.old) (R.remaining reader.new) fault) }
+    ensures ok { IfOk result (λ output. IsAnswered A.runs A.shows
+        (record { before = A.view desk.old; after = A.view desk.new; unread = R.remaining reader.old; left = R.remaining reader.new })
+        output.items) }
+    ensures err { IfErr result (λ fault. IsUnanswered A.runs A.shows
+        (record { before = A.view desk.old; after = A.view desk.new; unread = R.remaining reader.old; left = R.remaining reader.new })
+        fault) }
     ensures reader { R.has_failed reader.new ≡ (R.has_failed reader.old || is_read_fault result) }
 {
-    let request = match read_request(alloc, routes, reader) {
-        Ok(request) => request,
-        Err(fault) => return Err(fault),
-    };
+    let request = read_request(alloc, routes, reader)?;
     match respond_to(alloc, desk, &request.input, request.judgement) {
         Ok(output) => Ok(output),
         Err(_) => Err(ServeFault::Memory),
@@ -95,13 +92,11 @@ fn read_request<R: Input>(
     let mut input = Vec::new(alloc);
     loop {
         match judge(routes, &input) {
-            Judgement::Whole(len, verdict) => match read_body(reader, &mut input, len, &verdict) {
-                Ok(()) => {
-                    let judgement = Judgement::Whole(len, verdict);
-                    return Ok(Request { input, judgement });
-                }
-                Err(fault) => return Err(fault),
-            },
+            Judgement::Whole(len, verdict) => {
+                read_body(reader, &mut input, len, &verdict)?;
+                let judgement = Judgement::Whole(len, verdict);
+                return Ok(Request { input, judgement });
+            }
             Judgement::Malformed => {
                 let judgement = Judgement::Malformed;
                 return Ok(Request { input, judgement });
@@ -112,13 +107,10 @@ fn read_request<R: Input>(
                     return Ok(Request { input, judgement });
                 }
                 let total = input.len() + 1;
-                match read_to(reader, &mut input, total) {
-                    Ok(true) => {}
-                    Ok(false) => {
-                        let judgement = judge(routes, &input);
-                        return Ok(Request { input, judgement });
-                    }
-                    Err(fault) => return Err(fault),
+                let is_reached = read_to(reader, &mut input, total)?;
+                if !is_reached {
+                    let judgement = judge(routes, &input);
+                    return Ok(Request { input, judgement });
                 }
             }
         }
@@ -166,10 +158,9 @@ fn read_to<R: Input>(reader: &mut R, input: &mut Vec<u8>, total: usize) -> Resul
     ensures reader { R.has_failed reader.new ≡ (R.has_failed reader.old || is_read_fault result) }
 {
     while input.len() < total {
-        match read_more(reader, input) {
-            Ok(0) => return Ok(false),
-            Ok(_) => {}
-            Err(fault) => return Err(fault),
+        let count = read_more(reader, input)?;
+        if count == 0 {
+            return Ok(false);
         }
     }
     Ok(true)

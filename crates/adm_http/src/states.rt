@@ -1,14 +1,15 @@
 // The state of a child: its place, and where it waits, as JSON.
-ghost use Rattle.std.specs.Prelude.{◌≡◌, IfOk, map, string_bytes};
-ghost use Rattle.adm_register.specs.Waits.{standings_of};
+ghost use Rattle.std.specs.Prelude.{◌≡◌, ◌++◌, IfOk, string_bytes};
+ghost use Rattle.std.specs.List.{flat_map};
 ghost use Rattle.adm_letters.specs.Answers.{GivesText};
 ghost use Rattle.adm_letters.specs.declared.fault.LetterFault.TheVariants.{UnknownChild};
-ghost use Rattle.adm_http.specs.States.{kind_of, held_json, place_json, wait_json, waits_json, state_json, child_json, child_text};
+ghost use Rattle.adm_http.specs.States.{Adds, kind_of, held_json, place_json, wait_json, waits_json, after_comma, head_json, child_json, child_text};
 
 use adm_letters::LetterFault;
 use adm_register::{Register, Standing};
 use adm_types::{ChildNo, Place, PlaceState, SchoolCode};
 use std::alloc::{AllocError, Global};
+use std::fmt::Write;
 
 /// The state of the child of this number. It takes memory for the text, for a pointer to each
 /// application that lists a school that the child wants, and for each child that waits there. What it
@@ -35,31 +36,36 @@ fn known_child_text(
 ) -> Result<String, AllocError>
     ensures { IfOk result (λ text. string_bytes text ≡ child_json register.now child) }
 {
-    let place = place_text(alloc, register.place(child))?;
-    let waits = waits_text(alloc, register, child)?;
-    state_text(alloc, child, place.as_str(), waits.as_str())
+    let waits = register.standings(alloc, child)?;
+    let mut text = String::new(alloc);
+    put_head(&mut text, child)?;
+    put_place(&mut text, register.place(child))?;
+    text.push_str(",\"waiting\":[")?;
+    put_waits(&mut text, &waits)?;
+    text.push_str("]}")?;
+    Ok(text)
 }
 
-fn state_text(alloc: Global, child: ChildNo, place: &str, waits: &str) -> Result<String, AllocError>
-    ensures { IfOk result (λ text. string_bytes text ≡ state_json child place.now waits.now) }
+fn put_head(text: &mut String, child: ChildNo) -> Result<(), AllocError>
+    ensures { IfOk result (λ _. Adds text.old (head_json child) text.new) }
 {
     let number = child.get();
-    format!(in alloc; "{{\"child\":{number},\"place\":{place},\"waiting\":[{waits}]}}")
+    write!(text, "{{\"child\":{number},\"place\":")
 }
 
-fn place_text(alloc: Global, place: Option<Place>) -> Result<String, AllocError>
-    ensures { IfOk result (λ text. string_bytes text ≡ place_json place) }
+fn put_place(text: &mut String, place: Option<Place>) -> Result<(), AllocError>
+    ensures { IfOk result (λ _. Adds text.old (place_json place) text.new) }
 {
     match place {
-        None => String::from_str(alloc, "null"),
-        Some(place) => held_text(alloc, kind(place.state), place.school.as_str()),
+        None => text.push_str("null"),
+        Some(place) => put_held(text, kind(place.state), place.school.as_str()),
     }
 }
 
-fn held_text(alloc: Global, kind: &str, school: &str) -> Result<String, AllocError>
-    ensures { IfOk result (λ text. string_bytes text ≡ held_json kind.now school.now) }
+fn put_held(text: &mut String, kind: &str, school: &str) -> Result<(), AllocError>
+    ensures { IfOk result (λ _. Adds text.old (held_json kind.now school.now) text.new) }
 {
-    format!(in alloc; "{{\"kind\":\"{kind}\",\"school\":\"{school}\"}}")
+    write!(text, "{{\"kind\":\"{kind}\",\"school\":\"{school}\"}}")
 }
 
 // The state of a place, by its name.
@@ -73,32 +79,38 @@ fn kind(state: PlaceState) -> &'static str
     }
 }
 
-fn waits_text(alloc: Global, register: &Register, child: ChildNo) -> Result<String, AllocError>
-    ensures { IfOk result (λ text. string_bytes text ≡ waits_json (standings_of register.now child)) }
+// The schools at which the child waits, with a comma between each two.
+fn put_waits(text: &mut String, waits: &[(SchoolCode, Standing)]) -> Result<(), AllocError>
+    ensures { IfOk result (λ _. Adds text.old (waits_json waits.now) text.new) }
 {
-    let standings = register.standings(alloc, child)?;
-    let waits = wait_texts(alloc, &standings)?;
-    waits.join(alloc, ",")
+    let Some((first, others)) = waits.split_first() else {
+        return Ok(());
+    };
+    put_wait(text, "", first)?;
+    put_others(text, others)
 }
 
-// A text for each of the schools at which the child waits.
-fn wait_texts(
-    alloc: Global,
-    standings: &[(SchoolCode, Standing)],
-) -> Result<Vec<String>, AllocError>
-    ensures { IfOk result (λ texts. map string_bytes texts.items ≡ map wait_json standings.now) }
+// Each of them after a comma.
+fn put_others(text: &mut String, others: &[(SchoolCode, Standing)]) -> Result<(), AllocError>
+    ensures { IfOk result (λ _. Adds text.old (flat_map after_comma others.now) text.new) }
 {
-    let mut waits = Vec::new(alloc);
-    for wait in standings {
-        waits.push(wait_text(alloc, wait)?)?;
+    for wait in others {
+        put_wait(text, ",", wait)?;
     }
-    Ok(waits)
+    Ok(())
 }
 
-fn wait_text(alloc: Global, wait: &(SchoolCode, Standing)) -> Result<String, AllocError>
-    ensures { IfOk result (λ text. string_bytes text ≡ wait_json wait.now) }
+fn put_wait(
+    text: &mut String,
+    before: &str,
+    wait: &(SchoolCode, Standing),
+) -> Result<(), AllocError>
+    ensures { IfOk result (λ _. Adds text.old (before.now ++ wait_json wait.now) text.new) }
 {
     let school = wait.0.as_str();
     let position = wait.1.entry.position;
-    format!(in alloc; "{{\"position\":{position},\"school\":\"{school}\"}}")
+    write!(
+        text,
+        "{before}{{\"position\":{position},\"school\":\"{school}\"}}"
+    )
 }

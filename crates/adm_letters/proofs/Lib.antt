@@ -1,4 +1,3 @@
-mod Dates
 mod Joined
 mod Written
 mod Widths

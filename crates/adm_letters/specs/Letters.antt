@@ -10,7 +10,7 @@ use Rattle.adm_register.specs.State.{State}
 use Rattle.adm_register.specs.Rows.{place_of}
 use Rattle.adm_register.specs.Waits.{standings_of}
 use Rattle.adm_register.specs.declared.standings.Standing.{Standing}
-use Rattle.adm_letters.specs.Days.{day_text}
+use Rattle.adm_days.specs.Days.{day_text}
 use Rattle.adm_letters.specs.LetterLines.{head_line, child_line, phase_text, no_place, offered_line, reminded_line, accepted_line, plan_line, withdrawal_line, waiting_line, waits_nowhere}
 use Rattle.adm_letters.specs.Lines.{lines_text}
 

@@ -1,6 +1,5 @@
 pub mod Answers
 pub mod Lines
-pub mod Days
 pub mod LetterLines
 pub mod Letters
 pub mod Lists

@@ -6,7 +6,7 @@ use Rattle.adm_round.specs.Outcomes.{is_kept}
 use Rattle.adm_register.specs.State.{State}
 use Rattle.adm_register.specs.Rows.{round_of}
 use Rattle.adm_letters.specs.Lines.{right, lines_text}
-use Rattle.adm_letters.specs.Days.{day_text}
+use Rattle.adm_days.specs.Days.{day_text}
 
 -- the numbers of the round and of its draw, and its day
 unfoldable pub report_head : ℕ → ℕ → List ℕ → List ℕ

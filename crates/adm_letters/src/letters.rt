@@ -4,16 +4,16 @@ ghost use Rattle.adm_register.specs.Rows.{place_of};
 ghost use Rattle.adm_letters.specs.Answers.{GivesText};
 ghost use Rattle.adm_letters.specs.declared.fault.LetterFault.TheVariants.{UnknownChild};
 ghost use Rattle.adm_letters.specs.Lines.{AddsLines, lines_text};
-ghost use Rattle.adm_letters.specs.Days.{day_text};
+ghost use Rattle.adm_days.specs.Days.{day_text};
 ghost use Rattle.adm_letters.specs.LetterLines.{head_line, child_line, phase_text, reminded_line, withdrawal_line};
 ghost use Rattle.adm_letters.specs.Letters.{offer_lines, place_lines, school_name, lines_of_place, wait_line, lines_of_waits, letter_lines, letter_text};
 
 use crate::LetterFault;
-use crate::days::day_text;
 use crate::letter_lines::{
     accepted_line, child_line, head_line, no_place, offered_line, phase_text, plan_line,
     reminded_line, waiting_line, waits_nowhere, withdrawal_line,
 };
+use adm_days::day_text;
 use adm_register::{Register, Standing};
 use adm_types::{Child, ChildNo, Day, PlaceState, SchoolCode, Season};
 use std::alloc::{AllocError, Global};

@@ -3,7 +3,6 @@
 //! texts. Each line ends with LF.
 #![tactic(auto)]
 
-mod days;
 mod fault;
 mod letter_lines;
 mod letters;

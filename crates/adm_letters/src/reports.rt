@@ -3,11 +3,11 @@ ghost use Rattle.std.specs.Prelude.{◌≡◌, IfOk, [], ◌∷◌, map, string_
 ghost use Rattle.adm_letters.specs.Answers.{GivesText};
 ghost use Rattle.adm_letters.specs.declared.fault.LetterFault.TheVariants.{NoRound};
 ghost use Rattle.adm_letters.specs.Lines.{AddsLines, lines_text};
-ghost use Rattle.adm_letters.specs.Days.{day_text};
+ghost use Rattle.adm_days.specs.Days.{day_text};
 ghost use Rattle.adm_letters.specs.Reports.{report_head, outcome_line, outcome_text, report_foot, report_counts, report_lines, round_text};
 
 use crate::LetterFault;
-use crate::days::day_text;
+use adm_days::day_text;
 use adm_register::Register;
 use adm_round::{Totals, counts};
 use adm_types::{Draw, Outcome, SchoolCode};

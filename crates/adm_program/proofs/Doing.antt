@@ -30,7 +30,7 @@ use Rattle.adm_program.specs.Served.{ServesAs, ServesOver}
 use Rattle.adm_host.specs.Texts.{PrintsAs, document_text}
 use Rattle.adm_files.specs.Runs.{LineStep, OpensAndRuns, Prints}
 use Rattle.adm_host.specs.Creation.{Creates, CreatesAs}
-use Rattle.adm_program.specs.Does.{Does}
+use Rattle.adm_program.specs.Does.{Does, shown}
 use Rattle.adm_host.specs.declared.document.Document.{Document}
 use Rattle.adm_host.specs.declared.document.Document.TheVariants as document
 use Rattle.adm_host.specs.declared.connecting.OpenError.{OpenError}
@@ -107,6 +107,7 @@ unmade (action.Letter file child) = inr refl
 unmade (action.List file school) = inr refl
 unmade (action.RoundReport file round) = inr refl
 unmade (action.Pairs file school) = inr refl
+unmade (action.Show file draw) = inr refl
 
 -- arguments that are a usage error
 pub refused : (fault : WordsFault) → ExitsBy (Err fault) (exit_code (exit_of_arguments fault))
@@ -187,6 +188,7 @@ module _ {D : Type 0} {g : disk.Ghosts D} where
   made image (action.List file school) rows input output e closed does = document_exit image (document.List school) output e closed does.1
   made image (action.RoundReport file round) rows input output e closed does = document_exit image (document.Report round) output e closed does.1
   made image (action.Pairs file school) rows input output e closed does = document_exit image (document.Pairs school) output e closed does.1
+  made image (action.Show file draw) rows input output e closed does = document_exit image (shown draw) output e closed does.1
 
   -- the status of an action
   pub exits : (image : Image) (a : Action) (rows : List ℕ → Stream) (input output : Stream) (r : Result (LineEnd D g) (OpenError D g)) (x : Exit)

@@ -5,9 +5,9 @@ use Rattle.std.specs.List.{flat_map, AllByRecursion}
 use Rattle.std.proofs.KnownBytes.{Appends-trans}
 use Rattle.std.proofs.lemmas.Grind.{flat_map-append}
 use Rattle.std.proofs.lemmas.List.{append-nil}
-use Rattle.adm_desk.specs.declared.answer.LineAnswer.{LineAnswer}
 use Rattle.adm_desk.proofs.Known.{Appends-nothing}
 use Rattle.adm_http.specs.Connections.{Errors, Moment, Prints, ServesTurn, ServesEach, accept_lines, outcome_line}
+use Rattle.adm_http.specs.declared.body_answer.BodyAnswer.{BodyAnswer}
 use Rattle.adm_http.specs.declared.request_handler.ShowResult.{ShowResult}
 use Rattle.adm_http.specs.declared.routes.Purpose.{Purpose}
 use Rattle.adm_http.specs.declared.routes.Resource.{Resource}
@@ -59,7 +59,7 @@ prints_more old mid new first more = (
       (early.0, subst (λ (t : List ℕ). Appends old.printed new.printed t) (sym (flat_map-append (λ line. line) first.0 more.0)) (Appends-trans old.printed mid.printed new.printed (joined first.0) (joined more.0) early.1 late.1)),
 )
 
-module _ {S : Type 0} (runs : Purpose → S → List ℕ → LineAnswer → S → Type 0) (shows : S → Resource → ShowResult → Type 0) where
+module _ {S : Type 0} (runs : Purpose → S → List ℕ → BodyAnswer → S → Type 0) (shows : S → Resource → ShowResult → Type 0) where
   turn : (old new : Moment S) → ServesTurn runs shows old new → PrintsConnections old.errors new.errors
   turn old new (inl none) = prints old.errors new.errors _ (of_accepts none.printed.0) none.printed.1
   turn old new (inr one) = prints old.errors new.errors _ (both _ _ (of_accepts one.failed) (of_outcome one.result)) one.printed

@@ -1,5 +1,5 @@
 -- What each line of the command line does.
-use Rattle.std.specs.Prelude.{◌≡◌, ℕ, List, Result}
+use Rattle.std.specs.Prelude.{◌≡◌, ℕ, List, Option, Some, None, Result}
 use Rattle.sqlite_disk.specs.declared.Disk as disk
 use Rattle.sqlite_disk.specs.declared.Files.{Files}
 use Rattle.sqlite_wal.specs.Recovery.{Image}
@@ -17,9 +17,15 @@ use Rattle.adm_files.specs.Runs.{OpensAndRuns, Prints}
 use Rattle.adm_host.specs.Creation.{Creates}
 use Rattle.adm_files.specs.Imports.{ImportsInto}
 use Rattle.adm_program.specs.Served.{ServesOver}
+use Rattle.adm_host.specs.declared.document.Document.{Document}
 use Rattle.adm_host.specs.declared.document.Document.TheVariants as document
 use Rattle.adm_host.specs.declared.exit.Exit.{Exit}
 use Rattle.adm_host.specs.declared.fault.Fault.{Fault}
+
+-- what `show` prints: the draw of a number, or the register where there is none
+abbrev pub shown : Option ℕ → Document
+shown None = document.Register
+shown (Some number) = document.Draw number
 
 -- `init` creates the register of the season of its values, and reads and writes nothing else; `do` answers the lines, and `what-if` the questions;
 -- `import` imports the rows of the file at its path; `serve` serves connections; the others print a document of the register
@@ -34,3 +40,4 @@ Does image (action.Letter file child) rows input output e closed = (input.new �
 Does image (action.List file school) rows input output e closed = (input.new ≡ input.old) × Prints image (document.List school) output e closed
 Does image (action.RoundReport file round) rows input output e closed = (input.new ≡ input.old) × Prints image (document.Report round) output e closed
 Does image (action.Pairs file school) rows input output e closed = (input.new ≡ input.old) × Prints image (document.Pairs school) output e closed
+Does image (action.Show file draw) rows input output e closed = (input.new ≡ input.old) × Prints image (shown draw) output e closed

@@ -4,7 +4,7 @@ ghost use Rattle.sqlite_wal.specs.Files.{image_at};
 ghost use Rattle.adm_host.specs.Exits.{has_many_holidays, IsCauseIn, IsOpenFault, RunsArguments, IsDisk};
 ghost use Rattle.adm_host.specs.declared.fault.Fault.TheVariants.{TooManyHolidays};
 ghost use Rattle.adm_http.specs.Connections.{errors_of};
-ghost use Rattle.adm_program.specs.Does.{Does};
+ghost use Rattle.adm_program.specs.Does.{Does, shown};
 ghost use Rattle.adm_program.specs.Logged.{Logs, LogsBy, PrintsConnections};
 ghost use Rattle.adm_files.specs.Imports.{files, ImportsInto};
 ghost use Rattle.adm_wire.specs.Streams.{reader, writer};
@@ -99,6 +99,17 @@ fn run_action<S: Start, F: Rows, I: Input, O: Output, L: Output>(
         Action::Pairs { file, school } => {
             print(rt, file, start, Document::Pairs(school), output)
         }
+        Action::Show { file, draw } => print(rt, file, start, shown(draw), output),
+    }
+}
+
+/// What `show` prints: the draw of a number, or the register where there is none.
+fn shown(draw: Option<u32>) -> Document
+    ensures { result ≡ shown draw }
+{
+    match draw {
+        Some(number) => Document::Draw(number),
+        None => Document::Register,
     }
 }
 

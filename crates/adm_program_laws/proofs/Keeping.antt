@@ -1,6 +1,7 @@
 -- What each subcommand keeps of a register, from what it did.
 use Rattle.std.proofs.Common.{◌≡◌, ◌∙◌, ◌⊎◌, ◌≤◌, ℕ, ◌-◌, take, drop, length, List, [], ◌∷◌, ◌++◌, Result, Ok, Err, inl, inr, refl, sym, ap, subst, arith}
 use Rattle.std.specs.Prelude.{⊤}
+use Rattle.std.specs.List.{AllByRecursion}
 use Rattle.std.proofs.Math.Seq.{take-length}
 use Rattle.std.proofs.lemmas.Grind.{flat_map-append}
 use Rattle.std.proofs.lemmas.List.{take-append-drop}
@@ -28,8 +29,8 @@ use Rattle.adm_desk.specs.declared.answer.LineAnswer.{LineAnswer}
 use Rattle.adm_desk.specs.declared.run.Run.{Run}
 use Rattle.adm_desk.specs.declared.run.RunFault.{RunFault}
 use Rattle.adm_desk.specs.declared.run.RunFault.TheVariants as run
-use Rattle.adm_desk.proofs.AcknowledgedLemmas.{keeps, keeps_lines}
-use Rattle.adm_http.specs.Bodies.{AnswersBodies}
+use Rattle.adm_desk.proofs.AcknowledgedLemmas.{RunsOver, keeps, keeps_lines}
+use Rattle.adm_http.specs.Bodies.{IsOfBody, HandlesEach, AnswersBodies}
 use Rattle.adm_files.specs.Imports.{ImportsAs}
 use Rattle.adm_files.specs.Opened.{IsOpened}
 use Rattle.adm_host.specs.declared.exit.Exit.{Exit}
@@ -58,6 +59,11 @@ same_desk old new [] (a ∷ answers) it = absurd it
 same_desk old new (l ∷ lines) [] it = absurd it
 same_desk old new (l ∷ lines) (a ∷ answers) it = same_desk it.0 new lines answers it.2 ∙ it.1.1
 
+-- commands that were answered one after another are a run
+over_each : {S : Type 0} (step : S → Command → Answer → S → Type 0) (old new : S) (answered : List (Command × Answer)) → HandlesEach step old answered new → RunsOver step old answered new
+over_each step old new [] same = same
+over_each step old new ((c, a) ∷ answered) it = (it.0, it.1, over_each step it.0 new answered it.2)
+
 abbrev Desk : {D : Type 0} → disk.Ghosts D → Type 0
 Desk {D} g = DeskState (Held (FileStore D g))
 
@@ -76,6 +82,9 @@ module _ {D : Type 0} {g : disk.Ghosts D} where
 
     keeps_all : (last : Desk g) (lines : List (List ℕ)) (answers : List LineAnswer) → AnswersLines command_line desk lines answers last → KeepsAcknowledged file_state desk last (handled lines answers)
     keeps_all last lines answers it = keeps_lines file_state desk last lines answers opened.alive opened.leaves it
+
+    keeps_each : (last : Desk g) (answered : List (Command × Answer)) → HandlesEach (Handles file_state) desk answered last → KeepsAcknowledged file_state desk last answered
+    keeps_each last answered it = keeps file_state desk last answered opened.alive opened.leaves (over_each (Handles file_state) desk last answered it)
 
     -- the lines of an input
     module _ (last : Desk g) (input output : Stream) where
@@ -128,10 +137,10 @@ module _ {D : Type 0} {g : disk.Ghosts D} where
 
     -- the bodies of requests
     kept_served : AnswersBodies {C = Held (FileStore D g)} file_state → (last : Desk g) (port count : ℕ) (output : Stream) (e : Result Exit Fault) → ServesAs desk last port count output e
-        → (bodies : List (List ℕ)) × (answers : List LineAnswer) × (length bodies ≤ count) × AnswersLines command_line desk bodies answers last
+        → (answered : List (Command × Answer)) × (length answered ≤ count) × AllByRecursion IsOfBody answered × HandlesEach (Handles file_state) desk answered last
     kept_served bodies last port count output (Ok x) it = bodies count desk last it.1
-    kept_served bodies last port count output (Err fault.Listen) it = ([], [], omega arith, it.0)
-    kept_served bodies last port count output (Err f) it = ([], [], omega arith, it.0)
+    kept_served bodies last port count output (Err fault.Listen) it = ([], omega arith, tt, it.0)
+    kept_served bodies last port count output (Err f) it = ([], omega arith, tt, it.0)
 
   -- ---- each subcommand
 
@@ -156,12 +165,12 @@ module _ {D : Type 0} {g : disk.Ghosts D} where
     each (action.Import file csv) (unread, inr (desk, opened, inr it)) =
         let kept = kept_rows image desk opened it.after (rows csv.now) output e it.ends in
         (kept.0, kept.1, desk_kept seen one image desk it.after kept.0 closed opened kept.2 it.closes)
-    each (action.Serve file port count) (unread, inl it) = ([], ([], [], omega arith, refl), not_opened seen one image e closed ⊤ it.0)
+    each (action.Serve file port count) (unread, inl it) = ([], (omega arith, tt), not_opened seen one image e closed ⊤ it.0)
     each (action.Serve file port count) (unread, inr (desk, opened, it)) =
         let leads = kept_served image desk opened bodies it.after port count output e it.ends in (
-          handled leads.0 leads.1,
-          (leads.0, leads.1, leads.2, refl),
-          desk_kept seen one image desk it.after (handled leads.0 leads.1) closed opened (keeps_all image desk opened it.after leads.0 leads.1 leads.3) it.closes,
+          leads.0,
+          (leads.1, leads.2),
+          desk_kept seen one image desk it.after leads.0 closed opened (keeps_each image desk opened it.after leads.0 leads.3) it.closes,
         )
     each (action.Letter file child) (unread, inl it) = ([], refl, not_opened seen one image e closed ⊤ it.0)
     each (action.Letter file child) (unread, inr (desk, opened, it)) = ([], refl, desk_kept seen one image desk desk [] closed opened (keeps_none image desk opened desk refl) it.1)
@@ -171,3 +180,5 @@ module _ {D : Type 0} {g : disk.Ghosts D} where
     each (action.RoundReport file round) (unread, inr (desk, opened, it)) = ([], refl, desk_kept seen one image desk desk [] closed opened (keeps_none image desk opened desk refl) it.1)
     each (action.Pairs file school) (unread, inl it) = ([], refl, not_opened seen one image e closed ⊤ it.0)
     each (action.Pairs file school) (unread, inr (desk, opened, it)) = ([], refl, desk_kept seen one image desk desk [] closed opened (keeps_none image desk opened desk refl) it.1)
+    each (action.Show file draw) (unread, inl it) = ([], refl, not_opened seen one image e closed ⊤ it.0)
+    each (action.Show file draw) (unread, inr (desk, opened, it)) = ([], refl, desk_kept seen one image desk desk [] closed opened (keeps_none image desk opened desk refl) it.1)

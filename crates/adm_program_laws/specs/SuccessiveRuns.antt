@@ -1,6 +1,7 @@
 -- Runs of the program, one after another, each over what a crash may have left of the same two files.
 use Rattle.std.specs.Prelude.{◌≡◌, ◌≤◌, ◌⊎◌, ⊤, ℕ, List, [], ◌∷◌, ◌++◌, length, take, Some, Result, Ok, Err}
 use Rattle.std.specs.Io.KnownBytes.{Appends, Consumes}
+use Rattle.std.specs.List.{AllByRecursion}
 use Rattle.std.proofs.Common.{inl, inr}
 use Rattle.sqlite_disk.specs.declared.Disk as disk
 use Rattle.sqlite_disk.specs.declared.Files.{Files}
@@ -32,6 +33,7 @@ use Rattle.adm_desk.specs.Lines.{answer_text, lines_of}
 use Rattle.adm_desk.specs.Written.{IsBeginning}
 use Rattle.adm_desk.specs.declared.answer.Answer.{Answer}
 use Rattle.adm_desk.specs.declared.answer.LineAnswer.{LineAnswer}
+use Rattle.adm_http.specs.Bodies.{IsOfBody}
 use Rattle.adm_files.specs.Imports.{FileGives}
 use Rattle.adm_files.specs.Opened.{IsNotOpened, IsOpened}
 use Rattle.adm_host.specs.Creation.{Creates}
@@ -77,12 +79,12 @@ pub record AnswersRows (file output : Stream) (answered : List (Command × Answe
 abbrev pub AnswersNone : Stream → List (Command × Answer) → Type 0
 AnswersNone output answered = (answered ≡ []) × (output.new ≡ output.old)
 
--- `do` answers commands in its lines or none, `import` one of all rows or none, `serve` those in at most as many lines as it serves requests, and the others none
+-- `do` answers commands in its lines or none, `import` one of all rows or none, `serve` at most as many as it serves requests, each of which some body is, and the others none
 abbrev pub AnswersBy : Action → (List ℕ → Stream) → Stream → Stream → List (Command × Answer) → Type 0
 AnswersBy (action.Do file) rows input output answered = AnswersNone output answered ⊎ AnswersInput input output answered
 AnswersBy (action.Import file csv) rows input output answered = AnswersNone output answered ⊎ AnswersRows (rows csv.now) output answered
 AnswersBy (action.Serve file port count) rows input output answered =
-    (lines : List (List ℕ)) × (answers : List LineAnswer) × (length lines ≤ count) × (answered ≡ handled lines answers)
+    (length answered ≤ count) × AllByRecursion IsOfBody answered
 AnswersBy other rows input output answered = answered ≡ []
 
 -- these are the commands of each run, with their answers
@@ -134,6 +136,7 @@ module _ {D : Type 0} {g : disk.Ghosts D} where
   StartsClean image (action.List file school) rows input output e closed did = OpensClean did.1
   StartsClean image (action.RoundReport file round) rows input output e closed did = OpensClean did.1
   StartsClean image (action.Pairs file school) rows input output e closed did = OpensClean did.1
+  StartsClean image (action.Show file draw) rows input output e closed did = OpensClean did.1
 
 module _ {D : Type 0} (g : disk.Ghosts D) where
   -- One run, as `run_words` says of it, over files that held `before`, after which they hold `after`, whether it ended or a crash came.

@@ -78,7 +78,7 @@ impl DrawsSoFar {
         ensures value { IfOk result (λ made. made ≡ draws_so_far tables.now) }
         ensures within { IfOk result IsWithin }
     {
-        let draws = all_draws(tables, alloc)?;
+        let draws = tables.all_draws(alloc)?;
         Ok(DrawsSoFar::none().with_draws(&draws))
     }
 
@@ -140,11 +140,4 @@ pub(crate) fn are_in_order(season: &Season, draws: &[Shared<Draw>]) -> bool
         rest = others;
     }
     true
-}
-
-/// The draws, by their numbers.
-fn all_draws(old: &Tables, alloc: Global) -> Result<Vec<Shared<Draw>>, AllocError>
-    ensures { IfOk result (λ found. found.items ≡ rows.values old.now.draws) }
-{
-    old.course.draws.to_vec(alloc)
 }

@@ -191,7 +191,7 @@ impl Tables {
     }
 
     /// The draw of a number.
-    pub(crate) fn draw(&self, number: u32) -> Option<&Draw>
+    pub fn draw(&self, number: u32) -> Option<&Draw>
         ensures { option_copied result ≡ map.get self.now.draws number }
     {
         self.course.draws.row(&number)

@@ -6,7 +6,7 @@ ghost use Rattle.adm_register.specs.Wanted.{above, has_left, wanted_of, wanted, 
 
 use crate::tables::{Tables, is_plan};
 use adm_table::Shared;
-use adm_types::{Application, Child, ChildNo, LeftPair, PlaceRow, School, SchoolCode};
+use adm_types::{Application, Child, ChildNo, Draw, LeftPair, PlaceRow, School, SchoolCode};
 use std::alloc::{AllocError, Global};
 
 impl Tables {
@@ -18,7 +18,7 @@ impl Tables {
     }
 
     /// Whether the child left the school.
-    pub(crate) fn has_left(&self, child: ChildNo, school: SchoolCode) -> bool
+    pub fn has_left(&self, child: ChildNo, school: SchoolCode) -> bool
         ensures { result ≡ has_left self.now.left child school }
     {
         self.left_pair(LeftPair { child, school }).is_some()
@@ -116,6 +116,27 @@ impl Tables {
         ensures { IfOk result (λ found. found.items ≡ rows.values self.now.applications) }
     {
         self.base.applications.to_vec(alloc)
+    }
+
+    /// The children, by their numbers.
+    pub fn all_children(&self, alloc: Global) -> Result<Vec<Shared<Child>>, AllocError>
+        ensures { IfOk result (λ found. found.items ≡ rows.values self.now.children) }
+    {
+        self.base.children.to_vec(alloc)
+    }
+
+    /// The schools that children left, by the children's numbers and then by the schools' codes.
+    pub fn all_left(&self, alloc: Global) -> Result<Vec<LeftPair>, AllocError>
+        ensures { IfOk result (λ found. found.items ≡ rows.values self.now.left) }
+    {
+        self.course.left.to_vec(alloc)
+    }
+
+    /// The draws, by their numbers. It takes memory for a pointer to each draw.
+    pub fn all_draws(&self, alloc: Global) -> Result<Vec<Shared<Draw>>, AllocError>
+        ensures { IfOk result (λ found. found.items ≡ rows.values self.now.draws) }
+    {
+        self.course.draws.to_vec(alloc)
     }
 
     /// The places, by their children's numbers.

@@ -17,6 +17,8 @@ mod rounds;
 #[cfg(test)]
 mod seasons;
 #[cfg(test)]
+mod shows;
+#[cfg(test)]
 mod streams;
 #[cfg(test)]
 mod texts;

@@ -119,5 +119,8 @@ report_shape phases = head_shape (tail_shapes (tail_shapes (reading_shapes phase
 abbrev pub pairs_shape : ValueParser → Shape
 pairs_shape phases = head_shape (tail_shapes (tail_shapes (tail_shapes (reading_shapes phases))))
 
+abbrev pub show_shape : ValueParser → Shape
+show_shape phases = head_shape (tail_shapes (tail_shapes (tail_shapes (tail_shapes (reading_shapes phases)))))
+
 abbrev pub help_of : ValueParser → Shape
-help_of phases = head_shape (tail_shapes (tail_shapes (tail_shapes (tail_shapes (reading_shapes phases)))))
+help_of phases = head_shape (tail_shapes (tail_shapes (tail_shapes (tail_shapes (tail_shapes (reading_shapes phases))))))

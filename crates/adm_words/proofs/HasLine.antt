@@ -17,9 +17,9 @@ use Rattle.adm_types.specs.declared.seasons.Phase.{Phase}
 use Rattle.adm_types.specs.declared.seasons.Phase.TheVariants.{Primary, Secondary}
 use Rattle.adm_words.specs.Program.{IsPhases, program_app}
 use Rattle.adm_words.specs.Lines.{IsLine, init_line, do_line, what_if_line, phase_of, year_of, init_of, init_in, do_in, what_if_line_in, holidays_in, line_in}
-use Rattle.adm_words.proofs.Arguments.{HasValue, taken, taken_uses, wanted, given_if, init_shape, do_shape, what_if_shape, import_shape, serve_shape, letter_shape, list_shape, report_shape, pairs_shape, help_of}
+use Rattle.adm_words.proofs.Arguments.{HasValue, taken, taken_uses, wanted, given_if, init_shape, do_shape, what_if_shape, import_shape, serve_shape, letter_shape, list_shape, report_shape, pairs_shape, show_shape, help_of}
 use Rattle.adm_words.proofs.FoundRows.{both_empty, either_false}
-use Rattle.adm_words.proofs.PairLines.{import_there, letter_there, list_there, report_there, pairs_there}
+use Rattle.adm_words.proofs.PairLines.{import_there, letter_there, list_there, report_there, pairs_there, show_there}
 use Rattle.adm_words.proofs.Ranges.{number_named}
 use Rattle.adm_words.proofs.ServeLine.{serve_there}
 use Rattle.clap.specs.Takes.{is_given}
@@ -119,29 +119,30 @@ entered_line phases plain name rows None no_help none found = absurd (none_is_so
     none_is_some e = true≢false (sym (ap is_some e))
 entered_line phases plain name rows (Some q) no_help none found =
     go (named_as (codes "init")) (named_as (codes "do")) (named_as (codes "what-if")) (named_as (codes "import")) (named_as (codes "serve"))
-    (named_as (codes "letter")) (named_as (codes "list")) (named_as (codes "round-report")) (named_as (codes "pairs")) (named_as (codes "help")) (flipped q.0 (codes "help") no_help) none found
+    (named_as (codes "letter")) (named_as (codes "list")) (named_as (codes "round-report")) (named_as (codes "pairs")) (named_as (codes "show")) (named_as (codes "help")) (flipped q.0 (codes "help") no_help) none found
   where
     named_as : Text → Bool
     named_as text = bytes_eq text q.0 || false
 
-    chosen : Bool → Bool → Bool → Bool → Bool → Bool → Bool → Bool → Bool → Bool → Option Shape
-    chosen a b c d e f g h i j = cond a (Some (init_shape phases)) (cond b (Some (do_shape phases)) (cond c (Some (what_if_shape phases)) (
+    chosen : Bool → Bool → Bool → Bool → Bool → Bool → Bool → Bool → Bool → Bool → Bool → Option Shape
+    chosen a b c d e f g h i j k = cond a (Some (init_shape phases)) (cond b (Some (do_shape phases)) (cond c (Some (what_if_shape phases)) (
         cond d (Some (import_shape phases)) (cond e (Some (serve_shape phases)) (cond f (Some (letter_shape phases)) (cond g (Some (list_shape phases)) (
-        cond h (Some (report_shape phases)) (cond i (Some (pairs_shape phases)) (cond j (Some (help_of phases)) None)))))))))
+        cond h (Some (report_shape phases)) (cond i (Some (pairs_shape phases)) (cond j (Some (show_shape phases)) (cond k (Some (help_of phases)) None))))))))))
 
-    go : (a b c d e f g h i j : Bool) → j ≡ false → option_map_or (λ s. level_fault s [] nothing_held q.1 false []) (chosen a b c d e f g h i j) [] ≡ []
-        → option_map (λ s. rows_at s q.1) (chosen a b c d e f g h i j) ≡ Some (name, rows) → IsLine (line_in name rows)
-    go true b c d e f g h i j apart well is = subst LineOf is (init_there phases plain q.1 well)
-    go false true c d e f g h i j apart well is = subst LineOf is (do_there phases q.1 well)
-    go false false true d e f g h i j apart well is = subst LineOf is (what_if_there phases q.1 well)
-    go false false false true e f g h i j apart well is = subst LineOf is (import_there phases q.1 well)
-    go false false false false true f g h i j apart well is = subst LineOf is (serve_there phases q.1 well)
-    go false false false false false true g h i j apart well is = subst LineOf is (letter_there phases q.1 well)
-    go false false false false false false true h i j apart well is = subst LineOf is (list_there phases q.1 well)
-    go false false false false false false false true i j apart well is = subst LineOf is (report_there phases q.1 well)
-    go false false false false false false false false true j apart well is = subst LineOf is (pairs_there phases q.1 well)
-    go false false false false false false false false false true apart well is = absurd (true≢false apart)
-    go false false false false false false false false false false apart well is = absurd (true≢false (sym (ap is_some is)))
+    go : (a b c d e f g h i j k : Bool) → k ≡ false → option_map_or (λ s. level_fault s [] nothing_held q.1 false []) (chosen a b c d e f g h i j k) [] ≡ []
+        → option_map (λ s. rows_at s q.1) (chosen a b c d e f g h i j k) ≡ Some (name, rows) → IsLine (line_in name rows)
+    go true b c d e f g h i j k apart well is = subst LineOf is (init_there phases plain q.1 well)
+    go false true c d e f g h i j k apart well is = subst LineOf is (do_there phases q.1 well)
+    go false false true d e f g h i j k apart well is = subst LineOf is (what_if_there phases q.1 well)
+    go false false false true e f g h i j k apart well is = subst LineOf is (import_there phases q.1 well)
+    go false false false false true f g h i j k apart well is = subst LineOf is (serve_there phases q.1 well)
+    go false false false false false true g h i j k apart well is = subst LineOf is (letter_there phases q.1 well)
+    go false false false false false false true h i j k apart well is = subst LineOf is (list_there phases q.1 well)
+    go false false false false false false false true i j k apart well is = subst LineOf is (report_there phases q.1 well)
+    go false false false false false false false false true j k apart well is = subst LineOf is (pairs_there phases q.1 well)
+    go false false false false false false false false false true k apart well is = subst LineOf is (show_there phases q.1 well)
+    go false false false false false false false false false false true apart well is = absurd (true≢false apart)
+    go false false false false false false false false false false false apart well is = absurd (true≢false (sym (ap is_some is)))
 
 -- arguments that clap accepts are those of a line
 pub has_line : (phases : ValueParser) → IsPhases phases → (arguments : List Text) (name : Text) (rows : List Row) → fault_of (program_app phases) arguments ≡ []

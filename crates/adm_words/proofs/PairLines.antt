@@ -6,8 +6,8 @@ use Rattle.clap.specs.Walk.{Text, first_of, rows_after, nothing_held}
 use Rattle.clap.specs.Takes.{is_given}
 use Rattle.clap.specs.declared.builder.value_parser.ValueParser.{ValueParser}
 use Rattle.clap.specs.declared.builder.value_parser.ValueParser.TheVariants as parser
-use Rattle.adm_words.specs.Lines.{Line, IsLine, import_line, letter_line, list_line, report_line, pairs_line, file_and_argument, import_in, letter_in, list_in, report_in, pairs_in}
-use Rattle.adm_words.proofs.Arguments.{taken, taken_uses, wanted, given_if, import_shape, letter_shape, list_shape, report_shape, pairs_shape}
+use Rattle.adm_words.specs.Lines.{Line, IsLine, import_line, letter_line, list_line, report_line, pairs_line, show_line, file_and_argument, import_in, letter_in, list_in, report_in, pairs_in, show_in}
+use Rattle.adm_words.proofs.Arguments.{taken, taken_uses, wanted, given_if, import_shape, letter_shape, list_shape, report_shape, pairs_shape, show_shape}
 use Rattle.adm_words.proofs.FoundRows.{either_false}
 use Rattle.adm_words.proofs.Faultless.{level_good, given_first}
 
@@ -103,4 +103,18 @@ pairs_there phases arguments none =
     let missing = either_false (not (is_given (codes "file") rows)) _ (wanted _ file.1) in
     let value = given_first file_rule rows file.0 (given_if _ missing.0) in
     let line : Text → Line = λ f. pairs_line f (first_of (codes "school") rows) in
+    (line value.0, ap (option_map line) value.1)
+
+pub show_there : (phases : ValueParser) (arguments : List Text) → level_fault (show_shape phases) [] nothing_held arguments false [] ≡ []
+    → IsLine (show_in (rows_after (show_shape phases).rules [] arguments))
+show_there phases arguments none =
+    let rows = rows_after (show_shape phases).rules [] arguments in
+    let file_rule = taken (codes "file") 1 parser.String in
+    let file = level_good (show_shape phases) file_rule (inl refl, (inr refl, (inr refl, tt))) (taken_uses (codes "file") 1 parser.String refl) (
+      refl,
+      (refl, (refl, tt)),
+    ) [] arguments false [] none in
+    let missing = either_false (not (is_given (codes "file") rows)) _ (wanted _ file.1) in
+    let value = given_first file_rule rows file.0 (given_if _ missing.0) in
+    let line : Text → Line = λ f. show_line f (first_of (codes "draw") rows) in
     (line value.0, ap (option_map line) value.1)

@@ -12,7 +12,7 @@ use Rattle.adm_words.specs.declared.actions.Action.{Action}
 use Rattle.adm_words.specs.declared.faults.WordsFault.{WordsFault}
 use Rattle.adm_words.specs.declared.faults.WordsFault.TheVariants.{Usage, BadDate, BadWord, Memory}
 use Rattle.adm_words.specs.Program.{IsPhases, program_app}
-use Rattle.adm_words.specs.Lines.{Line, init_line, do_line, what_if_line, import_line, serve_line, letter_line, list_line, report_line, pairs_line, Reads, ReadsLine, ReadsArguments, line_in}
+use Rattle.adm_words.specs.Lines.{Line, init_line, do_line, what_if_line, import_line, serve_line, letter_line, list_line, report_line, pairs_line, show_line, Reads, ReadsLine, ReadsArguments, line_in}
 
 pub is_free : (phases : ValueParser) → IsPhases phases → is_simple_and_free (program_app phases) ≡ true
 unfolding clap_on_literals
@@ -52,6 +52,7 @@ no_words (letter_line file word) e h = h
 no_words (list_line file word) e h = h
 no_words (report_line file word) e h = h
 no_words (pairs_line file word) e h = h
+no_words (show_line file word) e h = h
 
 pub reads_from : (phases : ValueParser) (arguments : List Text) (r : Result Action WordsFault) (name : Text) (rows : List Row) → IsPhases phases
     → fault_of (program_app phases) arguments ≡ [] → subcommand_of (program_app phases) arguments ≡ Some (name, rows) → ReadsLine (line_in name rows) r → ReadsArguments arguments r

@@ -30,6 +30,7 @@ pub data Line : Type 0 where
   list_line : Text → Text → Line
   report_line : Text → Text → Line
   pairs_line : Text → Option Text → Line
+  show_line : Text → Option Text → Line
 
 -- ---- the values of arguments
 
@@ -69,6 +70,11 @@ connections_of text = number_from 1 1000000 text
 abbrev pub school_named : Option Text → Option (Option Text)
 school_named None = Some None
 school_named (Some argument) = option_map Some (code_of argument)
+
+-- the number of a draw, if one is written
+abbrev pub draw_named : Option Text → Option (Option ℕ)
+draw_named None = Some None
+draw_named (Some argument) = option_map Some (plain_of argument)
 
 -- ---- the lines
 
@@ -147,11 +153,16 @@ report_in rows = file_and_argument report_line (file_in rows) (first_of (codes "
 abbrev pub pairs_in : List Row → Option Line
 pairs_in rows = option_map (λ file. pairs_line file (first_of (codes "school") rows)) (file_in rows)
 
+-- a file, and the number of a draw or none
+abbrev pub show_in : List Row → Option Line
+show_in rows = option_map (λ file. show_line file (first_of (codes "draw") rows)) (file_in rows)
+
 -- the lines that read a register, by the name of the subcommand and its entries
 abbrev pub reading_in : Text → List Row → Option Line
 reading_in name rows =
     if bytes_eq name (codes "letter") then letter_in rows else (if bytes_eq name (codes "list") then list_in rows else (
-    if bytes_eq name (codes "round-report") then report_in rows else (if bytes_eq name (codes "pairs") then pairs_in rows else None)))
+    if bytes_eq name (codes "round-report") then report_in rows else (if bytes_eq name (codes "pairs") then pairs_in rows else (
+    if bytes_eq name (codes "show") then show_in rows else None))))
 
 -- each line; no other name is that of one
 abbrev pub line_in : Text → List Row → Option Line
@@ -198,11 +209,13 @@ Reads (letter_line file argument) (Ok (action.Letter f child)) = (f.now ≡ file
 Reads (list_line file argument) (Ok (action.List f school)) = (f.now ≡ file) × (code_of argument ≡ Some school)
 Reads (report_line file argument) (Ok (action.RoundReport f round)) = (f.now ≡ file) × (plain_of argument ≡ Some round)
 Reads (pairs_line file argument) (Ok (action.Pairs f school)) = (f.now ≡ file) × (school_named argument ≡ Some school)
+Reads (show_line file argument) (Ok (action.Show f draw)) = (f.now ≡ file) × (draw_named argument ≡ Some draw)
 Reads (init_line file phase year texts) (Err BadDate) = HasNoDay texts
 Reads (letter_line file argument) (Err BadWord) = child_named argument ≡ None
 Reads (list_line file argument) (Err BadWord) = code_of argument ≡ None
 Reads (report_line file argument) (Err BadWord) = plain_of argument ≡ None
 Reads (pairs_line file argument) (Err BadWord) = school_named argument ≡ None
+Reads (show_line file argument) (Err BadWord) = draw_named argument ≡ None
 Reads line (Err Memory) = Unit {0}
 Reads line result = ⊥
 

@@ -53,4 +53,9 @@ pub enum Action<'a> {
         file: &'a str,
         school: Option<SchoolCode>,
     },
+    /// Print the register as JSON, or the draw of this number with its lots.
+    Show {
+        file: &'a str,
+        draw: Option<u32>,
+    },
 }

@@ -10,7 +10,7 @@ use crate::help;
 use crate::joining::with;
 use crate::subcommands::{
     IMPORT, LETTER, LIST, ROUND_REPORT, do_command, init_command, pair_command, pairs_command,
-    serve_command, what_if_command,
+    serve_command, show_command, what_if_command,
 };
 use clap::Command;
 use std::alloc::{AllocError, Global};
@@ -52,7 +52,8 @@ fn with_readers<'a>(
     let program = with(program, pair_command(alloc, &LETTER));
     let program = with(program, pair_command(alloc, &LIST));
     let program = with(program, pair_command(alloc, &ROUND_REPORT));
-    with(program, pairs_command(alloc))
+    let program = with(program, pairs_command(alloc));
+    with(program, show_command(alloc))
 }
 
 /// The program without its subcommands.

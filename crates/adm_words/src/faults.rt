@@ -15,7 +15,7 @@ pub enum WordsFault {
     /// A holiday is no day.
     #[error("BadDate")]
     BadDate,
-    /// A child's number, a school's code or a round's number is none.
+    /// A child's number, a school's code, or the number of a round or a draw is none.
     #[error("BadWord")]
     BadWord,
     /// Memory ran out.

@@ -46,9 +46,9 @@ pub(crate) const PROGRAM: &str = with_store!(
   admissions letter reg.db 2
 
 The help of each subcommand has an example, as in `admissions do --help`. Those
-of init, do, import, what-if, pairs, round-report, letter, list and serve make
-up one season, in this order. The manual page, `man admissions`, has all of
-this. HANDBOOK.md takes an office through a season; it is in
+of init, do, import, what-if, pairs, round-report, letter, list, show and serve
+make up one season, in this order. The manual page, `man admissions`, has all
+of this. HANDBOOK.md takes an office through a season; it is in
 share/doc/admissions below where this was installed."#,
     "\n  3  some line or row was refused or unreadable, or ran out of memory"
 );
@@ -141,4 +141,15 @@ pub(crate) const PAIRS: &str = with_statuses!(
   admissions pairs reg.db
   echo '{"cmd":"round","draw":1,"day":"2025-03-03","lots":[3,1,2,4,2,1,3]}' |
     admissions do reg.db"#
+);
+
+pub(crate) const SHOW: &str = with_statuses!(
+    r#"The register is printed as one line of JSON, which has no lots and no imported
+rows; with --draw N one draw is, with its lots. Its members are in FORMATS.md,
+under 'The register as JSON', in share/doc/admissions below where this was
+installed.
+
+Example, after the first round:
+  admissions show reg.db
+  admissions show reg.db --draw 1"#
 );

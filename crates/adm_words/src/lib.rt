@@ -12,6 +12,7 @@ mod pairs;
 mod reading;
 mod rules;
 mod serving;
+mod showing;
 mod subcommands;
 
 pub use actions::Action;

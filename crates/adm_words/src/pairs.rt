@@ -5,6 +5,7 @@ ghost use Rattle.adm_types.specs.Fields.{child_named};
 ghost use Rattle.adm_words.specs.Lines.{IsLine, ReadsLine, ReadsArgument, IsInRange, school_named, import_in, letter_in, list_in, report_in, pairs_in, reading_in};
 
 use crate::lines::text_of;
+use crate::showing::show;
 use crate::{Action, WordsFault};
 use adm_types::{ChildNo, SchoolCode, plain};
 use clap::ArgMatches;
@@ -25,7 +26,7 @@ pub(crate) fn import<'a>(found: &ArgMatches<'a>) -> Result<Action<'a>, WordsFaul
 }
 
 /// What an argument is read as; BadWord where it is not of its kind.
-fn value<T>(read: Option<T>) -> Result<T, WordsFault>
+pub(crate) fn value<T>(read: Option<T>) -> Result<T, WordsFault>
     ensures { ReadsArgument read result }
 {
     read.ok_or(WordsFault::BadWord)
@@ -123,6 +124,8 @@ pub(crate) fn reading<'a>(name: &str, found: &ArgMatches<'a>) -> Result<Action<'
         report(found)
     } else if name == "pairs" {
         pairs(found)
+    } else if name == "show" {
+        show(found)
     } else {
         unreachable!()
     }

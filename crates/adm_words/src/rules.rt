@@ -1,7 +1,7 @@
 // The arguments of the command line: the rule by which each is read, and its line in the help.
 ghost use Rattle.clap.specs.declared.builder.value_parser.ValueParser.{ValueParser};
 ghost use Rattle.adm_words.specs.Building.{IsArg};
-ghost use Rattle.adm_words.specs.Program.{IsPhases, required_rule, file_rule, phase_rule, holiday_rule, year_rule, port_rule, count_rule, school_rule};
+ghost use Rattle.adm_words.specs.Program.{IsPhases, required_rule, file_rule, phase_rule, holiday_rule, year_rule, port_rule, count_rule, school_rule, draw_rule};
 
 use clap::{Arg, ArgAction, value_parser};
 use std::alloc::Global;
@@ -73,6 +73,17 @@ pub(crate) fn school<'a>(alloc: Global) -> Arg<'a>
     Arg::new(alloc, "school")
         .value_name("SCHOOL")
         .help("The code of the school of a fill; the next round if left out")
+        .action(ArgAction::Set)
+}
+
+#[tactic(auto, unfolding(crate::specs::Building::IsArg))]
+pub(crate) fn draw<'a>(alloc: Global) -> Arg<'a>
+    ensures { IsArg draw_rule result }
+{
+    Arg::new(alloc, "draw")
+        .long("draw")
+        .value_name("N")
+        .help("The number of a draw, which is printed with its lots")
         .action(ArgAction::Set)
 }
 

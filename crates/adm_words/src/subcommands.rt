@@ -2,11 +2,11 @@
 ghost use Rattle.clap.specs.Words.{new_app, with_rule};
 ghost use Rattle.clap.specs.declared.builder.value_parser.ValueParser.{ValueParser};
 ghost use Rattle.adm_words.specs.Building.{Builds};
-ghost use Rattle.adm_words.specs.Program.{IsPhases, file_rule, pair_app, init_app, do_app, what_if_app, serve_app, pairs_app};
+ghost use Rattle.adm_words.specs.Program.{IsPhases, file_rule, pair_app, init_app, do_app, what_if_app, serve_app, pairs_app, show_app};
 
 use crate::help;
 use crate::joining::{named, with_arg};
-use crate::rules::{count, file, holiday, phase, port, required, school, year};
+use crate::rules::{count, draw, file, holiday, phase, port, required, school, year};
 use clap::Command;
 use std::alloc::{AllocError, Global};
 
@@ -127,5 +127,15 @@ pub(crate) fn pairs_command<'a>(alloc: Global) -> Result<Command<'a>, AllocError
     with_arg(
         file_command(alloc, "pairs", about, help::PAIRS, REGISTER),
         school(alloc),
+    )
+}
+
+pub(crate) fn show_command<'a>(alloc: Global) -> Result<Command<'a>, AllocError>
+    ensures { Builds show_app result }
+{
+    let about = "Prints the register or a draw as JSON";
+    with_arg(
+        file_command(alloc, "show", about, help::SHOW, REGISTER),
+        draw(alloc),
     )
 }

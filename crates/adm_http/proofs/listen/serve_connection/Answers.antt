@@ -7,6 +7,6 @@ pub returns : goal.returns
 returns g c = (
   g.N.Connection.Input.remaining c.answer_request.new.reader,
   [],
-  unanswered g.A.RequestHandler.runs g.A.RequestHandler.shows _ _ _ _ (Some []) (Some []) c.in-Err.fault c.in-Err.ensures.err refl,
+  unanswered g.A.RequestHandler.runs g.A.RequestHandler.shows _ (Some []) (Some []) c.in-Err.fault c.in-Err.ensures.err refl,
   c.close.ensures,
 )

@@ -45,6 +45,71 @@ add-requires-6 c =
     let f = c.in_ok-add-5.ensures in
     rw (f.1, e.1, d.1, b.1, a.1, c.new-router.ensures) refl
 
+pub add-requires-7 : goal.add-requires-7
+unfolding matchit_on_literals
+add-requires-7 c =
+    let a = c.in_ok-add.ensures in
+    let b = c.in_ok-add-2.ensures in
+    let d = c.in_ok-add-3.ensures in
+    let e = c.in_ok-add-4.ensures in
+    let f = c.in_ok-add-5.ensures in
+    let h = c.in_ok-add-6.ensures in
+    rw (h.1, f.1, e.1, d.1, b.1, a.1, c.new-router.ensures) refl
+
+pub add-requires-8 : goal.add-requires-8
+unfolding matchit_on_literals
+add-requires-8 c =
+    let a = c.in_ok-add.ensures in
+    let b = c.in_ok-add-2.ensures in
+    let d = c.in_ok-add-3.ensures in
+    let e = c.in_ok-add-4.ensures in
+    let f = c.in_ok-add-5.ensures in
+    let h = c.in_ok-add-6.ensures in
+    let i = c.in_ok-add-7.ensures in
+    rw (i.1, h.1, f.1, e.1, d.1, b.1, a.1, c.new-router.ensures) refl
+
+pub add-requires-9 : goal.add-requires-9
+unfolding matchit_on_literals
+add-requires-9 c =
+    let a = c.in_ok-add.ensures in
+    let b = c.in_ok-add-2.ensures in
+    let d = c.in_ok-add-3.ensures in
+    let e = c.in_ok-add-4.ensures in
+    let f = c.in_ok-add-5.ensures in
+    let h = c.in_ok-add-6.ensures in
+    let i = c.in_ok-add-7.ensures in
+    let j = c.in_ok-add-8.ensures in
+    rw (j.1, i.1, h.1, f.1, e.1, d.1, b.1, a.1, c.new-router.ensures) refl
+
+pub add-requires-10 : goal.add-requires-10
+unfolding matchit_on_literals
+add-requires-10 c =
+    let a = c.in_ok-add.ensures in
+    let b = c.in_ok-add-2.ensures in
+    let d = c.in_ok-add-3.ensures in
+    let e = c.in_ok-add-4.ensures in
+    let f = c.in_ok-add-5.ensures in
+    let h = c.in_ok-add-6.ensures in
+    let i = c.in_ok-add-7.ensures in
+    let j = c.in_ok-add-8.ensures in
+    let k = c.in_ok-add-9.ensures in
+    rw (k.1, j.1, i.1, h.1, f.1, e.1, d.1, b.1, a.1, c.new-router.ensures) refl
+
+pub add-requires-11 : goal.add-requires-11
+unfolding matchit_on_literals
+add-requires-11 c =
+    let a = c.in_ok-add.ensures in
+    let b = c.in_ok-add-2.ensures in
+    let d = c.in_ok-add-3.ensures in
+    let e = c.in_ok-add-4.ensures in
+    let f = c.in_ok-add-5.ensures in
+    let h = c.in_ok-add-6.ensures in
+    let i = c.in_ok-add-7.ensures in
+    let j = c.in_ok-add-8.ensures in
+    let k = c.in_ok-add-9.ensures in
+    let l = c.in_ok-add-10.ensures in
+    rw (l.1, k.1, j.1, i.1, h.1, f.1, e.1, d.1, b.1, a.1, c.new-router.ensures) refl
+
 pub returns : goal.returns
 unfolding matchit_on_literals all_routes
 returns c =
@@ -54,4 +119,9 @@ returns c =
     let e = c.in_ok-add-4.ensures in
     let f = c.in_ok-add-5.ensures in
     let h = c.in_ok-add-6.ensures in
-    rw (h.1, f.1, e.1, d.1, b.1, a.1, c.new-router.ensures) refl
+    let i = c.in_ok-add-7.ensures in
+    let j = c.in_ok-add-8.ensures in
+    let k = c.in_ok-add-9.ensures in
+    let l = c.in_ok-add-10.ensures in
+    let m = c.in_ok-add-11.ensures in
+    rw (m.1, l.1, k.1, j.1, i.1, h.1, f.1, e.1, d.1, b.1, a.1, c.new-router.ensures) refl

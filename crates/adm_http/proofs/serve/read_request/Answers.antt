@@ -1,4 +1,5 @@
 use Rattle.std.proofs.Common.{◌≡◌, ◌<◌, ◌≤◌, ◌||◌, Bool, true, false, length, inl, inr, ⊎_elim, arith}
+use Rattle.std.proofs.lemmas.Result.{err_from_is_err_and}
 use Rattle.adm_http.specs.declared.heads.Judgement.TheVariants.{Whole, Malformed, Unfinished}
 use Rattle.adm_http.proofs.StepLemmas.{consumed_on, judged_same, head_goes_on, still}
 use Rattle.adm_http.proofs.serve.read_request.Goals as goal
@@ -10,29 +11,31 @@ kept false d e = e
 
 -- the head is whole
 
-pub returns-in-Ok-clause-ok : goal.returns-in-Ok-clause-ok
-returns-in-Ok-clause-ok g c =
-    let more = c.in-Ok.ensures.bytes in
+pub returns-in-Whole-clause-ok : goal.returns-in-Whole-clause-ok
+returns-in-Whole-clause-ok g c =
+    let more = c.in_ok-read_body-in-Whole.ensures.bytes in
     let judged = rw c.deref.ensures.value at c.in-Whole.ensures.judged in
     let inside = rw c.deref.ensures.value at c.in-Whole.ensures.inside in
     let same = judged_same c.loop-len.input.items more.0 c.read_body.new.input.items c.in-Whole.len c.in-Whole.verdict judged inside more.2 in
     record {
       consumed = consumed_on _ _ _ c.loop-len.input.items more.0 _ c.loop-len.invariant.consumed more.1 more.2;
       near = more.3;
-      stopped = ⊎_elim (λ body. inl (Whole c.in-Whole.len c.in-Whole.verdict, same.0, body)) (λ end. inr end) c.in-Ok.ensures.stopped;
+      stopped = ⊎_elim (λ body. inl (Whole c.in-Whole.len c.in-Whole.verdict, same.0, body)) (λ end. inr end) c.in_ok-read_body-in-Whole.ensures.stopped;
     }
 
-pub returns-in-Ok-clause-judged : goal.returns-in-Ok-clause-judged
-returns-in-Ok-clause-judged g c =
+pub returns-in-Whole-clause-judged : goal.returns-in-Whole-clause-judged
+returns-in-Whole-clause-judged g c =
     let judged = rw c.deref.ensures.value at c.in-Whole.ensures.judged in
     let inside = rw c.deref.ensures.value at c.in-Whole.ensures.inside in
-    let more = c.in-Ok.ensures.bytes in
+    let more = c.in_ok-read_body-in-Whole.ensures.bytes in
     judged_same c.loop-len.input.items more.0 c.read_body.new.input.items c.in-Whole.len c.in-Whole.verdict judged inside more.2
 
-pub returns-in-Err-clause-err : goal.returns-in-Err-clause-err
-returns-in-Err-clause-err g c =
-    let less = c.in-Err.ensures.bytes in (
-      c.in-Err.ensures.stopped,
+pub returns-in_err-read_body-in-Whole-clause-err : goal.returns-in_err-read_body-in-Whole-clause-err
+returns-in_err-read_body-in-Whole-clause-err g c =
+    let less = c.in_err-read_body-in-Whole.ensures.bytes in
+    let p = err_from_is_err_and c.from_residual.result c.from_residual.ensures.1 in
+    rw (p.1, p.2) (
+      c.in_err-read_body-in-Whole.ensures.stopped,
       (
         c.read_body.new.input.items,
         record { consumed = consumed_on _ _ _ c.loop-len.input.items less.0 _ c.loop-len.invariant.consumed less.1 less.2; near = less.3 },
@@ -77,33 +80,35 @@ read_to-requires-clause-on g c =
 
 pub loop-len-preserved : goal.loop-len-preserved
 loop-len-preserved g c =
-    let more = c.in-Ok-true.ensures.bytes in
+    let more = c.in_ok-is_reached-in-Unfinished.ensures.bytes in
     record {
       consumed = consumed_on _ _ _ c.loop-len.input.items more.0 _ c.loop-len.invariant.consumed more.1 more.2;
       near = more.3;
-      unfailed = still (g.R.Input.has_failed c.loop-len.reader) _ _ c.in-Ok-true.ensures.reader c.loop-len.invariant.unfailed;
+      unfailed = still (g.R.Input.has_failed c.loop-len.reader) _ _ c.in_ok-is_reached-in-Unfinished.ensures.reader c.loop-len.invariant.unfailed;
     }
 
-pub returns-in-Ok-false-clause-ok : goal.returns-in-Ok-false-clause-ok
-returns-in-Ok-false-clause-ok g c =
-    let more = c.in-Ok-false.ensures.bytes in
-    let end = rw c.in-Ok-false.field-0-test at c.in-Ok-false.ensures.reached in
+pub returns-then-not-is_reached-clause-ok : goal.returns-then-not-is_reached-clause-ok
+returns-then-not-is_reached-clause-ok g c =
+    let more = c.in_ok-is_reached-in-Unfinished.ensures.bytes in
+    let end = rw c.if-not-is_reached.true at c.in_ok-is_reached-in-Unfinished.ensures.reached in
     record {
       consumed = consumed_on _ _ _ c.loop-len.input.items more.0 _ c.loop-len.invariant.consumed more.1 more.2;
       near = more.3;
       stopped = inr end;
     }
 
-pub returns-in-Ok-false-clause-judged : goal.returns-in-Ok-false-clause-judged
-returns-in-Ok-false-clause-judged g c =
-    let judged = rw c.deref-in-Ok-false.ensures.value at c.judge-judgement.ensures.judged in
-    let inside = rw c.deref-in-Ok-false.ensures.value at c.judge-judgement.ensures.inside in
+pub returns-then-not-is_reached-clause-judged : goal.returns-then-not-is_reached-clause-judged
+returns-then-not-is_reached-clause-judged g c =
+    let judged = rw c.deref-then-not-is_reached.ensures.value at c.judge-judgement.ensures.judged in
+    let inside = rw c.deref-then-not-is_reached.ensures.value at c.judge-judgement.ensures.inside in
     (judged, inside)
 
-pub returns-in-Err-read_to-clause-err : goal.returns-in-Err-read_to-clause-err
-returns-in-Err-read_to-clause-err g c =
-    let less = c.in-Err-read_to.ensures.bytes in (
-      c.in-Err-read_to.ensures.reached,
+pub returns-in_err-is_reached-in-Unfinished-clause-err : goal.returns-in_err-is_reached-in-Unfinished-clause-err
+returns-in_err-is_reached-in-Unfinished-clause-err g c =
+    let less = c.in_err-is_reached-in-Unfinished.ensures.bytes in
+    let p = err_from_is_err_and c.from_residual-in_err-is_reached-in-Unfinished.result c.from_residual-in_err-is_reached-in-Unfinished.ensures.1 in
+    rw (p.1, p.2) (
+      c.in_err-is_reached-in-Unfinished.ensures.reached,
       (
         c.read_to.new.input.items,
         record { consumed = consumed_on _ _ _ c.loop-len.input.items less.0 _ c.loop-len.invariant.consumed less.1 less.2; near = less.3 },

@@ -1,6 +1,6 @@
 use Rattle.std.proofs.lemmas.Result.{IfOk-weaker}
 use Rattle.std.proofs.Common.{◌∷◌, []}
-use Rattle.adm_letters.specs.Days.{day_text}
+use Rattle.adm_days.specs.Days.{day_text}
 use Rattle.adm_letters.specs.LetterLines.{reminded_line, withdrawal_line}
 use Rattle.adm_letters.proofs.Joined.{then_lines}
 use Rattle.adm_letters.proofs.letters.put_reminded.Goals as goal

@@ -1,7 +1,7 @@
 use Rattle.std.proofs.Common.{◌≡◌, ℕ, List, [], ◌∷◌, ◌++◌, map}
 use Rattle.adm_types.specs.declared.draws.Draw.{Draw}
 use Rattle.adm_letters.specs.Lines.{lines_text}
-use Rattle.adm_letters.specs.Days.{day_text}
+use Rattle.adm_days.specs.Days.{day_text}
 use Rattle.adm_letters.specs.Reports.{report_head, outcome_text, report_counts, report_lines}
 use Rattle.adm_letters.proofs.Joined.{after_lines}
 use Rattle.adm_letters.proofs.reports.report.Goals as goal

@@ -1,5 +1,0 @@
-use Rattle.adm_letters.proofs.Dates.{text_is}
-use Rattle.adm_letters.proofs.days.day_text.Goals as goal
-
-pub returns : goal.returns
-returns c = text_is c.text.result.bytes c.args.day c.text.ensures

@@ -1,0 +1,9 @@
+pub mod Writing
+pub mod Waits
+pub mod Left
+pub mod Children
+pub mod Schools
+pub mod Draws
+pub mod Season
+pub mod Register
+pub mod Answers

@@ -1,0 +1,19 @@
+// One JSON document of a register, without its lots, and one of each draw with its lots.
+//! One JSON document that says everything of a register but its lots and its imported rows, and one
+//! of a draw with its lots.
+#![tactic(auto)]
+
+mod children;
+mod draws;
+mod fault;
+mod kinds;
+mod members;
+mod places;
+mod preferences;
+mod registers;
+mod schools;
+mod season;
+mod waits;
+
+pub use fault::ViewFault;
+pub use registers::{draw_text, register_text};

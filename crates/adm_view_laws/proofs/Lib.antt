@@ -1,0 +1,9 @@
+pub mod Entries
+pub mod Waiting
+pub mod Values
+pub mod DeterminedMaps
+pub mod DeterminedChildren
+pub mod DeterminedSchools
+pub mod DeterminedDraws
+pub mod DeterminedSeason
+pub mod Determined
