@@ -78,7 +78,7 @@ class Counted:
 
 @contextlib.contextmanager
 def counting(arguments, at):
-    """The arguments that run a program under valgrind, and a function that then returns what was counted in the function `at`."""
+    """The arguments that run a program under valgrind, and a function that then returns what was counted in the functions `at`, with blanks between them."""
     with tempfile.NamedTemporaryFile() as data:
-        options = [f"--toggle-collect={at}", "--compress-strings=no", "--compress-pos=no", f"--callgrind-out-file={data.name}"]
+        options = [*(f"--toggle-collect={it}" for it in at.split()), "--compress-strings=no", "--compress-pos=no", f"--callgrind-out-file={data.name}"]
         yield ["valgrind", "-q", "--tool=callgrind", *options, *arguments], lambda: Counted(data.name)
