@@ -79,7 +79,10 @@ def main(given: argparse.Namespace) -> int:
                 doubtful.append(f"{place}: {found.doubt}")
             if found.rows is not None:
                 written = kept(found.rows, given.rows, printed)
-                doubtful.append(f"{place}: an import was done after {printed} of the printed commands: import its rows there{written}")
+                doubtful.append(
+                    f"{place}: an import was done after {printed} of the printed commands: "
+                    f"import its rows there{written}"
+                )
             count += report(doubtful)
             if found.command is not None:
                 sys.stdout.buffer.write(found.command + b"\n")
@@ -127,8 +130,8 @@ def entries(path: pathlib.Path) -> Iterator[tuple[str, bytes]]:
 
 @dataclasses.dataclass
 class Entry:
-    """The moment of an entry; its command on one line, or the rows of its import, if it has one that
-    was done; and what to look at, if it has one that may be done or not.
+    """The moment of an entry; its command on one line, or the rows of its import, if it has one
+    that was done; and what to look at, if it has one that may be done or not.
     """
 
     moment: datetime.datetime
@@ -148,7 +151,8 @@ def read(entry: bytes) -> Entry:
         # (where the queue is full, nothing was passed on: the site answers for the desk)
         is_busy = (status, line.get("desk")) == ("503", "502")
         is_doubtful = status.startswith("5") and not is_busy
-        return Entry(moment, doubt=f"{what} ended with the status {status}: {LOOK}" if is_doubtful else None)
+        doubt = f"{what} ended with the status {status}: {LOOK}" if is_doubtful else None
+        return Entry(moment, doubt=doubt)
     if line["target"] == "/import":
         return Entry(moment, rows=line["body"].encode("utf-8", "surrogateescape"))
     command = line["body"].translate(BETWEEN_TOKENS)
