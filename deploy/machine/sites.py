@@ -92,6 +92,7 @@ def site_text(model: str, name: str, host: str, machine: Machine) -> str:
     text = parts(model)[1]
     for old, new in (
         (r"admissions\.example\b", host),
+        (r"\bregister-name\b", name),
         ("/etc/admissions/", f"/etc/admissions/{name}/"),
         (r"/run/admissions/desk\.sock", f"/run/admissions/{name}.sock"),
         (r"/run/admissions-index\b", f"/run/admissions-index/{name}"),

@@ -5,8 +5,7 @@
 import { MAY_BE_DONE, Shown } from "./desk.js";
 import { KEPT, keepList, keptList } from "./drafts.js";
 import { button, childLink, element, field, isFinding, say, schoolLink } from "./elements.js";
-import { matches } from "./finding.js";
-import { hasIndex, letterOf, nameOf } from "./register.js";
+import { childNow, isRead, matches, nameOf, readNow } from "./register.js";
 import { isSure, send } from "./sending.js";
 import { column, table } from "./tables.js";
 import { IS_FINAL, isolated, placeInWords, plural } from "./words.js";
@@ -44,12 +43,12 @@ function setOpen(entry) {
 }
 
 // The child that a number or a name means, if it is one alone
-function meant(text) {
+async function meant(text) {
   if (/^[1-9][0-9]{0,6}$/.test(text)) return Number(text);
+  if (!isRead) await readNow();
   const { children } = matches(text);
-  if (!hasIndex) throw new Shown("Without the index a child can be found by its number alone.");
   if (children.length !== 1) throw new Shown(`${plural(children.length, "child matches", "children match")} “${isolated(text)}”: enter the number.`);
-  return children[0].data.child;
+  return children[0].number;
 }
 
 // An entry as it is typed: a number or a name, and a minus for a decline
@@ -84,7 +83,7 @@ export function answersView() {
     event.preventDefault();
     const entry = input.value.trim();
     if (entry) lookUp(entry);
-    else say(open && !open.letter ? `${open.text} is still being looked up. Nothing was sent.` : "Enter a number or a name.");
+    else say(open && !open.shown ? `${open.text} is still being looked up. Nothing was sent.` : "Enter a number or a name.");
   };
   // A key that is held down answers nothing, and what is typed while the button has the focus is the next entry
   form.addEventListener("keydown", stopRepeated);
@@ -95,19 +94,19 @@ export function answersView() {
 
   async function lookUp(entry) {
     const { text, isDecline } = read(entry);
-    if (open && open.text !== text) leave(open, `the next entry came ${open.letter ? "before an answer" : "while it was looked up"}.`);
+    if (open && open.text !== text) leave(open, `the next entry came ${open.shown ? "before an answer" : "while it was looked up"}.`);
     const mine = { text, entry };
     setOpen(mine);
     input.value = "";
     room.replaceChildren(element("p", {}, `Looking up ${isolated(text)} …`));
     say(`Looking up ${isolated(text)} …`);
     try {
-      mine.number = meant(text);
+      mine.number = await meant(text);
       mine.name = nameOf(mine.number);
       keep();
       await sending;
-      const letter = await letterOf(mine.number);
-      if (isShown(mine)) await offer(Object.assign(mine, { letter, name: letter.name }), isDecline);
+      const shown = await childNow(mine.number);
+      if (isShown(mine)) await offer(Object.assign(mine, { shown, name: shown.name }), isDecline);
     } catch (error) {
       if (!(error instanceof Shown)) throw error;
       if (isShown(mine)) notFound(mine, error.isAway ? `${error.message} ${KEPT}` : error.message);
@@ -141,9 +140,9 @@ export function answersView() {
 
   // The offer of a child. Accept has the focus, but only if nothing was typed or pressed elsewhere since the entry
   function offer(mine, isDecline) {
-    const { letter } = mine;
-    const { place } = letter;
-    const who = whoIs(letter);
+    const { shown } = mine;
+    const { place } = shown;
+    const who = whoIs(shown);
     const isWaiting = form.contains(document.activeElement) && !input.value;
     const none = `there is no offer to answer. ${placeInWords(place)}`;
     room.replaceChildren(element("h3", {}, who), element("p", {}, placeInWords(place)));
@@ -162,8 +161,8 @@ export function answersView() {
   }
 
   async function record(mine, cmd) {
-    const { letter } = mine;
-    const { number, name, place } = letter;
+    const { shown } = mine;
+    const { number, name, place } = shown;
     const where = `${place.school} ${isolated(place.name)}`;
     const question = `Decline the place of child ${number}, ${isolated(name)}, at ${where}? ${IS_FINAL}`;
     if (cmd === "decline" && !await isSure(question, "Yes, decline")) {
@@ -179,12 +178,12 @@ export function answersView() {
     if (input.value === mine.entry) input.value = "";
     input.focus();
     const done = `Child ${number}, ${isolated(name)}, has ${cmd === "accept" ? "accepted" : "declined"} ${where}.`;
-    sending = sending.then(() => send({ cmd, child: number, school: place.school }, done, letter)).then((reply) => {
+    sending = sending.then(() => send({ cmd, child: number, school: place.school }, done, shown)).then((reply) => {
       const { text, bad } = reply;
       Object.assign(entry, { result: bad ? text : "done", isBad: bad, isSending: false });
       changed();
       if (reply.now && !open) room.replaceChildren(element("h3", {}, whoIs(reply.now)), element("p", {}, placeInWords(reply.now.place)));
-      if (list.isConnected || bad) say(`${bad && !text.startsWith("Child ") ? `${whoIs(letter)}: ` : ""}${text}`, bad);
+      if (list.isConnected || bad) say(`${bad && !text.startsWith("Child ") ? `${whoIs(shown)}: ` : ""}${text}`, bad);
     });
     await sending;
   }

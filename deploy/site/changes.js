@@ -5,12 +5,12 @@ import { day, isolated } from "./words.js";
 const COMPARED = ["accept", "decline", "remind", "lapse", "leave_list", "name_plan"];
 export const isCompared = (command) => Boolean(command) && COMPARED.includes(command.cmd);
 
-// What has changed between two letters of a child for a command; nothing if the child is as it was shown
+// What has changed of a child for a command since it was shown; nothing if it is as it was
 export function changeOf(shown, now, { cmd, school }) {
   if (!now) return "the register has no child of this number any more";
   if (now.name !== shown.name) return `the name is ${isolated(now.name)} now, and was ${isolated(shown.name)}`;
   if (!isSame(shown.place, now.place)) return changeOfPlace(shown.place, now.place);
-  const waits = (letter) => letter.waits.some((it) => it.school === school);
+  const waits = (child) => child.waits.some((it) => it.school === school);
   if (cmd === "leave_list" && waits(shown) && !waits(now)) return `the waiting list of ${school} was left meanwhile`;
   return "";
 }
@@ -21,7 +21,7 @@ export function followed(shown, now, { cmd }) {
   return cmd === "leave_list" ? { ...shown, waits: now.waits } : { ...shown, place: now.place, waits: now.waits };
 }
 
-const isSame = (one, other) => JSON.stringify(one) === JSON.stringify(other);
+export const isSame = (one, other) => JSON.stringify(one) === JSON.stringify(other);
 
 function changeOfPlace(before, now) {
   if (!now) return `the place at ${before.school} was declined or withdrawn meanwhile`;

@@ -1,13 +1,13 @@
 // A child: where it has a place and since when, until when to answer, where it waits and why; and what can be done for it.
-import { Shown } from "./desk.js";
-import { button, dayField, dayInput, element, facts, link, report, schoolLink } from "./elements.js";
+import { Shown, read } from "./desk.js";
+import { button, dayField, dayInput, element, facts, link, progress, report, schoolLink } from "./elements.js";
 import { amendView, applyForm, planForm, reportUnsent } from "./forms.js";
-import { withDays } from "./reading.js";
-import { child, endOf, hasIndex, letterOf, lettersOf, register, school } from "./register.js";
+import { linesOf, withDays } from "./letters.js";
+import { child, childNow, register, school } from "./register.js";
 import { again } from "./router.js";
 import { isDaySure, isSure, send } from "./sending.js";
 import { column, table } from "./tables.js";
-import { IS_FINAL, count, day, deadline, isolated, placeInWords, plural, priority, readDay, today } from "./words.js";
+import { IS_FINAL, count, day, deadline, fateInWords, isolated, placeInWords, plural, priority, readDay, today } from "./words.js";
 
 const numberOf = (text) => {
   if (!/^[1-9][0-9]{0,6}$/.test(text || "")) throw new Shown("A child has a number from 1 to 9999999.");
@@ -18,30 +18,29 @@ const numberOf = (text) => {
 export async function childView([text, part]) {
   const number = numberOf(text);
   if (part === "letter") return lettersView([text]);
+  const shown = child(number) ?? await childNow(number);
   if (part === "amend") return amendView(number);
-  const letter = await letterOf(number);
   return {
-    title: `Child ${number}, ${isolated(letter.name)}`, status: `Child ${number}.`, nodes: [
-      element("p", { className: "tools screen-only" }, link(`#child/${number}/letter`, "Letter"), hasIndex
-        ? link(`#child/${number}/amend`, "Correct the data") : null),
-      element("h3", {}, "Place"), ...place(letter), element("h3", {}, "Waiting"), ...waiting(letter),
-      element("h3", {}, "Application"), ...application(letter),
+    title: `Child ${number}, ${isolated(shown.name)}`, status: `Child ${number}.`, nodes: [
+      element("p", { className: "tools screen-only" }, link(`#child/${number}/letter`, "Letter"), link(`#child/${number}/amend`, "Correct the data")),
+      element("h3", {}, "Place"), ...place(shown), element("h3", {}, "Waiting"), ...waiting(shown),
+      element("h3", {}, "Application"), ...application(shown),
     ],
   };
 }
 
-// Sends a command if the child is still as this letter shows it, and shows the child as it is then. What was typed into a form is
+// Sends a command if the child is still as it is shown here, and shows the child as it is then. What was typed into a form is
 // kept until it was done, and only a form has something to `forget`
-const actOn = (letter) => async (command, done, forget = null) => {
-  const reply = await send(command, done, letter);
+const actOn = (shown) => async (command, done, forget = null) => {
+  const reply = await send(command, done, shown);
   if (!reply.bad) forget?.();
   if (reply.isUnsent) (forget ? reportUnsent : report)(reply);
   else again(reply);
 };
 
-function place(letter) {
-  const { place: held, number } = letter;
-  const act = actOn(letter);
+function place(shown) {
+  const { place: held, number } = shown;
+  const act = actOn(shown);
   const nodes = [element("p", { id: "place" }, placeInWords(held))];
   if (!held) return nodes;
   const where = `${held.school} ${isolated(held.name)}`;
@@ -51,22 +50,22 @@ function place(letter) {
     answers.append(button("Accept the place", () => act({ cmd: "accept", child: number, school: held.school },
       `Child ${number} has accepted the place at ${where}.`), { id: "accept" }));
   }
-  if (held.kind !== "plan") answers.append(button("Decline the place", () => decline(letter, where), { id: "decline", className: "final" }));
+  if (held.kind !== "plan") answers.append(button("Decline the place", () => decline(shown, where), { id: "decline", className: "final" }));
   nodes.push(answers);
-  if (held.kind === "offered") nodes.push(dayForm(letter, where));
+  if (held.kind === "offered") nodes.push(dayForm(shown, where));
   return nodes;
 }
 
-async function decline(letter, where) {
-  const { number, name, place: held } = letter;
+async function decline(shown, where) {
+  const { number, name, place: held } = shown;
   const question = `Decline the place of child ${number}, ${isolated(name)}, at ${where}? ${IS_FINAL}`;
-  if (await isSure(question, "Yes, decline")) actOn(letter)({ cmd: "decline", child: number, school: held.school },
+  if (await isSure(question, "Yes, decline")) actOn(shown)({ cmd: "decline", child: number, school: held.school },
     `Child ${number} has declined the place at ${where}.`);
 }
 
 // The reminder of an offer, and after it the withdrawal
-function dayForm(letter, where) {
-  const { number, name, place: held } = letter;
+function dayForm(shown, where) {
+  const { number, name, place: held } = shown;
   const isReminder = !held.reminded;
   const input = dayInput("on", today());
   const form = element("form", { className: "actions screen-only", id: "day-form", noValidate: true },
@@ -80,34 +79,34 @@ function dayForm(letter, where) {
     const question = `${what} child ${number}, ${isolated(name)}? This cannot be undone.`;
     if (!await isSure(question, isReminder ? "Yes, record it" : "Yes, withdraw it")) return;
     const done = isReminder ? `The reminder of ${day(on)} is recorded. Print the letter again: it has the warning.` : `The offer of ${where} is withdrawn.`;
-    actOn(letter)({ cmd: isReminder ? "remind" : "lapse", child: number, school: held.school, day: on }, done);
+    actOn(shown)({ cmd: isReminder ? "remind" : "lapse", child: number, school: held.school, day: on }, done);
   };
   return form;
 }
 
-function waiting(letter) {
-  if (!letter.waits.length) {
-    return [element("p", {}, register.draws.size || !hasIndex ? "The child waits at no school." : "There are no waiting lists before the first round.")];
+function waiting(shown) {
+  if (!shown.waits.length) {
+    return [element("p", {}, register.draws.size ? "The child waits at no school." : "There are no waiting lists before the first round.")];
   }
   const leave = async (wait) => {
     const where = `${wait.school} ${isolated(wait.name)}`;
-    const who = `child ${letter.number}, ${isolated(letter.name)}`;
+    const who = `child ${shown.number}, ${isolated(shown.name)}`;
     const question = `Remove ${who}, from the waiting list of ${where}? This cannot be undone: the child cannot return to it.`;
-    if (await isSure(question, "Yes, leave the list")) actOn(letter)({ cmd: "leave_list", child: letter.number, school: wait.school },
-      `Child ${letter.number} has left the waiting list of ${where}.`);
+    if (await isSure(question, "Yes, leave the list")) actOn(shown)({ cmd: "leave_list", child: shown.number, school: wait.school },
+      `Child ${shown.number} has left the waiting list of ${where}.`);
   };
   const made = table({
-    caption: "Where the child waits, in order of preference", file: `child-${letter.number}.csv`, rows: letter.waits,
+    caption: "Where the child waits, in order of preference", file: `child-${shown.number}.csv`, rows: shown.waits,
     columns: [
       column("School", (it) => it.school, { cell: (it) => schoolLink(it.school) }),
         column("Name", (it) => it.name, { cell: (it) => element("bdi", {}, it.name) }),
       column("Position", (it) => it.position, { isFigure: true, cell: (it) => `${count(it.position)} of ${count(it.of)}` }),
-      column("Priority", (it) => priority(school(it.school), it.number)),
+      column("Priority", (it) => priority(school(it.school), it.class)),
       column("Metres", (it) => it.metres, { isFigure: true }),
     ],
   });
   for (const [index, row] of [...made.node.querySelectorAll("tbody tr")].entries()) {
-    const wait = letter.waits[index];
+    const wait = shown.waits[index];
     row.append(element("td", { className: "screen-only" },
       button("Leave", () => leave(wait), { className: "final small", "aria-label": `Leave the list of ${wait.school} ${isolated(wait.name)}` })));
   }
@@ -116,55 +115,55 @@ function waiting(letter) {
   return [made.node, why];
 }
 
-// What became of each school of its list
-function fate(code, index, letter, preferences) {
-  if (letter.place && letter.place.school === code) return letter.place.kind;
-  const own = letter.place ? preferences.indexOf(letter.place.school) : -1;
-  const wait = letter.waits.find((it) => it.school === code);
-  if (wait) return `waits, position ${count(wait.position)} of ${count(wait.of)}`;
-  if (own >= 0 && index > own) return "below the child’s place";
-  if (!register.draws.size) return "before the first round";
-  return endOf(letter.number, code) || "declined, left or withdrawn";
-}
-
-function application(letter) {
-  const known = child(letter.number);
-  if (!known) return [element("p", {}, hasIndex ? "The index does not have this child." : "The index of the register is missing.")];
-  const { data, applied, preferences } = known;
-  const isPlan = letter.place && letter.place.kind === "plan";
+function application(shown) {
+  const { data, applied, number, preferences } = shown;
   const about = facts([
-    ["Applied", applied ? `${day(applied)}${register.season && applied > register.season.closing_day ? ", after the closing day" : ""}` : "no application"],
+    ["Applied", applied ? `${day(applied)}${applied > register.season.closing_day ? ", after the closing day" : ""}` : "no application"],
     ["Home", `${data.east} east, ${data.north} north`],
     ["Looked after", data.looked_after ? "yes" : "no"],
     ["Flags", data.flags.join(", ") || "none"],
     ["Siblings at", data.siblings.join(", ") || "no school"],
     ["Present school", data.present || "none"],
   ]);
-  if (isPlan) return [about];
-  const act = actOn(letter);
-  const plan = planForm(letter, act);
-  if (!applied) return [about, applyForm(letter.number, act), plan];
-  const rows = preferences.map((code, index) => ({ code, index, fate: fate(code, index, letter, preferences) }));
+  if (shown.place && shown.place.kind === "plan") return [about];
+  const act = actOn(shown);
+  const plan = planForm(shown, act);
+  if (!applied) return [about, applyForm(number, act), plan];
+  const name = (it) => school(it.code)?.name ?? "";
   const list = table({
-    caption: "Schools in order of preference", file: `child-${letter.number}-schools.csv`, rows,
+    caption: "Schools in order of preference", file: `child-${number}-schools.csv`,
+    rows: preferences.map((it, index) => ({ code: it.school, index, fate: fateInWords(it, shown.place) })),
     columns: [
       column("Preference", (it) => it.index + 1, { isFigure: true }), column("School", (it) => it.code, { cell: (it) => schoolLink(it.code) }),
-      column("Name", (it) => (school(it.code) ? school(it.code).name : ""), { cell: (it) => element("bdi", {}, school(it.code) ? school(it.code).name : "") }),
-      column("Result", (it) => it.fate),
+      column("Name", name, { cell: (it) => element("bdi", {}, name(it)) }), column("Result", (it) => it.fate),
     ],
   });
   return [about, list.node, plan];
+}
+
+// A browser sends so many requests at once over its connection
+const AT_ONCE = 32;
+
+// The letters of some children, in the same order
+async function lettersOf(numbers) {
+  const texts = [];
+  try {
+    for (let from = 0; from < numbers.length; from += AT_ONCE) {
+      texts.push(...await Promise.all(numbers.slice(from, from + AT_ONCE).map((number) => read(`/child/${number}/letter`))));
+      progress(texts.length, numbers.length);
+    }
+  } finally {
+    progress(1, 1);
+  }
+  return texts;
 }
 
 // Letters to print, each on a sheet of its own: #letters/17,23,41
 export async function lettersView([text = ""]) {
   const numbers = text.split(",").filter(Boolean).map(numberOf);
   if (!numbers.length) throw new Shown("No child is chosen.");
-  const articles = [];
-  for (const letter of await lettersOf(numbers)) {
-    articles.push(element("article", { className: "letter", "aria-label": `Letter of child ${letter.number}` },
-      ...letter.lines.map((line) => element("p", { dir: "auto" }, withDays(line)))));
-  }
+  const articles = (await lettersOf(numbers)).map((text, index) => element("article", { className: "letter", "aria-label": `Letter of child ${numbers[index]}` },
+    ...linesOf(text).map((line) => element("p", { dir: "auto" }, withDays(line)))));
   const title = numbers.length === 1 ? `Letter of child ${numbers[0]}` : plural(numbers.length, "letter", "letters");
   const back = numbers.length === 1 ? element("p", { className: "screen-only" }, link(`#child/${numbers[0]}`, "Back to the child")) : null;
   return { title, nodes: [element("div", { className: "letters" }, ...articles), back].filter(Boolean), status: `${title}, as of now.` };

@@ -1,9 +1,8 @@
 // Rounds and fills: the commands to paste, filled in. A backup, a supervisor's lots and an audit belong to them, so the page does not
 // send them. The blocks are those of the HANDBOOK, between the lines that enter and leave the folder of an installed register:
 // deploy/checks/pasting.py compares them.
-import { Shown } from "./desk.js";
 import { button, dayField, dayInput, element, say } from "./elements.js";
-import { nextDraw, register, rounds, school } from "./register.js";
+import { isRead, name, nextDraw, notThere, readNow, register, rounds, school } from "./register.js";
 import { strangeness } from "./sending.js";
 import { day, isolated, readDay, today } from "./words.js";
 
@@ -47,11 +46,10 @@ function earliest() {
   return [register.season.offer_day, ...days].sort().at(-1);
 }
 
-// #draw for a round, #draw/OAK for a fill
-export function drawView([code = ""]) {
-  if (!register.season) throw new Shown("The index of the register is missing, so the next draw is not known. Inform whoever runs the desk.");
-  if (register.drawnSince) throw new Shown("A round or fill was sent after the index was written: the next draw is known when the desk is next started.");
-  if (code && !school(code)) throw new Shown("The register has no such school.");
+// #draw for a round, #draw/OAK for a fill. While the desk is closed for the draw, its blocks are shown by what was read before
+export async function drawView([code = ""]) {
+  if (!isRead) await readNow();
+  if (code && !school(code)) throw notThere();
   const from = earliest();
   const last = register.season.last_day;
   const input = dayInput("on", today() > from ? today() : from);
@@ -66,7 +64,7 @@ export function drawView([code = ""]) {
     const strange = strangeness(on).join(", and ");
     const warning = strange ? [element("p", { className: "warning", id: "strange-day" }, `${day(on)} is ${strange}. Is it right?`)] : [];
     room.replaceChildren(...warning,
-      ...steps({ draw: nextDraw(), on, code, round: rounds().length + 1, name: register.name }).flatMap(stepNodes));
+      ...steps({ draw: nextDraw(), on, code, round: rounds().length + 1, name }).flatMap(stepNodes));
   };
   for (const kind of ["input", "change"]) input.addEventListener(kind, fill);
   fill();

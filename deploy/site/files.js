@@ -3,8 +3,8 @@
 import { isCompared } from "./changes.js";
 import { FAULTS, Shown } from "./desk.js";
 import { at, button, childLink, download, element, field, progress, say } from "./elements.js";
-import { folded } from "./finding.js";
-import { child, lettersIfAny, nameOf, parsed, school, who } from "./register.js";
+import { folded } from "./matching.js";
+import { child, nameOf, parsed, readNow, school, who } from "./register.js";
 import { again } from "./router.js";
 import { follow, isBusy, isDaySure, isFree, isSure, sendAll, settle } from "./sending.js";
 import { answerOf, fieldsOf, separatorOf, titlesOf } from "./sheets.js";
@@ -105,7 +105,9 @@ export function fileView() {
       if (!isFree()) return;
       const { text, digest } = await textOf(chosen);
       shown = null;
-      await look(chosen.name, readLines(text), digest, room);
+      say(`Reading what the register has for ${chosen.name} …`);
+      await readNow();
+      look(chosen.name, readLines(text), digest, room);
     } catch (error) {
       if (!(error instanceof Shown)) throw error;
       say(error.message, true);
@@ -140,13 +142,9 @@ function sentInPart(record) {
     element("p", { className: "tools screen-only" }, button("Forget it", press, { "aria-label": `Forget ${name}` })));
 }
 
-// Reads what the register has for the lines of a file, and shows both
-async function look(name, rows, digest, room) {
-  const good = rows.filter((it) => !it.problem);
-  const numbers = [...new Set(good.filter((it) => isCompared(it.command)).map((it) => it.command.child))].filter(Number.isInteger);
-  say(`Reading what the register has for ${name} …`);
-  const letters = await lettersIfAny(numbers);
-  for (const row of good) compareNames(row, letters);
+// Shows the lines of a file, and what the register has for each
+function look(name, rows, digest, room) {
+  for (const row of rows.filter((it) => !it.problem)) compareNames(row);
   const records = keptRecords();
   const record = records.find((it) => it.digest === digest);
   if (record) return goOnAfterReload(name, rows, record, digest);
@@ -155,20 +153,20 @@ async function look(name, rows, digest, room) {
   return null;
 }
 
-// The letter of a row's child, as it is shown and as it must be when the row is sent; and its name beside the name of the row
-function compareNames(row, letters) {
-  row.shown = isCompared(row.command) ? letters.get(row.command.child) || null : null;
-  const has = row.shown ? row.shown.name : nameOf(row.command.child);
+// The child of a row, as it is shown and as it must be when the row is sent; and its name beside the name of the row
+function compareNames(row) {
+  row.shown = isCompared(row.command) ? child(row.command.child) ?? null : null;
+  const has = nameOf(row.command.child);
   if (row.givenName && has && folded(row.givenName) !== folded(has)) row.problem = `the row has the name ${isolated(row.givenName)}, and the register ${isolated(has)}`;
 }
 
 // What the register has where a line would change it
-function present({ command, shown: letter }) {
+function present({ command, shown: it }) {
   if (!command) return "";
   if (command.cmd === "raise_pan") return school(command.school) ? `admits ${school(command.school).pan}` : "";
-  if (!letter) return "";
-  const { place, waits } = letter;
-  if (command.cmd === "leave_list") return waits.some((it) => it.school === command.school) ? `waits at ${command.school}` : `does not wait at ${command.school}`;
+  if (!it) return "";
+  const { place, waits } = it;
+  if (command.cmd === "leave_list") return waits.some((wait) => wait.school === command.school) ? `waits at ${command.school}` : `does not wait at ${command.school}`;
   if (!place) return "no place";
   return `${place.school}, ${place.kind === "offered" ? `offered ${day(place.offered)}${place.reminded ? `, reminded ${day(place.reminded)}` : ""}`
     : place.kind === "plan" ? "by a plan" : "accepted"}`;
@@ -181,7 +179,7 @@ const lineColumns = [
   column("Name", (it) => nameInLine(it), { cell: (it) => element("bdi", {}, nameInLine(it)) }),
   column("School", (it) => String((it.command && it.command.school) || "")), column("Day", (it) => String((it.command && it.command.day) || "")),
 ];
-const nameInLine = ({ command, shown: letter }) => (letter ? letter.name : command ? nameOf(command.child)
+const nameInLine = ({ command, shown: it }) => (it ? it.name : command ? nameOf(command.child)
   || (typeof command.name === "string" ? command.name : "") : "");
 
 // A command that cannot be undone, in words, for its confirmation

@@ -2,8 +2,8 @@
 import { Shown } from "./desk.js";
 import { KEPT, draftOf, keepFor } from "./drafts.js";
 import { at, dayField, dayInput, element, field, report, say } from "./elements.js";
-import { details, plain } from "./finding.js";
-import { child, hasIndex, nextNumber, register, school, update } from "./register.js";
+import { details, plain } from "./matching.js";
+import { child, isRead as hasIndex, nextNumber, register, school, update } from "./register.js";
 import { again, go } from "./router.js";
 import { isSure, send } from "./sending.js";
 import { day, isDay, isolated, readDay, today } from "./words.js";

@@ -1,9 +1,11 @@
 // Which view is shown: each has an address after the #, so that reload, Back and bookmarks work.
 import { at, button, element, focusOn, say } from "./elements.js";
 import { Shown } from "./desk.js";
-import { update } from "./register.js";
+import { readIfOld } from "./register.js";
 
 let views = {};
+// Those that are shown while the desk does not answer, too: by what was read before, or without it
+let alwaysShown = [];
 // Each view has a turn: one that is complete after a later request is not shown
 let turn = 0;
 // After a load the focus is at the top; after each later view it is on the heading, unless somebody types into the field at the top
@@ -19,8 +21,9 @@ export function address() {
   try { return text.split("/").map(decodeURIComponent); } catch { return [""]; }
 }
 
-export function begin(all) {
+export function begin(all, always) {
   views = all;
+  alwaysShown = always;
   window.addEventListener("hashchange", () => render());
   at("skip").onclick = (event) => {
     event.preventDefault();
@@ -45,7 +48,7 @@ async function render() {
   if (!reply) say("Loading …");
   const [name, ...rest] = address();
   try {
-    await update();
+    await readIfOld().catch((error) => { if (!error.isAway || !alwaysShown.includes(name)) throw error; });
     const view = Object.hasOwn(views, name) ? await views[name](rest, mine) : null;
     if (!view) throw new Shown("There is no such view.");
     if (mine === turn) show(view, reply);

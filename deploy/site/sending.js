@@ -1,9 +1,9 @@
 // Sends commands: one at a time, each once. What was done is distinguished from what was refused, what was not sent, and what may be
 // done. Just before a command is sent, its child is read again: for one that is not as it was shown, nothing is sent.
-import { changeOf, followed } from "./changes.js";
-import { ask, describe, isAway, outcome, Shown } from "./desk.js";
+import { changeOf, followed, isSame } from "./changes.js";
+import { ask, describe, outcome, Shown } from "./desk.js";
 import { at, element, say } from "./elements.js";
-import { apply, child, letterIfAny, parsed, register, school, update } from "./register.js";
+import { child, outdate, parsed, readNow, register, school, storedInTask } from "./register.js";
 import { day, daysBetween, isDay, today } from "./words.js";
 
 // One task at a time: a second press sends nothing, and says so
@@ -36,39 +36,46 @@ export function isSure(question, yes, whom = []) {
 
 // Sends the text of a command, and returns what became of it
 async function sendText(text) {
+  outdate();
   const answer = await ask("/command", text);
+  outdate();
   const what = outcome(answer);
-  if (what === "done") apply(parsed(text));
   return { text, outcome: what, reason: what === "done" ? "" : describe(answer, true) };
 }
 
-// Sends a command if its child is still as it was shown. `shown` is the letter that was shown, or nothing if the command rests on
-// none: then only `isFirst` has it read anything, which shows whether the desk is open
-async function sendCompared({ text, shown }, isFirst) {
+// Sends a command if `look` finds no change of its child since it was shown. It returns the change in words, or nothing, and the child as it is
+// now; where the desk does not answer it, nothing is sent
+async function sendCompared(text, look) {
+  let found;
   try {
-    if (shown) {
-      const now = await letterIfAny(shown.number);
-      const change = changeOf(shown, now, parsed(text));
-      if (change) return { text, outcome: "differs", reason: `Child ${shown.number}: ${change}. Nothing was sent.`, now };
-    } else if (isFirst) {
-      const answer = await ask("/round/0");
-      if (isAway(answer)) throw new Shown(describe(answer, false), answer.status);
-    }
+    found = await look(parsed(text));
   } catch (error) {
     if (!(error instanceof Shown)) throw error;
     return { text, outcome: "unsent", reason: `Nothing was sent. ${error.message}` };
   }
-  return sendText(text);
+  const { number, change, now } = found;
+  return change ? { text, outcome: "differs", reason: `Child ${number}: ${change}. Nothing was sent.`, now } : sendText(text);
+}
+
+// Looks at the child of one command as it is stored right now. `shown` is the child as it was shown, or nothing if the command rests on no
+// place and no list. A correction rests on the data, which is compared with that of the page's copy
+async function lookNow(command, shown) {
+  const before = shown ?? child(command.child);
+  await readNow();
+  const now = child(command.child) ?? null;
+  if (shown) return { number: shown.number, change: changeOf(shown, now, command), now };
+  const isCorrected = command.cmd === "amend" && before && !isSame(before.data, now?.data);
+  return { number: command.child, change: isCorrected ? "the data was corrected meanwhile" : "", now };
 }
 
 // Sends one command, and returns its answer as a text to show. `isUnsent` is whether the desk was not there, or another task is in
-// progress, so that all is as before; `now` is the letter of a child that is not as it was shown
+// progress, so that all is as before; `now` is a child that is not as it was shown
 export async function send(command, done, shown = null) {
   if (busy) return { text: BUSY, bad: true, isUnsent: true };
   busy = true;
   say("Sending …");
   try {
-    const result = await sendCompared({ text: JSON.stringify(command), shown }, true);
+    const result = await sendCompared(JSON.stringify(command), (it) => lookNow(it, shown));
     if (result.outcome === "done") return { text: `Done, and stored. ${done}`, bad: false };
     return { text: result.reason, bad: true, isUnsent: result.outcome === "unsent", now: result.now };
   } finally {
@@ -78,9 +85,16 @@ export async function send(command, done, shown = null) {
 
 const GOES_ON = ["done", "refused", "differs"];
 
+// Looks at the child of a command of a task; at nobody for a command that rests on no place and no list
+async function lookInTask(command, shown) {
+  if (!shown) return {};
+  const now = await storedInTask(shown.number);
+  return { number: shown.number, change: changeOf(shown, now, command), now };
+}
+
 // Sends commands one after another until one has no certain answer, or the desk does nothing more. Each item has the `text` of its
-// command, and `shown`, which what is done to the same child changes. Returns a result for each of them, in order; `seen` is called
-// after each. `isStopped` is asked before each
+// command, and `shown`, the child as it was shown, which what is done to the same child changes. Returns a result for each of them, in order;
+// `seen` is called after each. `isStopped` is asked before each. The register is read once before the first
 export async function sendAll(items, seen, isStopped = () => false) {
   if (busy) return items.map(({ text }) => ({ text, outcome: "unsent", reason: BUSY }));
   busy = true;
@@ -89,8 +103,12 @@ export async function sendAll(items, seen, isStopped = () => false) {
     for (const item of items) {
       const last = results.at(-1);
       const isOver = Boolean(last) && !GOES_ON.includes(last.outcome);
+      const look = async (command) => {
+        if (!last) await readNow();
+        return lookInTask(command, item.shown);
+      };
       const isUnsent = isOver || isStopped();
-      results.push(isUnsent ? { text: item.text, outcome: "unsent", reason: "" } : await sendCompared(item, !last));
+      results.push(isUnsent ? { text: item.text, outcome: "unsent", reason: "" } : await sendCompared(item.text, look));
       if (results.at(-1).outcome === "done") await follow(parsed(item.text), item.shown, items.slice(results.length));
       if (!isOver) seen(results.length, items.length, results.at(-1));
     }
@@ -104,20 +122,21 @@ export async function sendAll(items, seen, isStopped = () => false) {
 export async function follow(command, shown, later) {
   const same = shown ? later.filter((it) => it.shown && it.shown.number === shown.number) : [];
   if (!same.length) return;
-  const now = await letterIfAny(shown.number).catch(() => null);
+  await readNow().catch(() => null);
+  const now = child(shown.number);
   if (now) for (const it of same) it.shown = followed(it.shown, now, command);
 }
 
-// Whether a command that may be done is done: by the child's letter, or by what the register has now. Nothing if it cannot be seen
-export async function isDone(command) {
+// Whether a command that may be done is done, by the register as it was read since. Nothing if it cannot be seen
+function isDone(command) {
   const { cmd, child: number, school: code, day: on } = command;
   if (cmd === "add_school") return register.schools.has(code);
   if (cmd === "raise_pan") return Boolean(school(code)) && school(code).pan >= command.pan;
-  if (cmd === "add_child" || cmd === "amend") return Boolean(child(number)) && hasData(child(number).data, command);
-  if (cmd === "apply") return Boolean(child(number)) && child(number).applied === on;
-  const letter = await letterIfAny(number);
-  if (!letter) return false;
-  const { place, waits } = letter;
+  const now = child(number);
+  if (!now) return false;
+  if (cmd === "add_child" || cmd === "amend") return hasData(now.data, command);
+  if (cmd === "apply") return now.applied === on;
+  const { place, waits } = now;
   const isThere = Boolean(place) && place.school === code;
   if (cmd === "accept") return isThere && place.kind === "accepted";
   if (cmd === "name_plan") return isThere && place.kind === "plan";
@@ -126,19 +145,18 @@ export async function isDone(command) {
   return cmd === "leave_list" ? !waits.some((wait) => wait.school === code) : null;
 }
 
-// A command without a present school is one for a child that has none
+// A command without a present school is one for a child that has none; and the register has each flag once, in order
 function hasData(data, { cmd, ...sent }) {
   const all = { present: "", ...sent };
-  return Object.keys(all).every((key) => JSON.stringify(data[key]) === JSON.stringify(all[key]));
+  if (Array.isArray(all.flags)) all.flags = [...new Set(all.flags)].sort((one, other) => one - other);
+  return Object.keys(all).every((key) => isSame(data[key], all[key]));
 }
 
 // Which of the commands that had no answer are done by now, and which are not
 export async function settle(commands) {
-  await update();
-  const done = [];
-  const left = [];
-  for (const command of commands) (await isDone(command) ? done : left).push(command);
-  return { done, left };
+  await readNow();
+  const done = commands.filter(isDone);
+  return { done, left: commands.filter((it) => !done.includes(it)) };
 }
 
 // Why a day looks wrong: it is over a week from today, or outside the season

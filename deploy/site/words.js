@@ -90,6 +90,14 @@ export function placeInWords(place) {
     + (place.reminded ? `, and reminded on ${day(place.reminded)}.` : ". There is no answer yet.");
 }
 
+// What became of a school of a child's list. How the child lost it, by a decline, a withdrawal or a list that it left, the register does not tell
+export function fateInWords({ state, position, of }, place) {
+  if (state === "place") return place.kind;
+  if (state === "waits") return `waits, position ${count(position)} of ${count(of)}`;
+  if (state === "below") return "below the child’s place";
+  return state === "before" ? "before the first round" : "declined, left or withdrawn";
+}
+
 // Until when a family should answer: the rules of the register
 export function deadline(place) {
   if (!place || place.kind !== "offered") return "";

@@ -1,16 +1,13 @@
 // The worklists: who is on them, and the work that is done for the rows that are ticked.
-import { Shown, read } from "./desk.js";
+import { Shown } from "./desk.js";
 import { at, button, childLink, dayField, dayInput, element, progress, say, schoolLink } from "./elements.js";
-import { readList } from "./reading.js";
-import { allLetters, child, nameOf, register, rounds } from "./register.js";
+import { asOf, register, rounds } from "./register.js";
 import { go } from "./router.js";
+import { ROWS, WAIT } from "./rows.js";
 import { isDaySure, isFree, isSure, sendAll, settle } from "./sending.js";
 import { column, table } from "./tables.js";
 import { IS_FINAL, count, day, daysAfter, isolated, plural, readDay, time, today } from "./words.js";
 
-const WAIT = 14;
-
-const offered = ({ letters }) => letters.filter((it) => it.place && it.place.kind === "offered");
 const dayCell = (value) => (value ? day(value) : "");
 const bdi = (text) => element("bdi", {}, text);
 
@@ -20,41 +17,37 @@ const SCHOOL = column("School", (it) => it.place.school, { cell: (it) => schoolL
 const OFFERED = column("Offered", (it) => it.place.offered, { cell: (it) => dayCell(it.place.offered) });
 const REMINDED = column("Reminded", (it) => it.place.reminded, { cell: (it) => dayCell(it.place.reminded) });
 const due = (from) => column("Due", (it) => daysAfter(from(it), WAIT), { cell: (it) => day(daysAfter(from(it), WAIT)) });
+const codes = (some) => some.map((it) => it.school).join(" ");
 
-// Each list: its title, its rows, its columns, and the commands that its rows can be sent
+// Each list: its title, its columns, and the commands that its rows can be sent. Its rows are in rows.js
 export const LISTS = {
-  "no-answer": {
-    title: "Not answered", rows: offered, columns: [CHILD, NAME, SCHOOL, OFFERED, REMINDED], actions: ["accept", "decline"],
-  },
+  "no-answer": { title: "Not answered", columns: [CHILD, NAME, SCHOOL, OFFERED, REMINDED], actions: ["accept", "decline"] },
   "remind-due": {
-    title: "Due for a reminder", rows: (state) => offered(state).filter((it) => !it.place.reminded && daysAfter(it.place.offered, WAIT) <= today()),
-    columns: [CHILD, NAME, SCHOOL, OFFERED, due((it) => it.place.offered)], actions: ["remind"],
+    title: "Due for a reminder", columns: [CHILD, NAME, SCHOOL, OFFERED, due((it) => it.place.offered)], actions: ["remind"],
   },
   "lapse-due": {
-    title: "Due for a withdrawal", rows: (state) => offered(state).filter((it) => it.place.reminded && daysAfter(it.place.reminded, WAIT) <= today()),
-    columns: [CHILD, NAME, SCHOOL, REMINDED, due((it) => it.place.reminded)], actions: ["lapse"],
+    title: "Due for a withdrawal", columns: [CHILD, NAME, SCHOOL, REMINDED, due((it) => it.place.reminded)], actions: ["lapse"],
   },
   unplaced: {
-    title: "Without a place", rows: ({ letters }) => letters.filter((it) => !it.place),
-    columns: [CHILD, NAME, column("Applied", (it) => child(it.number)?.applied, { cell: (it) => dayCell(child(it.number)?.applied) }),
-      column("Schools", (it) => (child(it.number)?.preferences || []).join(" ")),
-        column("Waits at", (it) => it.waits.map((wait) => wait.school).join(" "))],
-    actions: [],
+    title: "Without a place", actions: [],
+    columns: [CHILD, NAME, column("Applied", (it) => it.applied, { cell: (it) => dayCell(it.applied) }),
+      column("Schools", (it) => codes(it.preferences)), column("Waits at", (it) => codes(it.waits))],
   },
   moved: {
-    title: "Moved by the last round", rows: movedRows,
+    title: "Moved by the last round", actions: [],
     columns: [CHILD, NAME, column("Before", (it) => it.before, { cell: (it) => schoolLink(it.before) }),
       column("After", (it) => it.after, { cell: (it) => schoolLink(it.after) })],
-    actions: [],
   },
   vacancies: {
-    title: "Schools with vacancies", rows: async () => (await schoolRows()).filter((it) => it.vacancies > 0), isOfSchools: true,
+    title: "Schools with vacancies", isOfSchools: true, actions: [],
     columns: [column("School", (it) => it.school, { cell: (it) => schoolLink(it.school) }), column("Name", (it) => it.name, { cell: (it) => bdi(it.name) }),
       column("Admits", (it) => it.pan, { isFigure: true }), column("Vacancies", (it) => it.vacancies, { isFigure: true }),
         column("Waiting", (it) => it.waiting, { isFigure: true })],
-    actions: [],
   },
 };
+
+// The rows of a list as the page's copy of the register has them today
+export const rowsOf = (name) => ROWS[name](register, today());
 
 // What each command does, in words for its button, its question and its answers. `things` are what the button of the question counts
 const ACTIONS = {
@@ -69,37 +62,21 @@ const ACTIONS = {
     yes: "Yes, withdraw", things: ["offer", "offers"], isDated: true },
 };
 
-function movedRows() {
-  if (register.drawnSince) return [];
-  return register.moved.map((it) => ({ ...it, number: it.child, name: nameOf(it.child) }));
-}
-
-// Each school with its vacancies and how many wait, from its list
-async function schoolRows() {
-  return Promise.all([...register.schools.values()].map(async (it) => {
-    const { vacancies, waiting } = readList(await read(`/school/${it.school}/waiting`));
-    return { ...it, vacancies, waiting };
-  }));
-}
-
 function noteOf(name) {
   if (name !== "moved") return null;
-  if (register.drawnSince) return element("p", { className: "warning" },
-    "A round or fill was sent after the index was written, so this list is not known. It is complete again when the desk is next started.");
   const last = rounds().at(-1);
   if (!last) return element("p", {}, "There was no round yet.");
   return element("p", {}, `Round ${last.round} of ${day(last.day)} moved these children from a place that they had. Their letters do not mention that place.`);
 }
 
 // #list/remind-due
-export async function listView([name]) {
+export function listView([name]) {
   const list = Object.hasOwn(LISTS, name) ? LISTS[name] : null;
   if (!list) throw new Shown("There is no such list.");
-  const state = await allLetters();
-  const rows = await list.rows(state);
+  const rows = rowsOf(name);
   const isTicked = !list.isOfSchools;
   const made = table({
-    caption: `${list.title}, as of ${time(state.asOf)}`, file: `${name}.csv`, rows, columns: list.columns, key: (it) => it.number, ticks: isTicked
+    caption: `${list.title}, as of ${time(asOf)}`, file: `${name}.csv`, rows, columns: list.columns, key: (it) => it.number, ticks: isTicked
       && rows.length ? "Child" : null,
   });
   const room = element("div", { id: "outcome" });
@@ -202,7 +179,7 @@ function report(name, cmd, { done, refused, unknown, unsent }) {
   return { nodes, text, isBad: refused.length + rest > 0 };
 }
 
-// Before the rest is sent, the letters of those without an answer show whether they are done: nothing is sent twice
+// Before the rest is sent, the register shows which of those without an answer are done: nothing is sent twice
 async function goOn(name, cmd, doubtful, open, before) {
   if (!isFree()) return;
   try {
