@@ -1,3 +1,4 @@
+// @ts-check
 // What has become of a child since it was shown, in words. A command is sent only for a child that is still as it was shown.
 import { day, isolated } from "./words.js";
 

@@ -1,3 +1,4 @@
+// @ts-check
 // What is typed into a form and not sent yet, and lists of what was done. It is kept in this tab of the browser (sessionStorage) for who is
 // signed in, until it is sent, cleared or the tab is closed: so a reload, another view, a closed desk or a conflict loses none of it.
 import { button, element } from "./elements.js";

@@ -1,3 +1,4 @@
+// @ts-check
 // What each printed sheet has at its edges: the authority's name, the day, and the number of the page. Letters have no number of the page.
 import { at } from "./elements.js";
 import { authority, register } from "./register.js";

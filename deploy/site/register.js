@@ -1,3 +1,4 @@
+// @ts-check
 // The page's copy of the register, in one place: it is read whole by one request, and each view shows it. When it is read again is in
 // freshness.js.
 import { ask, describe, read, Shown } from "./desk.js";

@@ -1,3 +1,4 @@
+// @ts-check
 // Answers in a sheet that was saved as CSV: rows such as decline,23,ELM,Bo Bell, or with a row of titles above them, as
 // admissions-send takes them. Commas, semicolons or tabs are between the fields.
 const REPLIES = { accept: "accept", decline: "decline", leave: "leave_list", leave_list: "leave_list", plan: "name_plan", name_plan: "name_plan" };

@@ -1,5 +1,7 @@
+// @ts-check
 // Days, counts and the register's own terms in plain English.
 
+/** @type {Intl.DateTimeFormatOptions} */
 const FORM = { timeZone: "UTC", day: "numeric", month: "long", year: "numeric" };
 export const DAY_LENGTH = 86400000;
 
