@@ -1,6 +1,7 @@
 """Entries of Answers that get no answer: none of them disappears unseen. Called by checks/slips.py, on its register."""
 
 from checks.page import ANSWER, FOCUS, press, rows, visit
+from checks.world import until
 
 NOT_SENT = "Nothing was sent: {}"
 
@@ -43,12 +44,14 @@ def left(world, page, see):
     another = NOT_SENT.format("another view came before an answer.")
     see("a child that was shown and not answered is listed after another view", rows(page)[1:2],
         [f"12|Child of 12|||{another}"])
-    page.value("performance.clearResourceTimings()")
-    world.stop_desk()
+    page.rule = lambda method, path: "held" if path == "/register" and not page.held else None
     enter(page, "13")
+    until(lambda: (page.value("0"), page.held)[1], "the look-up")
     before = visit(page, "#file")
-    world.continue_desk()
-    page.wait("performance.getEntriesByType('resource').some(it => it.name.endsWith('/child/13/letter'))")
+    page.rule = None
+    page.value("performance.clearResourceTimings()")
+    page.release()
+    page.wait("performance.getEntriesByType('resource').some(it => it.name.endsWith('/register'))")
     page.value("new Promise((resolve) => setTimeout(resolve))")
     see("the other view is not disturbed by an entry that was looked up", page.value(ANSWER), before)
     visit(page, "#answers")

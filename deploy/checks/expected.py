@@ -13,8 +13,8 @@ import sys
 HERE = pathlib.Path(__file__).resolve().parent
 # Fields that describe one response, and are not the same for all
 OF_ONE = {
-    "date", "connection", "content-type", "content-length", "www-authenticate", "retry-after",
-    "allow", "last-modified", "etag", "accept-ranges", "content-range",
+    "date", "connection", "content-type", "content-length", "content-encoding", "www-authenticate",
+    "retry-after", "allow", "last-modified", "etag", "accept-ranges", "content-range",
 }
 
 

@@ -1,7 +1,6 @@
-"""The page when things go wrong: names that are markup, each answer that a desk may give, another site's attempts, a missing index, a desk that is
-killed, and a full disk."""
+"""The page when things go wrong: names that are markup, each answer that a desk may give, another site's attempts, a desk that is not there from
+the beginning, one that is killed, and a full disk."""
 
-import json
 import signal
 
 from checks.browser import Browser
@@ -17,7 +16,7 @@ def check(world, see):
     markup(page, see)
     shown(page, see)
     other_site(page, see)
-    without_index(world, page, see)
+    without_desk(world, page, see)
     failing(world, page, see)
     see("no script failed when the desk did", page.errors, [])
     world.end(page.process)
@@ -70,9 +69,10 @@ def shown(page, see):
     page.rule = lambda method, path: "broken" if method == "POST" or len(page.posted) > sent else None
     see("and the child cannot be shown either", press(page, "#accept"),
         "There was no answer. It may be done: look before you send it again. It cannot be shown now.")
-    page.rule = lambda method, path: "broken"
+    page.rule = None
     visit(page, "#child/12/amend")
     write(page, name="Hal")
+    page.rule = lambda method, path: "broken"
     press(page, "#amend-form button")
     see("before a command the page sees that nobody answers, and sends nothing", (confirm(page), len(page.posted)),
         ("Nothing was sent. There was no answer. Try again; if there is still none, inform whoever runs the desk. What you typed is kept here.", sent + 1))
@@ -96,7 +96,7 @@ def other_site(page, see):
         mode = "no-cors" if kind == "text/plain" else "cors"
         how = f"{{method: 'POST', mode: '{mode}', credentials: 'include', headers: {{'Content-Type': '{kind}'}}, body: {command}}}"
         page.value(f"fetch('https://{NAME}/command', {how}).then(() => 1, () => 0)")
-    for path in ("/child/1", "/index.json", "/who"):
+    for path in ("/child/1", "/register", "/who"):
         see(f"a script of another site does not read {path}",
             page.value(f"fetch('https://{NAME}{path}', {{credentials: 'include'}}).then(() => 'read', () => 'refused')"), "refused")
     page.open("/child/1")
@@ -104,24 +104,36 @@ def other_site(page, see):
     page.errors.clear()
 
 
-def without_index(world, page, see):
-    """A register whose index could not be written: the page finds by numbers and codes, and says why it does no more."""
-    index = world.room / "index/desk/index.json"
-    kept = index.read_bytes()
-    index.unlink()
+def without_desk(world, page, see):
+    """A page that is loaded while the desk is closed: it says so, and shows what needs nothing of the register; then the desk is opened."""
+    closed = "The desk is closed, perhaps for a draw. Try again when it is open."
+    world.end(world.desk)
     opened(page, "/?without")
-    see("without an index the page says so", page.value(ANSWER), "The index of the register is missing.")
+    see("without a desk the page says so", (page.value(ANSWER), page.value(RESULT).split("\n")[0]), (closed, "No answer of the desk"))
     for text, address in (("3", "#child/3"), ("a", "#school/A")):
         page.value("document.getElementById('find').focus()")
         page.call("Input.insertText", text=text)
-        before = page.value("document.querySelector('h2')?.innerText ?? ''")
+        page.value("document.getElementById('answer').textContent = ''")
         page.press("Enter")
-        page.wait(f"location.hash === '{address}' && (document.querySelector('h2')?.innerText ?? '') !== {json.dumps(before)}")
         page.wait(f"{ANSWER} && !{WAITS}.test({ANSWER})")
-    see("and finds numbers and codes", page.value("document.querySelector('h2').innerText"), "A Alpha")
+        see(f"a number or a code leads to its address all the same: {text}", (page.value("location.hash"), page.value(ANSWER)), (address, closed))
+    see("a draw, whose number is not known, has no blocks", (visit(page, "#draw"), page.value("document.querySelectorAll('pre').length")), (closed, 0))
+    visit(page, "#answers")
+    page.type("Cyd")
+    page.press("Enter")
+    page.wait(f"{ANSWER}.startsWith('The desk is closed')")
+    see("Answers takes an entry, which stays in the field", page.value("document.getElementById('answer-child').value"), "Cyd")
     visit(page, "#child/3/amend")
-    see("but corrects nothing", page.value("[document.getElementById('answer').className, document.getElementById('result').innerText]"), ["bad", ""])
-    index.write_bytes(kept)
+    world.start_desk()
+    page.value("document.getElementById('answer').textContent = ''; document.getElementById('try-again').click()")
+    page.wait(f"{ANSWER} && !{WAITS}.test({ANSWER})")
+    see("what was asked for is shown when it is open", page.value("document.getElementById('name')?.value"), "Cyd Cole")
+    visit(page, "#draw")
+    world.end(world.desk)
+    page.value("import('/register.js').then((it) => it.outdate())")
+    see("the blocks of a draw are shown while the desk is closed for it", (visit(page, "#draw"), page.value("document.querySelectorAll('pre').length")),
+        ("Paste each block into a terminal, one after another.", 7))
+    world.start_desk()
 
 
 def failing(world, page, see):
@@ -147,9 +159,10 @@ def failing(world, page, see):
     write(page, name="F" * 80)
     press(page, "#amend-form button")
     see("a full disk", confirm(page), "The disk of the register has failed, and the desk does nothing more until it is repaired. Inform whoever runs it. "
-        "What you sent may be done or not: look when the desk is back.")
-    see("and the form has what was typed", page.value("document.getElementById('name').value"), "F" * 80)
+        "What you sent may be done or not: look when the desk is back. It cannot be shown now.")
     world.end(world.desk)
     see("then the log is taken in", world.run("admissions", "do", world.file).returncode, 0)
     world.start_desk()
+    visit(page, "#child/6/amend")
+    see("and the form has what was typed", page.value("document.getElementById('name').value"), "F" * 80)
     see("and all is as before", visit(page, "#child/6"), "Child 6.")

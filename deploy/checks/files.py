@@ -5,7 +5,7 @@ import json
 from checks import work
 from checks.browser import Browser
 from checks.page import ANSWER, confirm, opened, press, press_no, question, rows, visit, write
-from checks.slips import chosen, do, place
+from checks.slips import chosen, do, place, stored
 from checks.world import until
 
 COUNTS = "document.getElementById('counts')"
@@ -97,7 +97,7 @@ def partly_sent(world, page, see):
     see("after a reload the page says how far the file was", page.value("document.querySelector('.sent-in-part p').innerText"),
         "five.jsonl was sent in part: 2 of its 5 commands have an answer. The last of them is line 2. Line 3 may be done, and those after it were not sent. "
         "Choose the file again: it is compared with what was sent and with the register, and goes on from there, after a question. No line is sent twice.")
-    until(lambda: "Child of 16" in (world.room / "index/since.jsonl").read_text().splitlines()[-1], "the third command")
+    until(lambda: stored(world, 16)["flags"] == [3], "the third command")
     (path.parent / "other").mkdir(exist_ok=True)
     (path.parent / "other/five.jsonl").write_text(path.read_text() + "\n{}\n")
     see("another text of this name is not taken for it", chosen(page, path.parent / "other/five.jsonl"),
@@ -121,7 +121,7 @@ def changed_meanwhile(world, page, see):
     page.value("document.getElementById('send-file').click()")
     question(page)
     reloaded_at(world, page, 2)
-    until(lambda: '14' in (world.room / "index/since.jsonl").read_text().splitlines()[-1], "the second command")
+    until(lambda: stored(world, 14)["place"]["kind"] == "accepted", "the second command")
     data = {"east": 0, "looked_after": False, "flags": [], "siblings": [], "present": ""}
     do(world, cmd="accept", child=11, school="A")
     do(world, cmd="amend", child=13, name="Somebody Else", north=1300, **data)

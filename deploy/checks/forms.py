@@ -5,7 +5,6 @@ Called by checks/work.py, on its register."""
 import json
 
 from checks.page import FOCUS, RESULT, confirm, opened, press, question, visit, write
-from checks.world import until
 
 TODAY_IN_WORDS = "2 April 2025"
 
@@ -52,7 +51,6 @@ def corrections(world, page, see):
     visit(page, "#child/10/amend")
     other = {"cmd": "amend", "child": 10, "name": "Child of 10", "east": 7, "north": 1000, "looked_after": False, "flags": [], "siblings": [], "present": "PRIM9"}
     world.ask("/command", "jane", json.dumps(other))
-    until(lambda: "PRIM9" in (world.room / "index/since.jsonl").read_text(), "the line of the commands since")
     write(page, name="Ten")
     page.posted.clear()
     see("what somebody else corrected meanwhile is not overwritten", press(page, "#amend-form button"),
@@ -62,8 +60,11 @@ def corrections(world, page, see):
         ("PRIM9", "7", "Ten", []))
     conflict(world, page, see)
     # A field that this page does not know
-    page.value("import('/register.js').then(it => { it.child(9).data.boarder = true; })")
-    page.rule = lambda method, path: (200, '{"done":true}') if method == "POST" else None
+    document = json.loads(world.ask("/register", "jane").body)
+    next(it for it in document["children"] if it["child"] == 9)["boarder"] = True
+    given = {"/command": '{"done":true}', "/register": json.dumps(document)}
+    page.rule = lambda method, path: (200, given[path]) if path in given else None
+    page.value("import('/register.js').then((it) => it.outdate())")
     page.value("location.hash = '#child/9/amend'")
     page.wait("document.getElementById('other-boarder')")
     write(page, north="901")
@@ -82,7 +83,6 @@ def conflict(world, page, see):
              "present": "PRIM9"}
     write(page, north="1002")
     world.ask("/command", "jane", json.dumps(other))
-    until(lambda: '1001' in (world.room / "index/since.jsonl").read_text(), "the line of the commands since")
     press(page, "#amend-form button")
     see("where both changed a field, the present data is below what was typed", page.value(
         "[document.getElementById('north').value, document.getElementById('north-now').innerText, document.getElementById('east').value]"),
@@ -147,7 +147,6 @@ def plans(world, page, see):
     press(page, "#raise-form button")
     page.posted.clear()
     world.ask("/command", "jane", '{"cmd":"raise_pan","school":"E","pan":6}')
-    until(lambda: '\\"pan\\":6' in (world.room / "index/since.jsonl").read_text(), "the line of the commands since")
     see("one that somebody else raised meanwhile is not raised again unseen", (confirm(page), page.posted),
         ("Nothing was sent: the admission number of E was raised meanwhile, and is 6.", []))
     see("it is shown then, beside what was typed", page.value(

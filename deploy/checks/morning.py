@@ -218,10 +218,6 @@ def left(world, lapses, reminders, answers):
 
 
 def uncorrected(world):
-    """The children whose homes are not as they were corrected, by the commands that were done."""
-    homes = {}
-    for line in map(json.loads, (world.room / "index/since.jsonl").read_text().splitlines()):
-        command = json.loads(line["body"])
-        if command["cmd"] == "amend":
-            homes[command["child"]] = command["north"]
+    """The children whose homes are not as they were corrected."""
+    homes = {it["child"]: it["north"] for it in json.loads(world.ask("/register", "jane").body)["children"]}
     return [child for child, north in CORRECTED.items() if homes.get(child) != north]

@@ -90,19 +90,17 @@ def strangers(world, see):
             page.value("[document.title, document.getElementById('find'), JSON.parse(document.querySelector('pre').textContent)]"),
             ["", None, {"reason": reason, "status": status}])
         world.end(page.process)
-    for path in ("/index.json", "/since.jsonl", "/who", "/authority", "/register.js"):
+    for path in ("/register", "/who", "/authority", "/register.js"):
         see(f"{path} is for the office alone", [world.ask(path, who).status for who in (None, "alpha", "jane")], [401, 403, 200])
 
 
 def start(world, page, see):
     opened(page)
     facts = page.value("Object.fromEntries([...document.querySelectorAll('.facts div')].map(it => [it.firstChild.innerText, it.lastChild.innerText]))")
-    written = facts.pop("Index written", "")
     see("the first view has the season, the register, the days, the draws, and who is signed in", facts, {
-        "Season": "secondary entry 2025", "Register": f"{world.file.parent.name}, 4 schools, 8 children", "Signed in": "jane",
+        "Season": "secondary entry 2025", "Register": f"{world.name}, 4 schools, 8 children", "Signed in": "jane",
         "Applications close": "31 October 2024", "Offer day": "3 March 2025",
         "Lists close": "31 December 2025", "Draws so far": "1 round, 0 fills, round 1 of 3 March 2025"})
-    see("and when the index was written", written.startswith(str(int(world.run("date", "+%d").stdout))), True)
     see("the authority's name is at the top", page.value("document.getElementById('authority').textContent"), AUTHORITY)
     # Offered: 2, 4 and 11, on 3 March; the 20th is 17 days later. 1 has accepted. 3, 6 and 12 have no place; A's two places are those of 1 and of the plan of 5
     see("the worklists with their counts", rows(page, "#worklists table"),

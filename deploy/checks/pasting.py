@@ -69,7 +69,7 @@ def check(world, page, see):
 def as_written(world, see, fill, held):
     """Each block is the one that the HANDBOOK has, with the values of this draw; round them are the lines
     for an installed register."""
-    name = world.file.parent.name
+    name = world.name
     written = blocks(part("## Run a round", "## Record answers"))[:3]
     see(
         "the blocks of a round are those of the HANDBOOK",

@@ -42,7 +42,8 @@ def apart(first, other, see):
 
 
 def people(first, other, see):
-    see("a user of the office at each", (first.ask("/who", "jane").body, other.ask("/who", "mary").body), ("jane", "mary"))
+    see("a user of the office at each, and the register's name", (first.ask("/who", "jane").body, other.ask("/who", "mary").body),
+        ("secondary-2025\njane", "primary-2026\nmary"))
     see("who is nobody at the other", (other.ask("/child/1", "jane", password=first.passwords["jane"]).status, first.ask("/child/1", "mary", password=other.passwords["mary"]).status), (401, 401))
     see("a mail address is a name too, with its role", (other.ask("/school/A/waiting", MAIL).status, other.ask("/school/B/waiting", MAIL).status), (200, 403))
     see("but not with another password", other.ask("/school/A/waiting", MAIL, password="wrong").status, 401)
@@ -56,19 +57,24 @@ def people(first, other, see):
 
 def command(first, other, see):
     """A command is done, logged and shown at its own register alone."""
-    before = first.file.with_name("reg.db-wal").read_bytes(), first.logged(), (first.room / "index/since.jsonl").read_text()
+    lines_of_register = lambda: first.logged().count('"target":"/register","status":"200"')
+    count, document = lines_of_register(), first.ask("/register", "jane").body
+    until(lambda: lines_of_register() > count, "the line of the log")
+    before = first.file.with_name("reg.db-wal").read_bytes(), first.logged(), document
     see("a command from the page of the other site is refused", other.ask("/command", "mary", AMEND, origin=f"https://{first.host}").status, 403)
     see("one from its own is done", other.ask("/command", "mary", AMEND).body, '{"done":true}')
-    since = other.room / "index/since.jsonl"
-    until(lambda: since.read_text(), "the line of the commands since")
-    see("it is in the commands since of its register", [json.loads(line)["body"] for line in since.read_text().splitlines()], [AMEND])
-    see("and nothing of it is at the other one", before, (first.file.with_name("reg.db-wal").read_bytes(), first.logged(), (first.room / "index/since.jsonl").read_text()))
+    until(lambda: '"target":"/command","status":"200"' in other.logged(), "the line of the log")
+    lines = [it for it in map(json.loads, other.logged().splitlines()) if it["target"] == "/command" and it["status"] == "200"]
+    see("it is in the log of its register", [it["body"] for it in lines], [AMEND])
+    see("and in that register", [it["name"] for it in json.loads(other.ask("/register", "mary").body)["children"]], ["Zoe Zeal", "Yan Yew-Oak"])
+    after = first.file.with_name("reg.db-wal").read_bytes(), first.logged(), first.ask("/register", "jane").body
+    see("and nothing of it is at the other one", before, after)
     see("the letters of child 1", [it.ask("/child/1/letter", who).body.splitlines()[:2] for it, who in ((first, "jane"), (other, "mary"))],
         [["Admission 2025 secondary", "Child 1 Ada Abel"], ["Admission 2026 primary", "Child 1 Zoe Zeal"]])
 
 
 def pages(first, other, see):
-    """The page of each finds its own children by name, by its own index."""
+    """The page of each finds its own children by name."""
     for it, who, season, own, foreign in ((first, "jane", "secondary entry 2025", "Cyd Cole", "Yew"), (other, "mary", "primary entry 2026", "Yan Yew-Oak", "Cyd")):
         page = Browser(it, who)
         opened(page)

@@ -183,10 +183,14 @@ def answers(world, see):
     other = world.ask("/child/1", "jane", options=("--header", "Host: evil.example"))
     see("the reason: another host", (other.status, json_of(other), other.fields.get("server")), (421, {"reason": "this machine has no site of this name", "status": 421}, "nginx"))
     see("only who is not signed in is asked to", [what for what, (answer, *_) in reasons.items() if "www-authenticate" in answer.fields], ["no sign-in", "a wrong password"])
-    others = {path: world.ask(path, "jane") for path in ("/", "/page.js", "/who", "/authority", "/index.json", "/child/2", "/child/2/letter", "/school/A/waiting", "/round/1",
+    others = {path: world.ask(path, "jane") for path in ("/", "/page.js", "/who", "/authority", "/register", "/child/2", "/child/2/letter", "/school/A/waiting", "/round/1",
         "/child/7", "/command")}
     others |= {"a command that is refused": world.ask("/command", "jane", ACCEPT.replace('"A"', '"B"')), "not JSON": world.ask("/command", "jane", "{"), "PUT": world.ask("/child/1", "jane", options=("--request", "PUT")),
-        "a part": world.ask("/index.json", "jane", options=("--range", "0-1")), "no such part": world.ask("/index.json", "jane", options=("--range", "99999999-"))}
+        "a part": world.ask("/page.js", "jane", options=("--range", "0-1")), "no such part": world.ask("/page.js", "jane", options=("--range", "99999999-")),
+        "compressed": world.ask("/register", "jane", options=("--compressed",))}
+    see("the register is sent compressed to whoever takes that, and is the same", [(it.fields.get("content-encoding"), it.body == others["/register"].body) for it in
+        (others["compressed"], others["/register"])], [("gzip", True), (None, True)])
+    see("what is no JSON is not", world.ask("/page.js", "jane", options=("--compressed",)).fields.get("content-encoding"), None)
     see("their statuses", sorted({it.status for it in others.values()}), [200, 206, 400, 404, 405, 409, 416, 501])
     for what, answer in {**{what: it[0] for what, it in reasons.items()}, **others}.items():
         see(f"the headers: {what}", headers_differ(answer.fields), [])

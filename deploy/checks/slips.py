@@ -73,6 +73,17 @@ def place(world, child):
     return group(r"(?m)^Place: (.*)$", letter(world, child))
 
 
+def stored(world, child):
+    """A child as the register has it now."""
+    children = json.loads(world.ask("/register", "jane").body)["children"]
+    return next(it for it in children if it["child"] == child)
+
+
+def outdate(page):
+    """From now on the page's copy of the register is an old one, as after a command of its own."""
+    page.value("import('/register.js').then((it) => it.outdate())")
+
+
 def do(world, **command):
     """What the other clerk does."""
     answer = world.ask("/command", "jane", json.dumps(command))
@@ -151,9 +162,9 @@ def stale_child(world, page, other, see):
         ("Child 15: the waiting list of A was left meanwhile. Nothing was sent.", []),
     )
     see(
-        "how it ended is shown, as far as the page knows it",
+        "that it ended is shown, as far as the register tells it",
         rows(page)[-1],
-        "1|A|Ysgol Tŷ Gwyn|list left",
+        "1|A|Ysgol Tŷ Gwyn|declined, left or withdrawn",
     )
     visit(page, "#child/4")
     do(world, cmd="name_plan", child=4, school="E")
@@ -370,6 +381,7 @@ def finding_ahead(world, page, see):
     typed = f"[{FOCUS}.id, document.getElementById('find').value]"
 
     def ahead(begin, text, is_complete):
+        outdate(page)
         world.stop_desk()
         begin()
         page.value("document.getElementById('find').focus()")

@@ -121,7 +121,7 @@ class World:
         self.name, self.host, self.lines, self.people = name, host, lines, people or PEOPLE
         self.root, self.prefix, self.file, self.settings = installation.root, installation.prefix, room / "reg.db", room / "settings"
         self.site_port, self.desk_port = 0, free_port()  # the desk's port is in a network of its own
-        for folder in ("run", "log", "copies", "temp", "index/desk", "downloads", "settings"):
+        for folder in ("run", "log", "copies", "temp", "downloads", "settings"):
             (room / folder).mkdir(parents=True)
         self.passwords = {name: os.urandom(9).hex() for name in self.people}
         self.environment = {**os.environ, "PATH": f"{self.prefix}/bin:/usr/sbin:/sbin:{os.environ['PATH']}", "no_proxy": "*", "HOME": str(room)}
@@ -193,13 +193,9 @@ class World:
     def inside(self, *arguments):
         return ("nsenter", "--target", self.holder.pid, "--user", "--net", "--preserve-credentials", *arguments)
 
-    def write_index(self):
-        """As the unit of the desk does before each start, after the log is merged."""
-        self.run("admissions", "do", self.file)
-        return self.run(self.prefix / "lib/admissions/index", self.file, self.room / "index/desk")
-
     def start_desk(self):
-        self.write_index()
+        """As its unit does: the log is merged before."""
+        self.run("admissions", "do", self.file)
         log = self.room / "log/desk"
         log.unlink(missing_ok=True)
         self.desk = self.spawn(*self.inside("admissions", "serve", self.file, self.desk_port), log="desk")
@@ -245,7 +241,7 @@ class World:
         usr = self.installation.usr
         return replaced(self.installation.site(self.name, self.host), (
             (f"/etc/admissions/{self.name}", f"{self.settings}"), ("root /etc/admissions;", f"root {self.root}/etc/admissions;"),
-            (f"/run/admissions-index/{self.name}", f"{self.room}/index"), (f"/run/admissions/{self.name}.sock", f"{self.room}/run/desk.sock"),
+            (f"/run/admissions/{self.name}.sock", f"{self.room}/run/desk.sock"),
             (f"/var/log/admissions/{self.name}", f"{self.room}/log"), (f"{usr}/share", f"{self.root}{usr}/share"), *self.listens(("443", self.site_port))))
 
     def listens(self, *ports):

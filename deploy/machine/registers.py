@@ -51,11 +51,6 @@ class Register:
         return pathlib.Path(f"/run/admissions/{self.name}.sock")
 
     @property
-    def index(self) -> pathlib.Path:
-        """The folder of what the page reads: the commands since and, in a folder of the desk, the index."""
-        return pathlib.Path("/run/admissions-index", self.name)
-
-    @property
     def host(self) -> str | None:
         """The name of its site, or None."""
         try:

@@ -9,7 +9,7 @@ import socket
 
 from . import files
 from .registers import NAME, SETTINGS, Register
-from .run import USER, Failed, call, is_booted, tool
+from .run import Failed, call, is_booted, tool
 
 AVAILABLE, ENABLED = pathlib.Path("/etc/nginx/sites-available"), pathlib.Path("/etc/nginx/sites-enabled")
 MODEL, MACHINE = AVAILABLE / "admissions", pathlib.Path("/etc/nginx/conf.d/admissions.conf")
@@ -24,13 +24,9 @@ READ = pathlib.Path("/run/admissions-sites-read")
 FIRST, LAST = "# The machine's own part, which is there once:\n", "# The end of that part\n"
 HOST = re.compile(r"(?=.{1,253}\Z)[a-z0-9]([a-z0-9-]{0,61}[a-z0-9])?(\.[a-z0-9]([a-z0-9-]{0,61}[a-z0-9])?)+")
 FOLDERS = pathlib.Path("/etc/tmpfiles.d")
-MADE_FOLDERS = """# Made by admissions-setup: the commands since, and in a folder of the desk's user the index for the page, for the site alone, and in memory;
-# and the log, which is for root alone: nginx opens it before it gives up its rights, and gives it
-# away when it gets the signal to reopen it. What nginx opens so is in folders of root, where nobody
-# else can put a link in its place
-d {index} 0751 root www-data
-d {index}/desk 2750 {user} www-data
-f {index}/since.jsonl 0640 root www-data
+MADE_FOLDERS = """# Made by admissions-setup: the log, which is for root alone: nginx opens it before it gives up
+# its rights, and gives it away when it gets the signal to reopen it. What nginx opens so is in
+# folders of root, where nobody else can put a link in its place
 f {logs}/asked.log 0600 root root
 f {logs}/errors.log 0600 root root
 z {logs}/*.log* 0600 root root
@@ -95,12 +91,10 @@ def site_text(model: str, name: str, host: str, machine: Machine) -> str:
         (r"\bregister-name\b", name),
         ("/etc/admissions/", f"/etc/admissions/{name}/"),
         (r"/run/admissions/desk\.sock", f"/run/admissions/{name}.sock"),
-        (r"/run/admissions-index\b", f"/run/admissions-index/{name}"),
         ("/var/log/admissions/", f"/var/log/admissions/{name}/"),
-        (r"\$(role|may|is_foreign|is_other_type|is_done)\b", rf"$\1_{suffix}"),
-        (r"log_format (admissions|admissions_done) ", rf"log_format \1_{suffix} "),
+        (r"\$(role|may|is_foreign|is_other_type)\b", rf"$\1_{suffix}"),
+        (r"log_format admissions ", f"log_format admissions_{suffix} "),
         (r"asked\.log admissions if", f"asked.log admissions_{suffix} if"),
-        (r"since\.jsonl admissions_done ", f"since.jsonl admissions_done_{suffix} "),
         (r"(upstream|zone|http:/)([ /])desk\b", rf"\1\2desk_{suffix}"),
     ):
         text = replaced(text, old, new)
@@ -160,7 +154,8 @@ def make_all():
         wanted[MAIN] = main_text(main)
     sites = {AVAILABLE / f"admissions-{it.name}": site_text(model, it.name, it.host, machine) for it in registers_with_site()}
     wanted |= sites
-    before = {path: path.read_text(encoding="utf-8") if path.exists() else None for path in wanted}
+    folders = [folders_of(it) for it in registers_with_site()]
+    before = {path: path.read_text(encoding="utf-8") if path.exists() else None for path in (*wanted, *folders)}
     lines, links = make_folders(), []
     for path, text in wanted.items():
         if files.write(path, text, 0o644):
@@ -183,17 +178,22 @@ def make_all():
     return lines
 
 
+def folders_of(register: Register) -> pathlib.Path:
+    """What has systemd make the log of a register."""
+    return FOLDERS / f"admissions-{register.name}.conf"
+
+
 def make_folders():
-    """Has systemd make what is in memory, which nginx does not start without, and the log of each
-    register, now and when the machine starts. Returns what was made, a line each.
+    """Has systemd make the log of each register, now and when the machine starts. Returns what was
+    made, a line each.
     """
     lines = []
     for register in registers_with_site():
-        path = FOLDERS / f"admissions-{register.name}.conf"
-        is_new = files.write(path, MADE_FOLDERS.format(index=register.index, logs=register.logs, user=USER), 0o644)
+        path = folders_of(register)
+        is_new = files.write(path, MADE_FOLDERS.format(logs=register.logs), 0o644)
         if is_new:
             lines.append(f"made {path}")
-        made = (register.index / "since.jsonl", register.logs / "asked.log", register.logs / "errors.log")
+        made = (register.logs / "asked.log", register.logs / "errors.log")
         if is_new or not all(it.exists() for it in made):
             call(tool("systemd-tmpfiles", "systemd"), "--create", path)
     return lines

@@ -1,4 +1,4 @@
-"""Reports how the registers of this machine are: file, desk, site, units, users, log, index, copies, disks, certificates.
+"""Reports how the registers of this machine are: file, desk, site, units, users, log, copies, disks, certificates.
 
   admissions-status [NAME ..] [--line]
 
@@ -66,7 +66,7 @@ def main(given: argparse.Namespace) -> int:
 
 def report(register: Register) -> dict[str, State]:
     """What is known of a register: for each part whether it is well, and a text."""
-    parts = {"register": file_of, "desk": desk_of, "site": site_of, "units": units_of, "users": users_of, "log": log_of, "index": index_of,
+    parts = {"register": file_of, "desk": desk_of, "site": site_of, "units": units_of, "users": users_of, "log": log_of,
              "copy": copy_of, "second copy": second_of, "drill": drill_of, "disk": room_of, "certificate": certificate_of}
     out = {}
     for name, part in parts.items():
@@ -200,16 +200,6 @@ def grows(register: Register, before: int) -> bool:
             return False
         time.sleep(0.02)
     return True
-
-
-def index_of(register: Register) -> State:
-    """The index by which the page finds names: written before the desk started."""
-    if register.host is None:
-        return True, "it has no site"
-    path = register.index / "desk/index.json"
-    if not path.exists():
-        return False, f"none, so the page finds numbers and codes alone: journalctl -u admissions@{register.name}"
-    return True, f"{path.stat().st_size:,} bytes, {age_text(time.time() - path.stat().st_mtime)}"
 
 
 def age_text(seconds: float) -> str:

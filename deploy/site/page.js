@@ -20,5 +20,5 @@ beginFinding();
 begin({
   start: startView, child: childView, letters: lettersView, school: schoolView, intake: intakeView, round: roundView, list: listView, find: findView, answers: answersView,
   add: addView, file: fileView, draw: drawView,
-}, ["answers", "file", "draw"]);
+}, ["answers", "file"]);
 beginPaper();

@@ -4,8 +4,8 @@ import { Shown } from "./desk.js";
 import { readIfOld } from "./register.js";
 
 let views = {};
-// Those that are shown while the desk does not answer, too: by what was read before, or without it
-let alwaysShown = [];
+// Those that show nothing of the register until somebody uses them: they do not wait for it
+let shownAtOnce = [];
 // Each view has a turn: one that is complete after a later request is not shown
 let turn = 0;
 // After a load the focus is at the top; after each later view it is on the heading, unless somebody types into the field at the top
@@ -21,9 +21,9 @@ export function address() {
   try { return text.split("/").map(decodeURIComponent); } catch { return [""]; }
 }
 
-export function begin(all, always) {
+export function begin(all, atOnce) {
   views = all;
-  alwaysShown = always;
+  shownAtOnce = atOnce;
   window.addEventListener("hashchange", () => render());
   at("skip").onclick = (event) => {
     event.preventDefault();
@@ -41,6 +41,13 @@ export function go(hash, reply = null) {
 
 export const again = (reply) => go(location.hash || "#start", reply);
 
+// Has the page read the register for a view. That of a draw is shown while the desk is closed, too, by what was read before
+async function readFor(view) {
+  const reading = readIfOld();
+  if (shownAtOnce.includes(view)) reading.catch((error) => error instanceof Shown || reportError(error));
+  else await reading.catch((error) => { if (!error.isAway || view !== "draw") throw error; });
+}
+
 async function render() {
   const mine = ++turn;
   const reply = answer;
@@ -48,7 +55,7 @@ async function render() {
   if (!reply) say("Loading …");
   const [name, ...rest] = address();
   try {
-    await readIfOld().catch((error) => { if (!error.isAway || !alwaysShown.includes(name)) throw error; });
+    await readFor(name);
     const view = Object.hasOwn(views, name) ? await views[name](rest, mine) : null;
     if (!view) throw new Shown("There is no such view.");
     if (mine === turn) show(view, reply);

@@ -270,7 +270,7 @@ def test_a_certificate_that_is_none_is_reported_and_so_is_all_else(
     monkeypatch.setattr(status, "site_status_of", lambda *_: (401, b""))
     monkeypatch.setattr(status, "LOG_SECONDS", 0.1)
     found = status.report(register)
-    assert (found["site"][0], said in found["site"][1], len(found)) == (False, True, 12)
+    assert (found["site"][0], said in found["site"][1], len(found)) == (False, True, 11)
 
 
 UNITS = [
@@ -340,7 +340,6 @@ def test_each_part_is_reported(register: registers.Register) -> None:
         "units",
         "users",
         "log",
-        "index",
         "copy",
         "second copy",
         "drill",

@@ -1,5 +1,6 @@
 """The lines of units and scripts that decide when copies are made and how many are kept, and that docs/DEPLOYMENT.md promises; and what a purge removes."""
 import hashlib
+import os
 import pathlib
 import re
 import subprocess
@@ -118,7 +119,6 @@ def machine_root_fixture(tmp_path: pathlib.Path) -> pathlib.Path:
         "etc/systemd/system/multi-user.target.wants/admissions@a.service",
         "etc/systemd/system/timers.target.wants/admissions-backup@a.timer",
         "etc/systemd/system/multi-user.target.wants/other.service",
-        "run/admissions-index/a/desk/index.json",
     ):
         (tmp_path / name).parent.mkdir(parents=True, exist_ok=True)
         (tmp_path / name).write_text(f"{name}\n")
@@ -170,7 +170,6 @@ def test_a_purge_removes_what_can_be_made_again_and_nothing_else(
         "etc/systemd/system/multi-user.target.wants/admissions@a.service",
         "etc/systemd/system/timers.target.wants/admissions-backup@a.timer",
         "etc/tmpfiles.d/admissions-a.conf",
-        "run/admissions-index/a/desk/index.json",
         "var/lib/admissions/.running-before-upgrade",
     ]
     for folder, count in (("var/lib", 4), ("var/backups", 4), ("var/log", 4), ("etc", 3)):
@@ -194,3 +193,25 @@ def test_nothing_but_a_purge_removes_anything(
     before = files_of(machine_root)
     subprocess.run(["sh", here, word], capture_output=True, text=True, check=True)
     assert files_of(machine_root) == before
+
+
+@pytest.mark.parametrize("status, is_left", [(0, False), (1, True)])
+def test_an_upgrade_removes_what_an_earlier_page_read_once_no_site_names_it(
+    status: int, is_left: bool, machine_root: pathlib.Path, tmp_path_factory: pytest.TempPathFactory
+) -> None:
+    room = tmp_path_factory.mktemp("script")
+    for name in ("admissions-setup", "systemd-sysusers", "systemd-tmpfiles", "upgrade"):
+        (room / name).write_text(f"#!/bin/sh\nexit {status if name == 'admissions-setup' else 0}\n")
+        (room / name).chmod(0o755)
+    script = (ROOT / "debian/postinst").read_text(encoding="utf-8")
+    script = re.sub(r"(?<![\w$/])/(var|etc|run)/", rf"{machine_root}/\1/", script)
+    (room / "postinst").write_text(script.replace("/usr/lib/admissions/upgrade", str(room / "upgrade")))
+    index = machine_root / "run/admissions-index/a/desk/index.json"
+    index.parent.mkdir(parents=True)
+    index.write_text("{}")
+    subprocess.run(
+        ["sh", room / "postinst", "configure", "0.1.0"],
+        env={**os.environ, "PATH": f"{room}:{os.environ['PATH']}"},
+        check=True,
+    )
+    assert (machine_root / "run/admissions-index").exists() == is_left

@@ -43,11 +43,11 @@ def test_the_machines_own_part_needs_no_site():
 
 
 def test_what_nginx_opens_as_root_is_in_folders_of_root():
-    """There nobody else can put a link in its place. The folder of a log is made by admissions-setup, of root."""
-    made = re.findall(r"(?m)^d (\S+) \S+ (\S+)", sites.MADE_FOLDERS.format(index="/run/admissions-index/x", logs="/var/log/admissions/x", user="desk"))
+    """There nobody else can put a link in its place. The folder of a log is made by admissions-setup, of root, as each of its files is."""
+    made = re.findall(r"(?m)^[fd] (\S+) \S+ (\S+)", sites.MADE_FOLDERS.format(logs="/var/log/admissions/x"))
     owners = {"/var/log/admissions/x": "root", **dict(made)}
     opened = re.findall(r"(?m)^ *(?:access|error)_log +(/\S+)/[^/ ]+ ", sites.site_text(MODEL, "x", "x.example", sites.Machine(NEW, True)))
-    assert (len(opened), {owners[it] for it in opened}, set(owners.values())) == (4, {"root"}, {"root", "desk"})
+    assert (len(opened), {owners[it] for it in opened}, len(made), set(owners.values())) == (3, {"root"}, 2, {"root"})
 
 
 @pytest.mark.parametrize("before, after", [
