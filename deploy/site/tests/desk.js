@@ -1,0 +1,32 @@
+// A desk for tests: it answers the requests of the page's modules, which it lists, by a register that can change meanwhile. What is shown on the
+// page is nowhere here.
+import { season } from "./season.js";
+
+const nothing = { classList: { toggle: () => {} } };
+globalThis.document = { getElementById: () => nothing };
+globalThis.window = { addEventListener: () => {} };
+
+export const desk = { asked: [], register: season(), isClosed: false, hold: null };
+
+// The answer to GET /child/{no}, as docs/FORMATS.md has it
+function shortOf(number) {
+  const it = desk.register.children.find((one) => one.child === number);
+  const waits = it?.application?.preferences.filter((wish) => wish.state === "waits") ?? [];
+  return it && { child: number, place: it.place && { kind: it.place.kind, school: it.place.school }, waiting: waits.map(({ position, school }) => ({ position, school })) };
+}
+
+function answerOf(path) {
+  if (path === "/register") return desk.register;
+  if (path === "/command") return { done: true };
+  return shortOf(Number(path.split("/").at(-1)));
+}
+
+globalThis.fetch = async (path) => {
+  desk.asked.push(path);
+  const found = desk.isClosed ? undefined : JSON.stringify(answerOf(path));
+  await desk.hold?.();
+  return { status: desk.isClosed ? 502 : found ? 200 : 404, text: async () => found ?? "{}" };
+};
+
+// What was asked for since the last call
+export const asked = () => desk.asked.splice(0);
