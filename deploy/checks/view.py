@@ -265,7 +265,9 @@ def imported(world: World, page: Browser, see: See) -> None:
 
 
 def meanwhile(world: World, page: Browser, see: See) -> None:
-    """A colleague's commands are in the next view: a list left, a place declined."""
+    """A colleague's commands are in the next view: a list left, a place declined. At B 11 is 900
+    metres away, and 41, which was imported, 1,300.
+    """
     do(world, cmd="leave_list", child=15, school="A")
     do(world, cmd="decline", child=11, school="A")
     page.value(WAIT)
@@ -279,7 +281,7 @@ def meanwhile(world: World, page: Browser, see: See) -> None:
         (
             {
                 15: [["A", "declined, left or withdrawn"]],
-                11: [["A", "declined, left or withdrawn"], ["B", "waits, position 1 of 1"]],
+                11: [["A", "declined, left or withdrawn"], ["B", "waits, position 1 of 2"]],
             },
             ["A"],
             ["A"],

@@ -5,8 +5,9 @@
 export const FEW_SECONDS = 2000;
 
 /**
- * Whether a copy whose request was sent at a moment may be shown as it is: it is only some seconds old, and the page has sent nothing since.
- * @param {{ began: number, sent: number }} moments of the copy's request, and of the last command that the page sent
+ * Whether a copy whose request was sent at a moment may be shown as it is: it is only some seconds old, and since then the page has sent
+ * nothing, and the desk has answered.
+ * @param {{ began: number, sent: number }} moments of the copy's request, and of the last command that the page sent, or request without an answer
  * @param {number} now
  */
 export const isFresh = ({ began, sent }, now) => began > sent && isRecent(began, now);

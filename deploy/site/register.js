@@ -15,7 +15,7 @@ export let authority = "";
 // The name of the register on its machine
 export let name = "NAME";
 
-// When the request of the copy was sent, and when the page sent a command last
+// When the request of the copy was sent, and when the page sent a command, or had no answer, last
 let began = -Infinity;
 let sent = -Infinity;
 let reading = null;
@@ -35,7 +35,7 @@ export async function readSite() {
   authority = named.status === 200 ? named.body.trim() : "";
 }
 
-// From now on the copy is an old one: a command was sent
+// From now on the copy is an old one: a command was sent, or the desk did not answer
 export function outdate() {
   sent = performance.now();
 }
@@ -43,7 +43,11 @@ export function outdate() {
 // Reads the register as it is right now. Where two were asked for, the later one stays
 export async function readNow() {
   const mine = performance.now();
-  const document = parsed(await read("/register"));
+  const text = await read("/register").catch((error) => {
+    outdate();
+    throw error;
+  });
+  const document = parsed(text);
   if (!document) throw new Shown("The desk’s answer could not be read. Try again.");
   if (mine < began) return;
   register = readView(document);

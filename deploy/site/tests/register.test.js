@@ -50,6 +50,15 @@ test("of two answers that overtake each other the later request's stays", async 
   assert.deepEqual([copy.nameOf(1), asked().length], ["Later", 2]);
 });
 
+test("a copy is no longer fresh when the desk has not answered", async () => {
+  desk.isClosed = true;
+  await copy.update();
+  await assert.rejects(copy.readIfOld(), isClosed);
+  desk.isClosed = false;
+  await copy.readIfOld();
+  assert.deepEqual(asked(), ["/register", "/register", "/register"]);
+});
+
 test("a child as it is now, or why there is none", async () => {
   desk.register = season();
   assert.equal((await copy.childNow(3)).place.kind, "accepted");
