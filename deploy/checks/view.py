@@ -45,7 +45,17 @@ CLASSES = {
 # The counts of a list, and of a report, in words
 COUNTS = r"(\d+) (?:child|children|place|places) (?:waits?|is|are)"
 OUTCOMES = r"(\d+) (?:child|children) w\w+ offered .*, (\d+) kept .* (\d+) had none"
-HEAD = "child,name,east,north,looked_after,flags,siblings,day,preferences\n"
+# One child for each class of A but the last, of which there are some already; and one for E
+IMPORT = """\
+child,name,east,north,looked_after,flags,siblings,day,preferences,present
+41,"Row, Rhys",0,700,no,2;5,,2025-03-20,A;B,
+42,Seren Row,0,25000,yes,,B,2025-03-21,E,
+43,Child of 43,0,3000,no,,A,2025-03-21,A,
+44,Child of 44,0,450,no,,,2025-03-21,A,
+45,Child of 45,0,3500,no,,,2025-03-21,A,PRIM7
+46,Child of 46,0,4000,yes,,,2025-03-21,A,
+"""
+IMPORTED = range(41, 47)
 # What was requested of the site since the last call but files of the page, who and authority
 REQUESTED = """(() => {
     const names = performance.getEntriesByType('resource').map((it) => new URL(it.name).pathname);
@@ -69,10 +79,10 @@ def check(world: World, see: See) -> None:
         page.width(1280, 900)
         page.clock(work.TODAY)
         requests(page, see)
+        imported(world, page, see)
         children(world, page, see)
         schools(world, page, see)
         round_reports(world, page, see)
-        imported(world, page, see)
         meanwhile(world, page, see)
         see("no script failed over the register as it is read", page.errors, [])
         world.end(page.process)
@@ -170,7 +180,7 @@ def place_of(letter: str) -> tuple[str, str]:
 def children(world: World, page: Browser, see: See) -> None:
     """Each child beside its letter."""
     wanted, seen = {}, {}
-    for number in range(1, 17):
+    for number in (*range(1, 17), *IMPORTED):
         letter = world.ask(f"/child/{number}/letter", "jane").body
         school, kind = place_of(letter)
         wanted[number] = [waits_of(letter), school, kind]
@@ -206,7 +216,8 @@ def schools(world: World, page: Browser, see: See) -> None:
         seen[code] += re.findall(COUNTS, page.value(RESULT))
     what = "each list has positions, children, priorities, metres and counts of the program's"
     see(what, seen, wanted)
-    see("of which one has several children", len(wanted["A"]) > 4)
+    classes = {row.split("|")[2] for row in wanted["A"] if "|" in row}
+    see("of which one has each of its classes", classes, set(CLASSES["A"]))
 
 
 def round_reports(world: World, page: Browser, see: See) -> None:
@@ -225,25 +236,25 @@ def round_reports(world: World, page: Browser, see: See) -> None:
 
 
 def imported(world: World, page: Browser, see: See) -> None:
-    """Another officer imports two children."""
+    """Another officer imports six children."""
     visit(page, "#list/unplaced")
-    added = '41,"Row, Rhys",0,700,no,2;5,,2025-03-20,A;B\n'
-    added += "42,Seren Row,0,25000,yes,,B,2025-03-21,E\n"
-    done = world.ask("/import", "jane", HEAD + added, kind="text/csv").body
-    see("two children are imported over the site", done, '{"added":2,"done":true,"known":0}')
+    done = world.ask("/import", "jane", IMPORT, kind="text/csv").body
+    see("six children are imported over the site", done, '{"added":6,"done":true,"known":0}')
     page.value(WAIT)
     visit(page, "#list/unplaced")
+    listed = [row.split("|")[1:] for row in rows(page)[1:]]
+    see("they are in the next worklist", [it[0] for it in listed[2:]], [str(it) for it in IMPORTED])
     see(
-        "they are in the next worklist",
-        [row.split("|")[1:] for row in rows(page)[-2:]],
+        "with their data",
+        listed[2:4],
         [
             ["41", "Row, Rhys", "20 March 2025", "A B", "A B"],
             ["42", "Seren Row", "21 March 2025", "E", "E"],
         ],
     )
     visit(page, "#start")
-    see("and in its count", work.counts(page)["Without a place"], "4")
-    see("and in the number of children", "3 schools, 18 children" in page.value(RESULT))
+    see("and in its count", work.counts(page)["Without a place"], "8")
+    see("and in the number of children", "3 schools, 22 children" in page.value(RESULT))
     page.value("document.getElementById('find').focus()")
     page.type("row")
     names = "[...document.querySelectorAll('#found a')].map((it) => it.innerText.split(' ')[0])"
@@ -260,7 +271,7 @@ def imported(world: World, page: Browser, see: See) -> None:
     see(
         "the next free number is after theirs",
         page.value("document.getElementById('child').value"),
-        "43",
+        "47",
     )
 
 
