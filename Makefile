@@ -106,7 +106,7 @@ install:
 	install -D -m 755 tools/restore $(DESTDIR)$(PREFIX)/bin/admissions-restore
 	for tool in audit check figures letters lots query send trial why; do install -D -m 755 office/command $(DESTDIR)$(PREFIX)/bin/admissions-$$tool || exit 1; done
 	install -d $(DESTDIR)$(PREFIX)/share/admissions/office
-	install -m 644 office/*.py $(DESTDIR)$(PREFIX)/share/admissions/office
+	install -m 644 office/*.py office/*.json $(DESTDIR)$(PREFIX)/share/admissions/office
 	install -d $(DESTDIR)$(PREFIX)/share/admissions/office/templates
 	install -m 644 office/templates/* $(DESTDIR)$(PREFIX)/share/admissions/office/templates
 	install -d $(DESTDIR)$(PREFIX)/share/admissions/queries
