@@ -71,6 +71,7 @@ CODE = re.compile(
     f"[{RULES['limits']['code']['characters']}]"
     f"{{{LIMITS['code'].least},{LIMITS['code'].most}}}"
 )
+CODE_IN_WORDS = f"{LIMITS['code'].least} to {LIMITS['code'].most} of A-Z and 0-9"
 
 
 def filled(text: str, values: Mapping[str, str] | None = None) -> str:
@@ -84,6 +85,18 @@ def filled(text: str, values: Mapping[str, str] | None = None) -> str:
         return f"{value:,}" if isinstance(value, int) else str(value)
 
     return HOLE.sub(word, text)
+
+
+def is_code(value: object) -> bool:
+    """Whether a value is a school's code."""
+    return isinstance(value, str) and bool(CODE.fullmatch(value))
+
+
+def value_in_words(name: str, *values: object) -> str:
+    """The words for a value of a text: for several, those of a list."""
+    _, one, *several = WORDS["values"][name]
+    form: str = several[0] if several and len(values) > 1 else one
+    return form.replace("{}", ", ".join(map(str, values)))
 
 
 def kind_in_words(kind: str) -> str:

@@ -18,7 +18,7 @@ from typing import ClassVar
 import pytest
 from conftest import PROGRAM, ROOT, apply, child, do, make, school
 
-from office import commands, senders
+from office import commands, rules, senders
 
 TODAY = ("--today", "2025-03-10")
 ROUND = {"cmd": "round", "draw": 1, "day": "2025-03-03", "lots": [1, 2, 1, 2]}
@@ -46,7 +46,7 @@ MIXED = [
 # line, a part of what is printed
 WRONG = [
     (3, '"child" is "4", and must be a child\'s number'), (4, '"looked_after" is "no", and must be true or false'), (5, '"school" is "elm"'), (7, "no JSON"),
-    (8, "child 6 has no open offer at OAK"), (9, "the register has a child 3 already"), (10, "the register has not all of the schools OAK, ZZZ"),
+    (8, "child 6 has no open offer at OAK"), (9, "child 3 is in the register already"), (10, "the register does not have all of the schools OAK, ZZZ"),
     (11, '"cmd" is "dance"'),
     (12, '"flags" is [1.5]'), (13, '"home" is none of add_child'),
 ]
@@ -478,20 +478,20 @@ def test_a_certificate_that_nobody_has_signed(office, tmp_path, monkeypatch):
 
 def test_the_field_of_each_unreadable_line(tmp_path):
     """The program and this package agree on which lines can be read, and on the kind of error: each field of each command with each odd value."""
-    good: dict[object, object] = {
-        commands.NUMBER: 1, commands.TEXT: "x", commands.CHILD: 1, commands.TRUTH: True, commands.DAY: "2025-03-03", commands.CODE: "A", commands.PRESENT: "",
-        commands.CRITERIA: [],
-        commands.FLAGS: [], commands.CODES: [], commands.LOTS: [],
+    good: dict[str, object] = {
+        "number": 1, "text": "x", "child": 1, "truth": True, "day": "2025-03-03", "code": "A", "code_or_none": "", "list of criterion": [], "list of flag": [],
+        "list of code": [], "list of number": [],
     }
-    odd: list[object] = [None, "", "x", "A", -1, "1", 1, True, [], [1], ["A"], ["a"], [16], ["flag:01"], ["sibling", "within:5"], {}, "2025-02-29", "1989-12-31", 4294967296,
+    odd: list[object] = [None, "", "x", "A", -1, "1", 1, True, [], [1], ["A"], ["a"], [16], ["flag:01"], ["sibling", "within:5"], ["within:4294967295"], ["within:4294967296"],
+        ["within:" + "9" * 5000], {}, "2025-02-29", "1989-12-31", 4294967296,
         [-1], 10**30]
     lines = [b'{"cmd":"raise_pan","school":"A","pan":%s}' % it for it in (b"1.0", b"1e0", b"-0", b"0")] + [b"[]", b"1", b'{"cmd":1}', b"{}", b'{"cmd":"x"}',
         b"\xff", b"", b'{"a":1e400}', b'{"a":NaN}', b'{"a":"\\ud800"}']
     lines += [b'{"a":1%s}' % (b"0" * count) for count in (300, 309, 400)] + [b'{"a":"\\ud83d\\ude00"}', b'{"a":-Infinity}', b'{"a":1,"a":}']
-    for name, kinds in commands.FIELDS.items():
-        base: dict[str, object] = {"cmd": name, **{field: good[kind] for field, kind in kinds.items()}}
-        lines += [json.dumps({**base, field: value}).encode() for field in kinds for value in odd]
-        lines += [json.dumps({k: v for k, v in base.items() if k != field}).encode() for field in kinds] + [json.dumps({**base, "more": 1}).encode()]
+    for name, fields in rules.COMMANDS.items():
+        base: dict[str, object] = {"cmd": name, **{it.name: good[it.kind] for it in fields.values()}}
+        lines += [json.dumps({**base, field: value}).encode() for field in fields for value in odd]
+        lines += [json.dumps({k: v for k, v in base.items() if k != field}).encode() for field in fields] + [json.dumps({**base, "more": 1}).encode()]
     make(tmp_path / "reg.db", [])
     ran = subprocess.run([PROGRAM, "do", tmp_path / "reg.db"], input=b"\n".join(lines) + b"\n", capture_output=True, check=False)
     answers = [json.loads(it) for it in ran.stdout.splitlines()]
@@ -595,7 +595,8 @@ def test_a_place_by_a_plan_is_named_as_such(office, reg, tmp_path):
     assert [it for it in ran.stdout.splitlines() if it.startswith("line")] == [
         "line 2: child 2 has its place at OAK by a plan, which no command ends (NotOffered)",
         "line 3: child 3 has its place at ELM by a plan, which no command ends (NotOffered)",
-        "line 4: child 1 has no open offer at OAK: another school, answered before, lapsed, or moved by a later round; look at its letter (NotOffered)"], ran
+        "line 4: child 1 has no open offer at OAK: the offer is of another school, was answered or has lapsed, or a later round has moved the child;"
+        " look at its letter (NotOffered)"], ran
 
 
 def test_what_a_draw_did_is_printed(office, reg, tmp_path):
