@@ -50,7 +50,7 @@ class Known:
 
 def odd_days(rows, register):
     """Days that are far from the season, or, without a register, from those of the other rows: (row, why)."""
-    given = [(row, days.read(row.fields["day"])) for row in rows if row.fields["day"]]
+    given = [(row, day) for row in rows if (day := days.read(row.fields["day"]))]
     if register:
         closing, _, end = register.days
         for row, day in given:

@@ -1,11 +1,19 @@
-"""Workbooks in a form for print: a sheet for each table, its heading repeated on each page, columns as wide as they need, and pages that are numbered."""
+"""Workbooks in a form for print: a sheet for each table, its heading repeated on each page, columns
+as wide as they need, and pages that are numbered."""
 import dataclasses
 import datetime
+import importlib
 import io
 import re
 import textwrap
+from collections.abc import Iterable, Sequence
+from types import ModuleType
+from typing import Any
 
-from .run import Refused
+from register_files import Refused
+
+# what a cell has, as it is given; a text of the form YYYY-MM-DD is a day
+Value = str | int | float | datetime.date | None
 
 # in the units of a spreadsheet, about a letter each: columns, pages, and the line above a page
 WIDEST, WIDEST_UPRIGHT, FILLED, LINE = 60, 125, 18, 130
@@ -17,32 +25,34 @@ HEAD_COLOUR, LINE_COLOUR = "FFDDDDDD", "FF999999"
 
 @dataclasses.dataclass
 class Page:
-    """A sheet: its name, what it has, and its header with its rows. In the columns of `blank` somebody writes whole numbers up to this one."""
+    """A sheet: its name, what it has, and its header with its rows. In the columns of `blank`
+    somebody writes whole numbers up to this one."""
 
     name: str
     purpose: str
-    rows: list
-    blank: dict = dataclasses.field(default_factory=dict)
+    rows: Sequence[Sequence[Value]]
+    blank: dict[int, int] = dataclasses.field(default_factory=dict)
 
 
-def library():
+def library() -> ModuleType:
     """The package that writes workbooks."""
     try:
-        import openpyxl  # pylint: disable=import-outside-toplevel
-        import openpyxl.worksheet.datavalidation  # pylint: disable=import-outside-toplevel
+        importlib.import_module("openpyxl.worksheet.datavalidation")
+        return importlib.import_module("openpyxl")
     except ImportError as error:
-        raise Refused("a workbook is written by python3-openpyxl, which is not here: apt-get install python3-openpyxl, or use CSV") from error
-    return openpyxl
+        how = "apt-get install python3-openpyxl, or use CSV"
+        said = f"a workbook is written by python3-openpyxl, which is not here: {how}"
+        raise Refused(said) from error
 
 
-def value_of(value):
+def value_of(value: Value) -> Value:
     """A value as a cell has it: days of texts as days."""
     if isinstance(value, str) and DAY.fullmatch(value):
         return datetime.date.fromisoformat(value)
     return UNWRITABLE.sub("\ufffd", value) if isinstance(value, str) else value
 
 
-def fill(page, rows):
+def fill(page: Any, rows: Iterable[Iterable[Value]]) -> None:
     """Writes the cells. A text is a text, whatever it begins with."""
     for at, row in enumerate(rows, 1):
         for column, given in enumerate(row, 1):
@@ -58,16 +68,18 @@ def fill(page, rows):
                 cell.number_format = "yyyy-mm-dd"
 
 
-def widths(page):
-    """The width of each column, by its longest value: bold letters and the arrow of a filter need more, and a column to be filled has room for a hand."""
-    found = []
+def widths(page: Page) -> list[float]:
+    """The width of each column, by its longest value: bold letters and the arrow of a filter need
+    more, and a column to be filled has room for a hand."""
+    found: list[float] = []
     for at, (head, *values) in enumerate(zip(*page.rows), 1):
         longest = max((len("" if it is None else str(it)) for it in values), default=0)
-        found.append(FILLED if at in page.blank else min(WIDEST, max(1.15 * longest, 1.3 * len(head) + 2) + 3))
+        needed = min(WIDEST, max(1.15 * longest, 1.3 * len(str(head)) + 2) + 3)
+        found.append(FILLED if at in page.blank else needed)
     return found
 
 
-def set_out(page, given, title, styles):
+def set_out(page: Any, given: Page, title: str, styles: Any) -> None:
     """The form for print."""
     wide = widths(given)
     for at, width in enumerate(wide, 1):
@@ -91,26 +103,36 @@ def set_out(page, given, title, styles):
     page.page_setup.orientation = "landscape" if sum(wide) > WIDEST_UPRIGHT else "portrait"
     page.page_setup.fitToWidth, page.page_setup.fitToHeight = 1, 0
     page.sheet_properties.pageSetUpPr = type(page.sheet_properties.pageSetUpPr)(fitToPage=True)
-    page.oddHeader.left.text = textwrap.shorten(f"{title}: {given.purpose}", LINE, placeholder=" ..").replace("&", "&&")
+    heading = textwrap.shorten(f"{title}: {given.purpose}", LINE, placeholder=" ..")
+    page.oddHeader.left.text = heading.replace("&", "&&")
     page.oddFooter.center.text = "&A, page &P of &N"
 
 
-def data(pages, title):
-    """The bytes of a workbook of these pages. Where there are several, the first sheet lists them."""
+def data(pages: list[Page], title: str) -> bytes:
+    """The bytes of a workbook of these pages. Where there are several, the first sheet lists
+    them."""
     library_ = library()
     made = library_.Workbook()
     made.remove(made.active)
     made.properties.title, made.properties.creator = title, "admissions"
     if len(pages) > 1:
-        contents = [["sheet", "rows", "what it has"], *([it.name, len(it.rows) - 1, it.purpose] for it in pages)]
+        contents: list[list[Value]] = [["sheet", "rows", "what it has"]]
+        contents += [[it.name, len(it.rows) - 1, it.purpose] for it in pages]
         pages = [Page("contents", "the sheets of this workbook", contents), *pages]
     for it in pages:
         page = made.create_sheet(it.name)
         fill(page, it.rows)
         set_out(page, it, title, library_.styles)
         for column, most in it.blank.items():
-            letter, kind = page.cell(1, column).column_letter, library_.worksheet.datavalidation.DataValidation
-            rule = kind("whole", operator="between", formula1="0", formula2=str(most), allow_blank=True, showErrorMessage=True)
+            letter = page.cell(1, column).column_letter
+            rule = library_.worksheet.datavalidation.DataValidation(
+                "whole",
+                operator="between",
+                formula1="0",
+                formula2=str(most),
+                allow_blank=True,
+                showErrorMessage=True,
+            )
             rule.error = f"a whole number from 0 to {most:,}"
             page.add_data_validation(rule)
             rule.add(f"{letter}2:{letter}{max(2, len(it.rows))}")

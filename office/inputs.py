@@ -18,13 +18,15 @@ MOST_REGISTER_BYTES = 1_000 * MB
 SECONDS = 20
 SHEET_HELP = (
     f"limits of a sheet: {MOST_BYTES // MB} MB, a workbook unpacked {MOST_UNPACKED // MB} MB;"
-    f" {MOST_ROWS:,} rows, {MOST_COLUMNS} columns, {MOST_CELLS:,} cells, {MOST_TEXT:,} characters in a cell."
-    " Rows, columns and cells that have formats alone, and no text, are not counted. A pipe or a device is refused."
+    f" {MOST_ROWS:,} rows, {MOST_COLUMNS} columns, {MOST_CELLS:,} cells, {MOST_TEXT:,} characters"
+    " in a cell. Rows, columns and cells that have formats alone, and no text, are not counted."
+    " A pipe or a device is refused."
 )
 
 
 def see_kind(name: str, found: os.stat_result) -> None:
-    """Refuses what is neither a file nor a folder: reading from a pipe waits, and from a device may not end."""
+    """Refuses what is neither a file nor a folder: reading from a pipe waits, and from a device may
+    not end."""
     if not stat.S_ISREG(found.st_mode) and not stat.S_ISDIR(found.st_mode):
         raise Refused(f"{name} is no file, but a pipe, a socket or a device")
 
@@ -40,9 +42,11 @@ def taken(name: str, file: BinaryIO) -> bytes:
 def bytes_of(name: str) -> bytes:
     """The bytes of a file."""
     try:
-        # (before it is opened, which alone can make a device act; and after, as the name may have been given to another)
+        # (before it is opened, which alone can make a device act; and after, as the name may have
+        # been given to another)
         see_kind(name, os.stat(name))
-        with open(os.open(name, os.O_RDONLY | os.O_NONBLOCK | os.O_NOCTTY | os.O_CLOEXEC), "rb") as file:
+        how = os.O_RDONLY | os.O_NONBLOCK | os.O_NOCTTY | os.O_CLOEXEC
+        with open(os.open(name, how), "rb") as file:
             see_kind(name, os.fstat(file.fileno()))
             return taken(name, file)
     except OSError as error:
@@ -51,8 +55,8 @@ def bytes_of(name: str) -> bytes:
 
 @contextlib.contextmanager
 def within(what: str, seconds: int = SECONDS) -> Iterator[None]:
-    """Refuses what takes more CPU time than these seconds. A library may catch the error, so it is raised again
-    after each further second, and at the end."""
+    """Refuses what takes more CPU time than these seconds. A library may catch the error, so it is
+    raised again after each further second, and at the end."""
     error, is_late = Refused(f"{what} takes more than {seconds} seconds"), False
 
     def late(_number: int, _frame: FrameType | None) -> None:

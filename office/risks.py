@@ -53,7 +53,8 @@ def season_risk(line, day, register, first):
 
 def day_risks(lines, register, today):
     """Days outside the season, a first round on another day than the offer day, and days after today, long before it, or far from the others of the file."""
-    given = [(it, days.read(it.command["day"])) for it in lines if it.kind in (*DATED, "apply")]
+    dated = [it for it in lines if it.kind in (*DATED, "apply")]
+    given = [(it, day) for it in dated if (day := days.read(it.command["day"]))]
     first = None if register and register.draws else next((it for it, _ in given if it.kind == "round"), None)
     for line, day in given:
         name = f"{line.kind} with the day {day}"

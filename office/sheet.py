@@ -9,6 +9,7 @@ import tempfile
 import warnings
 import zipfile
 from collections.abc import Iterable, Iterator
+from types import ModuleType
 from typing import Any
 
 import register_files as files
@@ -34,8 +35,8 @@ class Row:
 
 @dataclasses.dataclass
 class Sheet:
-    """The rows of a sheet that have anything, what had to be changed to read them, each as a sentence, and problems that only a workbook has: the row, the
-    place of the column or None, a sentence, and whether it is an error."""
+    """The rows of a sheet that have anything, what had to be changed to read them, each as a
+    sentence, and problems that only a workbook has."""
 
     rows: list[Row]
     changes: list[str]
@@ -47,7 +48,8 @@ class Sheet:
 
 
 def read(name: str, sheet: str | None = None, advice: str = "leave one that is not empty") -> Sheet:
-    """The sheet of a file, whatever its kind. `advice` is what is said of a workbook with several."""
+    """The sheet of a file, whatever its kind. `advice` is what is said of a workbook with
+    several."""
     return of_bytes(name, inputs.bytes_of(name), sheet, advice)
 
 
@@ -57,7 +59,8 @@ def of_bytes(name: str, data: bytes, sheet: str | None, advice: str) -> Sheet:
         with inputs.within(f"reading {name}"):
             return workbook(name, data, sheet, advice)
     if data.startswith(b"\xd0\xcf\x11\xe0"):
-        raise Refused(f"{name} is a workbook of the older kind (.xls) or has a password: save it as .xlsx or as CSV UTF-8")
+        kind = "a workbook of the older kind (.xls) or has a password"
+        raise Refused(f"{name} is {kind}: save it as .xlsx or as CSV UTF-8")
     if not data.startswith((b"\xff\xfe", b"\xfe\xff")) and (said := kinds.of_bytes(data)):
         raise Refused(f"{name} is {said}: a CSV or an .xlsx is needed")
     if sheet is not None:
@@ -66,21 +69,24 @@ def of_bytes(name: str, data: bytes, sheet: str | None, advice: str) -> Sheet:
 
 
 def decoded(name: str, data: bytes) -> tuple[str, list[str], bool]:
-    """The text of a file, and what had to be changed for it."""
+    """The text of a file, what had to be changed for it, and whether that is its encoding."""
     if data.startswith((b"\xff\xfe", b"\xfe\xff")):
-        return data.decode("utf-16", "replace"), ["the file is in UTF-16: it is written as UTF-8"], False
+        change = "the file is in UTF-16: it is written as UTF-8"
+        return data.decode("utf-16", "replace"), [change], False
     try:
-        text, changes = data.decode("utf-8"), []
+        text = data.decode("utf-8")
         if text.startswith("\ufeff"):
-            text, changes = text[1:], ["the file begins with a byte order mark: it is left out"]
-        return text, changes, False
+            return text[1:], ["the file begins with a byte order mark: it is left out"], False
+        return text, [], False
     except UnicodeDecodeError:
         pass
     try:
-        return data.decode("cp1252"), ["the file is not in UTF-8 but in Windows-1252: it is written as UTF-8"], True
+        change = "the file is not in UTF-8 but in Windows-1252: it is written as UTF-8"
+        return data.decode("cp1252"), [change], True
     except UnicodeDecodeError as error:
         line = data.count(b"\n", 0, error.start) + 1
-        raise Refused(f"{name} is neither in UTF-8 nor in Windows-1252 (line {line}): save it as CSV UTF-8") from error
+        said = f"is neither in UTF-8 nor in Windows-1252 (line {line}): save it as CSV UTF-8"
+        raise Refused(f"{name} {said}") from error
 
 
 def first_line(text: str) -> str:
@@ -104,7 +110,8 @@ def text_sheet(name: str, data: bytes) -> Sheet:
     if separator != "," and header.count(separator):
         changes.append(f"{SEPARATORS[separator]} are between the fields: commas are written")
     csv.field_size_limit(max(len(text), 131072))
-    rows = csv.reader(io.StringIO(text, newline=""), delimiter=separator if header.count(separator) else ",")
+    between = separator if header.count(separator) else ","
+    rows = csv.reader(io.StringIO(text, newline=""), delimiter=between)
     found = Sheet([], changes, separator, is_decoded=is_decoded)
     try:
         keep(name, found, enumerate(rows, at + 1))
@@ -114,8 +121,8 @@ def text_sheet(name: str, data: bytes) -> Sheet:
 
 
 def keep(name: str, sheet: Sheet, rows: Iterable[tuple[int, list[str]]]) -> None:
-    """Takes rows into a sheet, within the limits. Those without a cell are no rows; those with empty
-    cells alone are named."""
+    """Takes rows into a sheet, within the limits. Those without a cell are no rows; those with
+    empty cells alone are named."""
     for number, cells in within_limits(name, rows):
         if any(it.strip() for it in cells):
             sheet.rows.append(Row(number, cells))
@@ -124,7 +131,8 @@ def keep(name: str, sheet: Sheet, rows: Iterable[tuple[int, list[str]]]) -> None
 
 
 def within_limits(
-    name: str, rows: Iterable[tuple[int, list[str]]],
+    name: str,
+    rows: Iterable[tuple[int, list[str]]],
 ) -> Iterator[tuple[int, list[str]]]:
     """The same rows, or a refusal as soon as they are too many. Blank cells at the end of a row and
     blank rows at the end of the sheet are not counted, and those beyond the limits are left out."""
@@ -137,7 +145,9 @@ def within_limits(
         if number > inputs.MOST_ROWS:
             if not used:
                 continue
-            raise Refused(f"{name} has too many rows: a sheet has at most {inputs.MOST_ROWS:,} here")
+            raise Refused(
+                f"{name} has too many rows: a sheet has at most {inputs.MOST_ROWS:,} here"
+            )
         if used > inputs.MOST_COLUMNS:
             most = f"a sheet has at most {inputs.MOST_COLUMNS} here"
             raise Refused(f"{name} has too many columns in row {number:,}: {most}")
@@ -169,9 +179,11 @@ def text_of(value: object) -> str:
 def workbook(name: str, data: bytes, wanted: str | None, advice: str) -> Sheet:
     """The sheet of a workbook: the only one that has anything, or the one that was named."""
     try:
-        import openpyxl  # pylint: disable=import-outside-toplevel
+        import openpyxl
     except ImportError as error:
-        raise Refused("a workbook is read by python3-openpyxl, which is not here: apt-get install python3-openpyxl, or save it as CSV UTF-8") from error
+        how = "apt-get install python3-openpyxl, or save it as CSV UTF-8"
+        said = f"a workbook is read by python3-openpyxl, which is not here: {how}"
+        raise Refused(said) from error
     try:
         see_parts(name, data)
         book = load(openpyxl, data)
@@ -184,9 +196,11 @@ def workbook(name: str, data: bytes, wanted: str | None, advice: str) -> Sheet:
         return sheet_of(name, sheets[0])
     except (Refused, MemoryError):
         raise
-    except Exception as error:  # pylint: disable=broad-except
-        # (what openpyxl says names its own classes; it raises whatever comes of a file that no spreadsheet wrote)
-        raise Refused(f"{name} is no workbook that can be read: open it in a spreadsheet and save it again as .xlsx, or as CSV UTF-8") from error
+    except Exception as error:
+        # (what openpyxl says names its own classes; it raises whatever comes of a file that no
+        # spreadsheet wrote)
+        how = "open it in a spreadsheet and save it again as .xlsx, or as CSV UTF-8"
+        raise Refused(f"{name} is no workbook that can be read: {how}") from error
 
 
 def see_parts(name: str, data: bytes) -> None:
@@ -198,10 +212,11 @@ def see_parts(name: str, data: bytes) -> None:
         size = sum(it.file_size for it in parts.infolist())
     if size > inputs.MOST_UNPACKED:
         most = f"a workbook has at most {inputs.MOST_UNPACKED // inputs.MB} MB here"
-        raise Refused(f"{name} is too large once it is unpacked, {size // inputs.MB:,} MB: {most}; delete the empty rows below the data")
+        said = f"is too large once it is unpacked, {size // inputs.MB:,} MB: {most}"
+        raise Refused(f"{name} {said}; delete the empty rows below the data")
 
 
-def load(openpyxl: Any, data: bytes) -> Any:
+def load(openpyxl: ModuleType, data: bytes) -> Any:
     """A workbook whose rows are read one after another, with the values of its formulas. openpyxl
     warns of styles and extensions that it leaves out, and they have no data."""
     with warnings.catch_warnings():
@@ -235,11 +250,11 @@ def sheet_of(name: str, page: Any) -> Sheet:
 
 def problems_of(name: str, page: Any, widths: dict[int, int]) -> Iterator[Problem]:
     """What the values of a sheet do not show. `widths` are how many cells each row has."""
-    from openpyxl.xml.functions import iterparse  # pylint: disable=import-outside-toplevel
+    from openpyxl.xml.functions import iterparse
 
     width, number, merged = max(widths.values(), default=0), 0, 0
     # (openpyxl has no public way to the part of a sheet that is read row by row)
-    with page.parent._archive.open(page._worksheet_path) as part:  # pylint: disable=protected-access
+    with page.parent._archive.open(page._worksheet_path) as part:
         for _, it in iterparse(part):
             if it.tag == f"{MAIN}row":
                 number = int(it.get("r") or number + 1)
@@ -255,34 +270,40 @@ def problems_of(name: str, page: Any, widths: dict[int, int]) -> Iterator[Proble
 
 
 def problems_of_row(number: int, row: Any) -> Iterator[Problem]:
-    """A row that a spreadsheet does not show; and its formulas that no spreadsheet has calculated, so
-    that the file does not have their values. The value of a formula that gives a text may be empty."""
-    from openpyxl.utils.cell import coordinate_to_tuple  # pylint: disable=import-outside-toplevel
+    """A row that a spreadsheet does not show; and its formulas that no spreadsheet has calculated,
+    so that the file does not have their values. The value of a formula that gives a text may be
+    empty."""
+    from openpyxl.utils.cell import coordinate_to_tuple
 
     if row.get("hidden") in ("1", "true"):
-        yield number, None, "the row is hidden in the spreadsheet, and import takes it all the same", False
+        said = "the row is hidden in the spreadsheet, and import takes it all the same"
+        yield number, None, said, False
     place = -1
     for cell in row.iterfind(f"{MAIN}c"):
         place = coordinate_to_tuple(cell.get("r"))[1] - 1 if cell.get("r") else place + 1
-        if cell.find(f"{MAIN}f") is not None and cell.get("t") != "str" and not cell.findtext(f"{MAIN}v"):
+        is_formula = cell.find(f"{MAIN}f") is not None
+        if is_formula and cell.get("t") != "str" and not cell.findtext(f"{MAIN}v"):
             said = f"{cell.get('r') or 'it'} is a formula that was never calculated"
-            yield number, place, f"a value ({said}: open the file in a spreadsheet and save it)", True
+            expected = f"a value ({said}: open the file in a spreadsheet and save it)"
+            yield number, place, expected, True
 
 
 def problems_of_merge(ref: str, widths: dict[int, int], width: int) -> Iterator[Problem]:
     """Cells that are merged with others: only the first of them has the value."""
-    from openpyxl.utils.cell import range_boundaries  # pylint: disable=import-outside-toplevel
+    from openpyxl.utils.cell import range_boundaries
 
     first, row, last, _ = range_boundaries(ref)
     for place in range(first - 1, min(last, width)) if row in widths else ():
         yield row, place, f"a value in each cell ({ref} are merged: unmerge them)", True
 
 
-def write_new(name, data):
-    """Writes a new file for the owner alone, whole or not at all. A file that is there is never replaced."""
+def write_new(name: str, data: bytes) -> None:
+    """Writes a new file for the owner alone, whole or not at all. A file that is there is never
+    replaced."""
     path = files.path_of(name, f"the folder of {name} is not there")
+    folder, base = os.path.split(path)
     try:
-        fd, part = tempfile.mkstemp(prefix=os.path.basename(path) + ".part-", dir=os.path.dirname(path))
+        fd, part = tempfile.mkstemp(prefix=f"{base}.part-", dir=folder)
     except OSError as error:
         raise Refused(f"{name} cannot be written: {error.strerror}") from error
     try:
@@ -293,7 +314,8 @@ def write_new(name, data):
             os.close(fd)
         files.name_new(part, path)
     except FileExistsError as error:
-        raise Refused(f"{name} is there already: nothing was written; choose another name") from error
+        said = "is there already: nothing was written; choose another name"
+        raise Refused(f"{name} {said}") from error
     except OSError as error:
         raise Refused(f"{name} cannot be written: {error.strerror}") from error
     finally:
@@ -301,7 +323,7 @@ def write_new(name, data):
             os.unlink(part)
 
 
-def csv_bytes(rows):
+def csv_bytes(rows: Iterable[Iterable[object]]) -> bytes:
     """Rows as CSV in UTF-8."""
     out = io.StringIO()
     csv.writer(out, lineterminator="\n").writerows(rows)

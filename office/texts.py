@@ -15,67 +15,76 @@ CODE = re.compile(r"[A-Z0-9]{1,8}")
 RUN = tuple("=+-@\t\r\n\uff1d\uff0b\uff0d\uff20")
 
 
-def shown(text):
-    """A value as it is printed in a message: in quotes, with what cannot be seen escaped, and cut where it is long."""
+def shown(text: str) -> str:
+    """A value as it is printed in a message: in quotes, with what cannot be seen escaped, and cut
+    where it is long."""
     return f'"{cut(text)}"'
 
 
-def visible(text):
+def visible(text: str) -> str:
     """A text with what cannot be seen escaped, and what would act on a terminal."""
     return UNSHOWN.sub(lambda found: f"\\u{ord(found[0]):04x}", text)
 
 
-def cut(text):
+def cut(text: str) -> str:
     """The same without quotes."""
     text = visible(text)
     return text if len(text) <= LONGEST else text[:LONGEST] + ".."
 
 
-def is_code(text):
+def is_code(text: str) -> bool:
     """Whether a text is a school's code: 1 to 8 of A-Z and 0-9."""
     return bool(CODE.fullmatch(text))
 
 
-def for_spreadsheet(text):
+def for_spreadsheet(text: str) -> str:
     """A text that no spreadsheet takes for a formula."""
     return "'" + text if text[:1] in RUN else text
 
 
-def folded(name):
+def folded(name: str) -> str:
     """A name without accents, capitals, punctuation and order of its parts, to be compared."""
-    plain = "".join(it for it in unicodedata.normalize("NFKD", name) if not unicodedata.combining(it)).casefold()
+    letters = unicodedata.normalize("NFKD", name)
+    plain = "".join(it for it in letters if not unicodedata.combining(it)).casefold()
     return " ".join(sorted(re.sub(r"[\W_]+", " ", re.sub(r"['’`]", "", plain)).split()))
 
 
-def is_alike(one, other):
-    """Whether two names are likely to be of one person: one has all words of the other, or a word differs in one letter."""
-    few, many = sorted((collections.Counter(folded(it).split()) for it in (one, other)), key=collections.Counter.total)
+def is_alike(one: str, other: str) -> bool:
+    """Whether two names are likely to be of one person: one has all words of the other, or a word
+    differs in one letter."""
+    words = (collections.Counter(folded(it).split()) for it in (one, other))
+    few, many = sorted(words, key=collections.Counter.total)
     if not few - many:
         return few.total() > 1 or few == many
     ours, theirs = few - many, many - few
     return ours.total() == theirs.total() == 1 and is_one_slip(*ours, *theirs)
 
 
-def is_one_slip(one, other):
-    """Whether a word becomes another by one letter more, less or replaced, or by two exchanged. Words of up to three letters differ too easily."""
+def is_one_slip(one: str, other: str) -> bool:
+    """Whether a word becomes another by one letter more, less or replaced, or by two exchanged.
+    Words of up to three letters differ too easily."""
     if max(len(one), len(other)) < 4 or abs(len(one) - len(other)) > 1:
         return False
-    start = next((at for at, (a, b) in enumerate(zip(one, other)) if a != b), min(len(one), len(other)))
+    shorter = min(len(one), len(other))
+    start = next((at for at, (a, b) in enumerate(zip(one, other)) if a != b), shorter)
     one, other = one[start:], other[start:]
-    return one[1:] == other[1:] or one == other[1:] or one[1:] == other or (one[:2] == other[1::-1] and one[2:] == other[2:])
+    if one[:2] == other[1::-1] and one[2:] == other[2:]:
+        return True
+    return one[1:] == other[1:] or one == other[1:] or one[1:] == other
 
 
-def metres(east, north):
-    """The whole metres of a distance (the greatest number whose square is at most the sum of the squares)."""
+def metres(east: int, north: int) -> int:
+    """The whole metres of a distance (the greatest number whose square is at most the sum of the
+    squares)."""
     return math.isqrt(east * east + north * north)
 
 
-def count(number, one, many=None):
+def count(number: int, one: str, many: str | None = None) -> str:
     """A number with its noun."""
     return f"{number:,} {one if number == 1 else many or one + 's'}"
 
 
-def listed(items):
+def listed(items: Iterable[str]) -> str:
     """Items as a sentence has them: a, b and c."""
     *first, last = items
     return f"{', '.join(first)} and {last}" if first else last
@@ -89,4 +98,6 @@ def spans(numbers: Iterable[int]) -> str:
             parts[-1][1] = it
         else:
             parts.append([it, it])
-    return ", ".join(str(a) if a == b else f"{a} to {b}" if b > a + 1 else f"{a}, {b}" for a, b in parts)
+    return ", ".join(
+        str(a) if a == b else f"{a} to {b}" if b > a + 1 else f"{a}, {b}" for a, b in parts
+    )
