@@ -1,22 +1,50 @@
-"""How a command begins and ends: its arguments, its exit status 0, 1 or 2, its errors in one line, its progress."""
+"""How a command begins and ends: its arguments, its exit status 0, 1 or 2, its errors in one line,
+its progress. The commands of the office and of an administrator begin here (office/command), and
+the tools of two names (tools/backup, tools/restore)."""
 import argparse
+import contextlib
 import os
 import shutil
 import signal
 import sys
 import textwrap
 import time
+from collections.abc import Callable
+from types import FrameType
+from typing import Protocol
 
-from register_files import SIGNALS, VERSION, Refused
+from register_files import FULL, SIGNALS, VERSION, Refused, say
 
 from .inputs import SHEET_HELP
 
+__all__ = ["Command", "Progress", "Refused", "Stop", "put", "run", "run_of_two_names"]
 # what takes longer than this is shown on a terminal
 SHOWN_AFTER = 1.0
 MOST_COLUMNS = 80
-# the commands that read no sheet
-NO_SHEET = ("audit", "query")
-PACKAGES = {"jinja2": "python3-jinja2", "weasyprint": "weasyprint", "pydyf": "weasyprint", "matplotlib": "python3-matplotlib", "openpyxl": "python3-openpyxl"}
+# the commands that read a sheet, whose limits are in their help
+SHEET = [
+    f"admissions-{it}" for it in ("check", "figures", "letters", "lots", "send", "trial", "why")
+]
+PACKAGES = {
+    "jinja2": "python3-jinja2",
+    "weasyprint": "weasyprint",
+    "pydyf": "weasyprint",
+    "pikepdf": "python3-pikepdf",
+    "matplotlib": "python3-matplotlib",
+    "openpyxl": "python3-openpyxl",
+}
+
+
+class Command(Protocol):
+    """What the module of a command has; its text is its help."""
+
+    __doc__: str | None
+
+    def arguments(self, reader: argparse.ArgumentParser, /) -> None:
+        """Adds its arguments."""
+
+    def main(self, given: argparse.Namespace, /) -> int:
+        """Does its work, and returns its exit status."""
 
 
 class Help(argparse.RawDescriptionHelpFormatter):
@@ -26,84 +54,140 @@ class Help(argparse.RawDescriptionHelpFormatter):
         super().__init__(prog, width=min(shutil.get_terminal_size().columns, MOST_COLUMNS) - 2)
 
 
-def parser_of(name: str, text: str) -> argparse.ArgumentParser:
+def parser_of(name: str, text: str | None) -> argparse.ArgumentParser:
     """The reader of a command's arguments; its help is the text of the command's module."""
-    reader = argparse.ArgumentParser(prog=f"admissions-{name}", description=text, formatter_class=Help, allow_abbrev=False)
-    reader.add_argument("--version", action="version", version=f"admissions {VERSION}", help=argparse.SUPPRESS)
+    reader = argparse.ArgumentParser(
+        prog=name, description=text, formatter_class=Help, allow_abbrev=False
+    )
+    reader.add_argument(
+        "--version", action="version", version=f"admissions {VERSION}", help=argparse.SUPPRESS
+    )
+    if name in SHEET:
+        reader.epilog = textwrap.fill(SHEET_HELP, MOST_COLUMNS - 1)
     return reader
 
 
-def stopped(number, _):
+def stopped(number: int, _: FrameType | None) -> None:
+    """Ends a command by a signal."""
     raise Refused(f"ended by the signal {signal.Signals(number).name}")
 
 
 class Stop:
-    """From now on the first signal is noted, so that what is in flight is ended in order, and the second ends at once."""
+    """From now on the first signal is noted, so that what is in flight is ended in order, and the
+    second ends at once."""
 
-    def __init__(self):
+    def __init__(self) -> None:
         self.name = ""
         for it in SIGNALS:
             signal.signal(it, self.take)
 
-    def take(self, number, frame):
+    def take(self, number: int, frame: FrameType | None) -> None:
         """Takes a signal."""
         if self.name:
             stopped(number, frame)
         self.name = signal.Signals(number).name
 
 
-def run(name, command):
-    """Runs a command, and returns its exit status: 0 done, 1 not or not wholly done, 2 wrong arguments."""
-    os.umask(0o077)
-    for it in SIGNALS:
-        signal.signal(it, stopped)
-    reader = parser_of(name, command.__doc__)
-    if name not in NO_SHEET:
-        reader.epilog = textwrap.fill(SHEET_HELP, MOST_COLUMNS - 1)
-    command.arguments(reader)
-    # (so that options may stand between the names)
-    given = reader.parse_intermixed_args()
-    try:
+def run(name: str, command: Command) -> int:
+    """Runs a command, and returns its exit status: 0 done, 1 not or not wholly done, 2 wrong
+    arguments."""
+
+    def work() -> int:
+        reader = parser_of(name, command.__doc__)
+        command.arguments(reader)
+        try:
+            # (so that options may stand between the names)
+            given = reader.parse_intermixed_args()
+        except SystemExit:
+            # (the help was printed)
+            sys.stdout.flush()
+            raise
         status = command.main(given)
         sys.stdout.flush()
         return status
+
+    return ended(name, work)
+
+
+def run_of_two_names(name: str, usage: str, task: Callable[[str, str], str]) -> int:
+    """The same of a tool that takes two names of files, which may be any names, and whose task
+    returns the line that is printed. If nobody reads it, what was done stays done."""
+
+    def work() -> int:
+        given = sys.argv[1:]
+        if given == ["--version"]:
+            say(1, f"admissions {VERSION}")
+            return 0
+        if len(given) != 2 or not all(given):
+            say(2, f"usage: {name} {usage}")
+            return 2
+        if any("\n" in it for it in given):
+            raise Refused("a name has a line end in it")
+        say(1, task(*given))
+        return 0
+
+    return ended(name, work)
+
+
+def ended(name: str, work: Callable[[], int]) -> int:
+    """Does the work of a command, and returns its exit status. An error is one line."""
+    os.umask(0o077)
+    for it in SIGNALS:
+        signal.signal(it, stopped)
+    try:
+        return work()
     except Refused as error:
         return failed(name, str(error), error.status)
     except BrokenPipeError:
         forget_output()
         return 1
     except OSError as error:
-        if error.filename is None:
-            forget_output()
-        return failed(name, f"{error.filename}: {error.strerror}" if error.filename else f"the output cannot be written: {error.strerror or error}")
+        return failed(name, said_of(error))
     except ImportError as error:
-        return failed(name, f"this needs the Debian package {PACKAGES.get(str(error.name), f'of {error.name}')}")
+        package = PACKAGES.get(str(error.name), f"of {error.name}")
+        return failed(name, f"this needs the Debian package {package}")
     except MemoryError:
         return failed(name, "out of memory")
-    except Exception as error:  # pylint: disable=broad-except
+    except Exception as error:
         at = error.__traceback__
         while at and at.tb_next:
             at = at.tb_next
-        where = f"{os.path.basename(at.tb_frame.f_code.co_filename)}:{at.tb_lineno}" if at else "unknown"
-        return failed(name, f"error in this command, at {where}: {type(error).__name__}: {error}")
+        file = os.path.basename(at.tb_frame.f_code.co_filename) if at else ""
+        where = f"{file}:{at.tb_lineno}" if at else "unknown"
+        text = f"error in this command, at {where}: {type(error).__name__}: {error}"
+        return failed(name, text)
 
 
-def forget_output():
+def said_of(error: OSError) -> str:
+    """An error of the system, in words: which file, or that the output cannot be written."""
+    if error.filename:
+        file = error.filename
+        return f"{os.fsdecode(file) if isinstance(file, bytes) else file}: {error.strerror}"
+    # (what could not be written is kept, and fails once more, unless PYTHONUNBUFFERED is set)
+    is_lost = getattr(sys.stdout, "write_through", False) and error.errno in FULL
+    try:
+        sys.stdout.flush()
+    except OSError:
+        is_lost = True
+    if is_lost:
+        forget_output()
+    return f"{'the output cannot be written' if is_lost else 'a file'}: {error.strerror or error}"
+
+
+def forget_output() -> None:
     """Drops what nobody can read or write any more; Python would report it once more at the end."""
     os.dup2(os.open(os.devnull, os.O_WRONLY), 1)
 
 
-def failed(name, text, status=1):
+def failed(name: str, text: str, status: int = 1) -> int:
     """Prints one line on the standard error."""
-    try:
+    with contextlib.suppress(OSError):
         sys.stdout.flush()
-        print(f"admissions-{name}: " + " ".join(text.split("\n")), file=sys.stderr)
-    except OSError:
-        pass
+    say(2, f"{name}: " + " ".join(text.split("\n")))
     return status
 
 
-def put(text):
+def put(text: str) -> None:
     """Prints a text to the standard output, wholly or with an error that says so."""
     try:
         sys.stdout.flush()
@@ -119,18 +203,20 @@ def put(text):
 class Progress:
     """A line on a terminal that says how much is done, from one second on."""
 
-    def __init__(self, what, total):
+    def __init__(self, what: str, total: int) -> None:
         self.what, self.total, self.start, self.shown = what, total, time.monotonic(), 0.0
         self.is_terminal = sys.stderr.isatty()
 
-    def at(self, count):
+    def at(self, count: int) -> None:
         """So many are done."""
         now = time.monotonic()
-        if self.is_terminal and now - self.start > SHOWN_AFTER and (now - self.shown > 0.2 or count == self.total):
+        is_due = now - self.shown > 0.2 or count == self.total
+        if self.is_terminal and now - self.start > SHOWN_AFTER and is_due:
             self.shown = now
-            print(f"\r{count} of {self.total} {self.what}, {now - self.start:.0f} s", end="", file=sys.stderr, flush=True)
+            line = f"\r{count} of {self.total} {self.what}, {now - self.start:.0f} s"
+            print(line, end="", file=sys.stderr, flush=True)
 
-    def end(self):
+    def end(self) -> None:
         """Ends the line."""
         if self.shown:
             print(file=sys.stderr)

@@ -10,7 +10,8 @@ from checks.world import NAME
 SENT = """
 import pathlib, sys
 sys.path.insert(0, sys.argv.pop(1))
-from machine import registers, run, sent
+from machine import registers, sent
+from office import run
 registers.LOGS = pathlib.Path(sys.argv.pop(1))
 sys.exit(run.run("admissions-sent", sent))
 """

@@ -1,12 +1,14 @@
-"""What admissions-setup is given: each option or answer is taken in one form, and what cannot be taken is named as it was typed."""
+"""What admissions-setup is given: each option or answer is taken in one form, and what cannot be
+taken is named as it was typed."""
 import datetime
 import re
 import sys
 import typing
 
+from register_files import Refused
+
 from . import people, sites
 from .registers import PHASES
-from .run import Failed
 
 MOST_HOLIDAYS = 40
 DAY = re.compile(r"\d{4}-\d\d-\d\d", re.ASCII)
@@ -16,13 +18,13 @@ Taken = typing.TypeVar("Taken")
 
 def phase(text: str) -> str:
     if text not in PHASES.values():
-        raise Failed(f"{text!r} is no phase: type primary or secondary, in small letters", 2)
+        raise Refused(f"{text!r} is no phase: type primary or secondary, in small letters", 2)
     return text
 
 
 def year(text: str) -> int:
     if not re.fullmatch(r"\d{4}", text, re.ASCII) or not 2000 <= int(text) <= 2100:
-        raise Failed(f"{text!r} is no year of entry: it is from 2000 to 2100", 2)
+        raise Refused(f"{text!r} is no year of entry: it is from 2000 to 2100", 2)
     return int(text)
 
 
@@ -34,49 +36,57 @@ def holidays(texts: list[str]) -> list[str]:
                 raise ValueError
             datetime.date.fromisoformat(it)
         except ValueError as error:
-            raise Failed(f"{it!r} is no day: write YYYY-MM-DD, as 2026-04-03", 2) from error
+            raise Refused(f"{it!r} is no day: write YYYY-MM-DD, as 2026-04-03", 2) from error
     if len(texts) > MOST_HOLIDAYS:
-        raise Failed(f"{len(texts)} holidays are too many: there are at most {MOST_HOLIDAYS}", 2)
+        raise Refused(f"{len(texts)} holidays are too many: there are at most {MOST_HOLIDAYS}", 2)
     return sorted(set(texts))
 
 
 def host(text: str) -> str:
     if not sites.HOST.fullmatch(text):
-        raise Failed(f"{text!r} is no name of a site: it has small letters, digits, hyphens and at"
-                     " least one point", 2)
+        raise Refused(
+            f"{text!r} is no name of a site: it has small letters, digits, hyphens and at"
+            " least one point",
+            2,
+        )
     return text
 
 
 def user(text: str) -> str:
     if not people.USER.fullmatch(text) or text in people.NO_USERS:
-        raise Failed(f"{text!r} is no name of a user: small letters and digits, and then also . _ @ + -, 64 at most", 2)
+        raise Refused(
+            f"{text!r} is no name of a user: small letters and digits,"
+            " and then also . _ @ + -, 64 at most",
+            2,
+        )
     return text
 
 
 def role(text: str) -> str:
     if not people.ROLE.fullmatch(text):
-        raise Failed(f"{text!r} is no role: it is {people.ROLES}", 2)
+        raise Refused(f"{text!r} is no role: it is {people.ROLES}", 2)
     return text
 
 
 def authority(text: str) -> str:
     if not text.strip() or not text.isprintable():
-        raise Failed(f"{text!r} is no name of an authority: it is one line", 2)
+        raise Refused(f"{text!r} is no name of an authority: it is one line", 2)
     return text
 
 
 def ask(question: str, take: typing.Callable[[str], Taken], default: str = "") -> Taken:
-    """What is typed on the terminal for a question, which is repeated until the answer can be taken."""
+    """What is typed on the terminal for a question, which is repeated until the answer can be
+    taken."""
     if not sys.stdin.isatty():
-        raise Failed(f"not given: {question}", 2)
+        raise Refused(f"not given: {question}", 2)
     while True:
         print(f"{question}{f' [{default}]' if default else ''}: ", end="", flush=True)
         line = sys.stdin.readline()
         if not line:
-            raise Failed("the input ended")
+            raise Refused("the input ended")
         try:
             return take(line.strip() or default)
-        except Failed as error:
+        except Refused as error:
             print(error)
 
 
@@ -85,7 +95,7 @@ def confirm(what: str, is_confirmed: bool) -> None:
     if is_confirmed:
         return
     if not sys.stdin.isatty():
-        raise Failed(f"{what}: nothing was changed; if this is right, repeat it with --yes", 2)
+        raise Refused(f"{what}: nothing was changed; if this is right, repeat it with --yes", 2)
     print(f"{what}. Type yes to do it: ", end="", flush=True)
     if sys.stdin.readline().strip() != "yes":
-        raise Failed("nothing was changed")
+        raise Refused("nothing was changed")

@@ -4,9 +4,11 @@ import pathlib
 import subprocess
 import typing
 
+from register_files import Refused
+
 from . import files
+from .programs import call, tool
 from .registers import Register
-from .run import Failed, call, tool
 
 DAYS_OF_TRIAL = 90
 
@@ -16,21 +18,34 @@ def openssl(*arguments: object) -> "subprocess.CompletedProcess[str]":
 
 
 def paths(register: Register) -> tuple[pathlib.Path, pathlib.Path, pathlib.Path]:
-    return register.settings / "site.key", register.settings / "site.crt", register.settings / "site.csr"
+    return (
+        register.settings / "site.key",
+        register.settings / "site.crt",
+        register.settings / "site.csr",
+    )
 
 
 def make(register: Register, host: str) -> typing.Iterator[str]:
-    """Makes what is missing of a key, a request for a certificate, and a certificate that the key itself signs. Returns a line for each."""
+    """Makes what is missing of a key, a request for a certificate, and a certificate that the key
+    itself signs. Returns a line for each."""
     key, certificate, request = paths(register)
     name = ("-subj", f"/CN={host}", "-addext", f"subjectAltName=DNS:{host}")
     if not key.exists():
-        files.write(key, openssl("genpkey", "-algorithm", "EC", "-pkeyopt", "ec_paramgen_curve:P-256").stdout, 0o600)
+        files.write(
+            key,
+            openssl("genpkey", "-algorithm", "EC", "-pkeyopt", "ec_paramgen_curve:P-256").stdout,
+            0o600,
+        )
         yield f"made the key {key}"
     if not request.exists():
         files.write(request, openssl("req", "-new", "-key", key, *name).stdout, 0o644)
         yield f"made the request {request}: let an authority sign it"
     if not certificate.exists():
-        files.write(certificate, openssl("req", "-x509", "-key", key, "-days", str(DAYS_OF_TRIAL), *name).stdout, 0o644)
+        files.write(
+            certificate,
+            openssl("req", "-x509", "-key", key, "-days", str(DAYS_OF_TRIAL), *name).stdout,
+            0o644,
+        )
         yield f"made the certificate {certificate}, for a trial of {DAYS_OF_TRIAL} days"
 
 
@@ -39,11 +54,16 @@ def warning(register: Register) -> str | None:
     key, certificate, request = paths(register)
     if not is_self_signed(certificate):
         return None
-    return f"WARNING: no authority has signed {certificate}, so browsers warn of the site. Let one sign {request}, and put its answer there; the key is {key}"
+    return (
+        f"WARNING: no authority has signed {certificate}, so browsers warn of the site."
+        f" Let one sign {request}, and put its answer there; the key is {key}"
+    )
 
 
 def is_self_signed(certificate: pathlib.Path) -> bool:
-    names = openssl("x509", "-in", certificate, "-noout", "-subject", "-issuer", "-nameopt", "RFC2253").stdout.splitlines()
+    names = openssl(
+        "x509", "-in", certificate, "-noout", "-subject", "-issuer", "-nameopt", "RFC2253"
+    ).stdout.splitlines()
     return len({line.partition("=")[2] for line in names}) == 1
 
 
@@ -53,16 +73,21 @@ def pair(certificate: str, key: str) -> tuple[str, str]:
         with open(certificate, encoding="ascii") as one, open(key, encoding="ascii") as other:
             texts = one.read(), other.read()
     except UnicodeDecodeError as error:
-        raise Failed(f"{certificate} or {key} is not in the form PEM, which is text") from error
-    if public_key("x509", "-pubkey", "-noout", "-in", certificate) != public_key("pkey", "-pubout", "-in", key):
-        raise Failed(f"{certificate} is not of the key {key}")
+        raise Refused(f"{certificate} or {key} is not in the form PEM, which is text") from error
+    if public_key("x509", "-pubkey", "-noout", "-in", certificate) != public_key(
+        "pkey", "-pubout", "-in", key
+    ):
+        raise Refused(f"{certificate} is not of the key {key}")
     return texts
 
 
 def is_lost(register: Register, certificate: str, key: str) -> bool:
     """Whether another certificate or key is there, which these would replace."""
     texts, (to_key, to_certificate, _) = pair(certificate, key), paths(register)
-    return any(path.exists() and path.read_bytes() != text.encode() for path, text in zip((to_certificate, to_key), texts))
+    return any(
+        path.exists() and path.read_bytes() != text.encode()
+        for path, text in zip((to_certificate, to_key), texts)
+    )
 
 
 def take(register: Register, certificate: str, key: str) -> bool:
@@ -77,6 +102,12 @@ def public_key(*arguments: object) -> str:
 
 def days_left(certificate: pathlib.Path) -> int:
     """How many whole days a certificate is still valid, negative after its end."""
-    text = openssl("x509", "-in", certificate, "-noout", "-enddate", "-dateopt", "iso_8601").stdout.strip().partition("=")[2]
-    end = datetime.datetime.strptime(text, "%Y-%m-%d %H:%M:%SZ").replace(tzinfo=datetime.timezone.utc)
+    text = (
+        openssl("x509", "-in", certificate, "-noout", "-enddate", "-dateopt", "iso_8601")
+        .stdout.strip()
+        .partition("=")[2]
+    )
+    end = datetime.datetime.strptime(text, "%Y-%m-%d %H:%M:%SZ").replace(
+        tzinfo=datetime.timezone.utc
+    )
     return (end - datetime.datetime.now(datetime.timezone.utc)).days

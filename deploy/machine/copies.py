@@ -1,4 +1,5 @@
-"""The nightly copies in a folder: their names, their order, how old they are, and what is beside each of them."""
+"""The nightly copies in a folder: their names, their order, how old they are, and what is beside
+each of them."""
 import datetime
 import pathlib
 import re
@@ -20,7 +21,8 @@ def number(path: pathlib.Path) -> int:
 
 
 def made(folder: pathlib.Path) -> list[pathlib.Path]:
-    """The copies in the order in which they were made: by their numbers, whatever the clock was, and those without one first."""
+    """The copies in the order in which they were made: by their numbers, whatever the clock was,
+    and those without one first."""
     found = [it for it in folder.glob("nightly-*.db") if NAME.fullmatch(it.name)]
     return sorted(found, key=lambda it: (number(it), it.name))
 
@@ -37,7 +39,8 @@ def settings_of(copy: pathlib.Path) -> pathlib.Path:
 
 
 def age(copy: pathlib.Path) -> float:
-    """How many seconds ago a copy was made, by its time; negative where its time is still to come, or its name."""
+    """How many seconds ago a copy was made, by its time; negative where its time is still to come,
+    or its name."""
     found, at, now = NAME.fullmatch(copy.name), copy.stat().st_mtime, time.time()
     try:
         named = datetime.datetime.strptime(found[2], TIME).timestamp() if found else at

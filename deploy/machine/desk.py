@@ -1,4 +1,5 @@
-"""Whether a desk answers, by the door that nginx uses, and its site, as a browser would reach it."""
+"""Whether a desk answers, by the door that nginx uses, and its site, as a browser would reach
+it."""
 import base64
 import contextlib
 import http.client
@@ -10,7 +11,8 @@ PORT = 443
 
 
 def status_of(path: pathlib.Path, seconds: float = 10) -> int | None:
-    """The status of its answer to a request that reads the register (200, or 404 before the first round), or None where it gives none."""
+    """The status of its answer to a request that reads the register (200, or 404 before the first
+    round), or None where it gives none."""
     with contextlib.suppress(OSError, ValueError, IndexError):
         with socket.socket(socket.AF_UNIX) as it:
             it.settimeout(seconds)
@@ -24,16 +26,21 @@ def status_of(path: pathlib.Path, seconds: float = 10) -> int | None:
 
 
 def site_status_of(host: str, user: str = "", seconds: float = 10) -> tuple[int, bytes]:
-    """The status of the site's answer over TLS to a request without a password, of a user or of nobody, and the certificate that it shows. The certificate
-    is not judged here: one for a trial is as good. OSError or HTTPException where there is no answer."""
+    """The status of the site's answer over TLS to a request without a password, of a user or of
+    nobody, and the certificate that it shows. The certificate is not judged here: one for a trial
+    is as good. OSError or HTTPException where there is no answer.
+    """
     name = base64.b64encode(f"{user}:".encode()).decode()
     signed = f"Authorization: Basic {name}\r\n" if user else ""
     context = ssl.create_default_context()
     context.check_hostname = False
     context.verify_mode = ssl.CERT_NONE
-    with socket.create_connection(("127.0.0.1", PORT), seconds) as bare, \
-            context.wrap_socket(bare, server_hostname=host) as secure:
-        secure.sendall(f"GET / HTTP/1.1\r\nHost: {host}\r\n{signed}Connection: close\r\n\r\n".encode())
+    with socket.create_connection(("127.0.0.1", PORT), seconds) as bare, context.wrap_socket(
+        bare, server_hostname=host
+    ) as secure:
+        secure.sendall(
+            f"GET / HTTP/1.1\r\nHost: {host}\r\n{signed}Connection: close\r\n\r\n".encode()
+        )
         answer = http.client.HTTPResponse(secure)
         answer.begin()
         return answer.status, secure.getpeercert(binary_form=True) or b""

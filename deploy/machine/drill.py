@@ -1,29 +1,42 @@
-"""Tries a restore: restores the newest nightly copy of a register into a folder of its own, opens it, and counts what it has.
+"""Tries a restore: restores the newest nightly copy of a register into a
+folder of its own, opens it, and counts what it has.
 
   drill NAME
 
-The newest copy is the one that was made last, whatever the clock was. The register itself and its copies are only read. Where a second place is named, its copy
-of the same name is fetched and tried in the same way. The archive of its settings is read, and its users are counted. What was restored is
-removed at the end. The result is in /var/backups/admissions/NAME/drill.report, which admissions-status reads. A drill that fails leaves the
-report of the one before it, and its unit fails.
+The newest copy is the one that was made last, whatever the clock was. The
+register itself and its copies are only read. Where a second place is named,
+its copy of the same name is fetched and tried in the same way. The archive of
+its settings is read, and its users are counted. What was restored is removed
+at the end. The result is in /var/backups/admissions/NAME/drill.report, which
+admissions-status reads. A drill that fails leaves the report of the one before
+it, and its unit fails.
 
 example:
   drill secondary-2025
 
-exit status: 0 restored and opened; 1 not, and the line says why; 2 wrong arguments.
+exit status: 0 restored and opened; 1 not, and the line says why; 2 wrong
+arguments.
 """
 import argparse
 import pathlib
 import tempfile
 
+from register_files import Refused
+
 from . import copies
+from .programs import call, program
 from .registers import Register, known, open_error, rows, season_of
-from .run import Failed, call, program
 from .second_copy import fetched, now, place_of, write_report
 from .settings_copy import OWN, members_of
 
 REPORT = "drill.report"
-COUNTS = {"schools": "school", "children": "child", "applications": "application", "places": "place", "rounds and fills": "draw"}
+COUNTS = {
+    "schools": "school",
+    "children": "child",
+    "applications": "application",
+    "places": "place",
+    "rounds and fills": "draw",
+}
 
 
 def arguments(reader: argparse.ArgumentParser) -> None:
@@ -34,7 +47,7 @@ def main(given: argparse.Namespace) -> int:
     register, place = known(given.name), place_of()
     made = register.nightly_copies()
     if not made:
-        raise Failed(f"{register.name} has no nightly copy to restore")
+        raise Refused(f"{register.name} has no nightly copy to restore")
     lines = []
     with tempfile.TemporaryDirectory() as room:
         lines.append(f"{now()} {made[-1]}: {tried(made[-1], room)}")
@@ -55,14 +68,18 @@ def fetched_whole(place: str, register: Register, copy: pathlib.Path, room: str)
 
 
 def tried(copy: pathlib.Path, room: str) -> str:
-    """Restores a copy as an office would, opens it, and counts its rows, and the users of its settings."""
+    """Restores a copy as an office would, opens it, and counts its rows, and the users of its
+    settings."""
     with tempfile.TemporaryDirectory(dir=room) as folder:
         file = pathlib.Path(folder, "reg.db")
         call(program("admissions-restore"), copy, file)
         if error := open_error(file):
-            raise Failed(f"{copy} was restored, but does not open: {error}")
+            raise Refused(f"{copy} was restored, but does not open: {error}")
         season = season_of(file)
-        counts = ", ".join(f"{rows(file, f'SELECT count(*) FROM {table}')[0][0]} {name}" for name, table in COUNTS.items())
+        counts = ", ".join(
+            f"{rows(file, f'SELECT count(*) FROM {table}')[0][0]} {name}"
+            for name, table in COUNTS.items()
+        )
         return f"restored and opened, {season.phase} {season.year}: {counts}; {settings_text(copy)}"
 
 
@@ -71,5 +88,5 @@ def settings_text(copy: pathlib.Path) -> str:
     if not found:
         return "without settings"
     if missing := set(OWN) - found.keys():
-        raise Failed(f"the settings of {copy} lack {', '.join(sorted(missing))}")
+        raise Refused(f"the settings of {copy} lack {', '.join(sorted(missing))}")
     return f"settings with {len(found['passwords'].splitlines())} users"

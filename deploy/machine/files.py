@@ -1,4 +1,5 @@
-"""Files and folders that are made once, changed only where they differ, and never half; and the lock of those who change them."""
+"""Files and folders that are made once, changed only where they differ, and never half; and the
+lock of those who change them."""
 import contextlib
 import fcntl
 import grp
@@ -9,14 +10,17 @@ import sys
 import tempfile
 import typing
 
-from .run import USER, Failed
+from register_files import Refused
+
+from .programs import USER
 
 LOCK = pathlib.Path("/run/admissions-setup.lock")
 
 
 @contextlib.contextmanager
 def lock() -> typing.Iterator[None]:
-    """Only one command at a time changes what is set up: a second one waits. A command that is killed holds it no longer."""
+    """Only one command at a time changes what is set up: a second one waits. A command that is
+    killed holds it no longer."""
     with open(LOCK, "a", encoding="ascii") as file:
         try:
             fcntl.flock(file, fcntl.LOCK_EX | fcntl.LOCK_NB)
@@ -30,7 +34,7 @@ def numbers(user: str, group: str) -> tuple[int, int]:
     try:
         return pwd.getpwnam(user).pw_uid, grp.getgrnam(group).gr_gid
     except KeyError as error:
-        raise Failed(f"there is no such user or group: {error}") from error
+        raise Refused(f"there is no such user or group: {error}") from error
 
 
 def folder(path: pathlib.Path, mode: int, user: str = "root", group: str = "root") -> bool:
@@ -47,7 +51,9 @@ def folder(path: pathlib.Path, mode: int, user: str = "root", group: str = "root
     return is_new or is_other
 
 
-def write(path: pathlib.Path, content: str | bytes, mode: int, user: str = "root", group: str = "root") -> bool:
+def write(
+    path: pathlib.Path, content: str | bytes, mode: int, user: str = "root", group: str = "root"
+) -> bool:
     """Gives a file this content in one step, if it has another. Returns whether it had."""
     data = content.encode() if isinstance(content, str) else content
     if path.exists() and path.read_bytes() == data:
@@ -72,14 +78,15 @@ def link(path: pathlib.Path, target: str) -> bool:
     if path.is_symlink() and os.readlink(path) == target:
         return False
     if os.path.lexists(path):
-        raise Failed(f"{path} is there already, and is no link to {target}")
+        raise Refused(f"{path} is there already, and is no link to {target}")
     path.symlink_to(target)
     return True
 
 
 @contextlib.contextmanager
 def as_desk() -> typing.Iterator[None]:
-    """What is written meanwhile is written by the user of the desks, as whom no link in a folder of theirs leads to a file of root."""
+    """What is written meanwhile is written by the user of the desks, as whom no link in a folder of
+    theirs leads to a file of root."""
     if os.geteuid() != 0:
         yield
         return
@@ -94,7 +101,8 @@ def as_desk() -> typing.Iterator[None]:
 
 
 def write_as_desk(path: pathlib.Path, data: bytes, modified: int | None = None) -> None:
-    """Gives a file these bytes and, where it is given, this time, in one step; it is of the user of the desks alone."""
+    """Gives a file these bytes and, where it is given, this time, in one step; it is of the user of
+    the desks alone."""
     with as_desk():
         handle, new = tempfile.mkstemp(prefix=f".{path.name}.", dir=path.parent)
         try:

@@ -1,13 +1,16 @@
-"""The holidays of a register that is there. A register has them from the beginning on, so it is made anew; and only while it is empty."""
+"""The holidays of a register that is there. A register has them from the beginning on, so it is
+made anew; and only while it is empty."""
 import contextlib
 import datetime
 import pathlib
 import tempfile
 import typing
 
+from register_files import Refused
+
 from . import files
+from .programs import USER, call, is_booted, program, tool
 from .registers import Register, open_error, rows, season_of
-from .run import USER, Failed, call, is_booted, program, tool
 
 
 def days_of(file: pathlib.Path) -> list[str]:
@@ -18,8 +21,12 @@ def days_of(file: pathlib.Path) -> list[str]:
 
 
 def content_of(file: pathlib.Path) -> str:
-    """What a register holds beside its season, as `2 school, 1 child`; an empty text where it is empty."""
-    tables = rows(file, "SELECT name FROM sqlite_master WHERE type = 'table' AND name <> 'meta' ORDER BY rowid")
+    """What a register holds beside its season, as `2 school, 1 child`; an empty text where it is
+    empty."""
+    tables = rows(
+        file,
+        "SELECT name FROM sqlite_master WHERE type = 'table' AND name <> 'meta' ORDER BY rowid",
+    )
     counts = {name: rows(file, f"SELECT count(*) FROM {name}")[0][0] for (name,) in tables}
     return ", ".join(f"{count} {name}" for name, count in counts.items() if count)
 
@@ -30,28 +37,38 @@ def change_of(register: Register, days: list[str]) -> str | None:
     if before == days:
         return None
     see_empty(register)
-    return (f"the holidays of {register.name} change from {', '.join(before) or 'none'} to {', '.join(days) or 'none'}:"
-            " it is empty, and is made anew")
+    return (
+        f"the holidays of {register.name} change"
+        f" from {', '.join(before) or 'none'} to {', '.join(days) or 'none'}:"
+        " it is empty, and is made anew"
+    )
 
 
 def see_empty(register: Register) -> None:
     if content := content_of(register.file):
-        raise Failed(f"the holidays of {register.name} cannot be changed any more, since it has {content}: they decide its days, and"
-                     f" only an empty register is made anew. Its holidays are {', '.join(days_of(register.file)) or 'none'}")
+        raise Refused(
+            f"the holidays of {register.name} cannot be changed any more, since it has {content}:"
+            " they decide its days, and only an empty register is made anew."
+            f" Its holidays are {', '.join(days_of(register.file)) or 'none'}"
+        )
 
 
 def change(register: Register, days: list[str], before: list[str]) -> str:
-    """Makes the register anew with these days, while its desk is stopped. What was there is kept as a copy beside it."""
+    """Makes the register anew with these days, while its desk is stopped. What was there is kept as
+    a copy beside it."""
     season = season_of(register.file)
     with files.as_desk():
         part = tempfile.TemporaryDirectory(dir=register.folder, prefix="reg.db.part-")
     with stopped(register), part as room:
         # (the file alone is the register only after the program has closed it)
         if error := open_error(register.file, as_user=USER):
-            raise Failed(f"{register.file} does not open: {error}")
+            raise Refused(f"{register.file} does not open: {error}")
         see_empty(register)
         if days_of(register.file) != before:
-            raise Failed(f"the holidays of {register.name} were changed meanwhile: they are {', '.join(days_of(register.file))}")
+            raise Refused(
+                f"the holidays of {register.name} were changed meanwhile:"
+                f" they are {', '.join(days_of(register.file))}"
+            )
         new = pathlib.Path(room, "reg.db")
         call(program("admissions"), "init", new, season.phase, season.year, *days, as_user=USER)
         done = call(program("admissions-restore"), new, register.file, as_user=USER)
@@ -63,7 +80,9 @@ def change(register: Register, days: list[str], before: list[str]) -> str:
 def stopped(register: Register) -> typing.Iterator[None]:
     """The desk does not run meanwhile; if it ran before, it does afterwards."""
     control, unit = tool("systemctl", "systemd"), f"admissions@{register.name}.service"
-    has_run = is_booted() and call(control, "is-active", unit, may_fail=True).stdout.strip() == "active"
+    has_run = (
+        is_booted() and call(control, "is-active", unit, may_fail=True).stdout.strip() == "active"
+    )
     if has_run:
         call(control, "stop", unit)
     try:

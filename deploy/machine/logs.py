@@ -13,11 +13,14 @@ UNREADABLE = (OSError, EOFError, zlib.error)
 
 def in_order(folder: pathlib.Path) -> list[pathlib.Path]:
     """The files of a log, the oldest first: .., asked.log.2.gz, asked.log.1, asked.log."""
-    # (while logrotate compresses a file, it is there in both forms, and the last one taken is whole)
+    # (while logrotate compresses a file, it is there in both forms, and the last one taken is
+    # whole)
     paths = sorted(folder.glob("asked.log*"), reverse=True)
     found = {int(name[1] or 0): it for it in paths if (name := NAME.fullmatch(it.name))}
     return [found[number] for number in sorted(found, reverse=True)]
 
 
 def opened(path: pathlib.Path) -> typing.BinaryIO:
-    return typing.cast(typing.BinaryIO, gzip.open(path) if path.suffix == ".gz" else open(path, "rb"))
+    return typing.cast(
+        typing.BinaryIO, gzip.open(path) if path.suffix == ".gz" else open(path, "rb")
+    )

@@ -1,13 +1,17 @@
-"""Backs up a register with a number and the time in the name of the copy, and keeps the last copies.
+"""Backs up a register with a number and the time in the name of the copy, and
+keeps the last copies.
 
   nightly FILE FOLDER KEEP
 
-It backs up the register FILE into FOLDER by admissions-backup, which refuses a register in use, and keeps the KEEP copies that were made last. The
-numbers say which these are, so a clock that is wrong loses none. Copies are removed only after a backup that succeeded, each with the archive of
-its settings; copies of other names (before a round) always stay.
+It backs up the register FILE into FOLDER by admissions-backup, which refuses a
+register in use, and keeps the KEEP copies that were made last. The numbers say
+which these are, so a clock that is wrong loses none. Copies are removed only
+after a backup that succeeded, each with the archive of its settings; copies of
+other names (before a round) always stay.
 
 example:
-  nightly /var/lib/admissions/secondary-2025/reg.db /var/backups/admissions/secondary-2025 30
+  nightly /var/lib/admissions/secondary-2025/reg.db \\
+    /var/backups/admissions/secondary-2025 30
 
 exit status: 0 backed up; 1 not, and the line says why; 2 wrong arguments.
 """
@@ -17,13 +21,15 @@ import pathlib
 import sys
 
 from . import copies
-from .run import call, program
+from .programs import call, program
 
 
 def arguments(reader: argparse.ArgumentParser) -> None:
     reader.add_argument("file", metavar="FILE", help="the register")
     reader.add_argument("folder", metavar="FOLDER", help="where its copies are")
-    reader.add_argument("keep", metavar="KEEP", type=count, help="how many copies are kept, from 1 to 9999")
+    reader.add_argument(
+        "keep", metavar="KEEP", type=count, help="how many copies are kept, from 1 to 9999"
+    )
 
 
 def count(text: str) -> int:

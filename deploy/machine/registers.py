@@ -6,8 +6,10 @@ import sqlite3
 import typing
 import urllib.parse
 
+from register_files import Refused
+
 from . import copies
-from .run import Failed, call, program
+from .programs import call, program
 
 NAME = re.compile("[a-z0-9]([a-z0-9-]{0,38}[a-z0-9])?")
 PHASES = {1: "primary", 2: "secondary"}
@@ -31,7 +33,8 @@ class Register:
 
     @property
     def is_made(self) -> bool:
-        """Whether there is something in its file: a crash while it was made may leave an empty one."""
+        """Whether there is something in its file: a crash while it was made may leave an empty
+        one."""
         return self.file.exists() and self.file.stat().st_size > 0
 
     @property
@@ -74,8 +77,11 @@ class Season:
 
 def named(name: str) -> Register:
     if not NAME.fullmatch(name):
-        raise Failed(f"{name!r} is no name of a register: 1 to 40 small letters, digits and hyphens,"
-                     " and no hyphen at either end", 2)
+        raise Refused(
+            f"{name!r} is no name of a register: 1 to 40 small letters, digits and hyphens,"
+            " and no hyphen at either end",
+            2,
+        )
     return Register(name)
 
 
@@ -84,7 +90,7 @@ def known(name: str) -> Register:
     register = named(name)
     if not register.file.exists() and register.host is None:
         there = ", ".join(it.name for it in all_registers()) or "none"
-        raise Failed(f"no such register: {name}; registers of this machine: {there}", 2)
+        raise Refused(f"no such register: {name}; registers of this machine: {there}", 2)
     return register
 
 
@@ -104,18 +110,19 @@ def rows(file: pathlib.Path, query: str) -> list[tuple[typing.Any, ...]]:
         finally:
             with_file.close()
     except sqlite3.Error as error:
-        raise Failed(f"{file} cannot be read as a register: {error}") from error
+        raise Refused(f"{file} cannot be read as a register: {error}") from error
 
 
 def season_of(file: pathlib.Path) -> Season:
     found = rows(file, "SELECT phase, year, version FROM meta")
     if len(found) != 1 or found[0][0] not in PHASES:
-        raise Failed(f"{file} is no register")
+        raise Refused(f"{file} is no register")
     return Season(PHASES[found[0][0]], found[0][1], found[0][2])
 
 
 def open_error(file: pathlib.Path, as_user: str | None = None) -> str:
-    """What the program prints if it does not open a file; an empty text where it does. It merges the log."""
+    """What the program prints if it does not open a file; an empty text where it does. It merges
+    the log."""
     done = call(program("admissions"), "do", file, as_user=as_user, may_fail=True)
     if done.returncode == 0:
         return ""

@@ -1,25 +1,28 @@
-"""Prints the commands that were done over the site of a register since a moment, each on one line:
-to send them again after a restore.
+"""Prints the commands that were done over the site of a register since a
+moment, each on one line: to send them again after a restore.
 
   admissions-sent NAME TIME [--rows FOLDER]
 
-They are in the order in which they were done, from /var/log/admissions/NAME/asked.log and its
-earlier files. TIME is a day or a moment of the local time of the log, such as 2025-03-03T02:30. A
-command is printed as it was sent, except that a line break between its fields is a space. Commands
-that were sent by `admissions do` are not in the log.
+They are in the order in which they were done, from
+/var/log/admissions/NAME/asked.log and its earlier files. TIME is a day or a
+moment of the local time of the log, such as 2025-03-03T02:30. A command is
+printed as it was sent, except that a line break between its fields is a space.
+Commands that were sent by `admissions do` are not in the log.
 
-Three kinds of entries are not printed, but named on the standard error with file and line: one that
-cannot be read, as a crash or a full disk may leave it; a command or import that ended with a status
-of 500 or more, as where the connection to the desk broke; and an import that was done. Look there
-who sent it and what it was, and whether it is done. The rows of an import are no command: its line
-says after how many of the printed commands it was done, and with --rows they are written to the new
-FOLDER, each import to a CSV file of that number.
+Three kinds of entries are not printed, but named on the standard error with
+file and line: one that cannot be read, as a crash or a full disk may leave it;
+a command or import that ended with a status of 500 or more, as where the
+connection to the desk broke; and an import that was done. Look there who sent
+it and what it was, and whether it is done. The rows of an import are no
+command: its line says after how many of the printed commands it was done, and
+with --rows they are written to the new FOLDER, each import to a CSV file of
+that number.
 
 example:
   admissions-sent secondary-2025 2025-03-03T02:30 > again.jsonl
 
-exit status: 0 done; 1 not or not wholly done, and each line of the standard error says why; 2 wrong
-arguments.
+exit status: 0 done; 1 not or not wholly done, and each line of the standard
+error says why; 2 wrong arguments.
 """
 import argparse
 import dataclasses
@@ -29,9 +32,10 @@ import pathlib
 import sys
 from collections.abc import Iterator
 
+from register_files import Refused
+
 from . import logs
 from .registers import named
-from .run import Failed
 
 # How each entry begins. nginx escapes the quotation marks within its values, so these bytes are
 # nowhere else in a log, whatever was sent
@@ -46,9 +50,11 @@ LOOK = "look whether it is done"
 def arguments(reader: argparse.ArgumentParser) -> None:
     reader.add_argument("name", metavar="NAME", help="the name of the register")
     reader.add_argument(
-        "since", metavar="TIME", help="from when on, YYYY-MM-DD or YYYY-MM-DDTHH:MM")
+        "since", metavar="TIME", help="from when on, YYYY-MM-DD or YYYY-MM-DDTHH:MM"
+    )
     reader.add_argument(
-        "--rows", metavar="FOLDER", help="write the rows of imports to this new folder")
+        "--rows", metavar="FOLDER", help="write the rows of imports to this new folder"
+    )
 
 
 def main(given: argparse.Namespace) -> int:
@@ -56,10 +62,10 @@ def main(given: argparse.Namespace) -> int:
     try:
         since = datetime.datetime.fromisoformat(given.since).astimezone()
     except ValueError as error:
-        raise Failed(f"{given.since!r} is no moment: YYYY-MM-DD or YYYY-MM-DDTHH:MM", 2) from error
+        raise Refused(f"{given.since!r} is no moment: YYYY-MM-DD or YYYY-MM-DDTHH:MM", 2) from error
     files = logs.in_order(folder)
     if not files:
-        raise Failed(f"{folder} has no asked.log")
+        raise Refused(f"{folder} has no asked.log")
     if given.rows:
         pathlib.Path(given.rows).mkdir()
     doubtful: list[str] = []

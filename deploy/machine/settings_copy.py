@@ -2,12 +2,16 @@
 
   settings-copy NAME
 
-It is called as root after each nightly backup. Beside the newest nightly copy, as an archive (tar) of the same name, are roles, passwords and
-site-name of /etc/admissions/NAME, and /etc/admissions/authority and second-copy, with owners and modes. Nothing else is copied, and so no key. An
-archive that is there stays as it is, as the copy does. The files of the log are in the folder `log` beside the copies, each under a number,
-compressed: a file that was copied is only ever made longer, so the copy outlives a log that was emptied, cut or removed. One that cannot be read is
-named, and the others are copied. All copies are of the user admissions alone. The result is in settings-copy.report beside them, which
-admissions-status reads.
+It is called as root after each nightly backup. Beside the newest nightly copy,
+as an archive (tar) of the same name, are roles, passwords and site-name of
+/etc/admissions/NAME, and /etc/admissions/authority and second-copy, with
+owners and modes. Nothing else is copied, and so no key. An archive that is
+there stays as it is, as the copy does. The files of the log are in the folder
+`log` beside the copies, each under a number, compressed: a file that was
+copied is only ever made longer, so the copy outlives a log that was emptied,
+cut or removed. One that cannot be read is named, and the others are copied.
+All copies are of the user admissions alone. The result is in
+settings-copy.report beside them, which admissions-status reads.
 
 example:
   settings-copy secondary-2025
@@ -20,12 +24,14 @@ import pathlib
 import tarfile
 import typing
 
+from register_files import Refused
+
 from . import copies, files, log_copies, people
 from .registers import SETTINGS, Register, known
-from .run import Failed
 from .second_copy import now, write_report
 
-# What is copied, of a register and of all: a key under whatever name is not, since whoever has the second place shall not have it
+# What is copied, of a register and of all: a key under whatever name is not, since whoever has the
+# second place shall not have it
 OWN, SHARED = ("passwords", "roles", "site-name"), ("authority", "second-copy")
 REPORT = "settings-copy.report"
 
@@ -38,17 +44,20 @@ def main(given: argparse.Namespace) -> int:
     register = known(given.name)
     made = register.nightly_copies()
     if not made:
-        raise Failed(f"{register.name} has no nightly copy yet, beside which its settings would be")
+        raise Refused(
+            f"{register.name} has no nightly copy yet, beside which its settings would be"
+        )
     target = copies.settings_of(made[-1])
     # (as of that night: the second place keeps what it has, and must have the same)
     if not target.exists():
         files.write_as_desk(target, archive_of(register))
     problems = log_copies.copy(register)
-    text = f"{now()} {target.name} has users and settings; the log has {len(log_copies.made(register.copies / log_copies.FOLDER))} files"
+    count = len(log_copies.made(register.copies / log_copies.FOLDER))
+    text = f"{now()} {target.name} has users and settings; the log has {count} files"
     write_report(register, REPORT, f"{text}{''.join(f'; WARNING: {it}' for it in problems)}\n")
     print(text)
     if problems:
-        raise Failed("; ".join(problems))
+        raise Refused("; ".join(problems))
     return 0
 
 
@@ -75,7 +84,7 @@ def members_of(copy: pathlib.Path) -> dict[str, str]:
     except FileNotFoundError:
         return {}
     except (tarfile.TarError, UnicodeDecodeError) as error:
-        raise Failed(f"{path} cannot be read as an archive of settings: {error}") from error
+        raise Refused(f"{path} cannot be read as an archive of settings: {error}") from error
     return out
 
 
@@ -85,11 +94,14 @@ def names_of(copy: str) -> dict[str, str]:
 
 
 def restored(register: Register, copy: pathlib.Path) -> typing.Iterator[str]:
-    """Brings back the settings and the log that are beside a copy, where this machine has none of them. Returns a line for each. The site's name
-    is set up as if it were given, and owners and modes are those that this program gives: whoever has the second place could write others."""
+    """Brings back the settings and the log that are beside a copy, where this machine has none of
+    them. Returns a line for each. The site's name is set up as if it were given, and owners and
+    modes are those that this program gives: whoever has the second place could write others.
+    """
     found = members_of(copy)
     if not found:
-        yield f"there is no archive of settings beside {copy}: users and settings are not brought back"
+        lost = "users and settings are not brought back"
+        yield f"there is no archive of settings beside {copy}: {lost}"
     found.pop("site-name", None)
     for name, text in found.items():
         path = (SETTINGS if name in SHARED else register.settings) / name

@@ -1,24 +1,34 @@
-"""Sets up a register on this machine, with its site, its users, its units and its timers.
+"""Sets up a register on this machine, with its site, its users, its units and
+its timers.
 
-  admissions-setup [NAME] [--phase PHASE --year YEAR] [--holiday DAY].. [--site HOST] [--authority TEXT] [--user USER --role ROLE]
+  admissions-setup [NAME] [--phase PHASE --year YEAR] [--holiday DAY]..
+    [--site HOST] [--authority TEXT] [--user USER --role ROLE]
   admissions-setup [NAME] --copy FILE
-  admissions-setup NAME --user USER [--role ROLE] [--new-password] | --remove USER | --users
+  admissions-setup NAME --user USER [--role ROLE] [--new-password]
+  admissions-setup NAME --remove USER | --users
   admissions-setup NAME --holiday DAY..
   admissions-setup --sites
 
-The first form asks on a terminal for what is not given. It makes what is missing, and changes nothing that is there: typed twice, it does nothing
-the second time. Each register has a NAME, such as secondary-2025, a HOST of its own, such as secondary.admissions.example, and users of its own.
-With --copy the register is made from a copy, which has its own phase, year and holidays, and users, settings and log from what the nightly backup
-left beside it.
-The third form adds a user, changes the role of one, draws another password, removes a user, or lists them. A password is drawn, and printed once. The
-fourth form replaces the holidays of a register that is still empty. The last form makes all sites again, after a change of
-/etc/nginx/sites-available/admissions.
-A change of what is there is shown, and is done after a yes on the terminal, or with --yes. --new-password alone ends the old password without a question.
+The first form asks on a terminal for what is not given. It makes what is
+missing, and changes nothing that is there: typed twice, it does nothing the
+second time. Each register has a NAME, such as secondary-2025, a HOST of its
+own, such as secondary.admissions.example, and users of its own. With --copy
+the register is made from a copy, which has its own phase, year and holidays,
+and users, settings and log from what the nightly backup left beside it. The
+third form adds a user, changes the role of one, draws another password,
+removes a user, or lists them. A password is drawn, and printed once. The
+fourth form replaces the holidays of a register that is still empty. The last
+form makes all sites again, after a change of
+/etc/nginx/sites-available/admissions. A change of what is there is shown, and
+is done after a yes on the terminal, or with --yes. --new-password alone ends
+the old password without a question.
 
 example:
-  admissions-setup secondary-2025 --phase secondary --year 2025 --holiday 2025-04-18 --site admissions.example --user jane --role office
+  admissions-setup secondary-2025 --phase secondary --year 2025 \\
+    --holiday 2025-04-18 --site admissions.example --user jane --role office
 
-exit status: 0 done; 1 not or not wholly done, and the line says why: correct that and type it again; 2 wrong arguments.
+exit status: 0 done; 1 not or not wholly done, and the line says why: correct
+that and type it again; 2 wrong arguments.
 """
 import argparse
 import os
@@ -27,41 +37,88 @@ import sys
 import time
 import typing
 
+from register_files import Refused
+
 from . import answers, certificates, files, holidays, people, settings_copy, sites
 from .answers import ask, confirm
 from .desk import status_of
-from .registers import COPIES, LOGS, PHASES, REGISTERS, SETTINGS, Register, Season, known, named, season_of
-from .run import USER, Failed, call, is_booted, program, tool
+from .programs import USER, call, is_booted, program, tool
+from .registers import (
+    COPIES,
+    LOGS,
+    PHASES,
+    REGISTERS,
+    SETTINGS,
+    Register,
+    Season,
+    known,
+    named,
+    season_of,
+)
 
-NEEDED = {"nginx": "nginx", "openssl": "openssl", "systemctl": "systemd", "systemd-sysusers": "systemd", "systemd-tmpfiles": "systemd"}
+NEEDED = {
+    "nginx": "nginx",
+    "openssl": "openssl",
+    "systemctl": "systemd",
+    "systemd-sysusers": "systemd",
+    "systemd-tmpfiles": "systemd",
+}
 AUTHORITY = SETTINGS / "authority"
 WAIT = 60
 
 
 def arguments(reader: argparse.ArgumentParser) -> None:
     add = reader.add_argument
-    add("name", nargs="?", metavar="NAME", help="the name of the register: small letters, digits and hyphens (default: PHASE-YEAR)")
+    add(
+        "name",
+        nargs="?",
+        metavar="NAME",
+        help="the name of the register: small letters, digits and hyphens (default: PHASE-YEAR)",
+    )
     add("--phase", choices=list(PHASES.values()))
     add("--year", help="the year of entry, from 2000 to 2100")
-    add("--holiday", action="append", default=[], metavar="DAY",
-        help="a day that is no working day, YYYY-MM-DD; may be repeated. `none` where there is none")
-    add("--copy", metavar="FILE", help="begin with this copy of a register, and with what is beside it, in place of a new one")
+    add(
+        "--holiday",
+        action="append",
+        default=[],
+        metavar="DAY",
+        help="a day that is no working day, YYYY-MM-DD; may be repeated."
+        " `none` where there is none",
+    )
+    add(
+        "--copy",
+        metavar="FILE",
+        help="begin with this copy of a register, and with what is beside it,"
+        " in place of a new one",
+    )
     add("--site", metavar="HOST", help="the site's name, by which browsers find this machine")
     add("--user", help="who may sign in: a name or a mail address, in small letters")
     add("--role", help=f"the role of that user: {people.ROLES}")
-    add("--new-password", action="store_true", help="draw another password for a user who is there already")
+    add(
+        "--new-password",
+        action="store_true",
+        help="draw another password for a user who is there already",
+    )
     add("--remove", metavar="USER", help="remove a user")
     add("--users", action="store_true", help="list the users with their roles")
     add("--yes", action="store_true", help="do not ask whether a change of what is there is right")
-    add("--authority", metavar="TEXT", help="the name of the authority, which is printed on each sheet of each register")
-    add("--certificate", metavar="FILE", help="the certificate of the site, with those between it and its authority")
+    add(
+        "--authority",
+        metavar="TEXT",
+        help="the name of the authority, which is printed on each sheet of each register",
+    )
+    add(
+        "--certificate",
+        metavar="FILE",
+        help="the certificate of the site, with those between it and its authority",
+    )
     add("--key", metavar="FILE", help="its key")
     add("--sites", action="store_true", help="make all sites again, and nothing else")
 
 
 def main(given: argparse.Namespace) -> int:
     if os.geteuid() != 0:
-        raise Failed("only root can set up a register")
+        raise Refused("only root can set up a register")
     see_one_command(given)
     for command, package in NEEDED.items():
         tool(command, package)
@@ -71,8 +128,10 @@ def main(given: argparse.Namespace) -> int:
         return 0
     if given.users or given.remove:
         if given.name is None:
-            raise Failed("NAME is missing: whose users?", 2)
-        return list_users(known(given.name)) if given.users else remove_user(known(given.name), given)
+            raise Refused("NAME is missing: whose users?", 2)
+        return (
+            list_users(known(given.name)) if given.users else remove_user(known(given.name), given)
+        )
     checked(given)
     register = completed(given)
     changes = confirmed(register, given)
@@ -113,7 +172,9 @@ def see_one_command(given: argparse.Namespace) -> None:
     for command in ("sites", "users", "remove"):
         if command in options and len(options) > 1:
             other = next(it for it in options if it != command)
-            raise Failed(f"--{command} and --{other.replace('_', '-')} belong to different commands", 2)
+            raise Refused(
+                f"--{command} and --{other.replace('_', '-')} belong to different commands", 2
+            )
 
 
 def checked(given: argparse.Namespace) -> None:
@@ -126,13 +187,13 @@ def checked(given: argparse.Namespace) -> None:
         if getattr(given, name) is not None:
             (answers.host if name == "site" else getattr(answers, name))(getattr(given, name))
     if given.role is not None and given.user is None:
-        raise Failed("--role needs --user: whose role?", 2)
+        raise Refused("--role needs --user: whose role?", 2)
     if given.new_password and given.user is None:
-        raise Failed("--new-password needs --user: whose password?", 2)
+        raise Refused("--new-password needs --user: whose password?", 2)
     if given.copy and (given.phase or given.year or given.has_holidays):
-        raise Failed("--phase, --year and --holiday are for a new register: a copy has its own", 2)
+        raise Refused("--phase, --year and --holiday are for a new register: a copy has its own", 2)
     if bool(given.certificate) != bool(given.key):
-        raise Failed("--certificate and --key belong together", 2)
+        raise Refused("--certificate and --key belong together", 2)
 
 
 def completed(given: argparse.Namespace) -> Register:
@@ -145,19 +206,39 @@ def completed(given: argparse.Namespace) -> Register:
         given.name = given.name or name_of(given)
         is_asked = not given.has_holidays and not named(given.name).is_made and sys.stdin.isatty()
         if is_asked:
-            given.holiday = ask("--holiday days (YYYY-MM-DD, separated by blanks), or none",
-                                lambda it: answers.holidays([] if it == answers.NONE else it.split()), answers.NONE)
+            given.holiday = ask(
+                "--holiday days (YYYY-MM-DD, separated by blanks), or none",
+                lambda it: answers.holidays([] if it == answers.NONE else it.split()),
+                answers.NONE,
+            )
     register = named(given.name)
     copied = settings_copy.names_of(given.copy) if given.copy else {}
-    given.site = given.site or register.host or copied.get("site-name") and answers.host(copied["site-name"]) \
+    given.site = (
+        given.site
+        or register.host
+        or copied.get("site-name")
+        and answers.host(copied["site-name"])
         or ask("--site, the name by which browsers find it", answers.host)
-    if not given.user and "passwords" not in copied and not people.passwords_path(register).exists():
+    )
+    if (
+        not given.user
+        and "passwords" not in copied
+        and not people.passwords_path(register).exists()
+    ):
         given.user = ask("--user, who signs in first", answers.user)
     if given.user and not given.role and role_before(register, given) is None:
         given.role = ask(f"--role of {given.user}: {people.ROLES}", answers.role)
-    if given.authority is None and not AUTHORITY.exists() and "authority" not in copied and sys.stdin.isatty():
-        given.authority = ask("--authority, the name that is printed on each sheet, or none",
-                              lambda it: None if it == answers.NONE else answers.authority(it), answers.NONE)
+    if (
+        given.authority is None
+        and not AUTHORITY.exists()
+        and "authority" not in copied
+        and sys.stdin.isatty()
+    ):
+        given.authority = ask(
+            "--authority, the name that is printed on each sheet, or none",
+            lambda it: None if it == answers.NONE else answers.authority(it),
+            answers.NONE,
+        )
     return register
 
 
@@ -166,7 +247,8 @@ def name_of(season: Season | argparse.Namespace) -> str:
 
 
 class Changes(typing.NamedTuple):
-    """What was shown of a register before a change was confirmed, and is changed only if it is still so."""
+    """What was shown of a register before a change was confirmed, and is changed only if it is
+    still so."""
 
     role: str | None
     holidays: list[str] | None
@@ -179,9 +261,17 @@ def confirmed(register: Register, given: argparse.Namespace) -> Changes:
         confirm(f"the role of {given.user} changes from {role} to {given.role}", given.yes)
     authority = AUTHORITY.read_text(encoding="utf-8").strip() if AUTHORITY.exists() else ""
     if given.authority and authority and given.authority != authority:
-        confirm(f"the name of the authority on the sheets of all registers changes from {authority} to {given.authority}", given.yes)
+        confirm(
+            "the name of the authority on the sheets of all registers changes"
+            f" from {authority} to {given.authority}",
+            given.yes,
+        )
     if given.certificate and certificates.is_lost(register, given.certificate, given.key):
-        confirm(f"the certificate and the key of {register.name} are replaced, and those that are there are kept nowhere", given.yes)
+        confirm(
+            f"the certificate and the key of {register.name} are replaced,"
+            " and those that are there are kept nowhere",
+            given.yes,
+        )
     before = None
     if given.has_holidays and register.is_made:
         if change := holidays.change_of(register, given.holiday):
@@ -193,24 +283,38 @@ def confirmed(register: Register, given: argparse.Namespace) -> Changes:
 
 
 def role_before(register: Register, given: argparse.Namespace) -> str | None:
-    """The role of the user that is given, or None: among its users or, where it has none, among those beside the copy, which it will have."""
+    """The role of the user that is given, or None: among its users or, where it has none, among
+    those beside the copy, which it will have."""
     roles = people.roles_of(register)
     if not roles and given.copy:
-        roles = people.roles_in(settings_copy.names_of(given.copy).get("roles", ""), f"the roles beside {given.copy}")
+        roles = people.roles_in(
+            settings_copy.names_of(given.copy).get("roles", ""), f"the roles beside {given.copy}"
+        )
     return roles.get(given.user)
 
 
 def see_site_is_free(register: Register, given: argparse.Namespace) -> None:
-    taken = next((it for it in sites.registers_with_site() if it.host == given.site and it != register), None)
+    taken = next(
+        (it for it in sites.registers_with_site() if it.host == given.site and it != register), None
+    )
     if taken:
-        raise Failed(f"{given.site} is the site of {taken.name} already: each register has a site name of its own", 2)
+        raise Refused(
+            f"{given.site} is the site of {taken.name} already:"
+            " each register has a site name of its own",
+            2,
+        )
 
 
 def make_folders(register: Register, _: argparse.Namespace) -> typing.Iterator[str]:
     call(tool("systemd-sysusers", "systemd"), "admissions.conf")
     call(tool("systemd-tmpfiles", "systemd"), "--create", "admissions.conf")
     for_desk, for_site = (0o700, USER, USER), (0o750, "root", "www-data")
-    for above, own in ((REGISTERS, for_desk), (COPIES, for_desk), (SETTINGS, for_site), (LOGS, for_site)):
+    for above, own in (
+        (REGISTERS, for_desk),
+        (COPIES, for_desk),
+        (SETTINGS, for_site),
+        (LOGS, for_site),
+    ):
         path = above / register.name
         if files.folder(path, *own):
             yield f"made {path}"
@@ -222,9 +326,13 @@ def make_register(register: Register, given: argparse.Namespace) -> typing.Itera
     if register.is_made:
         found = season_of(file)
         if given.phase not in (None, found.phase) or given.year not in (None, found.year):
-            raise Failed(f"{file} is the register of {found.phase} {found.year} already: give another one another NAME")
+            raise Refused(
+                f"{file} is the register of {found.phase} {found.year} already:"
+                " give another one another NAME"
+            )
         if given.copy:
-            yield f"{file} is there already, and stays as it is: admissions-restore puts a copy in its place"
+            how = "admissions-restore puts a copy in its place"
+            yield f"{file} is there already, and stays as it is: {how}"
     elif given.copy:
         call(program("admissions-restore"), os.path.abspath(given.copy), file)
         for path in register.folder.iterdir():
@@ -232,7 +340,15 @@ def make_register(register: Register, given: argparse.Namespace) -> typing.Itera
             os.chown(path, *files.numbers(USER, USER), follow_symlinks=False)
         yield f"made {file} from {given.copy}"
     else:
-        call(program("admissions"), "init", file, given.phase, given.year, *given.holiday, as_user=USER)
+        call(
+            program("admissions"),
+            "init",
+            file,
+            given.phase,
+            given.year,
+            *given.holiday,
+            as_user=USER,
+        )
         days = f"holidays {' '.join(given.holiday)}" if given.holiday else "without holidays"
         yield f"made {file}, for {given.phase} {given.year}, {days}"
 
@@ -248,7 +364,10 @@ def make_settings(register: Register, given: argparse.Namespace) -> typing.Itera
     path = register.settings / "site-name"
     before = register.host
     if before not in (None, given.site):
-        raise Failed(f"the site of {register.name} is {before}: to change it, change {path}, remove site.crt and site.csr beside it, and repeat this")
+        raise Refused(
+            f"the site of {register.name} is {before}: to change it, change {path},"
+            " remove site.crt and site.csr beside it, and repeat this"
+        )
     if given.certificate:
         if certificates.take(register, given.certificate, given.key):
             yield f"took the certificate {given.certificate}"
@@ -261,17 +380,24 @@ def make_settings(register: Register, given: argparse.Namespace) -> typing.Itera
         yield f"the site is {given.site}"
 
 
-def make_user(register: Register, given: argparse.Namespace, changes: Changes) -> typing.Iterator[str]:
+def make_user(
+    register: Register, given: argparse.Namespace, changes: Changes
+) -> typing.Iterator[str]:
     """The user with the role and, where there was none or another is wanted, a password."""
-    user, found, hashes = given.user, people.role_of(register, given.user), people.hashes_of(register)
+    user, found, hashes = (
+        given.user,
+        people.role_of(register, given.user),
+        people.hashes_of(register),
+    )
     if found != changes.role:
-        raise Failed(f"the role of {user} was changed meanwhile: it is {found or 'none'}")
+        raise Refused(f"the role of {user} was changed meanwhile: it is {found or 'none'}")
     if given.role and (changed := people.set_role(register, user, given.role)) and found:
         yield changed
     if user in hashes and not given.new_password:
         yield f"{user} keeps the password"
     else:
-        yield f"{user} signs in at https://{register.host}/ with the password {people.set_password(register, user)}"
+        password = people.set_password(register, user)
+        yield f"{user} signs in at https://{register.host}/ with the password {password}"
 
 
 def list_users(register: Register) -> int:
@@ -286,8 +412,11 @@ def remove_user(register: Register, given: argparse.Namespace) -> int:
     user = next((it for it in people.users_of(register) if it.name == given.remove), None)
     if user is None:
         there = ", ".join(it.name for it in people.users_of(register)) or "none"
-        raise Failed(f"{given.remove!r} is no user of {register.name}; its users: {there}")
-    confirm(f"{user.name}, with the role {user.role or 'none'}, is removed from {register.name}", given.yes)
+        raise Refused(f"{given.remove!r} is no user of {register.name}; its users: {there}")
+    confirm(
+        f"{user.name}, with the role {user.role or 'none'}, is removed from {register.name}",
+        given.yes,
+    )
     with files.lock():
         people.remove(register, user.name)
         print(f"removed {user.name}")
@@ -300,13 +429,21 @@ def remove_user(register: Register, given: argparse.Namespace) -> int:
 def start(register: Register) -> bool:
     """Enables and starts what is not, and waits until the desk answers. Returns whether it does."""
     control = tool("systemctl", "systemd")
-    units = [f"admissions@{register.name}.service", f"admissions-backup@{register.name}.timer", f"admissions-drill@{register.name}.timer"]
+    units = [
+        f"admissions@{register.name}.service",
+        f"admissions-backup@{register.name}.timer",
+        f"admissions-drill@{register.name}.timer",
+    ]
     for unit in units:
         if call(control, "is-enabled", unit, may_fail=True).stdout.strip() == "disabled":
             call(control, "enable", "--quiet", unit)
             print(f"enabled {unit}")
     if not is_booted():
-        print(f"systemd does not run here, so nothing is started: it will start with the machine ({', '.join(units)})", file=sys.stderr)
+        print(
+            "systemd does not run here, so nothing is started:"
+            f" it will start with the machine ({', '.join(units)})",
+            file=sys.stderr,
+        )
         return False
     for unit in units:
         if call(control, "is-active", unit, may_fail=True).stdout.strip() != "active":
@@ -315,6 +452,6 @@ def start(register: Register) -> bool:
     end = time.monotonic() + WAIT
     while status_of(register.socket) not in (200, 404):
         if time.monotonic() > end:
-            raise Failed(f"the desk does not answer: journalctl -u admissions@{register.name}")
+            raise Refused(f"the desk does not answer: journalctl -u admissions@{register.name}")
         time.sleep(0.1)
     return True

@@ -6,10 +6,13 @@ import hashlib
 import pathlib
 import re
 import socket
+from collections.abc import Iterable, Mapping
+
+from register_files import Refused
 
 from . import files
 from .registers import NAME, SETTINGS, Register
-from .run import Failed, call, is_booted, tool
+from .programs import call, is_booted, tool
 
 AVAILABLE, ENABLED = pathlib.Path("/etc/nginx/sites-available"), pathlib.Path("/etc/nginx/sites-enabled")
 MODEL, MACHINE = AVAILABLE / "admissions", pathlib.Path("/etc/nginx/conf.d/admissions.conf")
@@ -57,7 +60,7 @@ def this_machine() -> Machine:
     said = call(tool("nginx", "nginx"), "-v").stderr
     version = re.search(r"nginx/([0-9]+)\.([0-9]+)\.([0-9]+)", said)
     if not version:
-        raise Failed(f"nginx does not name its version: {said.strip()}")
+        raise Refused(f"nginx does not name its version: {said.strip()}")
     try:
         socket.socket(socket.AF_INET6).close()
     except OSError:
@@ -65,20 +68,20 @@ def this_machine() -> Machine:
     return Machine(tuple(map(int, version.groups())), True)
 
 
-def parts(model):
+def parts(model: str) -> tuple[str, str]:
     """The machine's part of the model, and all else of it."""
     if model.count(FIRST) != 1 or model.count(LAST) != 1 or model.index(FIRST) > model.index(LAST):
-        raise Failed(f"{MODEL} does not have its two lines around the machine's own part")
+        raise Refused(f"{MODEL} does not have its two lines around the machine's own part")
     before, _, rest = model.partition(FIRST)
     own, _, after = rest.partition(LAST)
     return own, before + after
 
 
-def replaced(text, old, new):
+def replaced(text: str, old: str, new: str) -> str:
     """The text with all that matches replaced, which must occur."""
     out, count = re.subn(old, new, text)
     if not count:
-        raise Failed(f"{MODEL} does not have what is replaced for each register: {old}")
+        raise Refused(f"{MODEL} does not have what is replaced for each register: {old}")
     return out
 
 
@@ -125,38 +128,39 @@ def main_text(text: str) -> str:
     return f"{text[:found.start()]}{found[1]}{CONNECTIONS}; # {found[2]} before admissions-setup{text[found.end():]}"
 
 
-def share():
+def share() -> pathlib.Path:
     """The folder of what the sites are made of, below the prefix of this installation."""
     return pathlib.Path(__file__).resolve().parent.parent / "nginx"
 
 
-def registers_with_site():
+def registers_with_site() -> list[Register]:
     """The registers that have a site name, by name."""
     names = [path.parent.name for path in sorted(SETTINGS.glob("*/site-name"))]
     found = [it for it in map(Register, filter(NAME.fullmatch, names)) if it.host]
     for it in found:
         if not HOST.fullmatch(it.host or ""):
-            raise Failed(f"{it.settings / 'site-name'}: {it.host!r} is no name of a site")
+            raise Refused(f"{it.settings / 'site-name'}: {it.host!r} is no name of a site")
     return found
 
 
-def make_all():
+def make_all() -> list[str]:
     """Makes the sites that differ from what they should be, all or none, and has nginx read them.
     Returns what was changed, a line each.
     """
     if not MODEL.exists():
-        raise Failed(f"{MODEL} is missing")
+        raise Refused(f"{MODEL} is missing")
     model = MODEL.read_text(encoding="utf-8")
     machine = this_machine()
     main = MAIN.read_text(encoding="utf-8") if MAIN.exists() else ""
     wanted = {MACHINE: machine_text(model, (share() / "machine.conf").read_text(encoding="utf-8"), machine), LIMITS: limits_text(main)}
     if main:
         wanted[MAIN] = main_text(main)
-    sites = {AVAILABLE / f"admissions-{it.name}": site_text(model, it.name, it.host, machine) for it in registers_with_site()}
+    sites = {AVAILABLE / f"admissions-{it.name}": site_text(model, it.name, it.host or "", machine) for it in registers_with_site()}
     wanted |= sites
     folders = [folders_of(it) for it in registers_with_site()]
     before = {path: path.read_text(encoding="utf-8") if path.exists() else None for path in (*wanted, *folders)}
-    lines, links = make_folders(), []
+    lines = make_folders()
+    links: list[pathlib.Path] = []
     for path, text in wanted.items():
         if files.write(path, text, 0o644):
             lines.append(f"{'changed' if path == MAIN else 'made'} {path}")
@@ -170,7 +174,7 @@ def make_all():
         lines.append(f"disabled Debian's own site, {default}")
     try:
         call(tool("nginx", "nginx"), "-t", "-q")
-    except Failed:
+    except Refused:
         undo(before, links, default if had_default else None)
         raise
     if is_booted() and read_by_nginx(wanted):
@@ -183,7 +187,7 @@ def folders_of(register: Register) -> pathlib.Path:
     return FOLDERS / f"admissions-{register.name}.conf"
 
 
-def make_folders():
+def make_folders() -> list[str]:
     """Has systemd make the log of each register, now and when the machine starts. Returns what was
     made, a line each.
     """
@@ -199,7 +203,7 @@ def make_folders():
     return lines
 
 
-def read_by_nginx(wanted):
+def read_by_nginx(wanted: Mapping[pathlib.Path, str]) -> bool:
     """Has nginx read the sites, roles and certificates, if it has not read them as they are now. A
     run that was killed before this is so made up for. Returns whether it read them.
     """
@@ -215,7 +219,11 @@ def read_by_nginx(wanted):
     return True
 
 
-def undo(before, links, default):
+def undo(
+    before: Mapping[pathlib.Path, str | None],
+    links: Iterable[pathlib.Path],
+    default: pathlib.Path | None,
+) -> None:
     """Puts back what nginx refused."""
     for path in links:
         path.unlink()

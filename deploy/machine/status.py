@@ -1,14 +1,18 @@
-"""Reports how the registers of this machine are: file, desk, site, units, users, log, copies, disks, certificates.
+"""Reports how the registers of this machine are: file, desk, site, units,
+users, log, copies, disks, certificates.
 
   admissions-status [NAME ..] [--line]
 
-Without a NAME it reports all registers. With --line it prints one line, for a monitoring system. No register is opened. The site is sent two requests
-without a password, which it must refuse: one of nobody, and one of the user admissions-status, which it must write to its log.
+Without a NAME it reports all registers. With --line it prints one line, for a
+monitoring system. No register is opened. The site is sent two requests without
+a password, which it must refuse: one of nobody, and one of the user
+admissions-status, which it must write to its log.
 
 example:
   admissions-status --line
 
-exit status: 0 all is well; 1 something needs attention; 2 wrong arguments, or no such register.
+exit status: 0 all is well; 1 something needs attention; 2 wrong arguments, or
+no such register.
 """
 import argparse
 import datetime
@@ -20,11 +24,13 @@ import ssl
 import stat
 import time
 
+from register_files import Refused
+
 from . import certificates, copies, people
 from .desk import site_status_of, status_of
 from .drill import REPORT as DRILL
 from .registers import REGISTERS, SETTINGS, Register, all_registers, known, season_of
-from .run import Failed, call, is_booted, tool
+from .programs import call, is_booted, tool
 from .second_copy import NONE, REPORT as SECOND, line_of, place_of
 from .settings_copy import REPORT as BESIDE
 
@@ -46,7 +52,7 @@ def arguments(reader: argparse.ArgumentParser) -> None:
 
 def main(given: argparse.Namespace) -> int:
     if os.geteuid() != 0:
-        raise Failed("only root can see all of it")
+        raise Refused("only root can see all of it")
     registers = [known(it) for it in given.names] or all_registers()
     if not registers:
         print(f"no register is set up in {REGISTERS}: type admissions-setup")
@@ -72,7 +78,7 @@ def report(register: Register) -> dict[str, State]:
     for name, part in parts.items():
         try:
             out[name] = part(register)
-        except (Failed, OSError) as error:
+        except (Refused, OSError) as error:
             out[name] = False, str(error)
         except ValueError as error:
             out[name] = False, f"cannot be read: {error}"
@@ -119,7 +125,7 @@ def first_certificate(register: Register) -> bytes:
     text, end = path.read_text(encoding="ascii", errors="replace"), "-----END CERTIFICATE-----"
     begin = text.find("-----BEGIN CERTIFICATE-----")
     if begin < 0:
-        raise Failed(f"{path} has no certificate in the form PEM")
+        raise Refused(f"{path} has no certificate in the form PEM")
     return ssl.PEM_cert_to_DER_cert(text[begin:].partition(end)[0] + end)
 
 

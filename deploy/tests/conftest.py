@@ -9,7 +9,7 @@ import pytest
 
 sys.dont_write_bytecode = True
 ROOT = pathlib.Path(__file__).resolve().parents[2]
-sys.path[:0] = [str(ROOT / "deploy"), str(ROOT / "tools")]
+sys.path[:0] = [str(ROOT), str(ROOT / "deploy"), str(ROOT / "tools")]
 
 from machine import registers, second_copy, settings_copy, setup, sites, status  # noqa: E402
 

@@ -24,7 +24,7 @@ from machine import (
     sites,
     status,
 )
-from machine.run import Failed
+from register_files import Refused
 from setup_arguments import given_to_setup
 
 HOUR = 3600.0
@@ -307,7 +307,7 @@ def test_a_damaged_file_of_the_log_is_named_and_all_else_is_copied(
     path = copy(register, "nightly-000001-2025-03-01T023000.db", with_settings=False)
     (register.logs / "asked.log.2.gz").write_bytes(damage(gzip.compress(b'{"n":1}\n{"n":2}\n')))
     (register.logs / "asked.log").write_text('{"n":3}\n')
-    with pytest.raises(Failed, match=f"^{register.logs}/asked.log.2.gz was not copied: .+"):
+    with pytest.raises(Refused, match=f"^{register.logs}/asked.log.2.gz was not copied: .+"):
         copy_settings(register)
     assert (path.with_suffix(".tar").exists(), lines_of(register.copies / "log")) == (
         True,
@@ -327,7 +327,7 @@ def test_a_damaged_copy_is_named_and_the_file_is_copied_beside_it(
 ) -> None:
     last = log_copies.made(copied.parent / "log")[-1]
     last.write_bytes(damage(last.read_bytes()))
-    with pytest.raises(Failed, match=f"^{last} cannot be read: "):
+    with pytest.raises(Refused, match=f"^{last} cannot be read: "):
         copy_settings(register)
     assert lines_of(copied.parent / "log")[2:] == ['{"n":4}\n{"n":5}\n']
     assert copy_settings(register) == 0
@@ -380,7 +380,7 @@ def test_a_longer_log_at_the_second_place_is_not_replaced(
     monkeypatch.setattr(second_copy, "rsync", lambda *_: listed)
     if is_refused:
         with pytest.raises(
-            Failed,
+            Refused,
             match=f"^vault:copies/x/log/{paths[1].name} is longer than {paths[1]}, and stays as it is",
         ):
             second_copy.see_none_longer(register, "vault:copies/x/")
@@ -541,15 +541,15 @@ def test_no_site_has_a_name_that_is_none(
     name: str, copied: pathlib.Path, register: registers.Register
 ) -> None:
     with_site_name(copied, name)
-    with pytest.raises(Failed, match="is no name of a site"):
+    with pytest.raises(Refused, match="is no name of a site"):
         setup.completed(given_to_setup("trial", "--copy", str(copied)))
     assert sites.registers_with_site() == [register]
     (register.settings / "site-name").write_text(name)
-    with pytest.raises(Failed, match=f"^{register.settings}/site-name: .* is no name of a site"):
+    with pytest.raises(Refused, match=f"^{register.settings}/site-name: .* is no name of a site"):
         sites.registers_with_site()
 
 
 def test_an_archive_that_is_none_is_an_error(copied: pathlib.Path) -> None:
     copied.with_suffix(".tar").write_text("no archive")
-    with pytest.raises(Failed, match="cannot be read as an archive of settings"):
+    with pytest.raises(Refused, match="cannot be read as an archive of settings"):
         settings_copy.members_of(copied)

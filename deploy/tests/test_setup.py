@@ -17,7 +17,7 @@ import typing
 import pytest
 from conftest import ROOT
 from machine import answers, files, holidays, people, registers, setup
-from machine.run import Failed
+from register_files import Refused
 from setup_arguments import given_to_setup
 
 T = typing.TypeVar("T")
@@ -74,7 +74,7 @@ def test_what_is_taken_and_what_is_named(
 ) -> None:
     assert str(take(good)) == good
     for it in bad:
-        with pytest.raises(Failed) as found:
+        with pytest.raises(Refused) as found:
             take(it)
         assert (repr(it) in str(found.value), found.value.status) == (True, 2)
 
@@ -96,7 +96,7 @@ def test_the_site_logs_whole_each_name_that_is_taken() -> None:
     ],
 )
 def test_a_day_in_another_form_names_the_form(text: str) -> None:
-    with pytest.raises(Failed, match="is no day: write YYYY-MM-DD, as 2026-04-03"):
+    with pytest.raises(Refused, match="is no day: write YYYY-MM-DD, as 2026-04-03"):
         answers.holidays([text])
 
 
@@ -107,7 +107,7 @@ def test_days_are_in_order_each_once_and_forty_at_most() -> None:
     ]
     days = [f"2026-{month:02}-{day:02}" for month in (1, 2) for day in range(1, 21)]
     assert answers.holidays(days) == days
-    with pytest.raises(Failed, match="41 holidays are too many"):
+    with pytest.raises(Refused, match="41 holidays are too many"):
         answers.holidays([*days, "2026-03-01"])
 
 
@@ -120,7 +120,7 @@ def test_an_answer_that_is_not_taken_is_named_and_asked_for_again(
         capsys.readouterr().out
         == "--phase: 'Primary' is no phase: type primary or secondary, in small letters\n--phase: "
     )
-    with pytest.raises(Failed, match="the input ended"):
+    with pytest.raises(Refused, match="the input ended"):
         answers.ask("--phase", answers.phase)
 
 
@@ -130,7 +130,7 @@ def test_without_a_terminal_nothing_is_asked(monkeypatch: pytest.MonkeyPatch) ->
         lambda: answers.ask("--phase", answers.phase),
         lambda: answers.confirm("jane is removed", False),
     ):
-        with pytest.raises(Failed) as found:
+        with pytest.raises(Refused) as found:
             call()
         assert found.value.status == 2
     answers.confirm("jane is removed", True)
@@ -140,7 +140,7 @@ def test_without_a_terminal_nothing_is_asked(monkeypatch: pytest.MonkeyPatch) ->
 def test_only_a_yes_confirms(typed: str, monkeypatch: pytest.MonkeyPatch) -> None:
     monkeypatch.setattr(sys, "stdin", Terminal("yes\n" + typed))
     answers.confirm("jane is removed", False)
-    with pytest.raises(Failed, match="nothing was changed"):
+    with pytest.raises(Refused, match="nothing was changed"):
         answers.confirm("jane is removed", False)
 
 
@@ -234,7 +234,7 @@ def test_a_user_without_a_role_is_refused_and_the_roles_are_named(
 ) -> None:
     monkeypatch.setattr(sys, "stdin", io.StringIO(""))
     with pytest.raises(
-        Failed, match="not given: --role of mary: office, which .*, or school-CODE, which"
+        Refused, match="not given: --role of mary: office, which .*, or school-CODE, which"
     ) as found:
         setup.completed(given_to_setup(register.name, "--user", "mary"))
     assert found.value.status == 2
@@ -255,7 +255,7 @@ def test_a_user_without_a_role_is_refused_and_the_roles_are_named(
     ],
 )
 def test_options_that_do_not_belong_together(given: list[str], said: str) -> None:
-    with pytest.raises(Failed, match=said) as found:
+    with pytest.raises(Refused, match=said) as found:
         given_to_setup("secondary-2025", *given)
     assert found.value.status == 2
 
@@ -293,17 +293,17 @@ def test_a_user_is_removed_from_both_files(users: registers.Register) -> None:
 def test_a_broken_line_is_named(line: str, users: registers.Register) -> None:
     (users.settings / "roles").write_text(f"# who\n\njane office; # all\n{line}\n")
     with pytest.raises(
-        Failed, match=f"^{users.settings}/roles, line 4: {line!r} is not of the form 'USER ROLE;'$"
+        Refused, match=f"^{users.settings}/roles, line 4: {line!r} is not of the form 'USER ROLE;'$"
     ):
         people.roles_of(users)
 
 
 def test_a_user_in_two_lines_and_a_file_that_is_no_text(users: registers.Register) -> None:
     (users.settings / "roles").write_text("jane office;\njane school-A;\n")
-    with pytest.raises(Failed, match="roles, line 2: jane is in an earlier line already"):
+    with pytest.raises(Refused, match="roles, line 2: jane is in an earlier line already"):
         people.roles_of(users)
     (users.settings / "roles").write_bytes(b"jane \xff;\n")
-    with pytest.raises(Failed, match="roles is no text in UTF-8, from its byte 5 on"):
+    with pytest.raises(Refused, match="roles is no text in UTF-8, from its byte 5 on"):
         people.roles_of(users)
 
 
@@ -344,7 +344,7 @@ def test_the_holidays_of_an_empty_register_and_no_other(register: registers.Regi
         file.execute("INSERT INTO school VALUES ('A')")
     file.close()
     with pytest.raises(
-        Failed,
+        Refused,
         match="cannot be changed any more, since it has 1 school: .* Its holidays are 2025-04-03, 2025-04-04$",
     ):
         holidays.change_of(register, [])
@@ -436,9 +436,9 @@ def test_a_second_password_of_a_user_is_refused_before_any_change(
         lambda it: setup.list_users(it),
         lambda it: list(setup.make_user(it, given_user("ben"), setup.Changes(None, None))),
     ):
-        with pytest.raises(Failed, match=f"^{path}, line 4: jane is in an earlier line already$"):
+        with pytest.raises(Refused, match=f"^{path}, line 4: jane is in an earlier line already$"):
             change(users)
-    with pytest.raises(Failed, match="line 4: jane is in an earlier line already"):
+    with pytest.raises(Refused, match="line 4: jane is in an earlier line already"):
         people.remove(users, "jane")
     assert path.read_text() == "# jane:\njane:$6$x\nalpha:$6$y\njane:$6$z\n"
     assert (
@@ -465,7 +465,7 @@ def test_options_of_two_commands_are_refused(
     monkeypatch.setattr(os, "geteuid", lambda: 0)
     reader = argparse.ArgumentParser()
     setup.arguments(reader)
-    with pytest.raises(Failed, match=f"^{said} belong to different commands$") as found:
+    with pytest.raises(Refused, match=f"^{said} belong to different commands$") as found:
         setup.main(reader.parse_args([register.name, "--yes", *words]))
     assert found.value.status == 2
 
@@ -557,7 +557,7 @@ def test_another_name_of_the_authority_is_confirmed(
 def see_confirmed(register: registers.Register, words: list[str], said: str) -> None:
     """That without a terminal these arguments need --yes, and for what; or, where nothing is said, that they need none."""
     if said:
-        with pytest.raises(Failed, match=f"^{said}: nothing was changed") as found:
+        with pytest.raises(Refused, match=f"^{said}: nothing was changed") as found:
             setup.confirmed(register, given_to_setup(register.name, *words))
         assert found.value.status == 2
     setup.confirmed(register, given_to_setup(register.name, *words, *(["--yes"] if said else [])))

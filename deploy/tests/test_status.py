@@ -8,7 +8,7 @@ import subprocess
 
 import pytest
 from machine import certificates, registers, second_copy, status
-from machine.run import Failed
+from register_files import Refused
 
 MB = 1_000_000
 Usage = collections.namedtuple("Usage", "total used free")
@@ -103,7 +103,7 @@ def test_a_register_that_others_can_read(register: registers.Register) -> None:
 def test_a_name_of_no_register(register: registers.Register) -> None:
     assert registers.known(register.name) == register
     with pytest.raises(
-        Failed, match="^no such register: nope; registers of this machine: secondary-2025$"
+        Refused, match="^no such register: nope; registers of this machine: secondary-2025$"
     ) as found:
         registers.known("nope")
     assert found.value.status == 2

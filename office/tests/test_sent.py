@@ -11,8 +11,9 @@ from conftest import ROOT, do, make
 # Has the command read the logs of a folder: the repository, the folder, and its arguments
 RUN = """
 import pathlib, sys
-sys.path[:0] = [sys.argv[1] + "/deploy", sys.argv[1] + "/tools"]
-from machine import registers, run, sent
+sys.path[:0] = [sys.argv[1], sys.argv[1] + "/deploy", sys.argv[1] + "/tools"]
+from machine import registers, sent
+from office import run
 registers.LOGS = pathlib.Path(sys.argv.pop(2))
 sys.argv[:2] = ["admissions-sent"]
 sys.exit(run.run("admissions-sent", sent))
