@@ -1,24 +1,28 @@
-"""Letters as PDF, by a template that the office edits: one file for each child, and one of all of them for the printer.
+"""Letters as PDF, by a template that the office edits: one file for each child, and one of all of
+them for the printer.
 
-Embedding the fonts of one letter takes longer than laying it out. So letters are laid out in batches that share their fonts, by a process for each
-processor, and the pages of each child are then taken from its batch, with what they need and nothing else: no file has anything of another child.
+Embedding the fonts of one letter takes longer than laying it out. So letters are laid out in
+batches that share their fonts, by a process for each processor, and the pages of each child are
+then taken from its batch, with what they need and nothing else: no file has the text or a picture
+of another child's letter.
 """
 from __future__ import annotations
 
 import contextlib
 import datetime
 import importlib.util
+import io
 import logging
 import multiprocessing
 import multiprocessing.connection
 import os
-import pickle
 import re
 import sys
 import time
 import urllib.parse
-from collections.abc import Callable, Iterator
-from typing import TYPE_CHECKING, Any
+from collections.abc import Callable, Iterator, Mapping, Sequence
+from multiprocessing.context import ForkProcess
+from typing import TYPE_CHECKING, Any, NamedTuple
 
 from register_files import Refused
 
@@ -28,28 +32,45 @@ from .printed import ends_with
 
 if TYPE_CHECKING:
     from jinja2 import Template
+    from pikepdf import Pdf
 
-# the objects of a file by their numbers
-Batch = dict[int, bytes]
+
+class Batch(NamedTuple):
+    """Letters that are laid out together: its number, their children, and the letters as HTML."""
+
+    number: int
+    children: list[int]
+    pages: list[str]
+
+
 BATCH, STEP = 50, 100
 SECONDS_OF_LETTER, MOST_LETTER = 5, 1_000_000
 TOO_DEEP = ": it is nested too deeply, or a macro calls itself"
 # the beginnings of the pictures and fonts that a letter shows
 FIRST_BYTES, RIFF = 4096, "RIFF"
 SHOWN = (
-    (b"\x89PNG\r\n\x1a\n", "image/png"), (b"\xff\xd8\xff", "image/jpeg"), (b"GIF8", "image/gif"), (b"RIFF", RIFF), (b"wOFF", "font/woff"),
-    (b"wOF2", "font/woff2"), (b"\0\1\0\0", "font/ttf"), (b"true", "font/ttf"), (b"OTTO", "font/otf"), (b"ttcf", "font/collection"),
+    (b"\x89PNG\r\n\x1a\n", "image/png"),
+    (b"\xff\xd8\xff", "image/jpeg"),
+    (b"GIF8", "image/gif"),
+    (b"RIFF", RIFF),
+    (b"wOFF", "font/woff"),
+    (b"wOF2", "font/woff2"),
+    (b"\0\1\0\0", "font/ttf"),
+    (b"true", "font/ttf"),
+    (b"OTTO", "font/otf"),
+    (b"ttcf", "font/collection"),
 )
-SVG = re.compile(rb"(\xef\xbb\xbf)?\s*((<\?xml[^>]*>|<!DOCTYPE[^>]*>|<!--((?!-->).)*-->)\s*)*<(\w+:)?svg\b", re.DOTALL)
+SVG = re.compile(
+    rb"(\xef\xbb\xbf)?\s*((<\?xml[^>]*>|<!DOCTYPE[^>]*>|<!--((?!-->).)*-->)\s*)*<(\w+:)?svg\b",
+    re.DOTALL,
+)
 TEMPLATE = os.path.join(os.path.dirname(os.path.realpath(__file__)), "templates", "letter.html")
 PRINTER = "printer.pdf"
-# the number of the list of pages in each file that WeasyPrint or pydyf makes, and how one object names another
-PAGES = 1
-REFERENCE = re.compile(rb"\b([0-9]+) 0 R\b")
-A4 = (0, 0, 595.28, 841.89)
+# in points
+A4 = (595.28, 841.89)
 
 
-def copy_template(name):
+def copy_template(name: str) -> None:
     """Writes the template that comes with the program to a new file, to be edited."""
     with open(TEMPLATE, "rb") as file:
         sheet.write_new(name, file.read())
@@ -57,10 +78,12 @@ def copy_template(name):
 
 def template_of(name: str) -> Template:
     """A template, whose values are escaped for HTML, and in which a misspelt name is an error."""
-    import jinja2  # pylint: disable=import-outside-toplevel
-    import jinja2.sandbox  # pylint: disable=import-outside-toplevel
+    import jinja2
+    import jinja2.sandbox
 
-    made = jinja2.sandbox.ImmutableSandboxedEnvironment(autoescape=True, undefined=jinja2.StrictUndefined, trim_blocks=True, lstrip_blocks=True)
+    made = jinja2.sandbox.ImmutableSandboxedEnvironment(
+        autoescape=True, undefined=jinja2.StrictUndefined, trim_blocks=True, lstrip_blocks=True
+    )
     made.filters["day"] = days.in_words
     made.filters["thousands"] = "{:,}".format
     try:
@@ -74,9 +97,11 @@ def template_of(name: str) -> Template:
         raise Refused(f"{name}, line {error.lineno}: {error.message}") from error
 
 
-def html_of(template: Template, name: str, letter: Letter, address: list[str], day: datetime.date) -> str:
+def html_of(
+    template: Template, name: str, letter: Letter, address: list[str], day: datetime.date
+) -> str:
     """One letter as HTML. A template whose loops do not end, or fill the memory, is refused."""
-    import jinja2  # pylint: disable=import-outside-toplevel
+    import jinja2
 
     pieces, size = [], 0
     try:
@@ -85,10 +110,13 @@ def html_of(template: Template, name: str, letter: Letter, address: list[str], d
                 pieces.append(it)
                 size += len(it)
                 if size > MOST_LETTER:
-                    raise Refused(f"{name}: a letter by this template has over {MOST_LETTER:,} characters")
+                    most = f"has over {MOST_LETTER:,} characters"
+                    raise Refused(f"{name}: a letter by this template {most}")
     except RecursionError as error:
         raise Refused(f"{name}{TOO_DEEP}") from error
-    except (jinja2.TemplateError, ArithmeticError, AttributeError, LookupError, TypeError, ValueError) as error:
+    except (jinja2.TemplateError, ArithmeticError, AttributeError) as error:
+        raise Refused(f"{name}: {error}") from error
+    except (LookupError, TypeError, ValueError) as error:
         raise Refused(f"{name}: {error}") from error
     return "".join(pieces)
 
@@ -102,7 +130,7 @@ def addresses_of(name: str) -> tuple[list[str], dict[int, list[str]]]:
             columns = cells
         elif number in found:
             raise Refused(f"{name}, row {row}: child {number} is there twice")
-        elif any(cells[len(columns):]):
+        elif any(cells[len(columns) :]):
             raise Refused(f"{name}, row {row}: it has more cells than the header")
         else:
             found[number] = (cells + [""] * len(columns))[: len(columns)]
@@ -110,7 +138,8 @@ def addresses_of(name: str) -> tuple[list[str], dict[int, list[str]]]:
 
 
 def by_child(name: str) -> Iterator[tuple[int, int | None, list[str]]]:
-    """The rows of a sheet that has a column `child`: the number of the row, the child (None in the header), and the other cells in their order."""
+    """The rows of a sheet that has a column `child`: the number of the row, the child (None in the
+    header), and the other cells in their order."""
     rows = sheet.read(name).rows
     header = [it.strip().lower() for it in rows[0].cells] if rows else []
     if "child" not in header:
@@ -119,16 +148,21 @@ def by_child(name: str) -> Iterator[tuple[int, int | None, list[str]]]:
     for row in rows:
         number = row.cells[at].strip() if at < len(row.cells) else ""
         if row is not rows[0] and not re.fullmatch("[1-9][0-9]{0,6}", number, re.ASCII):
-            raise Refused(f"{name}, row {row.number}, column child: {number or 'nothing'} is no child's number")
-        yield row.number, None if row is rows[0] else int(number), [it.strip() for place, it in enumerate(row.cells) if place != at]
+            said = f"column child: {number or 'nothing'} is no child's number"
+            raise Refused(f"{name}, row {row.number}, {said}")
+        others = [it.strip() for place, it in enumerate(row.cells) if place != at]
+        yield row.number, None if row is rows[0] else int(number), others
 
 
 def type_of(name: str, data: bytes) -> str | None:
-    """The type of a file that a letter may show: a picture, a font or a style sheet; else None. A style
-    sheet is a text, so its name decides too."""
+    """The type of a file that a letter may show: a picture, a font or a style sheet; else None. A
+    style sheet is a text, so its name decides too."""
     start = data[:FIRST_BYTES]
-    if found := next((kind for mark, kind in SHOWN if start.startswith(mark)), None):
-        return "image/webp" if found == RIFF and start[8:12] == b"WEBP" else None if found == RIFF else found
+    found = next((kind for mark, kind in SHOWN if start.startswith(mark)), None)
+    if found == RIFF:
+        return "image/webp" if start[8:12] == b"WEBP" else None
+    if found:
+        return found
     if SVG.match(start):
         return "image/svg+xml"
     is_style = name.lower().endswith(".css") and b"\0" not in data and not re.match(rb"\s*<", start)
@@ -136,9 +170,9 @@ def type_of(name: str, data: bytes) -> str | None:
 
 
 def fetcher(folder: str, refused: list[str]) -> Callable[..., dict[str, object]]:
-    """Reads the pictures, fonts and style sheets of a template: those of its own folder alone, and nothing from a network. What it does not read it adds
-    to a list, in words."""
-    from weasyprint import default_url_fetcher  # pylint: disable=import-outside-toplevel
+    """Reads the pictures, fonts and style sheets of a template: those of its own folder alone, and
+    nothing from a network. What it does not read it adds to a list, in words."""
+    from weasyprint import default_url_fetcher
 
     def fetch(url: str, *given: object, **named: object) -> dict[str, object]:
         name = texts.visible(urllib.parse.unquote(url).removeprefix(f"file://{folder}/"))
@@ -149,8 +183,10 @@ def fetcher(folder: str, refused: list[str]) -> Callable[..., dict[str, object]]
             refused.append(f"the template names {name}, which is no name of a file")
             raise
         if parts.scheme == "data":
-            return default_url_fetcher(url, *given, **named)
-        if parts.scheme == "file" and os.path.commonpath((path, folder)) == folder and os.path.isfile(path):
+            read: dict[str, object] = default_url_fetcher(url, *given, **named)
+            return read
+        is_beside = parts.scheme == "file" and os.path.commonpath((path, folder)) == folder
+        if is_beside and os.path.isfile(path):
             data = inputs.bytes_of(path)
             if kind := type_of(path, data):
                 return {"string": data, "mime_type": kind, "redirected_url": url}
@@ -166,12 +202,14 @@ def see_links(page: Any) -> None:
     """Refuses a template that would put another file into the letter as it is."""
     for it in page.etree_element.iter():
         if "attachment" in it.get("rel", "").lower().split():
-            raise Refused(f"the template attaches {it.get('href')}: a letter shows pictures, fonts and style sheets alone")
+            shown = "a letter shows pictures, fonts and style sheets alone"
+            raise Refused(f"the template attaches {it.get('href')}: {shown}")
 
 
 @contextlib.contextmanager
 def all_shown(refused: list[str]) -> Iterator[None]:
-    """Refuses a letter without something that it names: what was not read, or what WeasyPrint could not load, which it only logs."""
+    """Refuses a letter without something that it names: what was not read, or what WeasyPrint could
+    not load, which it only logs."""
 
     def note(record: logging.LogRecord) -> bool:
         if (said := record.getMessage()).startswith("Failed to load"):
@@ -187,116 +225,79 @@ def all_shown(refused: list[str]) -> Iterator[None]:
         raise Refused(refused[0])
 
 
-def laid_out(pages: list[str], folder: str) -> tuple[Batch, list[list[int]]]:
-    """A batch: the objects of its pages by their numbers, as bytes, and the numbers of each letter's pages. `pages` are letters as HTML."""
-    from weasyprint import HTML  # pylint: disable=import-outside-toplevel
-    from weasyprint.text.fonts import FontConfiguration  # pylint: disable=import-outside-toplevel
+def laid_out(pages: list[str], folder: str) -> tuple[bytes, list[int]]:
+    """A PDF of letters, which are given as HTML, and how many pages each of them has."""
+    from weasyprint import HTML
+    from weasyprint.text.fonts import FontConfiguration
 
-    config, made, letters = FontConfiguration(), {}, []
+    config, letters = FontConfiguration(), []
     refused: list[str] = []
-    kids: list[int] = []
     fetch = fetcher(folder, refused)
     for it in pages:
         with all_shown(refused), inputs.within("laying out a letter"):
             page = HTML(string=it, base_url=folder + os.sep, url_fetcher=fetch)
             see_links(page)
             letters.append(page.render(font_config=config))
-
-    def finish(_: Any, pdf: Any) -> None:
-        made.update({it.number: it.data for it in pdf.objects[1:] if it.free != "f"})
-        kids.extend(int(it.split()[0]) for it in pdf.page_references)
-
     # (pictures within pictures are loaded here)
     with all_shown(refused):
-        letters[0].copy([page for it in letters for page in it.pages]).write_pdf(finisher=finish)
-    rest = iter(kids)
-    return made, [[next(rest) for _ in it.pages] for it in letters]
+        data: bytes = letters[0].copy([page for it in letters for page in it.pages]).write_pdf()
+    return data, [len(it.pages) for it in letters]
 
 
-def head_of(data):
-    """What an object has before its stream, and the stream."""
-    head, mark, rest = data.partition(b"\nstream\n")
-    return head, mark + rest
-
-
-def needed(objects, pages):
-    """The numbers of all objects that these pages need, without the list of pages."""
-    found, open_ones = set(), list(pages)
-    while open_ones:
-        number = open_ones.pop()
-        if number not in found and number != PAGES:
-            found.add(number)
-            open_ones += [int(it) for it in REFERENCE.findall(head_of(objects[number])[0])]
-    return found
-
-
-def add_pages(pdf, objects, pages):
-    """Adds pages to a file, with the objects that they need under new numbers. None is an empty page."""
-    import pydyf  # pylint: disable=import-outside-toplevel
-
-    class Whole(pydyf.Object):
-        """An object that was written before."""
-
-        data = b""
-
-    numbers, added = {PAGES: PAGES}, {}
-    for number in sorted(needed(objects, filter(None, pages))):
-        added[number] = Whole()
-        pdf.add_object(added[number])
-        numbers[number] = added[number].number
-    for number, it in added.items():
-        head, stream = head_of(objects[number])
-        it.data = REFERENCE.sub(lambda found: b"%d 0 R" % numbers[int(found[1])], head) + stream
-    for number in pages:
-        if number is None:
-            pdf.add_page(pydyf.Dictionary({"Type": "/Page", "Parent": pdf.pages.reference, "MediaBox": pydyf.Array(A4), "Resources": pydyf.Dictionary({})}))
-        else:
-            pdf.pages["Count"] += 1
-            pdf.pages["Kids"].extend([numbers[number], 0, "R"])
-
-
-def new_file(title):
+def new_file(title: str) -> Pdf:
     """A file without pages."""
-    import pydyf  # pylint: disable=import-outside-toplevel
+    from pikepdf import Pdf, String
 
-    pdf = pydyf.PDF()
-    pdf.info["Title"] = pydyf.String(title)
-    pdf.catalog["Lang"] = pydyf.String("en-GB")
+    pdf = Pdf.new()
+    pdf.docinfo["/Title"] = String(title)
+    pdf.Root["/Lang"] = String("en-GB")
     return pdf
 
 
-def write(pdf, room, name):
-    """Writes a file into a folder."""
-    with open(os.path.join(room, name), "xb") as file:
-        pdf.write(file)
+def write(pdf: Pdf, path: str) -> None:
+    """Writes a new file, without the pictures and fonts that none of its pages shows."""
+    pdf.remove_unreferenced_resources()
+    with open(path, "xb") as file:
+        pdf.save(file, min_version="1.7")
 
 
-def write_batch(children, pages, folder, room):
-    """Writes the files of some letters, and returns the batch."""
-    objects, numbers = laid_out(pages, folder)
-    for child, its in zip(children, numbers):
-        pdf = new_file(f"Letter of child {child}")
-        add_pages(pdf, objects, its)
-        write(pdf, room, f"letter-{child:07}.pdf")
-    return objects, numbers
+def write_batch(batch: Batch, folder: str, room: str, is_double: bool) -> None:
+    """Writes the files of some letters, and of all of them the file that the printer gets: there a
+    letter begins on the front of a sheet where it is printed on both sides."""
+    from pikepdf import Pdf
+
+    data, counts = laid_out(batch.pages, folder)
+    with Pdf.open(io.BytesIO(data)) as source, new_file("Letters") as printed:
+        start = 0
+        for child, count in zip(batch.children, counts):
+            pages = source.pages[start : start + count]
+            start += count
+            with new_file(f"Letter of child {child}") as pdf:
+                pdf.pages.extend(pages)
+                write(pdf, os.path.join(room, f"letter-{child:07}.pdf"))
+            printed.pages.extend(pages)
+            if is_double and count % 2:
+                printed.add_blank_page(page_size=A4)
+        path = batch_file(room, batch.number)
+        write(printed, path + ".new")
+        os.rename(path + ".new", path)
 
 
-def batch_file(room, at):
+def batch_file(room: str, number: int) -> str:
     """Where a batch is kept until all of them are there."""
-    return os.path.join(room, f"batch-{at:05}")
+    return os.path.join(room, f"batch-{number:05}")
 
 
-def work(batches, folder, room, parent):
-    """What a process does: writes its batches, each as a file when it is done. What goes wrong is written to a file too."""
+def work(batches: Sequence[Batch], folder: str, room: str, is_double: bool, parent: int) -> None:
+    """What a process does: writes its batches. What goes wrong is written to a file too."""
     ends_with(parent)()
     try:
-        for at, children, pages in batches:
-            found = write_batch(children, pages, folder, room)
-            with open(batch_file(room, at) + ".new", "xb") as file:
-                pickle.dump(found, file)
-            os.rename(batch_file(room, at) + ".new", batch_file(room, at))
-    except Exception as error:  # pylint: disable=broad-except
-        text = str(error) if isinstance(error, (Refused, OSError)) else f"a letter is not laid out: {type(error).__name__}: {error}"
+        for it in batches:
+            write_batch(it, folder, room, is_double)
+    except Exception as error:
+        text = f"a letter is not laid out: {type(error).__name__}: {error}"
+        if isinstance(error, (Refused, OSError)):
+            text = str(error)
         try:
             with open(os.path.join(room, f"error-{os.getpid()}"), "x", encoding="utf-8") as file:
                 file.write(text)
@@ -304,8 +305,9 @@ def work(batches, folder, room, parent):
             os._exit(1)
 
 
-def done_by(processes, room, count):
-    """Waits for the processes, with progress by the letters that are there. Refuses what one of them could not do."""
+def done_by(processes: Sequence[ForkProcess], room: str, count: int) -> None:
+    """Waits for the processes, with progress by the letters that are there. Refuses what one of
+    them could not do."""
     start, shown = time.monotonic(), 0
     try:
         while alive := [it.sentinel for it in processes if it.is_alive()]:
@@ -313,40 +315,67 @@ def done_by(processes, room, count):
             made = sum(it.endswith(".pdf") for it in os.listdir(room))
             if made // STEP > shown // STEP or made == count > shown:
                 shown = made
-                print(f"{made} of {count} PDF letters, {time.monotonic() - start:.1f} seconds", file=sys.stderr, flush=True)
+                line = f"{made} of {count} PDF letters, {time.monotonic() - start:.1f} seconds"
+                print(line, file=sys.stderr, flush=True)
             if any(it.exitcode for it in processes):
                 break
     finally:
         for it in processes:
             it.terminate()
             it.join()
-    for it in sorted(os.listdir(room)):
-        if it.startswith("error-"):
-            with open(os.path.join(room, it), encoding="utf-8") as file:
+    for name in sorted(os.listdir(room)):
+        if name.startswith("error-"):
+            with open(os.path.join(room, name), encoding="utf-8") as file:
                 raise Refused(file.read())
     if any(it.exitcode for it in processes):
         raise Refused("a process that writes the letters was ended")
 
 
 def write_letters(
-    letters: list[Letter], template_name: str, addresses: dict[int, list[str]], day: datetime.date, room: str, is_double: bool,
+    letters: list[Letter],
+    template_name: str,
+    addresses: Mapping[int, list[str]],
+    day: datetime.date,
+    room: str,
+    is_double: bool,
 ) -> None:
     """Writes the files of all letters into a folder, and the one for the printer."""
-    if importlib.util.find_spec("weasyprint") is None:
-        raise ImportError("weasyprint is not there", name="weasyprint")
-    template, folder = template_of(template_name), os.path.realpath(os.path.dirname(template_name) or ".")
-    pages = [html_of(template, template_name, it, [line for line in addresses.get(it.child, []) if line], day) for it in letters]
-    numbers = [it.child for it in letters]
-    batches = [(at, numbers[at : at + BATCH], pages[at : at + BATCH]) for at in range(0, len(letters), BATCH)]
-    context, count = multiprocessing.get_context("fork"), max(1, min(len(os.sched_getaffinity(0)), len(batches)))
-    processes = [context.Process(target=work, args=(batches[at::count], folder, room, os.getpid()), daemon=True) for at in range(count)]
-    for it in processes:
-        it.start()
+    for package in ("weasyprint", "pikepdf"):
+        if importlib.util.find_spec(package) is None:
+            raise ImportError(f"{package} is not there", name=package)
+    template = template_of(template_name)
+    folder = os.path.realpath(os.path.dirname(template_name) or ".")
+    batches: list[Batch] = []
+    for at in range(0, len(letters), BATCH):
+        some, pages = letters[at : at + BATCH], []
+        for it in some:
+            address = [line for line in addresses.get(it.child, []) if line]
+            pages.append(html_of(template, template_name, it, address, day))
+        batches.append(Batch(at, [it.child for it in some], pages))
+    context = multiprocessing.get_context("fork")
+    count = max(1, min(len(os.sched_getaffinity(0)), len(batches)))
+    processes = [
+        context.Process(
+            target=work,
+            args=(batches[at::count], folder, room, is_double, os.getpid()),
+            daemon=True,
+        )
+        for at in range(count)
+    ]
+    for process in processes:
+        process.start()
     done_by(processes, room, len(letters))
-    whole = new_file("Letters")
-    for at, *_ in batches:
-        with open(batch_file(room, at), "rb") as file:
-            objects, found = pickle.load(file)
-        add_pages(whole, objects, [page for its in found for page in its + [None] * (is_double and len(its) % 2)])
-        os.unlink(batch_file(room, at))
-    write(whole, room, PRINTER)
+    write_whole([batch_file(room, it.number) for it in batches], os.path.join(room, PRINTER))
+
+
+def write_whole(parts: Sequence[str], path: str) -> None:
+    """Writes the file for the printer, of the files of its batches, which are removed."""
+    from pikepdf import Pdf
+
+    with contextlib.ExitStack() as stack:
+        whole = stack.enter_context(new_file("Letters"))
+        for part in parts:
+            whole.pages.extend(stack.enter_context(Pdf.open(part)).pages)
+        write(whole, path)
+    for part in parts:
+        os.unlink(part)

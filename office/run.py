@@ -28,7 +28,6 @@ SHEET = [
 PACKAGES = {
     "jinja2": "python3-jinja2",
     "weasyprint": "weasyprint",
-    "pydyf": "weasyprint",
     "pikepdf": "python3-pikepdf",
     "matplotlib": "python3-matplotlib",
     "openpyxl": "python3-openpyxl",

@@ -1,4 +1,5 @@
 """admissions-letters: the proved texts, the file for a mail merge and the PDF, beside the model of the example season and by hand."""
+import base64
 import contextlib
 import csv
 import datetime
@@ -13,10 +14,13 @@ import tempfile
 import time
 
 import model_season
+import pikepdf
 import pytest
 from conftest import PROGRAM, ROOT, apply, child, do, make, school
 from test_send import count, wait_for
 
+# a picture of one point
+RED_PNG = "iVBORw0KGgoAAAANSUhEUgAAAAEAAAABCAIAAACQd1PeAAAADElEQVR4nGP4z8AAAAMBAQDJ/pLvAAAAAElFTkSuQmCC"
 NAMES = {1: 'Ann "Nan" O\'Abel', 2: "<script>alert(1)</script>", 3: "Siân Tŷ Gwyn Ŵyn", 4: "محمد علي", 5: "=SUM(A1)", 6: "שרה כהן", 7: "Bo & Bell, jr."}
 
 
@@ -42,6 +46,24 @@ def rows_of(path):
 def text_of(path, order="-layout"):
     """The text of a PDF."""
     return subprocess.run(["pdftotext", order, path, "-"], capture_output=True, check=True).stdout.decode()
+
+
+def title_and_pages(path):
+    """The title of a PDF in English, and how many pages it has."""
+    with pikepdf.open(path) as pdf:
+        assert str(pdf.Root["/Lang"]) == "en-GB"
+        return str(pdf.docinfo["/Title"]), len(pdf.pages)
+
+
+def test_a_picture_is_in_its_letter_alone(office, tmp_path):
+    """Also where the letters of two children are laid out together."""
+    town(tmp_path)
+    (tmp_path / "red.png").write_bytes(base64.b64decode(RED_PNG))
+    (tmp_path / "letter.html").write_text('Child {{ letter.child }}{% if letter.child == 2 %}<img src="red.png">{% endif %}', "utf-8")
+    assert office("letters", "reg.db", "--pdf", "out", "--template", "letter.html").returncode == 0
+    for name, wanted in (("letter-0000001", 0), ("letter-0000002", 1), ("letter-0000003", 0), ("printer", 1)):
+        with pikepdf.open(tmp_path / "out" / f"{name}.pdf") as pdf:
+            assert sum(it.get("/Subtype") == "/Image" for it in pdf.objects if isinstance(it, pikepdf.Stream)) == wanted, name
 
 
 def test_a_mail_merge_by_hand(office, tmp_path):
@@ -95,14 +117,14 @@ def test_pdf(office, tmp_path):
     pages = 0
     for number in NAMES:
         path = tmp_path / "out" / f"letter-000000{number}.pdf"
-        text, data = text_of(path), path.read_bytes()
+        text = text_of(path)
         assert path.stat().st_mode & 0o777 == 0o600 and (tmp_path / "out").stat().st_mode & 0o777 == 0o700
         for other, name in shown.items():
             assert (name in text) == (other == number), (number, other)
-        assert re.findall(rb"/Title \(Letter of child ([0-9]+)\)", data)[0] == b"%d" % number
-        count = int(re.findall(rb"/Count ([0-9]+)", data)[0])
+        title, count = title_and_pages(path)
+        assert title == f"Letter of child {number}"
         pages += count + count % 2
-    assert b"/Count %d\n" % pages in (tmp_path / "out" / "printer.pdf").read_bytes()
+    assert title_and_pages(tmp_path / "out" / "printer.pdf") == ("Letters", pages)
     text = text_of(tmp_path / "out" / "printer.pdf")
     places = [text.index(f"Child {it} · page 1") for it in NAMES]
     assert places == sorted(places)
