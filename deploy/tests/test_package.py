@@ -1,14 +1,13 @@
 """What a package says of itself: the result of the gate, the program, and the versions and licences of the kit's crates."""
 import argparse
 import hashlib
-import importlib.util
 import json
 import pathlib
 import subprocess
 import types
-from importlib.machinery import SourceFileLoader
 
 import pytest
+from by_path import loaded
 from conftest import ROOT
 
 GATE = "rt: adm_types proved\nrt ci took 3310 seconds\n57 passed, 0 failed\n"
@@ -16,12 +15,7 @@ GATE = "rt: adm_types proved\nrt ci took 3310 seconds\n57 passed, 0 failed\n"
 
 @pytest.fixture(name="package")
 def package_fixture() -> types.ModuleType:
-    loader = SourceFileLoader("package", str(ROOT / "deploy/package"))
-    spec = importlib.util.spec_from_loader("package", loader)
-    assert spec
-    module = importlib.util.module_from_spec(spec)
-    loader.exec_module(module)
-    return module
+    return loaded(ROOT / "deploy/package")
 
 
 @pytest.mark.parametrize(

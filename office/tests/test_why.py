@@ -1,6 +1,4 @@
 """admissions-why beside a search over the round's problem that shares no code with it (bench/questions), and beside admissions-audit on the example season."""
-import importlib.machinery
-import importlib.util
 import os
 import random
 import re
@@ -9,6 +7,7 @@ import subprocess
 import sys
 
 import pytest
+from by_path import loaded
 from conftest import ROOT, apply, child, do, make, school
 from files import write
 
@@ -19,12 +18,7 @@ ROUNDS = 400
 
 def search():
     """The definitions of bench/questions, without a run of it."""
-    loader = importlib.machinery.SourceFileLoader("questions", str(ROOT / "bench" / "questions" / "run"))
-    spec = importlib.util.spec_from_loader("questions", loader)
-    assert spec
-    module = importlib.util.module_from_spec(spec)
-    loader.exec_module(module)
-    return vars(module)
+    return vars(loaded(ROOT / "bench/questions/run"))
 
 
 def one_round(questions, seed, folder):
