@@ -1,5 +1,8 @@
-"""How lines reach the register, one at a time: by `admissions do`, or over HTTP."""
+"""How lines reach the register, one at a time: by `admissions do`, or over HTTP; and what is read from
+a server.
+"""
 import base64
+import getpass
 import http.client
 import ipaddress
 import os
@@ -9,6 +12,7 @@ import ssl
 import subprocess
 import tempfile
 import urllib.parse
+import warnings
 from collections.abc import Callable
 
 from . import commands
@@ -84,6 +88,23 @@ class Do:
         return said or ending(status) if status in (1, 2) or status < 0 else ""
 
 
+def is_address(name: str) -> bool:
+    """Whether a register is named by the address at which it is served, and not by a file."""
+    return name.lower().startswith(("http://", "https://"))
+
+
+def password() -> str:
+    """The password, typed where nobody sees it; where there is no terminal, the first line of the
+    standard input.
+    """
+    try:
+        with warnings.catch_warnings():
+            warnings.simplefilter("ignore", getpass.GetPassWarning)
+            return getpass.getpass()
+    except EOFError as error:
+        raise Refused("no password was given") from error
+
+
 def is_this_machine(host: str) -> bool:
     """Whether what is sent to a host does not leave this machine."""
     try:
@@ -130,6 +151,7 @@ class Http:
     def __init__(self, url: str, user: str | None = None, password: Callable[[], str] = str) -> None:
         """The password is asked for once it is sure that it can be sent."""
         parts = address_of(url)
+        self.url = url
         self.host, self.port = parts.hostname or "", parts.port or int(PORTS[parts.scheme][1:])
         if user and parts.scheme == "http" and not is_this_machine(self.host):
             raise Refused(f"{url} would carry the password of {user} over the network for all to read: the address of a site begins with https://", 2)
@@ -170,22 +192,17 @@ class Http:
             return answer
         raise Ended(*refusal(status, said))
 
-    def name_of(self, child: int) -> str | None:
-        """The name of a child by its letter, or None where there is no such child."""
-        failed = f"nothing was sent: the name of child {child} cannot be read"
+    def read(self, path: str) -> bytes:
+        """The body of what is read at a path, or a refusal where there is none."""
         try:
-            status, body = self.ask("GET", f"/child/{child}/letter")
+            status, body = self.ask("GET", path)
         except Ended as error:
-            raise Refused(f"{failed}: {error}") from error
-        if status == 404:
-            return None
+            raise Refused(f"{self.url} cannot be read: {error}") from error
         if status != 200:
             said = commands.read(body)
-            raise Refused(f"{failed}: {refusal(status, said if isinstance(said, dict) else {})[0]}")
-        found = re.match(rf"[^\n]*\nChild {child} ([^\n]*)\n", body.decode("utf-8", "replace"))
-        if not found:
-            raise Refused(f"{failed}: the server answered with status 200, and no letter of this child")
-        return found[1]
+            reason, _ = refusal(status, said if isinstance(said, dict) else {})
+            raise Refused(f"{self.url}{path} cannot be read: {reason}")
+        return body
 
     def close(self) -> str:
         """Nothing is open between two lines."""

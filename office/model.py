@@ -1,0 +1,396 @@
+"""A register as the program shows it: its season, schools, children, applications, places and draws.
+
+Classes, distances, positions, vacancies and the days of the season are the program's: it works them
+out, and nothing here does. A register is read from a file, of which the program opens a copy, or
+from a server, by the address at which it is served.
+"""
+import dataclasses
+import datetime
+import functools
+import json
+import os
+import subprocess
+import tempfile
+from collections.abc import Iterable, Iterator
+from typing import Any, Protocol
+
+import register_files as files
+from register_files import InUse, Refused
+
+from . import inputs, senders
+
+PRIMARY, SECONDARY = "primary", "secondary"
+OFFERED, ACCEPTED, PLAN = "offered", "accepted", "plan"
+# what became of a preference: the place is there; the child left it; no round yet; below; it waits
+HELD, LEFT, BEFORE, BELOW, WAITS = "place", "left", "before", "below", "waits"
+# for the name of a register among the arguments of a command
+ADDRESS_HELP = ", or the address at which it is served"
+Pair = tuple[str, int]
+
+
+@dataclasses.dataclass(frozen=True)
+class School:
+    """A school: its admission number, its point in metres, its criteria in their order; and how
+    many places are held by plans, how many are held at all and vacant, and how many wait.
+    """
+
+    code: str
+    name: str
+    pan: int
+    east: int
+    north: int
+    criteria: tuple[str, ...]
+    plans: int = dataclasses.field(default=0, compare=False)
+    taken: int = dataclasses.field(default=0, compare=False)
+    vacancies: int = dataclasses.field(default=0, compare=False)
+    waiting: int = dataclasses.field(default=0, compare=False)
+
+
+@dataclasses.dataclass(frozen=True)
+class Child:
+    """A child: its home in metres, its flags as numbers, the codes of its siblings' schools, and
+    its present school or "".
+    """
+
+    number: int
+    name: str
+    east: int
+    north: int
+    looked_after: bool
+    flags: tuple[int, ...]
+    siblings: tuple[str, ...]
+    present: str
+
+
+@dataclasses.dataclass(frozen=True)
+class Preference:
+    """How a child ranks at a school of its list (class, whole metres), what became of that, and
+    its position among those who wait there, if it waits.
+    """
+
+    number: int
+    metres: int
+    state: str
+    position: int | None = None
+    of: int | None = None
+
+
+@dataclasses.dataclass(frozen=True)
+class Application:
+    """When a child applied, and for which schools, best first, each with what came of it."""
+
+    day: datetime.date
+    listed: dict[str, Preference]
+
+    @property
+    def preferences(self) -> tuple[str, ...]:
+        """The codes of the schools, best first."""
+        return tuple(self.listed)
+
+
+@dataclasses.dataclass(frozen=True)
+class Place:
+    """A place that a child has: OFFERED, ACCEPTED or by a PLAN; the days of the offer and of its
+    reminder while it is open.
+    """
+
+    school: str
+    kind: str
+    day: datetime.date | None = None
+    reminded: datetime.date | None = None
+
+
+@dataclasses.dataclass(frozen=True)
+class Draw:
+    """A draw of lots: of a round (its number, no school) or of a fill (no round, its school)."""
+
+    number: int
+    round: int | None
+    school: str | None
+    day: datetime.date
+
+
+class Source(Protocol):
+    """Where a register is read from."""
+
+    name: str
+
+    def shown(self, draw: int | None = None) -> bytes:
+        """The document of the register, or that of a draw."""
+
+
+@dataclasses.dataclass
+class Register:
+    """All that a register shows."""
+
+    name: str
+    phase: str
+    year: int
+    holidays: tuple[datetime.date, ...]
+    # the closing day, the offer day and the last day of the lists
+    days: tuple[datetime.date, datetime.date, datetime.date]
+    schools: dict[str, School]
+    children: dict[int, Child]
+    applications: dict[int, Application]
+    places: dict[int, Place]
+    # the pairs of children and schools whose offer or list the child gave up
+    left: set[tuple[int, str]]
+    draws: list[Draw]
+    # by draws: the school of each child that took part, or None; and whether it is a new offer
+    outcomes: dict[int, dict[int, str | None]]
+    fresh: dict[int, dict[int, bool]]
+    source: Source = dataclasses.field(repr=False, compare=False)
+    _lots: dict[int, dict[Pair, int]] = dataclasses.field(
+        default_factory=dict, repr=False, compare=False)
+
+    def lots(self, draw: int) -> dict[Pair, int]:
+        """The lots of a draw: read when they are first wanted."""
+        if draw not in self.outcomes:
+            return {}
+        if draw not in self._lots:
+            found = parsed(self.name, self.source.shown(draw))
+            with checked(self.name):
+                self._lots[draw] = {(it["school"], it["child"]): it["lot"] for it in found["lots"]}
+        return self._lots[draw]
+
+    @property
+    def rounds(self) -> list[Draw]:
+        """The rounds that were held."""
+        return [it for it in self.draws if it.round]
+
+    @functools.cached_property
+    def taking_part(self) -> dict[int, Application]:
+        """The applications that take part in the next draw."""
+        closing, _, _ = self.days
+        found = self.applications.items()
+        return {child: it for child, it in found if self.draws or it.day <= closing}
+
+    @functools.cached_property
+    def own(self) -> dict[int, str]:
+        """The places that children keep in the next round unless they get one that they prefer."""
+        found = self.places.items()
+        return {child: it.school for child, it in found if child in self.taking_part}
+
+    @functools.cached_property
+    def wanted(self) -> dict[int, list[str]]:
+        """The schools at which each child takes part in the next draw, best first."""
+        return {child: [code for code, it in found.listed.items() if it.state in (BEFORE, WAITS)]
+                for child, found in self.taking_part.items()}
+
+    @functools.cached_property
+    def pairs(self) -> set[Pair]:
+        """Each school with each child that takes part in the next round there."""
+        return {(code, child) for child, codes in self.wanted.items() for code in codes}
+
+    def pairs_of_fill(self, school: str) -> set[Pair]:
+        """The same for a fill: the children that wait there, which nobody does before a round."""
+        return {it for it in self.pairs if it[0] == school} if self.draws else set()
+
+    def places_of_round(self, code: str) -> int:
+        """The places of a school that a round allots: without those of plans."""
+        return max(0, self.schools[code].pan - self.schools[code].plans)
+
+    def rank(self, code: str, child: int) -> tuple[int, int]:
+        """The class and the distance of a child at a school of its list."""
+        found = self.applications[child].listed[code]
+        return found.number, found.metres
+
+
+def same_season(before: Register, after: Register) -> None:
+    """Refuses two registers of different seasons."""
+    if (before.phase, before.days, before.holidays) != (after.phase, after.days, after.holidays):
+        raise Refused(f"{before.name} and {after.name} are of different seasons")
+
+
+class File:
+    """A copy of a register's file, of which the program opens nothing else. It is removed when
+    nobody refers to it any more, or this process ends.
+    """
+
+    def __init__(self, name: str, fd: int) -> None:
+        self.name, self.program = name, files.program()
+        try:
+            self.room = tempfile.TemporaryDirectory(prefix="admissions-")
+            self.copy = os.path.join(self.room.name, "copy.db")
+            files.copy_to(fd, self.copy)
+        except OSError as error:
+            where = tempfile.tempdir or "/tmp"
+            raise Refused(f"{name} cannot be copied to {where}, where the program opens it:"
+                          f" {error.strerror}") from error
+
+    def shown(self, draw: int | None = None) -> bytes:
+        """The document of the register, or that of a draw."""
+        words = [self.program, "show", self.copy, *(["--draw", str(draw)] if draw else [])]
+        try:
+            # (the program ignores the signals that this process ignores, and so prints the error)
+            ran = subprocess.run(words, stdin=subprocess.DEVNULL, capture_output=True,
+                                 check=False, restore_signals=False)
+        except OSError as error:
+            raise Refused(f"the program does not start: {error.strerror}") from error
+        if ran.returncode:
+            said = ", ".join(os.fsdecode(ran.stdout + ran.stderr).split("\n")).strip(", ")
+            said = said.replace(self.copy, self.name) or senders.ending(ran.returncode)
+            raise Refused(f"{self.name} is no register, or it is damaged: {said}")
+        return ran.stdout
+
+
+class Server:
+    """A register that is served."""
+
+    def __init__(self, sender: senders.Http) -> None:
+        self.name, self.sender = sender.url, sender
+
+    def shown(self, draw: int | None = None) -> bytes:
+        """The document of the register, or that of a draw."""
+        return self.sender.read(f"/draw/{draw}" if draw else "/register")
+
+
+def read(name: str, user: str | None = None, tool: str | None = None) -> Register:
+    """The register of a file, or the one that is served at an address.
+
+    No program opens the file while it is copied. Where a tool is named, it warns of a file that
+    others can read.
+    """
+    if senders.is_address(name):
+        return of_server(senders.Http(name, user, senders.password))
+    if user:
+        raise Refused("--user needs the address at which a register is served", 2)
+    path = os.path.realpath(name)
+    try:
+        with files.held(name, path) as fd:
+            see_closed(name, path, fd)
+            if tool:
+                files.warn(tool, name, os.fstat(fd))
+            source = File(name, fd)
+    except InUse as error:
+        advice = (f"name the address at which it is served, or end the program that has it open,"
+                  f" and then admissions do {name} < /dev/null")
+        raise InUse(f"{name} is in use: {advice}") from error
+    except OSError as error:
+        raise Refused(f"{name} cannot be read: {error.strerror}") from error
+    return of_source(source)
+
+
+def of_server(sender: senders.Http) -> Register:
+    """The register that is served where a sender sends to."""
+    return of_source(Server(sender))
+
+
+def read_held(name: str) -> Register:
+    """The register of a file that a program has open which this command started: nobody else can
+    change it, and that program waits for a line.
+    """
+    path = os.path.realpath(name)
+    if files.has_content(path + "-wal"):
+        raise Refused(f"{name} has changed since it was compared: see what was changed, and send"
+                      " the line again")
+    try:
+        fd = os.open(path, os.O_RDONLY | os.O_NOFOLLOW | os.O_NONBLOCK | os.O_CLOEXEC)
+    except OSError as error:
+        raise Refused(f"{name} cannot be read: {error.strerror}") from error
+    try:
+        return of_source(File(name, fd))
+    finally:
+        os.close(fd)
+
+
+def see_closed(name: str, path: str, fd: int) -> None:
+    """Refuses an open file that is no register, has a log with changes, or is too large."""
+    if files.has_content(path + "-wal") or files.has_content(path + "-journal"):
+        raise Refused(f"{name} has a log with changes that are not in the file yet: merge it"
+                      f" first, by admissions do {name} < /dev/null")
+    if os.pread(fd, 16, 0) != b"SQLite format 3\0":
+        raise Refused(f"{name} is no register")
+    if os.fstat(fd).st_size > inputs.MOST_REGISTER_BYTES:
+        raise Refused(f"{name} is larger than any register")
+
+
+class checked:  # pylint: disable=invalid-name
+    """Refuses a document that has another shape than the one that is read here."""
+
+    def __init__(self, name: str) -> None:
+        self.name = name
+
+    def __enter__(self) -> None:
+        return None
+
+    def __exit__(self, kind: object, error: BaseException | None, trace: object) -> None:
+        if isinstance(error, (AttributeError, KeyError, TypeError, ValueError)):
+            raise Refused(f"{self.name}: the program shows another document than this command"
+                          f" reads ({error!r}): both must be of one release") from error
+
+
+def parsed(name: str, text: bytes) -> dict[str, Any]:
+    """The value of a document."""
+    with checked(name):
+        found = json.loads(text)
+        if not isinstance(found, dict):
+            raise TypeError(type(found))
+        return found
+
+
+def of_source(source: Source) -> Register:
+    """The register of a document."""
+    found = parsed(source.name, source.shown())
+    with checked(source.name):
+        return of_document(source, found)
+
+
+def day_of(text: str | None) -> datetime.date | None:
+    """A day of a document, if there is one."""
+    return None if text is None else datetime.date.fromisoformat(text)
+
+
+def of_document(source: Source, found: dict[str, Any]) -> Register:
+    """The register of a document's value."""
+    season, draws, children = found["season"], found["draws"], found["children"]
+    date = datetime.date.fromisoformat
+    applied = ((it["child"], it["application"]) for it in children)
+    return Register(
+        name=source.name, phase=season["phase"], year=season["year"],
+        holidays=tuple(map(date, season["holidays"])),
+        days=(date(season["closing"]), date(season["offer_day"]), date(season["last_list_day"])),
+        schools={it["school"]: school_of(it) for it in found["schools"]},
+        children={it["child"]: child_of(it) for it in children},
+        applications={child: application_of(it) for child, it in applied if it is not None},
+        places=dict(places_of(children)),
+        left={(it["child"], code) for it in children for code in it["left"]},
+        draws=[Draw(it["draw"], it["round"], it["school"], date(it["day"])) for it in draws],
+        outcomes={it["draw"]: by_child(it["outcomes"], "school") for it in draws},
+        fresh={it["draw"]: by_child(it["outcomes"], "fresh") for it in draws}, source=source,
+    )
+
+
+def by_child(rows: Iterable[dict[str, Any]], key: str) -> dict[int, Any]:
+    """A member of each row by the row's child."""
+    return {it["child"]: it[key] for it in rows}
+
+
+def school_of(found: dict[str, Any]) -> School:
+    """A school of a document."""
+    counts = (found[it] for it in ("plans", "taken", "vacancies", "waiting"))
+    return School(found["school"], found["name"], found["pan"], found["east"], found["north"],
+                  tuple(found["criteria"]), *counts)
+
+
+def child_of(found: dict[str, Any]) -> Child:
+    """A child of a document."""
+    return Child(found["child"], found["name"], found["east"], found["north"],
+                 found["looked_after"], tuple(found["flags"]), tuple(found["siblings"]),
+                 found["present"])
+
+
+def application_of(found: dict[str, Any]) -> Application:
+    """An application of a document."""
+    listed = {it["school"]: Preference(it["class"], it["metres"], it["state"], it.get("position"),
+                                       it.get("of")) for it in found["preferences"]}
+    return Application(datetime.date.fromisoformat(found["day"]), listed)
+
+
+def places_of(children: Iterable[dict[str, Any]]) -> Iterator[tuple[int, Place]]:
+    """The places of children of a document."""
+    for it in children:
+        place = it["place"]
+        if place is not None:
+            days = (day_of(place[name]) for name in ("offered", "reminded"))
+            yield it["child"], Place(place["school"], place["kind"], *days)
