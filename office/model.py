@@ -1,4 +1,4 @@
-"""A register as the program shows it: its season, schools, children, applications, places and draws.
+"""A register as the program shows it: season, schools, children, applications, places and draws.
 
 Classes, distances, positions, vacancies and the days of the season are the program's: it works them
 out, and nothing here does. A register is read from a file, of which the program opens a copy, or
@@ -9,9 +9,10 @@ import datetime
 import functools
 import json
 import os
+import re
 import subprocess
 import tempfile
-from collections.abc import Iterable, Iterator
+from collections.abc import Callable, Iterable, Iterator
 from typing import Any, Protocol
 
 import register_files as files
@@ -25,6 +26,8 @@ OFFERED, ACCEPTED, PLAN = "offered", "accepted", "plan"
 HELD, LEFT, BEFORE, BELOW, WAITS = "place", "left", "before", "below", "waits"
 # for the name of a register among the arguments of a command
 ADDRESS_HELP = ", or the address at which it is served"
+USER_HELP = "sign in with this name where a register is served; the password is asked for"
+USER_NEEDS = "--user needs the address at which a register is served"
 Pair = tuple[str, int]
 
 
@@ -117,6 +120,9 @@ class Source(Protocol):
 
     def shown(self, draw: int | None = None) -> bytes:
         """The document of the register, or that of a draw."""
+
+    def copy_to(self, path: str) -> None:
+        """Writes the register to a new file, or refuses."""
 
 
 @dataclasses.dataclass
@@ -220,18 +226,47 @@ class File:
 
     def shown(self, draw: int | None = None) -> bytes:
         """The document of the register, or that of a draw."""
-        words = [self.program, "show", self.copy, *(["--draw", str(draw)] if draw else [])]
-        try:
-            # (the program ignores the signals that this process ignores, and so prints the error)
-            ran = subprocess.run(words, stdin=subprocess.DEVNULL, capture_output=True,
-                                 check=False, restore_signals=False)
-        except OSError as error:
-            raise Refused(f"the program does not start: {error.strerror}") from error
+        ran = self.ran("show", self.copy, *(["--draw", str(draw)] if draw else []))
         if ran.returncode:
-            said = ", ".join(os.fsdecode(ran.stdout + ran.stderr).split("\n")).strip(", ")
-            said = said.replace(self.copy, self.name) or senders.ending(ran.returncode)
+            said = printed(ran).replace(self.copy, self.name)
             raise Refused(f"{self.name} is no register, or it is damaged: {said}")
         return ran.stdout
+
+    def copy_to(self, path: str) -> None:
+        """Writes the register to a new file."""
+        with open(self.copy, "rb") as file:
+            files.copy_to(file.fileno(), path)
+
+    def imports(self, rows: bytes) -> dict[str, Any]:
+        """The answer of the program to an import of rows, or the error of its form with the row of
+        it. It imports them into a copy of its own, of which nothing remains.
+        """
+        with tempfile.TemporaryDirectory(dir=self.room.name) as room:
+            copy, given = os.path.join(room, "copy.db"), os.path.join(room, "rows.csv")
+            self.copy_to(copy)
+            with open(given, "xb") as file:
+                file.write(rows)
+            ran = self.ran("import", copy, given)
+        if error := re.fullmatch(rb"fault: row ([1-9][0-9]*): ([A-Za-z]+)\n", ran.stderr):
+            return {"fault": True, "name": error[2].decode(), "row": int(error[1])}
+        if ran.returncode not in (0, 3):
+            raise Refused(f"the rows cannot be tried on a copy of {self.name}: {printed(ran)}")
+        return parsed(self.name, ran.stdout)
+
+    def ran(self, *words: str) -> subprocess.CompletedProcess[bytes]:
+        """A run of the program."""
+        try:
+            # (the program ignores the signals that this process ignores, and so prints the error)
+            return subprocess.run([self.program, *words], stdin=subprocess.DEVNULL,
+                                  capture_output=True, check=False, restore_signals=False)
+        except OSError as error:
+            raise Refused(f"the program does not start: {error.strerror}") from error
+
+
+def printed(ran: subprocess.CompletedProcess[bytes]) -> str:
+    """What a run that failed has printed, as one line, or what ended it."""
+    said = ", ".join(os.fsdecode(ran.stdout + ran.stderr).split("\n")).strip(", ")
+    return said or str(senders.ending(ran.returncode))
 
 
 class Server:
@@ -244,6 +279,10 @@ class Server:
         """The document of the register, or that of a draw."""
         return self.sender.read(f"/draw/{draw}" if draw else "/register")
 
+    def copy_to(self, path: str) -> None:
+        """Refuses: a server gives no file."""
+        raise Refused(f"{self.name} is served: this needs the file of a register, or a copy of it")
+
 
 def read(name: str, user: str | None = None, tool: str | None = None) -> Register:
     """The register of a file, or the one that is served at an address.
@@ -254,7 +293,7 @@ def read(name: str, user: str | None = None, tool: str | None = None) -> Registe
     if senders.is_address(name):
         return of_server(senders.Http(name, user, senders.password))
     if user:
-        raise Refused("--user needs the address at which a register is served", 2)
+        raise Refused(USER_NEEDS, 2)
     path = os.path.realpath(name)
     try:
         with files.held(name, path) as fd:
@@ -269,6 +308,18 @@ def read(name: str, user: str | None = None, tool: str | None = None) -> Registe
     except OSError as error:
         raise Refused(f"{name} cannot be read: {error.strerror}") from error
     return of_source(source)
+
+
+Reader = Callable[[str], Register]
+
+
+def reader(user: str | None, *names: str | None) -> Reader:
+    """What reads each of these registers. A name to sign in with is for those that are served, and
+    refused where none is.
+    """
+    if user and not any(it and senders.is_address(it) for it in names):
+        raise Refused(USER_NEEDS, 2)
+    return lambda name: read(name, user if senders.is_address(name) else None)
 
 
 def of_server(sender: senders.Http) -> Register:

@@ -10,8 +10,9 @@ import pytest
 from by_path import loaded
 from conftest import ROOT, apply, child, do, make, school
 from files import write
+from serving import served
 
-from office import register, why
+from office import model, why
 
 ROUNDS = 400
 
@@ -46,7 +47,7 @@ def one_round(questions, seed, folder):
     write(before, town.schools, town.children, town.lists, town.late, places, town.left, earlier)
     now = {**places, **{it: (has[it], "offered") for it in fresh}}
     write(after, town.schools, town.children, town.lists, town.late, now, town.left, [*earlier, ("2025-04-07", has, lot, fresh)])
-    return town, lot, has, register.read(str(before)), register.read(str(after))
+    return town, lot, has, model.read(str(before)), model.read(str(after))
 
 
 def test_random_rounds_beside_the_search(tmp_path):
@@ -95,7 +96,7 @@ def beside(questions, town, lot, has, number, found, counts):
     assert sum(found.before.values()) == len(ahead) and all(count == sum(keys[it][0] == at for it in ahead) for at, count in found.before.items())
     better = [it for it in ahead if has[it] in town.lists[it][: town.lists[it].index(code)]]
     assert found.elsewhere == len(better) and found.refused == sum(has[it] != code for it in ahead if it not in better) and found.admitted == len(new) and len(new) + len(kept) >= found.places
-    assert found.last == (max(keys[it] for it in new) if new else ())
+    assert found.last == max((keys[it] for it in new), default=None)
     if new:
         decided = [name for name, one, other in zip(("class", "distance", "lot"), keys[number], found.last) if one != other][0]
         assert found.decided == decided
@@ -108,13 +109,13 @@ def test_what_is_not_right_is_said(tmp_path):
     children = {it: {"child": it, "name": f"C{it}", "east": 100 * it, "north": 0, "looked_after": False, "flags": [], "siblings": []} for it in (1, 2)}
     lists, lots = {1: ["A"], 2: ["A"]}, {("A", 1): 5, ("A", 2): 3}
     write(tmp_path / "before.db", schools, children, lists)
-    before = register.read(str(tmp_path / "before.db"))
+    before = model.read(str(tmp_path / "before.db"))
     cases: list[tuple[dict[int, str | None], list[str]]] = [
         ({1: "A", 2: None}, []), ({1: None, 2: "A"}, ["ranks after"]), ({1: None, 2: None}, ["remained free"]),
     ]
     for outcomes, faults in cases:
         write(tmp_path / "after.db", schools, children, lists, draws=[("2025-03-03", outcomes, lots, {it for it in outcomes if outcomes[it]})])
-        after = register.read(str(tmp_path / "after.db"))
+        after = model.read(str(tmp_path / "after.db"))
         loser = 2 if outcomes[1] else 1
         found = why.explain(before, after, loser)
         assert len(found.schools[0].faults) == len(faults) and all(part in it for part, it in zip(faults, found.schools[0].faults))
@@ -135,7 +136,7 @@ def test_the_sentences_of_a_family(tmp_path):
     has = {2: "OAK", 3: "ELM", 4: "OAK", 5: "ELM"}
     now = {1: ("OAK", "plan"), **{it: (at, "offered") for it, at in has.items()}}
     write(tmp_path / "a.db", {"OAK": oak, "ELM": elm}, children, lists, places=now, draws=[("2025-03-03", has, lots, set(has))])
-    before, after = register.read(str(tmp_path / "b.db")), register.read(str(tmp_path / "a.db"))
+    before, after = model.read(str(tmp_path / "b.db")), model.read(str(tmp_path / "a.db"))
     lines = list(why.lines_of(why.explain(before, after, 3), before, after, is_office=True))
     assert lines == [
         "For the office alone: it has numbers that are not published",
@@ -209,6 +210,46 @@ def test_what_was_changed_after_the_round(office, tmp_path):
     assert ran.returncode == 1 and "is not from right before draw 1: OAK admitted more children than it has places there" in ran.stderr, ran
 
 
+def test_a_plan_that_was_named_since(office, tmp_path):
+    """Of whoever has a plan since the round the register shows no class and no distance: the explanations of that child and of another are as they were."""
+    make(tmp_path / "reg.db", [school("OAK", pan=1), school("ELM", pan=1, east=900), *(child(it, east=50 * it) for it in (1, 2, 3)), *(apply(it, ["OAK", "ELM"]) for it in (1, 2, 3))])
+    shutil.copy(tmp_path / "reg.db", tmp_path / "before.db")
+    do(tmp_path / "reg.db", [{"cmd": "round", "draw": 1, "day": "2025-03-03", "lots": [3, 2, 1, 6, 5, 4]}])
+    explained = lambda number: office("why", "before.db", "reg.db", "--child", number, "--office")  # noqa: E731
+    first = [explained(it).stdout for it in (1, 2, 3)]
+    # (by hand: OAK is at 0 and ELM at 900 metres, so child 1 has OAK, and child 3 has ELM before child 2)
+    for it in ("The last child admitted: class 1 (ranked by distance alone), 50 metres.", "This child: class 1 (ranked by distance alone), 100 metres.",
+        "The last child admitted: class 1 (ranked by distance alone), 750 metres.", "This child: class 1 (ranked by distance alone), 800 metres."):
+        assert it in first[1], first[1]
+    do(tmp_path / "reg.db", [{"cmd": "name_plan", "child": it, "school": "ELM"} for it in (1, 2)])
+    shown = model.read(str(tmp_path / "reg.db"))
+    assert set(shown.applications) == {3} and shown.schools["ELM"].plans == 2
+    assert [explained(it).stdout for it in (1, 2, 3)] == first
+
+
+def test_by_the_address_of_a_register(office, tmp_path):
+    """AFTER is served, or BEFORE is, or both: the explanation is the same. What cannot be read, or is no copy from before, is named by its address."""
+    make(tmp_path / "reg.db", [school("OAK", pan=1), *(child(it, east=50 * it) for it in (1, 2)), *(apply(it, ["OAK"]) for it in (1, 2))])
+    shutil.copy(tmp_path / "reg.db", tmp_path / "before.db")
+    do(tmp_path / "reg.db", [{"cmd": "round", "draw": 1, "day": "2025-03-03", "lots": [2, 1]}])
+    first = office("why", "before.db", "reg.db", "--child", "2")
+    assert first.returncode == 0 and "50 metres" in first.stdout
+    shutil.copy(tmp_path / "before.db", tmp_path / "early.db")
+    with served(tmp_path / "reg.db") as (after, run), served(tmp_path / "early.db") as (before, _):
+        for words in (("before.db", after), (before, after), (before, after, "--user", "jane")):
+            ran = office("why", *words, "--child", "2", stdin="secret\n" * 2)
+            assert (ran.returncode, ran.stdout) == (0, first.stdout), (words, ran)
+        assert "in use: name the address at which it is served" in office("why", "before.db", "reg.db", "--child", "2").stderr
+        ran = office("why", after, after, "--child", "2")
+        assert (ran.returncode, ran.stderr) == (1, f"admissions-why: {after} has no draw 2: {after} has 1, and there is none more\n"), ran
+        run.terminate()
+        run.wait()
+        ran = office("why", "before.db", after, "--child", "2")
+        assert ran.returncode == 1 and ran.stderr.startswith(f"admissions-why: {after} cannot be read: no connection: ") and ran.stderr.count("\n") == 1, ran
+    ran = office("why", "before.db", "reg.db", "--child", "2", "--user", "jane")
+    assert (ran.returncode, ran.stderr) == (2, "admissions-why: --user needs the address at which a register is served\n"), ran
+
+
 def test_schools_that_were_left(office, tmp_path):
     """By hand. Oak and Elm have 1 place each, that of Elm by a plan. Child 1 lives nearest: it declines Oak and leaves the list of Elm, and in round 2 child 2 has Oak,
     which ranks after it. Child 5 leaves Elm and is refused at Oak. No sentence says that a school that was left was filled by children who rank before."""
@@ -259,7 +300,7 @@ def test_the_example_season(tools, season, number, first, second):
     """Both rounds of the example: all that admissions-audit says of each child that a school turned away, why says too."""
     ran = subprocess.run([tools / "admissions-audit", season / first, season / second], capture_output=True, text=True, check=False)
     assert ran.returncode == 0
-    before, after, code, checked = register.read(str(season / first)), register.read(str(season / second)), None, 0
+    before, after, code, checked = model.read(str(season / first)), model.read(str(season / second)), None, 0
     found: dict = {}
     for line in ran.stdout.splitlines():
         if at := re.match(r"School (\w+): places ([0-9]+), children ([0-9]+)(?:, the last child [0-9]+, class ([0-9]+), ([0-9]+) metres, lot ([0-9]+))?", line):
@@ -268,7 +309,7 @@ def test_the_example_season(tools, season, number, first, second):
             child_no, key, by = int(at[1]), tuple(int(it) for it in at.groups()[1:4]), at[5]
             found.setdefault(child_no, why.explain(before, after, child_no))
             one = next(it for it in found[child_no].schools if it.code == code)
-            assert (one.places, one.kept + one.admitted, one.last, one.key) == (places, held, last, key) and not one.faults
+            assert (one.places, one.kept + one.admitted, one.last or (), one.key) == (places, held, last, key) and not one.faults
             assert (one.decided or "no place that was free") == by and found[child_no].round == number
             checked += 1
     assert checked > 100 and os.path.exists(season / second)
