@@ -2,122 +2,142 @@
 import collections
 import dataclasses
 import datetime
+from collections.abc import Iterator
 
 from register_files import Refused
 
-from . import days, ranking, texts
-from .register import OFFERED, PLAN
+from . import texts
+from .model import OFFERED, PLAN
+from .rounds import Key, Round
 from .withheld import LEAST, withheld
 
 # preferences from this one on are counted together for each school
 LOWER = 4
-ENDED, NONE = "ended", "none"
+NONE = "none"
+# what a count is of, and the sums that tie counts together: each of a sum with 1 or -1
+What = tuple[object, ...]
+Counts = dict[What, int]
+Sum = list[tuple[What, int]]
 
 
 @dataclasses.dataclass
 class School:
-    """The figures of one school: applications by preference (1 to LOWER), and of the round its offers by class, and the class and metres of the last one and
-    of the first that was turned away."""
+    """The figures of one school: applications by preference (1 to LOWER), and of the round its
+    offers by class, and the class and metres of the last one and of the first that was turned away.
+    """
 
     code: str
     name: str
     pan: int
-    criteria: tuple
+    criteria: tuple[str, ...]
     east: int
     north: int
-    applications: collections.Counter = dataclasses.field(default_factory=collections.Counter)
+    applications: collections.Counter[int] = dataclasses.field(default_factory=collections.Counter)
     plans: int = 0
     kept: int = 0
-    offers: collections.Counter = dataclasses.field(default_factory=collections.Counter)
+    offers: collections.Counter[int] = dataclasses.field(default_factory=collections.Counter)
     turned_away: int = 0
-    last: tuple | None = None
-    first_away: tuple | None = None
+    last: tuple[int, int] | None = None
+    first_away: tuple[int, int] | None = None
 
 
 @dataclasses.dataclass
 class Figures:
-    """The figures of a round. `met` counts children by the preference that they have after it, or NONE, or ENDED if a plan ended their application since."""
+    """The figures of a round. `met` counts children by the preference that they have after it, or
+    NONE.
+    """
 
     year: int
-    phase: int
+    phase: str
     round: int
     day: datetime.date
     children: int
-    met: collections.Counter
+    met: collections.Counter[int | str]
     kept: int
     offers: int
-    schools: dict
-    homes: list
-    hidden: set = dataclasses.field(default_factory=set)
-
-    @property
-    def phase_name(self):
-        """As the page has it."""
-        return "primary" if self.phase == days.PRIMARY else "secondary"
+    schools: dict[str, School]
+    homes: list[tuple[int, int]]
+    hidden: set[What] = dataclasses.field(default_factory=set)
 
 
-def draw_of(register, number=None):
-    """The draw of a round: of the last one where no number is given."""
-    found = next((it for it in reversed(register.draws) if it.round and number in (None, it.round)), None)
-    if found is None:
-        raise Refused(f"{register.name} has no round {number}" if number else f"{register.name} had no round yet")
-    return found
-
-
-def count(register, number=None):
-    """The figures of a round of a register: of the last one where no number is given."""
-    draw = draw_of(register, number)
-    outcomes, fresh, lots = register.outcomes.get(draw.number, {}), register.fresh.get(draw.number, {}), register.lots.get(draw.number, {})
-    schools = {code: School(code, it.name, it.pan, it.criteria, it.east, it.north) for code, it in register.schools.items()}
-    found = Figures(
-        register.year, register.phase, draw.round, draw.day, len(outcomes), collections.Counter(), sum(1 for it in outcomes if outcomes[it] and not fresh[it]),
-        sum(fresh.values()), schools, [(register.children[it].east, register.children[it].north) for it in outcomes],
-    )
-    for child, school in outcomes.items():
-        wishes = register.applications[child].preferences if child in register.applications else ()
-        found.met[NONE if school is None else 1 + wishes.index(school) if school in wishes else ENDED] += 1
-        for at, code in enumerate(wishes, 1):
-            schools[code].applications[min(at, LOWER)] += 1
-        if school and not fresh[child]:
-            schools[school].kept += 1
-    for place in register.places.values():
-        schools[place.school].plans += place.kind == PLAN
-    for code, child in lots:
-        count_wish(register, schools[code], child, outcomes.get(child), lots[code, child])
-    for it in schools.values():
-        it.last, it.first_away = it.last and it.last[:2], it.first_away and it.first_away[:2]
+def count(seen: Round) -> Figures:
+    """The figures of a round."""
+    register, outcomes = seen.register, seen.outcomes
+    see_ranked(seen)
+    met = collections.Counter(preference_of(seen, child) for child in outcomes)
+    kept = sum(1 for child, code in outcomes.items() if code and not seen.fresh[child])
+    homes = [(it.east, it.north) for it in (register.children[child] for child in outcomes)]
+    found = Figures(register.year, register.phase, seen.number, seen.draw.day, len(outcomes), met,
+                    kept, sum(seen.fresh.values()),
+                    {code: school_of(seen, code) for code in register.schools}, homes)
     found.hidden = withheld(*published(found))
     return found
 
 
-def count_wish(register, school, child, got, lot):
-    """Counts one child that wanted a school in the round: it was offered the place, turned away, or has a school that it prefers."""
-    key = (ranking.class_of(school, register.children[child]), ranking.distance(school, register.children[child]), lot)
-    if got == school.code:
-        school.offers[key[0]] += 1
-        school.last = max(school.last or key, key)
-    elif child in register.applications:
-        wishes = register.applications[child].preferences
-        if got not in wishes or wishes.index(got) > wishes.index(school.code):
-            school.turned_away += 1
-            school.first_away = min(school.first_away or key, key)
+def see_ranked(seen: Round) -> None:
+    """Refuses a round with a child whose application a plan has ended since: a register shows no
+    class and no distance of it.
+    """
+    ended = next((it for it in seen.outcomes if it not in seen.register.applications), None)
+    if ended:
+        raise Refused(f"{seen.register.name} has a plan that ended the application of child {ended}"
+                      f" after round {seen.number}: the copy from right before the round is needed")
 
 
-def published(found):
-    """The counts that the page has by their keys, and the sums by which they hang together. In the first round nobody kept a place, and the page has none."""
-    places = ("offers", "kept") if found.round > 1 else ("offers",)
-    counts: dict[tuple, int] = {("met", it): number for it, number in found.met.items()} | {("met", NONE): found.met[NONE]} | {(it,): getattr(found, it) for it in places}
-    sums = [[(it, 1) for it in counts if it[0] == "met"], [(("met", NONE), 1), *(((it,), 1) for it in places)]]
-    for code, it in found.schools.items():
-        counts |= {("applied", code, at): it.applications[at] for at in range(1, LOWER + 1)}
-        counts |= {("class", code, at): it.offers[at] for at in range(len(it.criteria) + 2)}
-        own: dict[tuple, int] = {("plans", code): it.plans, ("offers", code): it.offers.total()} | ({("kept", code): it.kept} if "kept" in places else {})
-        counts |= own | {("applications", code): it.applications.total()}
-        sums.append([(("applications", code), -1), *((("applied", code, at), 1) for at in range(1, LOWER + 1))])
-        sums.append([(("offers", code), -1), *((("class", code, at), 1) for at in range(len(it.criteria) + 2))])
-        if sum(own.values()) == it.pan:
-            # (the admission number is published, and that the school is full can be seen)
-            sums.append([(key, 1) for key in own])
+def listed_by(seen: Round, child: int) -> tuple[str, ...]:
+    """The schools that a child listed, best first."""
+    return seen.register.applications[child].preferences
+
+
+def preference_of(seen: Round, child: int) -> int | str:
+    """The preference that a child has after the round, or NONE."""
+    code = seen.outcomes[child]
+    return NONE if code is None else 1 + listed_by(seen, child).index(code)
+
+
+def school_of(seen: Round, code: str) -> School:
+    """The figures of a school."""
+    it = seen.register.schools[code]
+    found = School(code, it.name, it.pan, it.criteria, it.east, it.north, plans=it.plans)
+    for child, has in seen.outcomes.items():
+        listed = listed_by(seen, child)
+        if code in listed:
+            found.applications[min(1 + listed.index(code), LOWER)] += 1
+        found.kept += has == code and not seen.fresh[child]
+    keys = {child: seen.key(code, child) for there, child in seen.lots if there == code}
+    offered = [key for child, key in keys.items() if seen.outcomes[child] == code]
+    turned_away = [key for child, key in keys.items() if is_turned_away(seen, child, code)]
+    found.offers.update(key[0] for key in offered)
+    found.turned_away = len(turned_away)
+    found.last = rank_of(max(offered, default=None))
+    found.first_away = rank_of(min(turned_away, default=None))
+    return found
+
+
+def is_turned_away(seen: Round, child: int, code: str) -> bool:
+    """Whether a child that wanted a school has neither it nor one that it prefers."""
+    has, listed = seen.outcomes[child], listed_by(seen, child)
+    return has is None or listed.index(has) > listed.index(code)
+
+
+def rank_of(key: Key | None) -> tuple[int, int] | None:
+    """The class and the metres of a child."""
+    return key and key[:2]
+
+
+def published(found: Figures) -> tuple[Counts, list[Sum]]:
+    """The counts that the page has by their keys, and the sums by which they hang together. In the
+    first round nobody kept a place, and the page has none.
+    """
+    places = {"offers": found.offers, **({"kept": found.kept} if found.round > 1 else {})}
+    met: Counts = {("met", it): number for it, number in found.met.items()}
+    met[("met", NONE)] = found.met[NONE]
+    counts: Counts = {**met, **{(it,): number for it, number in places.items()}}
+    sums: list[Sum] = [[(it, 1) for it in met],
+                       [(("met", NONE), 1), *(((it,), 1) for it in places)]]
+    for it in found.schools.values():
+        counts |= counts_of(it, "kept" in places)
+        sums += sums_of(it, "kept" in places)
     for what in places:
         sums.append([((what,), -1), *(((what, code), 1) for code in found.schools)])
     # (each child that takes part has one first preference)
@@ -125,31 +145,87 @@ def published(found):
     return counts, sums
 
 
-def see_unchanged(register, number, option):
-    """Refuses a register that had a draw or a change after the round: admission numbers, children and plans of today are not those that the round saw. (What
-    leaves no trace, such as a number that was raised where nobody was turned away, cannot be told from the register.)"""
-    draw = draw_of(register, number)
+def places_of(school: School, has_kept: bool) -> Counts:
+    """The counts of a school's places: of plans, of offers and, if the page has them, kept ones."""
+    kept: Counts = {("kept", school.code): school.kept} if has_kept else {}
+    return {("plans", school.code): school.plans,
+            ("offers", school.code): school.offers.total(), **kept}
+
+
+def parts_of(school: School) -> tuple[list[What], list[What]]:
+    """The keys of a school's applications by preference, and of its offers by class."""
+    classes = range(len(school.criteria) + 2)
+    return ([("applied", school.code, at) for at in range(1, LOWER + 1)],
+            [("class", school.code, at) for at in classes])
+
+
+def counts_of(school: School, has_kept: bool) -> Counts:
+    """The counts of a school."""
+    applied, classes = parts_of(school)
+    return {
+        **{key: school.applications[at] for at, key in enumerate(applied, 1)},
+        **{key: school.offers[at] for at, key in enumerate(classes)},
+        **places_of(school, has_kept),
+        ("applications", school.code): school.applications.total(),
+    }
+
+
+def sums_of(school: School, has_kept: bool) -> Iterator[Sum]:
+    """The sums of a school's counts."""
+    applied, classes = parts_of(school)
+    yield [(("applications", school.code), -1), *((key, 1) for key in applied)]
+    yield [(("offers", school.code), -1), *((key, 1) for key in classes)]
+    own = places_of(school, has_kept)
+    if sum(own.values()) == school.pan:
+        # (the admission number is published, and that the school is full can be seen)
+        yield [(key, 1) for key in own]
+
+
+def count_unchanged(seen: Round, option: str) -> Figures:
+    """The same, where the register had no draw and no change after the round: admission numbers,
+    children and plans of today are not those that the round saw. (What leaves no trace, such as a
+    number that was raised where nobody was turned away, cannot be told from the register.)
+    """
+    register, draw = seen.register, seen.draw
     advice = f"name the copy from right before round {draw.round} by {option}"
     if draw != register.draws[-1]:
-        raise Refused(f"{register.name} had {texts.count(len(register.draws) - draw.number, 'draw')} after round {draw.round}: {advice}")
-    outcomes, fresh = register.outcomes.get(draw.number, {}), register.fresh.get(draw.number, {})
-    if not all(is_as_left(register, draw, child, outcomes[child], fresh[child]) for child in outcomes):
-        raise Refused(f"{register.name} has answers, reminders, withdrawals or plans of after round {draw.round}: {advice}")
-    for it in count(register, number).schools.values():
-        # (who was turned away ranks after the last that was admitted, and the school is full)
-        if it.turned_away and (it.plans + it.kept + it.offers.total() < it.pan or it.first_away < (it.last or it.first_away)):
-            raise Refused(f"{register.name} has data of {it.code} or of its children that were changed after round {draw.round}: {advice}")
+        later = texts.count(len(register.draws) - draw.number, "draw")
+        raise Refused(f"{register.name} had {later} after round {draw.round}: {advice}")
+    if not all(is_as_left(seen, child) for child in seen.outcomes):
+        raise Refused(f"{register.name} has answers, reminders, withdrawals or plans of after round"
+                      f" {draw.round}: {advice}")
+    found = count(seen)
+    for it in found.schools.values():
+        if is_changed(it):
+            raise Refused(f"{register.name} has data of {it.code} or of its children that were"
+                          f" changed after round {draw.round}: {advice}")
+    return found
 
 
-def is_as_left(register, draw, child, school, is_fresh):
-    """Whether a child has what a round left it: an offer of its day, the place that it had, or none."""
-    place = register.places.get(child)
-    if school is None or place is None:
-        return school is None and place is None and child in register.applications
-    return place.school == school and place.kind != PLAN and (not is_fresh or (place.kind, place.day, place.reminded) == (OFFERED, draw.day, None))
+def is_as_left(seen: Round, child: int) -> bool:
+    """Whether a child has what a round left it: an offer of its day, the place that it had, or
+    none.
+    """
+    code, place = seen.outcomes[child], seen.register.places.get(child)
+    if code is None or place is None:
+        return code is None and place is None and child in seen.register.applications
+    an_offer = (OFFERED, seen.draw.day, None)
+    is_left = not seen.fresh[child] or (place.kind, place.day, place.reminded) == an_offer
+    return place.school == code and place.kind != PLAN and is_left
 
 
-def is_published(found):
+def is_changed(school: School) -> bool:
+    """Whether a school's figures are none of a round: who was turned away ranks after the last that
+    was admitted, and the school is full.
+    """
+    if school.first_away is None:
+        return False
+    is_full = school.plans + school.kept + school.offers.total() >= school.pan
+    return not is_full or school.first_away < (school.last or school.first_away)
+
+
+def is_published(found: Figures) -> None:
     """Refuses figures of so few children that nothing can be published of them."""
     if found.children < LEAST:
-        raise Refused(f"{found.children} children took part in round {found.round}: figures of fewer than {LEAST} children are not published")
+        raise Refused(f"{found.children} children took part in round {found.round}: figures of"
+                      f" fewer than {LEAST} children are not published")

@@ -3,19 +3,19 @@ personal data, in one file that any browser shows.
 
   admissions-figures AFTER OUT.html [--copy COPY]
                      [--before LAST_YEAR [--before-copy COPY]] [--round N]
-                     [--flags FILE]
+                     [--flags FILE] [--user NAME]
 
-AFTER is the register from right after the round: classes and distances are
-those of the data in it. Later, name the copy from right before the round by
---copy: schools and children are then taken from it, as the round saw them.
-Without it a register is refused that had a draw, an answer or another change
-after the round. The page has, for the last round, for round N or for that of
-the copy: how many children have their first, second, .. preference; for each
-school its admission number, applications by preference, offers by criterion,
-and the criterion and the distance of the last child that was offered a place;
-a map of schools, with homes counted in squares; and charts. With --before it
-is compared with the same round of last year's register; --before-copy is for
-that register what --copy is for AFTER.
+AFTER is the register from right after the round, or the address at which it is
+served: classes and distances are those of the data in it. Later, name the copy
+from right before the round by --copy: schools and children are then taken from
+it, as the round saw them. Without it a register is refused that had a draw, an
+answer or another change after the round. The page has, for the last round, for
+round N or for that of the copy: how many children have their first, second, ..
+preference; for each school its admission number, applications by preference,
+offers by criterion, and the criterion and the distance of the last child that
+was offered a place; a map of schools, with homes counted in squares; and
+charts. With --before it is compared with the same round of last year's
+register; --before-copy is for that register what --copy is for AFTER.
 
 Counts from 1 to 4 are withheld, and so are others from which they could be
 worked out; so are squares of the map with fewer than 5 homes, and the distance
@@ -30,107 +30,143 @@ example:
 exit status: 0 written; 1 refused or failed, and nothing was written; 2 wrong
 arguments.
 """
+import argparse
 import os
+from typing import Any
 
 from register_files import Refused
 
-from . import charts, days, figure_counts, pages, ranking, register, sheet
-from .figure_counts import ENDED, LOWER, NONE
+from . import charts, days, figure_counts, model, pages, ranking, rounds, sheet
+from .figure_counts import LOWER, NONE, Figures, School, What
 from .run import Progress
 from .withheld import LEAST, MEANING, WITHHELD
 
-NTH = ("first", "second", "third", "fourth", "fifth", "sixth", "seventh", "eighth", "ninth", "tenth")
+NTH = ("first", "second", "third", "fourth", "fifth", "sixth", "seventh", "eighth", "ninth",
+       "tenth")
 MOST_BARS = 40
-MAP_TEXT = "A map with a triangle and the code of each school. {cells} squares of {side} metres are coloured, the darker the more homes are in them."
+MAP_TEXT = (
+    "A map with a triangle and the code of each school. {cells} squares of {side} metres are"
+    " coloured, the darker the more homes are in them."
+)
+# a row of a table of the page
+Row = dict[str, Any]
 
 
-def shown(found, key, value):
+def shown(found: Figures, key: What, value: int) -> str:
     """A count as the page has it."""
     return WITHHELD if key in found.hidden else f"{value:,}"
 
 
-def drawn(found, key, value):
+def drawn(found: Figures, key: What, value: int) -> int | None:
     """A count as a chart has it: None is withheld."""
     return None if key in found.hidden else value
 
 
-def percent(found, key, value):
-    """Of all children that took part, in percent with one decimal, rounded half up; None if it is withheld."""
+def percent(found: Figures, key: What, value: int) -> float | None:
+    """Of all children that took part, in percent with one decimal, rounded half up; None if it is
+    withheld.
+    """
     if key in found.hidden:
         return None
     tenths = (2000 * value + found.children) // (2 * found.children)
     return tenths / 10
 
 
-def name_of(what):
+def name_of(what: int | str) -> str:
     """A row of the preferences."""
-    return {NONE: "no place", ENDED: "a place by an EHC plan since"}.get(what) or f"{NTH[what - 1]} preference"
+    return "no place" if isinstance(what, str) else f"{NTH[what - 1]} preference"
 
 
-def preferences(found, last):
-    """The rows of the preferences: what, count and percent, and the same of last year."""
-    keys = [*sorted({*found.met, *(last.met if last else ())} - {NONE, ENDED}), *([ENDED] if found.met[ENDED] or last and last.met[ENDED] else []), NONE]
-    return [(name_of(key), [cell for it in (found, last) if it for cell in met_cells(it, key)]) for key in keys], keys
+def keys_of(*years: Figures | None) -> list[int | str]:
+    """The preferences that any of these has, and NONE."""
+    met = {key for it in years if it for key in it.met}
+    return [*sorted(it for it in met if isinstance(it, int)), NONE]
 
 
-def met_cells(found, key):
+def met_cells(found: Figures, key: int | str) -> tuple[str, str]:
     """The count and the percent of a preference."""
     rate = percent(found, ("met", key), found.met[key])
-    return shown(found, ("met", key), found.met[key]), WITHHELD if rate is None else f"{rate:.1f}%"
+    words = WITHHELD if rate is None else f"{rate:.1f}%"
+    return shown(found, ("met", key), found.met[key]), words
 
 
-def last_offered(school, flags):
+def last_offered(school: School, flags: dict[int, str]) -> tuple[str, str]:
     """The criterion and the distance of the last child that was offered a place, in words."""
     if school.last is None:
         return "no offer in this round", ""
     number, metres = school.last
-    return ranking.in_words(school, number, flags), WITHHELD if ranking.is_private(school, number) else f"{metres:,} m"
+    distance = WITHHELD if ranking.is_private(school, number) else f"{metres:,} m"
+    return ranking.in_words(school, number, flags), distance
 
 
-def school_row(found, it, flags):
+def school_row(found: Figures, it: School, flags: dict[int, str]) -> Row:
     """A school's row of the main table."""
-    applied = [shown(found, ("applied", it.code, at), it.applications[at]) for at in range(1, LOWER + 1)]
-    criterion, metres = last_offered(it, flags)
+    code, (criterion, metres) = it.code, last_offered(it, flags)
+    totals = {"applications": it.applications.total(), "plans": it.plans, "kept": it.kept,
+              "offers": it.offers.total()}
     return {
-        "code": it.code, "name": it.name, "pan": f"{it.pan:,}", "applied": applied,
-        "applications": shown(found, ("applications", it.code), it.applications.total()), "plans": shown(found, ("plans", it.code), it.plans),
-        "kept": shown(found, ("kept", it.code), it.kept), "offers": shown(found, ("offers", it.code), it.offers.total()),
-        "criterion": criterion, "metres": metres, "turned_away": "some" if it.turned_away else "none",
-        "classes": [(ranking.in_words(it, at, flags), shown(found, ("class", it.code, at), it.offers[at])) for at in range(len(it.criteria) + 2)],
+        "code": code, "name": it.name, "pan": f"{it.pan:,}",
+        "applied": [shown(found, ("applied", code, at), it.applications[at])
+                    for at in range(1, LOWER + 1)],
+        **{what: shown(found, (what, code), value) for what, value in totals.items()},
+        "criterion": criterion, "metres": metres,
+        "turned_away": "some" if it.turned_away else "none",
+        "classes": [(ranking.in_words(it, at, flags), shown(found, ("class", code, at), number))
+                    for at, number in enumerate(it.offers[at] for at in classes_of(it))],
     }
 
 
-def compared(row, then):
-    """A school's row of the comparison: each figure of this year, and of last year if it was there."""
-    pairs = [(row[it], then[it] if then else "") for it in ("pan", "applications", "offers", "metres")]
+def classes_of(school: School) -> range:
+    """The classes of a school: the looked after, one for each criterion, and the others."""
+    return range(len(school.criteria) + 2)
+
+
+def compared(row: Row, then: Row | None) -> Row:
+    """A school's row of the comparison: each figure of this year, and of last year if it was there.
+    """
+    columns = ("pan", "applications", "offers", "metres")
+    pairs = [(row[it], then[it] if then else "") for it in columns]
     return {"code": row["code"], "name": row["name"], "pairs": pairs, "was_there": then is not None}
 
 
-def chart_of_preferences(found, last, keys):
+def chart_of_preferences(found: Figures, last: Figures | None, keys: list[int | str]) -> str:
     """How many percent of the children have which preference."""
-    series = [(str(it.year), [percent(it, ("met", key), it.met[key]) for key in keys]) for it in (found, last) if it]
-    text = "; ".join(f"{name_of(key)} {WITHHELD if value is None else f'{value:.1f}%'}" for key, value in zip(keys, series[0][1]))
-    title, description = "Preferences met, in percent of the children", f"Bars. {found.year}: {text}. The table above has the numbers."
-    return charts.bars("met", title, description, [name_of(it) for it in keys], series, "percent of the children", WITHHELD)
+    rates = {it.year: [percent(it, ("met", key), it.met[key]) for key in keys]
+             for it in (found, last) if it}
+    words = (WITHHELD if it is None else f"{it:.1f}%" for it in rates[found.year])
+    text = "; ".join(f"{name_of(key)} {it}" for key, it in zip(keys, words))
+    title = "Preferences met, in percent of the children"
+    description = f"Bars. {found.year}: {text}. The table above has the numbers."
+    series = [(str(year), them) for year, them in rates.items()]
+    return str(charts.bars("met", title, description, [name_of(it) for it in keys], series,
+                           "percent of the children", WITHHELD))
 
 
-def chart_of_schools(found):
-    """Places, first preferences and offers of each school, or of those with the most places if there are many."""
-    there = sorted(sorted(found.schools.values(), key=lambda it: -it.pan)[:MOST_BARS], key=lambda it: it.code)
-    series = [
-        ("admission number", [it.pan for it in there]),
-        ("first preferences", [drawn(found, ("applied", it.code, 1), it.applications[1]) for it in there]),
-        ("offers", [drawn(found, ("offers", it.code), it.offers.total()) for it in there]),
-    ]
-    which = "of each school" if len(there) == len(found.schools) else f"of the {MOST_BARS} schools with the most places"
-    title, description = f"Admission number, first preferences and offers {which}", "Three bars for each school, with the numbers of the table above."
-    return title, charts.bars("schools", title, description, [it.code for it in there], series, "children", WITHHELD)
+def chart_of_schools(found: Figures) -> tuple[str, str]:
+    """Places, first preferences and offers of each school, or of those with the most places if
+    there are many.
+    """
+    largest = sorted(found.schools.values(), key=lambda it: -it.pan)[:MOST_BARS]
+    there = sorted(largest, key=lambda it: it.code)
+    first = [drawn(found, ("applied", it.code, 1), it.applications[1]) for it in there]
+    offers = [drawn(found, ("offers", it.code), it.offers.total()) for it in there]
+    series = [("admission number", [it.pan for it in there]), ("first preferences", first),
+              ("offers", offers)]
+    is_whole = len(there) == len(found.schools)
+    which = "of each school" if is_whole else f"of the {MOST_BARS} schools with the most places"
+    title = f"Admission number, first preferences and offers {which}"
+    description = "Three bars for each school, with the numbers of the table above."
+    return title, charts.bars("schools", title, description, [it.code for it in there], series,
+                              "children", WITHHELD)
 
 
-def page(found, last, flags):
-    """The page, from the figures of this year and of last year. `flags` are the office's words for flags."""
-    progress = Progress("charts", 3)
-    met, keys = preferences(found, last)
+def page(found: Figures, last: Figures | None, flags: dict[int, str]) -> str:
+    """The page, from the figures of this year and of last year. `flags` are the office's words for
+    flags.
+    """
+    progress, keys = Progress("charts", 3), keys_of(found, last)
+    years = [it for it in (found, last) if it]
+    met = [(name_of(key), [cell for it in years for cell in met_cells(it, key)]) for key in keys]
     rows = [school_row(found, it, flags) for it in found.schools.values()]
     then = {it.code: school_row(last, it, flags) for it in last.schools.values()} if last else {}
     points = [(it.code, it.east, it.north) for it in found.schools.values()]
@@ -138,54 +174,78 @@ def page(found, last, flags):
     progress.at(1)
     schools_title, schools_chart = chart_of_schools(found)
     progress.at(2)
-    map_chart, side = charts.school_map("map", "Schools and homes", MAP_TEXT, points, found.homes, LEAST)
+    map_chart, side = charts.school_map("map", "Schools and homes", MAP_TEXT, points, found.homes,
+                                        LEAST)
     progress.at(3)
     progress.end()
-    return pages.render("figures.html", {
-        "found": found, "last": last, "day": days.in_words(found.day), "met": met, "rows": rows, "least": LEAST, "meaning": MEANING, "side": f"{side:,}",
-        "kept": shown(found, ("kept",), found.kept), "offers": shown(found, ("offers",), found.offers),
+    return str(pages.render("figures.html", {
+        "found": found, "last": last, "day": days.in_words(found.day), "met": met, "rows": rows,
+        "least": LEAST, "meaning": MEANING, "side": f"{side:,}",
+        "kept": shown(found, ("kept",), found.kept),
+        "offers": shown(found, ("offers",), found.offers),
         "compared": [compared(it, then.get(it["code"])) for it in rows] if last else [],
-        "schools_title": schools_title, "charts": {"met": met_chart, "schools": schools_chart, "map": map_chart},
-    })
+        "schools_title": schools_title,
+        "charts": {"met": met_chart, "schools": schools_chart, "map": map_chart},
+    }))
 
 
-def figures_of(name, copy, number, option):
-    """The figures of a register's round, as the round saw its schools and children. `option` is the one that names the copy."""
-    after = register.read(name)
-    if copy:
-        _, after = ranking.seen_by_round(register.read(copy), after)
-        if number not in (None, sum(bool(it.round) for it in after.draws)):
-            raise Refused(f"{copy} is not from right before round {number}")
+def figures_of(after: model.Register, before: model.Register | None, number: int | None,
+               option: str) -> Figures:
+    """The figures of a register's round, as the round saw its schools and children: those of the
+    copy from before it, if there is one. `option` is the one that names the copy.
+    """
+    if before is None:
+        found = figure_counts.count_unchanged(rounds.of_register(after, number), option)
     else:
-        figure_counts.see_unchanged(after, number, option)
-    found = figure_counts.count(after, number)
+        seen = rounds.of_copy(before, after)
+        if number not in (None, seen.number):
+            raise Refused(f"{before.name} is not from right before round {number}")
+        found = figure_counts.count(seen)
     figure_counts.is_published(found)
     return found
 
 
-def arguments(reader):
+def arguments(reader: argparse.ArgumentParser) -> None:
     """The arguments of the command."""
-    reader.add_argument("after", metavar="AFTER", help="the register, or a copy, from right after the round")
+    reader.add_argument("after", metavar="AFTER", help="the register, or a copy, from right after"
+                        " the round" + model.ADDRESS_HELP)
     reader.add_argument("out", metavar="OUT.html", help="the page, which must be new")
-    reader.add_argument("--copy", metavar="COPY", help="the copy from right before the round, if anything was changed since")
+    reader.add_argument("--copy", metavar="COPY", help="the copy from right before the round, if"
+                        " anything was changed since")
     reader.add_argument("--flags", metavar="FILE", help=ranking.FLAGS_HELP)
-    reader.add_argument("--before", metavar="LAST_YEAR", help="last year's register, to be compared")
-    reader.add_argument("--before-copy", metavar="COPY", help="last year's copy from right before the same round, if anything was changed since")
-    reader.add_argument("--round", metavar="N", type=int, help="the number of the round, the last one by default")
+    reader.add_argument("--before", metavar="LAST_YEAR",
+                        help="last year's register, to be compared")
+    reader.add_argument("--before-copy", metavar="COPY", help="last year's copy from right before"
+                        " the same round, if anything was changed since")
+    reader.add_argument("--round", metavar="N", type=int,
+                        help="the number of the round, the last one by default")
+    reader.add_argument("--user", metavar="NAME", help=model.USER_HELP)
 
 
-def main(given):
+def see_comparable(found: Figures, last: Figures, name: str) -> None:
+    """Refuses figures that are not of an earlier year of the same phase."""
+    if last.phase != found.phase or last.year >= found.year:
+        raise Refused(f"{name} is of {last.phase} entry in {last.year}, and cannot be compared with"
+                      f" {found.phase} entry in {found.year}")
+
+
+def main(given: argparse.Namespace) -> int:
     """Writes the page."""
     if given.before_copy and not given.before:
         raise Refused("--before-copy needs --before", 2)
     if os.path.lexists(given.out):
         raise Refused(f"{given.out} is there already: nothing was written; choose another name")
     flags, last = ranking.flags_of(given.flags), None
-    found = figures_of(given.after, given.copy, given.round, "--copy")
+    read = model.reader(given.user, given.after, given.copy, given.before, given.before_copy)
+
+    def figures(name: str, copy: str | None, number: int | None, option: str) -> Figures:
+        return figures_of(read(name), read(copy) if copy else None, number, option)
+
+    found = figures(given.after, given.copy, given.round, "--copy")
     if given.before:
-        last = figures_of(given.before, given.before_copy, found.round, "--before-copy")
-        if last.phase != found.phase or last.year >= found.year:
-            raise Refused(f"{given.before} is of {last.phase_name} entry in {last.year}, and cannot be compared with {found.phase_name} entry in {found.year}")
+        last = figures(given.before, given.before_copy, found.round, "--before-copy")
+        see_comparable(found, last, given.before)
     sheet.write_new(given.out, page(found, last, flags).encode())
-    print(f"the figures of round {found.round}, {days.in_words(found.day)}, are in {given.out}; {len(found.hidden)} counts are withheld")
+    print(f"the figures of round {found.round}, {days.in_words(found.day)}, are in {given.out};"
+          f" {len(found.hidden)} counts are withheld")
     return 0

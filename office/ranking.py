@@ -1,10 +1,8 @@
 """The problem of a round, from the register before it: who takes part, which schools each child wants, the places, and how each child ranks."""
-import dataclasses
-
 from register_files import Refused
 
 from . import sheet, texts
-from .register import PLAN, same_season
+from .register import PLAN
 
 MOST_FLAG = 15
 # the option by which commands take the office's words for flags
@@ -69,32 +67,6 @@ def in_words(school, number, flags=None):
         words = (flags or {}).get(int(value))
         return f"with a verified priority: {words}" if words else f"with the priority that the office has verified as flag {value}"
     return f"from the feeder school {value}"
-
-
-def seen_by_round(before, after):
-    """The number of the round that is the next draw of BEFORE, and BEFORE with the lots and the outcomes that AFTER has of it: schools and children have the
-    data that the round saw, whatever was changed since."""
-    same_season(before, after)
-    at = len(before.draws) + 1
-    draw = after.draws[at - 1] if len(after.draws) >= at else None
-    if draw is None:
-        raise Refused(f"{after.name} has no draw {at}: {before.name} has {at - 1}, and there is none more")
-    if draw.round == 0:
-        raise Refused(f"draw {at} is a fill at {draw.school}, and this command takes rounds alone; admissions-audit {before.name} {after.name} explains a fill")
-    problem, lots, outcomes = Problem(before), after.lots.get(at, {}), after.outcomes.get(at, {})
-    if problem.pairs() != set(lots) or set(problem.lists) != set(outcomes):
-        raise Refused(f"{before.name} is not from right before draw {at} of {after.name}: the children who take part, or their lots, differ")
-    # (nothing but the admission number of a school can be changed, and that can only rise)
-    for code, it in before.schools.items():
-        now = after.schools.get(code)
-        if now is None or dataclasses.replace(now, pan=it.pan) != it or now.pan < it.pan:
-            raise Refused(f"{before.name} is no copy of {after.name}: the school {code} of the one is not that of the other")
-        if now.pan > it.pan and sum(has == code for has in outcomes.values()) > max(problem.places(code), sum(own == code for own in problem.own.values())):
-            raise Refused(f"{before.name} is not from right before draw {at}: {code} admitted more children than it has places there")
-    found = dataclasses.replace(
-        before, draws=after.draws[:at], lots={**before.lots, at: lots}, outcomes={**before.outcomes, at: outcomes}, fresh={**before.fresh, at: after.fresh.get(at, {})},
-    )
-    return at, found
 
 
 class Problem:

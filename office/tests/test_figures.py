@@ -12,8 +12,10 @@ import pytest
 from conftest import apply, child, do, make, school
 from figures_page import Page, beside_model, table
 from files import write
+from serving import do_over, served
 
-from office import charts, figure_counts, register
+from office import charts, figure_counts, model, rounds
+from office.run import Refused
 from office.withheld import withheld
 
 
@@ -29,16 +31,21 @@ def test_the_example_season(office, season, tmp_path, name, played, at):
         assert it not in text
 
 
+def counted(path, number=None):
+    """The counts of a register's round, by the data that it has now."""
+    return figure_counts.count(rounds.of_register(model.read(str(path)), number))
+
+
 def test_counts_are_those_of_the_model(season):
     """The counts before any is withheld: all of them, by class and by preference."""
     for name, played in (("after-1.db", model_season.after_first), ("reg.db", model_season.after_second)):
-        found, wanted = figure_counts.count(register.read(str(season / name))), model_season.figures(played())
+        found, wanted = counted(season / name), model_season.figures(played())
         assert (found.children, found.offers, found.kept, found.met) == (wanted["children"], wanted["offers"], wanted["kept"], wanted["met"])
         for code, it in wanted["schools"].items():
             one = found.schools[code]
             assert (one.plans, one.kept, one.last, one.turned_away) == (it["plans"], it["kept"], it["last"], it["turned_away"])
             assert one.applications == it["applied"] and one.offers == it["classes"]
-    earlier = figure_counts.count(register.read(str(season / "reg.db")), 1)
+    earlier = counted(season / "reg.db", 1)
     assert earlier.round == 1 and earlier.children == 598
 
 
@@ -81,6 +88,42 @@ def test_later_by_the_copy(office, tmp_path):
     assert ran.returncode == 0 and copied == first and "with a verified priority: social or medical need" in first, ran
     ran = office("figures", "reg.db", "no.html", "--copy", "before.db", "--round", "2")
     assert ran.returncode == 1 and "is not from right before round 2" in ran.stderr and not (tmp_path / "no.html").exists()
+
+
+def test_a_plan_since_is_never_counted_wrongly(tmp_path):
+    """A register shows no class and no distance of a child whose application a plan ended. So the counts of the round before it are refused, for whoever calls, and
+    with the copy from before the round they are as they were: by hand, children 1 to 6 have Oak with flag 7, child 6 last, and child 7 is turned away first."""
+    one_school(tmp_path)
+    first = counted(tmp_path / "reg.db")
+    assert (first.met, first.schools["OAK"].offers, first.schools["OAK"].plans) == ({1: 6, "none": 6}, {1: 6}, 0)
+    assert (first.schools["OAK"].last, first.schools["OAK"].first_away) == ((1, 600), (1, 700))
+    for number in (12, 6):
+        do(tmp_path / "reg.db", [{"cmd": "name_plan", "child": number, "school": "OAK"}])
+        said = f"reg.db has a plan that ended the application of child {number} after round 1: the copy from right before the round is needed"
+        with pytest.raises(Refused, match=said):
+            counted(tmp_path / "reg.db")
+        seen = rounds.of_copy(model.read(str(tmp_path / "before.db")), model.read(str(tmp_path / "reg.db")))
+        assert figure_counts.count(seen) == first
+
+
+def test_by_the_address_of_a_register(office, tmp_path):
+    """The page of a register that is served is that of its file: of the year, of last year, and beside the copy."""
+    one_school(tmp_path)
+    shutil.copy(tmp_path / "reg.db", tmp_path / "last.db")
+    move(tmp_path / "last.db", -1)
+    assert office("figures", "reg.db", "first.html", "--before", "last.db").returncode == 0
+    with served(tmp_path / "reg.db") as (now, _), served(tmp_path / "last.db") as (last, _):
+        ran = office("figures", now, "served.html", "--before", last, "--user", "jane", stdin="secret\n" * 2)
+        assert ran.returncode == 0, ran
+        ran = office("figures", now, "no.html", "--before", now)
+        assert ran.returncode == 1 and f"{now} is of secondary entry in 2025, and cannot be compared with secondary entry in 2025" in ran.stderr, ran
+        do_over(now, [DECLINE])
+        ran = office("figures", now, "no.html")
+        assert ran.returncode == 1 and f"{now} {SINCE}: name the copy from right before round 1 by --copy\n" in ran.stderr, ran
+        assert office("figures", now, "copy.html", "--copy", "before.db", "--before", last).returncode == 0
+    assert (tmp_path / "served.html").read_bytes() == (tmp_path / "copy.html").read_bytes() == (tmp_path / "first.html").read_bytes()
+    assert not (tmp_path / "no.html").exists()
+    assert office("figures", "last.db", "no.html", "--user", "jane").returncode == 2
 
 
 ACCEPT, DECLINE = ({"cmd": it, "child": 2, "school": "OAK"} for it in ("accept", "decline"))
@@ -217,7 +260,7 @@ def figures(number, children, met, schools):
         one.offers.update({at: it for at, it in enumerate(offers) if it})
         town[code] = one
     total = lambda what: sum(what(it) for it in town.values())
-    return figure_counts.Figures(2025, 2, number, datetime.date(2025, 3, 3), children, collections.Counter(met), total(lambda it: it.kept), total(lambda it: it.offers.total()), town, [])
+    return figure_counts.Figures(2025, "secondary", number, datetime.date(2025, 3, 3), children, collections.Counter(met), total(lambda it: it.kept), total(lambda it: it.offers.total()), town, [])
 
 
 def test_a_full_school_does_not_show_its_plans(tmp_path):
@@ -229,5 +272,5 @@ def test_a_full_school_does_not_show_its_plans(tmp_path):
     lots = {("OAK", it): it for it in lists}
     places = {1: ("OAK", "plan"), 2: ("OAK", "plan"), **{it: ("OAK", "offered") for it in range(3, 21)}}
     write(tmp_path / "a.db", {"OAK": oak}, children, lists, places=places, draws=[("2025-03-03", has, lots, {it for it in has if has[it]})])
-    found = figure_counts.count(register.read(str(tmp_path / "a.db")))
+    found = counted(tmp_path / "a.db")
     assert found.schools["OAK"].plans == 2 and {("plans", "OAK"), ("offers", "OAK")} <= found.hidden
