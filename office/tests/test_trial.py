@@ -4,11 +4,13 @@ import copy
 import csv
 import os
 import re
+import shutil
 import subprocess
 
 import model_season
 import pytest
 from conftest import apply, child, do, make, school
+from serving import served
 
 
 def tried(season, changes, held):
@@ -103,6 +105,26 @@ def test_without_the_round(office, season, tmp_path):
     assert "2 children took part: 1 would gain, 0 would lose, 1 would have the same school" in ran.stdout
     loser = 2 if sums[0] < sums[1] else 1
     assert (tmp_path / "o.csv").read_text("utf-8-sig").splitlines()[1] == f"{loser},Child {loser},gains,,,OAK,ranked by distance alone"
+
+
+def test_by_the_address_of_a_register(office, season, tmp_path):
+    """What is tried of registers that are served is what is tried of their files; a later round needs the file of BEFORE, which no server gives."""
+    words, raised = ("--criteria", "HEAA=flag:2;within:3000", "--pan", "ASHA=60"), ("--pan", "HEAA=40")
+    first = office("trial", season / "before-1.db", season / "after-1.db", *words)
+    later = office("trial", season / "before-2.db", season / "reg.db", *raised)
+    assert first.returncode == later.returncode == 0
+    for it in ("before-1.db", "after-1.db", "before-2.db", "reg.db"):
+        shutil.copy(season / it, tmp_path / it)
+    with served(tmp_path / "before-1.db") as (before, _), served(tmp_path / "after-1.db") as (after, _):
+        for given in ((season / "before-1.db", after), (before, after), (before, season / "after-1.db", "--user", "jane")):
+            ran = office("trial", *given, *words, stdin="secret\n")
+            assert (ran.returncode, ran.stdout) == (0, first.stdout), (given, ran)
+    with served(tmp_path / "before-2.db") as (before, _), served(tmp_path / "reg.db") as (after, _):
+        ran = office("trial", season / "before-2.db", after, *raised)
+        assert (ran.returncode, ran.stdout) == (0, later.stdout), ran
+        ran = office("trial", before, after, *raised)
+        assert (ran.returncode, ran.stderr) == (1, f"admissions-trial: {before} is served: this needs the file of a register, or a copy of it\n"), ran
+    assert office("trial", season / "before-1.db", season / "after-1.db", *words, "--user", "jane").returncode == 2
 
 
 def test_flags_in_the_words_of_the_office(office, tmp_path):
