@@ -1,7 +1,8 @@
 """Checks a file of applications before it is imported, and reports everything
 that is wrong with it at once.
 
-  admissions-check APPLICATIONS [--register REG.db] [--fix OUT.csv]
+  admissions-check APPLICATIONS [--register REG.db [--user NAME]]
+                   [--fix OUT.csv]
 
 APPLICATIONS is a CSV or a workbook (.xlsx) with the columns child, name, east,
 north, looked_after, flags, siblings, day, preferences and, if wanted, present,
@@ -11,7 +12,10 @@ comes first; `look at` marks what import would take, and what may be wrong all
 the same: likely duplicates, a year far from the others.
 
 With --register the file is also compared with a register: schools that it has
-not, children that it knows with other data.
+not, and rows that import refuses because it knows their child by other data.
+The program itself tries these rows, on a copy. REG.db may be the address at
+which the register is served: such rows are then compared with what it has now,
+and none is tried.
 
 --fix writes the CSV that import takes, and prints each thing that it changed:
 letter case and blanks of codes, separators, Yes and No, days with one possible
@@ -26,23 +30,35 @@ example:
 exit status: 0 nothing is wrong (with --fix: OUT.csv is written); 1 something
 is; 2 wrong arguments.
 """
+import argparse
 import dataclasses
+from collections.abc import Callable, Iterator, Mapping
 
-from . import across, fields, header, inputs, register, sheet, texts
-from .run import Progress, Refused
+from register_files import Refused
+
+from . import across, fields, header, inputs, model, sheet, texts
+from .model import PLAN, Register
+from .run import Progress
 
 ERROR, FIXED, LOOK = "error", "fixed", "look at"
 ORDER = (ERROR, LOOK, FIXED)
 MOST_ROWS = 2000
 # so many groups of rows are named on a line
 MOST_SPANS = 4
+# so many rows are named that import refuses: for each of them it is tried once more
+MOST_REFUSED = 50
 # a row is a total where it begins with one of these, and has neither a day nor preferences
 TOTALS = ("total", "totals", "grand total", "subtotal", "sum", "count")
+KEEP_ROW = "to change a child, amend it and keep its row"
+# adds a finding: row, column, value, text, kind, what is written instead
+Add = Callable[..., None]
 
 
 @dataclasses.dataclass(frozen=True)
 class Finding:
-    """Something in the file: where, the value, what is expected or what it may be, and for FIXED what is written instead."""
+    """Something in the file: where, the value, what is expected or what it may be, and for FIXED
+    what is written instead.
+    """
 
     row: int
     column: str
@@ -54,7 +70,8 @@ class Finding:
     @property
     def change(self) -> tuple[object, ...] | None:
         """What is said of a change but for its row, or None: others are printed one by one."""
-        return (self.column, self.value, self.text, self.written) if self.kind == FIXED else None
+        is_change = self.kind == FIXED
+        return (self.column, self.value, self.text, self.written) if is_change else None
 
     def line(self, is_fixing: bool, rows: list[int]) -> str:
         """The finding as it is printed, of each of these rows."""
@@ -71,7 +88,8 @@ class Finding:
             return f"ERROR {where}{value}: expected {self.text}"
         if self.written is None:
             return f"{where}{value}: {self.text}" + ("" if is_fixing else " (by --fix)")
-        return f"{where}{value}: {'written as' if is_fixing else '--fix writes'} {texts.shown(self.written)}"
+        how = "written as" if is_fixing else "--fix writes"
+        return f"{where}{value}: {how} {texts.shown(self.written)}"
 
 
 @dataclasses.dataclass
@@ -79,37 +97,133 @@ class Row:
     """A row with the fields that could be read, as import takes them; the others are empty."""
 
     number: int
-    given: dict
-    fields: dict
+    given: dict[str, str]
+    fields: dict[str, str]
 
     @property
-    def home(self):
+    def child(self) -> int:
+        """The child's number, or 0 where it could not be read."""
+        return int(self.fields["child"] or 0)
+
+    @property
+    def home(self) -> tuple[int, int] | None:
         """The home, where both coordinates could be read."""
-        return (int(self.fields["east"]), int(self.fields["north"])) if self.fields["east"] and self.fields["north"] else None
+        east, north = self.fields["east"], self.fields["north"]
+        return (int(east), int(north)) if east and north else None
 
     @property
-    def has_person(self):
+    def has_person(self) -> bool:
         """Whether name and home could be read."""
         return bool(self.home and self.fields["name"])
 
     @property
-    def where(self):
+    def where(self) -> str:
         """How other rows' messages name it."""
         return f"row {self.number}"
 
 
 @dataclasses.dataclass
 class Context:
-    """What readers of fields know: the schools of a register, and whether days are day/month/year."""
+    """What readers of fields know: the schools of a register, and whether days are day/month/year.
+    """
 
-    schools: dict
+    schools: Mapping[str, model.School]
     is_uk: bool
+
+
+class Known:
+    """The rows of a file whose children a register has: those that import would refuse."""
+
+    def __init__(self, reg: Register, rows: list[Row]) -> None:
+        self.register, self.rows = reg, rows
+        # how many rows were not tried
+        self.untried = 0
+
+    def find(self, add: Add) -> None:
+        """Adds what is wrong with them. Without a file of the register none can be tried."""
+        source = self.register.source
+        if not isinstance(source, model.File):
+            for row in self.rows:
+                self.compare(row, add)
+            self.untried = len(self.rows)
+            return
+        for row, name in self.refused(source):
+            self.explain(row, name, add)
+
+    def refused(self, source: model.File) -> Iterator[tuple[Row, str]]:
+        """The rows that the program refuses, each with the name of the refusal or the error. It
+        names the first, so the rows after that are tried again.
+        """
+        rows = self.rows
+        for _ in range(MOST_REFUSED):
+            data = sheet.csv_bytes([fields.COLUMNS, *map(values_of, rows)])
+            answer = source.imports(data) if rows else {}
+            if "row" not in answer:
+                return
+            row, rows = rows[answer["row"] - 1], rows[answer["row"]:]
+            yield row, answer["name"]
+        self.untried = len(rows)
+
+    def explain(self, row: Row, name: str, add: Add) -> None:
+        """Adds why a row is refused."""
+        given, child = row.given["child"], row.child
+        has = f"the register has child {child}, {texts.shown(self.register.children[child].name)}"
+        if name != "RowDiffers":
+            add(row.number, "child", given, f"a row that import takes (it refuses this: {name})")
+        elif self.is_added(child):
+            add(row.number, "child", given,
+                f"a number that is new: {has}, which was added by a command")
+        elif differing := across.differing(row, self.register):
+            for column, had in differing:
+                add(row.number, column, row.given.get(column, ""), "what the register has now for"
+                    f" child {child}: {texts.shown(had)} ({KEEP_ROW})")
+        elif child not in self.register.applications:
+            add(row.number, "child", given, f"the row that was imported for it: {has}, whose"
+                " application a plan ended, and its row had another day or other preferences"
+                f" ({KEEP_ROW})")
+        else:
+            add(row.number, "child", given, f"the row that was imported for it: {has}, with these"
+                f" values, and another row, or none, was imported for it ({KEEP_ROW})")
+
+    def compare(self, row: Row, add: Add) -> None:
+        """Adds what may be wrong with a row that cannot be tried."""
+        given, child = row.given["child"], row.child
+        if self.is_added(child):
+            name = texts.shown(self.register.children[child].name)
+            add(row.number, "child", given, f"a number that is new: the register has child {child},"
+                f" {name}, which was added by a command")
+            return
+        for column, had in across.differing(row, self.register):
+            add(row.number, column, row.given.get(column, ""), f"the register has now for child"
+                f" {child}: {texts.shown(had)}; is this the row that was imported?", LOOK)
+
+    def is_added(self, child: int) -> bool:
+        """Whether a child was certainly added by a command: a row that is imported has an
+        application, which nothing but a plan ends.
+        """
+        place = self.register.places.get(child)
+        return child not in self.register.applications and not (place and place.kind == PLAN)
+
+    def closing(self) -> str:
+        """What is said of the rows that were not tried, or ""."""
+        if not self.untried:
+            return ""
+        rows = f"{texts.count(self.untried, 'row')} of children that the register has"
+        if isinstance(self.register.source, model.File):
+            return f"not tried: {rows}. Correct first the {MOST_REFUSED} that import refuses"
+        return (f"compared with the register, and not tried, as it is served: {rows}. Import"
+                " decides whether they are those that were imported")
+
+
+def values_of(row: Row) -> list[str]:
+    """A row as import takes it."""
+    return [row.fields.get(it, "") for it in fields.COLUMNS]
 
 
 class Check:
     """The findings of one file."""
 
-    def __init__(self, found, reg, is_uk):
+    def __init__(self, found: sheet.Sheet, reg: Register | None, is_uk: bool) -> None:
         self.sheet, self.register, self.width = found, reg, 0
         self.findings: list[Finding] = []
         self.rows: list[Row] = []
@@ -117,37 +231,37 @@ class Check:
         # the cells that have an error as they are, whatever is in them
         self.broken: set[tuple[int, str | None]] = set()
         self.context = Context(reg.schools if reg else {}, is_uk)
+        self.known: Known | None = None
 
-    def add(self, row, column, value, text, kind=ERROR, written=None):
+    def add(self, row: int, column: str, value: str, text: str, kind: str = ERROR,
+            written: str | None = None) -> None:
         """Adds a finding."""
         self.findings.append(Finding(row, column, value, text, kind, written))
 
-    def run(self):
+    def run(self) -> None:
         """Reads everything that can be read."""
-        for it in self.sheet.changes:
-            self.add(1, "", "", it, FIXED)
-        for it in self.sheet.empty:
-            self.add(it, "", "", "the row is empty: it is left out", FIXED)
+        for text in self.sheet.changes:
+            self.add(1, "", "", text, FIXED)
+        for number in self.sheet.empty:
+            self.add(number, "", "", "the row is empty: it is left out", FIXED)
         at = header.place_of(self.sheet.rows)
         if at is None:
             row = self.sheet.rows[0].number if self.sheet.rows else 1
-            self.add(row, "", "", f"expected a header with the columns {', '.join(fields.COLUMNS)}")
+            self.add(row, "", "", "expected a header with the columns"
+                     f" {', '.join(fields.COLUMNS)}")
         else:
             self.read_rows(at)
-        order = {it: at for at, it in enumerate(fields.COLUMNS)}
-        self.findings.sort(key=lambda it: (ORDER.index(it.kind), it.row, order.get(it.column, -1)))
+        order = {column: at for at, column in enumerate(fields.COLUMNS)}
+        self.findings.sort(
+            key=lambda it: (ORDER.index(it.kind), it.row, order.get(it.column, -1)))
 
-    def read_rows(self, at):
+    def read_rows(self, at: int) -> None:
         """Reads the header at a place among the rows, and the rows below it."""
         for row in self.sheet.rows[:at]:
             self.add(row.number, "", "", "the row is above the header: it is left out", FIXED)
         found = header.read(self.sheet.rows[at], self.add)
         self.columns, self.width = found.columns, found.width
-        names = {place: column for column, place in self.columns.items()}
-        for number, place, text, is_error in self.sheet.problems:
-            if number >= found.row and (place in names or place is None):
-                self.add(number, names.get(place, "child"), "", text, ERROR if is_error else LOOK)
-                self.broken.add((number, names.get(place)))
+        self.see_problems(found.row)
         progress = Progress("rows", len(self.sheet.rows) - at - 1)
         for count, row in enumerate(self.sheet.rows[at + 1:], 1):
             self.read_row(row)
@@ -155,18 +269,29 @@ class Check:
         progress.end()
         self.across()
         if self.register:
-            self.against()
+            self.against(self.register)
 
-    def read_row(self, row):
+    def see_problems(self, first: int) -> None:
+        """Adds what only a workbook has, from the row of the header on."""
+        names = {place: column for column, place in self.columns.items()}
+        for number, place, text, is_error in self.sheet.problems:
+            if number >= first and (place in names or place is None):
+                column = "child" if place is None else names[place]
+                self.add(number, column, "", text, ERROR if is_error else LOOK)
+                self.broken.add((number, None if place is None else column))
+
+    def read_row(self, row: sheet.Row) -> None:
         """Reads one row."""
         cells = row.cells
         if self.sheet.is_workbook:
             cells = cells + [""] * (self.width - len(cells))
         if self.is_total(cells):
             first = next(it for it in cells if it.strip())
-            self.add(row.number, "child", first, "an application (the row looks like a total: delete it)")
+            self.add(row.number, "child", first,
+                     "an application (the row looks like a total: delete it)")
             return
-        if len(cells) > self.width and not any(it.strip() for it in cells[self.width:]) and not self.has_split_name(cells):
+        is_blank = not any(it.strip() for it in cells[self.width:])
+        if len(cells) > self.width and is_blank and not self.has_split_name(cells):
             self.add(row.number, "", "", "empty fields at the end are left out", FIXED)
             cells = cells[: self.width]
         if len(cells) != self.width:
@@ -174,104 +299,125 @@ class Check:
             return
         found = Row(row.number, {}, dict.fromkeys(fields.COLUMNS[:-1], ""))
         for column in fields.COLUMNS:
-            if column not in self.columns:
-                continue
-            given = cells[self.columns[column]]
-            field = fields.READERS[column](given, self.context)
-            found.given[column], found.fields[column] = given, field.text
-            if field.expected:
-                if (row.number, column) not in self.broken:
-                    self.add(row.number, column, given, field.expected)
-            elif field.text != given:
-                self.add(row.number, column, given, "", FIXED, field.text)
-            elif self.sheet.is_decoded and not given.isascii():
-                self.add(row.number, column, given, "read as Windows-1252: are these the right letters?", LOOK)
+            if column in self.columns:
+                self.read_field(found, column, cells[self.columns[column]])
         self.rows.append(found)
 
-    def is_total(self, cells):
-        """Whether a row is no application but a total of the others."""
-        given = {it: cells[self.columns[it]].strip() for it in ("day", "preferences") if self.columns.get(it, len(cells)) < len(cells)}
-        return next(it for it in cells if it.strip()).strip().lower().rstrip(":") in TOTALS and not any(given.values())
+    def read_field(self, row: Row, column: str, given: str) -> None:
+        """Reads one field of a row."""
+        field = fields.READERS[column](given, self.context)
+        row.given[column], row.fields[column] = given, field.text
+        if field.expected:
+            if (row.number, column) not in self.broken:
+                self.add(row.number, column, given, field.expected)
+        elif field.text != given:
+            self.add(row.number, column, given, "", FIXED, field.text)
+        elif self.sheet.is_decoded and not given.isascii():
+            self.add(row.number, column, given,
+                     "read as Windows-1252: are these the right letters?", LOOK)
 
-    def has_split_name(self, cells):
+    def is_total(self, cells: list[str]) -> bool:
+        """Whether a row is no application but a total of the others."""
+        places = (self.columns.get(it, len(cells)) for it in ("day", "preferences"))
+        first = next(it for it in cells if it.strip()).strip().lower().rstrip(":")
+        return first in TOTALS and not any(cells[it].strip() for it in places if it < len(cells))
+
+    def has_split_name(self, cells: list[str]) -> bool:
         """Whether a row has more fields because its name has a separator in it."""
         at, more = self.columns.get("name", -2) + 1, len(cells) - self.width
         if more <= 0 or self.columns.get("east") != at:
             return False
-        return bool(fields.coordinate(cells[at], None).expected) and not fields.coordinate(cells[at + more], None).expected
+        is_east = [not fields.coordinate(cells[it], None).expected for it in (at, at + more)]
+        return is_east == [False, True]
 
-    def wrong_width(self, number, cells):
+    def wrong_width(self, number: int, cells: list[str]) -> None:
         """Reports a row with too few or too many fields."""
         form = f"{self.width} fields, as the header has them; the row has {len(cells)}"
         at, more = self.columns.get("name", 0), len(cells) - self.width
+        by_place = {place: column for column, place in self.columns.items()}
+        broken = next((place for place, it in enumerate(cells) if "\n" in it), None)
         if self.has_split_name(cells):
             name = self.sheet.separator.join(cells[at : at + 1 + more])
-            self.add(number, "name", name, f'{form} (quote a name with a comma: "{name.strip()}")')
-        elif broken := next((place for place, it in enumerate(cells) if "\n" in it), None):
-            column = next((it for it, place in self.columns.items() if place == broken), "present")
+            self.add(number, "name", name,
+                     f'{form} (quote a name with a comma: "{name.strip()}")')
+        elif broken is not None:
+            column = by_place.get(broken, "present")
             self.add(number, column, cells[broken], f"{form} (is a quote not closed?)")
         elif more > 0:
-            self.add(number, "present" if "present" in self.columns else "preferences", cells[-1], form)
+            column = "present" if "present" in self.columns else "preferences"
+            self.add(number, column, cells[-1], form)
         else:
-            by_place = {place: column for column, place in self.columns.items()}
             self.add(number, by_place.get(len(cells), "present"), "", form)
 
-    def across(self):
+    def across(self) -> None:
         """What is wrong across the rows."""
         again = set()
         for row, first, is_equal in across.repeated(self.rows):
             if is_equal:
-                self.add(row.number, "child", row.given["child"], f"it is the same as row {first.number}: it is left out", FIXED)
+                self.add(row.number, "child", row.given["child"],
+                         f"it is the same as row {first.number}: it is left out", FIXED)
                 again.add(row.number)
             else:
                 columns = [it for it in row.fields if row.fields[it] != first.fields[it]]
-                self.add(row.number, "child", row.given["child"], f"each child once: row {first.number} has the same number with another {texts.listed(columns)}")
+                self.add(row.number, "child", row.given["child"],
+                         f"each child once: row {first.number} has the same number with another"
+                         f" {texts.listed(columns)}")
         self.rows = [it for it in self.rows if it.number not in again]
         for row, other in across.alike(self.rows, self.register):
-            where = f"{other.where}, {texts.shown(other.fields['name'])}, number {other.fields['child']}"
-            self.add(row.number, "name", row.given["name"], f"is it the same child as {where}?", LOOK)
+            name, number = texts.shown(other.fields["name"]), other.fields["child"]
+            self.add(row.number, "name", row.given["name"],
+                     f"is it the same child as {other.where}, {name}, number {number}?", LOOK)
         for row, why, is_error in across.odd_days(self.rows, self.register):
             self.add(row.number, "day", row.given["day"], why, ERROR if is_error else LOOK)
         if len(self.rows) > MOST_ROWS:
             row = self.rows[MOST_ROWS]
-            self.add(row.number, "child", row.given.get("child", ""), f"at most {MOST_ROWS:,} rows in one file; it has {len(self.rows):,}")
+            self.add(row.number, "child", row.given.get("child", ""),
+                     f"at most {MOST_ROWS:,} rows in one file; it has {len(self.rows):,}")
 
-    def against(self):
+    def against(self, reg: Register) -> None:
         """What is wrong beside the register."""
-        for row, why in across.far_homes(self.rows, self.register):
+        for row, why in across.far_homes(self.rows, reg):
             self.add(row.number, "east", row.given["east"], why, LOOK)
-        new = 0
+        self.known = Known(reg, list(self.readable(reg)))
+        self.known.find(self.add)
+        new = sum(it.child not in reg.children for it in self.rows)
+        if new and len(reg.children) + new > MOST_ROWS:
+            last, has = self.rows[-1], f"it has {len(reg.children):,}, and {new:,} are new"
+            self.add(last.number, "child", last.given.get("child", ""),
+                     f"at most {MOST_ROWS:,} children in a register: {has}")
+
+    def readable(self, reg: Register) -> Iterator[Row]:
+        """The rows of children that the register has, of those in which nothing is wrong so far:
+        another must be corrected first.
+        """
+        if not set(fields.COLUMNS[:-1]) <= set(self.columns):
+            return
+        wrong = {it.row for it in self.findings if it.kind == ERROR}
         for row in self.rows:
-            number = int(row.fields["child"] or 0)
-            if number not in self.register.children:
-                new += 1
-                continue
-            differing = across.differing(row, self.register)
-            if differing is None:
-                name = self.register.children[number].name
-                has = f"the register has child {number}, {texts.shown(name)}, which was added by a command"
-                self.add(row.number, "child", row.given["child"], f"a number that is new: {has}")
-            for column, had in differing or ():
-                advice = "to change a child, amend it and keep its row"
-                self.add(row.number, column, row.given.get(column, ""), f"what was imported for child {number}: {texts.shown(had)} ({advice})")
-        if new and len(self.register.children) + new > MOST_ROWS:
-            last, has = self.rows[-1], f"it has {len(self.register.children):,}, and {new:,} are new"
-            self.add(last.number, "child", last.given.get("child", ""), f"at most {MOST_ROWS:,} children in a register: {has}")
+            if row.child in reg.children and row.number not in wrong:
+                yield row
 
 
-def arguments(reader):
+def arguments(reader: argparse.ArgumentParser) -> None:
     """The arguments of the command."""
     reader.add_argument("applications", metavar="APPLICATIONS", help="a CSV or a workbook (.xlsx)")
-    reader.add_argument("--register", metavar="REG.db", help="the register for which the file is")
-    reader.add_argument("--fix", metavar="OUT.csv", help="write the CSV that import takes to this new file")
-    reader.add_argument("--uk-days", action="store_true", help="all days as 03/04/2024 are day/month/year")
-    reader.add_argument("--sheet", metavar="NAME", help="the sheet of a workbook, where several have something")
+    reader.add_argument("--register", metavar="REG.db",
+                        help="the register for which the file is" + model.ADDRESS_HELP)
+    reader.add_argument("--user", metavar="NAME", help=model.USER_HELP)
+    reader.add_argument("--fix", metavar="OUT.csv",
+                        help="write the CSV that import takes to this new file")
+    reader.add_argument("--uk-days", action="store_true",
+                        help="all days as 03/04/2024 are day/month/year")
+    reader.add_argument("--sheet", metavar="NAME",
+                        help="the sheet of a workbook, where several have something")
 
 
-def main(given):
+def main(given: argparse.Namespace) -> int:
     """Checks, and writes."""
-    reg = register.read(given.register) if given.register else None
-    check = Check(sheet.read(given.applications, given.sheet, "name one that is not empty by --sheet"), reg, given.uk_days)
+    read = model.reader(given.user, given.register)
+    reg = read(given.register) if given.register else None
+    advice = "name one that is not empty by --sheet"
+    check = Check(sheet.read(given.applications, given.sheet, advice), reg, given.uk_days)
     with inputs.within(f"checking {given.applications}"):
         check.run()
     shown = [it for it in check.findings if it.kind != FIXED or given.fix or not is_taken(it)]
@@ -284,27 +430,38 @@ def main(given):
     return end(check, given)
 
 
-def is_taken(finding):
+def is_taken(finding: Finding) -> bool:
     """Whether import takes what --fix would change: a byte order mark."""
     return not finding.column and "byte order mark" in finding.text
 
 
-def end(check, given):
+def end(check: Check, given: argparse.Namespace) -> int:
     """The last lines, and the exit status."""
     errors = sum(it.kind == ERROR for it in check.findings)
     looks = sum(it.kind == LOOK for it in check.findings)
-    fixes = [it for it in check.findings if it.kind == FIXED and (given.fix or not is_taken(it))]
-    counted = [texts.count(len(check.rows), "row"), texts.count(errors, "error"), texts.count(len(fixes), "change")]
+    fixes = sum(it.kind == FIXED and bool(given.fix or not is_taken(it)) for it in check.findings)
+    if said := check.known.closing() if check.known else "":
+        print(said)
+    counted = [texts.count(len(check.rows), "row"), texts.count(errors, "error"),
+               texts.count(fixes, "change")]
     print(", ".join(counted) + (f", {looks:,} to look at" if looks else ""))
-    if not given.fix:
-        if fixes and not errors:
-            print(f"--fix OUT.csv writes the file with {'this change' if len(fixes) == 1 else 'these changes'}")
-        elif check.sheet.is_workbook and not errors:
-            print("--fix OUT.csv writes the CSV that import takes")
-        return 1 if errors or fixes else 0
+    if given.fix:
+        return write(check, given, errors)
+    if fixes and not errors:
+        these = "this change" if fixes == 1 else "these changes"
+        print(f"--fix OUT.csv writes the file with {these}")
+    elif check.sheet.is_workbook and not errors:
+        print("--fix OUT.csv writes the CSV that import takes")
+    return 1 if errors or fixes else 0
+
+
+def write(check: Check, given: argparse.Namespace, errors: int) -> int:
+    """Writes the CSV that import takes, if nothing is wrong."""
     if errors:
-        raise Refused(f"{given.fix} is not written: correct {'this error' if errors == 1 else 'these errors'} in {given.applications} first")
+        these = "this error" if errors == 1 else "these errors"
+        raise Refused(f"{given.fix} is not written: correct {these} in {given.applications} first")
     wanted = [it for it in fields.COLUMNS if it in check.columns]
-    sheet.write_new(given.fix, sheet.csv_bytes([wanted, *([row.fields[it] for it in wanted] for row in check.rows)]))
+    rows = ([row.fields[it] for it in wanted] for row in check.rows)
+    sheet.write_new(given.fix, sheet.csv_bytes([wanted, *rows]))
     print(f"{given.fix} is written")
     return 0

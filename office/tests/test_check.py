@@ -5,14 +5,16 @@ import io
 import random
 import re
 import subprocess
+import urllib.request
 import zipfile
 
 import hostile
 import openpyxl
 import pytest
-from conftest import HEADER, PROGRAM, child, do, make, school
+from conftest import HEADER, PROGRAM, apply, child, do, make, school
+from serving import served
 
-from office import check, register, sheet, texts
+from office import check, model, sheet, texts
 
 COLUMNS = HEADER.split(",")
 GIVEN = ["Ada", "Ben", "Cleo", "Dov", "Eve", "Finn", "Gus", "Hana", "Ivo", "June"]
@@ -238,7 +240,112 @@ def test_rows_that_are_known(office, town, tmp_path):
         (tmp_path / "b.csv").write_text("\n".join(text))
         ran = office("check", "b.csv", "--register", "reg.db")
         assert (ran.returncode, found_in(ran.stdout)) == (1, {(number, column, "error")})
+        assert "expected what the register has now for child" in ran.stdout and "to change a child, amend it and keep its row" in ran.stdout
         assert imported(copy, tmp_path / "b.csv")[0] == 3
+    text = [HEADER, rows[1].replace("Abel", "Able").replace("OAK;ELM,2024", "ELM,2024"), rows[2].replace("21,ELM", "22,ELM")]
+    (tmp_path / "b.csv").write_text("\n".join(text))
+    assert found_in(office("check", "b.csv", "--register", "reg.db").stdout) == {(2, "name", "error"), (2, "siblings", "error"), (3, "day", "error")}
+
+
+def test_what_import_makes_of_a_row_decides(office, town, tmp_path):
+    """After an amendment the row that was imported is right, and one with what the register has now is not; after a plan, which ends the application, as well."""
+    copy = tmp_path / "reg.db"
+    copy.write_bytes(town.read_bytes())
+    rows = [HEADER, "1,Ann Abel,0,10,no,,,2024-10-20,OAK;ELM,", "2,Bo Bell,900,20,no,,,2024-10-21,ELM,", "3,Cy Cole,1800,20,no,,,2024-10-22,OAK,"]
+    (tmp_path / "a.csv").write_text("\n".join(rows))
+    assert office("", "import", "reg.db", "a.csv").returncode == 0
+    do(copy, [{**child(1, east=5, name="Ann Amber"), "north": 10, "cmd": "amend"}, {"cmd": "name_plan", "child": 2, "school": "OAK"}, child(4, name="Di Dow"), apply(4, ["ELM"])])
+    was = copy.read_bytes()
+    assert office("check", "a.csv", "--register", "reg.db").returncode == 0
+    amended, planned, added = "1,Ann Amber,5,10,no,,,2024-10-20,OAK;ELM,", rows[2].replace("21,ELM", "22,ELM"), "4,Di Dow,100,0,no,,,2024-10-20,ELM,"
+    cases = [
+        (amended, {(2, "child", "error")}, 'expected the row that was imported for it: the register has child 1, "Ann Amber", with these values, and another row, or none, was imported'),
+        (amended.replace("Amber", "Abel"), {(2, "name", "error")}, 'row 2, column name, "Ann Abel": expected what the register has now for child 1: "Ann Amber"'),
+        (planned, {(2, "child", "error")}, 'the register has child 2, "Bo Bell", whose application a plan ended, and its row had another day or other preferences'),
+        (planned.replace("Bell", "Bull"), {(2, "name", "error")}, 'expected what the register has now for child 2: "Bo Bell"'),
+        (added, {(2, "child", "error")}, 'the register has child 4, "Di Dow", with these values, and another row, or none, was imported'),
+    ]
+    for row, found, said in cases:
+        (tmp_path / "b.csv").write_text("\n".join([HEADER, row, rows[3]]))
+        ran = office("check", "b.csv", "--register", "reg.db")
+        assert (ran.returncode, found_in(ran.stdout)) == (1, found) and said in ran.stdout, ran
+        assert imported(copy, tmp_path / "b.csv")[0] == 3
+    assert copy.read_bytes() == was and "2 rows, 1 error, 0 changes" in ran.stdout
+
+
+def test_rows_with_another_error_are_not_tried(office, town, tmp_path):
+    """What is wrong in a row is corrected first; it hides nothing of the others, and a column that is missing is named alone."""
+    copy = tmp_path / "reg.db"
+    copy.write_bytes(town.read_bytes())
+    rows = [HEADER, "1,Ann Abel,0,10,no,,,2024-10-20,OAK;ELM,", "2,Bo Bell,900,20,no,,,2024-10-21,ELM,"]
+    (tmp_path / "a.csv").write_text("\n".join(rows))
+    assert office("", "import", "reg.db", "a.csv").returncode == 0
+    (tmp_path / "b.csv").write_text("\n".join([rows[0], rows[1].replace("-20", "-32"), rows[2].replace("Bell", "Bull")]))
+    assert found_in(office("check", "b.csv", "--register", "reg.db").stdout) == {(2, "day", "error"), (3, "name", "error")}
+    (tmp_path / "b.csv").write_text("child,name,east,north,looked_after,siblings,day,preferences\n1,Ann Able,0,10,no,,2024-10-20,OAK\n")
+    assert found_in(office("check", "b.csv", "--register", "reg.db").stdout) == {(1, "flags", "error")}
+
+
+def test_more_rows_than_are_tried(office, town, tmp_path):
+    """Of 70 rows that import refuses 50 are named, and how many were not tried: all after the 50th, the last of which is as it was imported."""
+    copy = tmp_path / "reg.db"
+    copy.write_bytes(town.read_bytes())
+    rows = [f"{it},Name{it * 7919 % 10007} Surname,{it * 10},0,no,,,2024-10-20,OAK," for it in range(101, 173)]
+    (tmp_path / "a.csv").write_text("\n".join([HEADER, *rows]))
+    assert office("", "import", "reg.db", "a.csv").returncode == 0
+    changed = [rows[0], *(it.replace("-20,", "-21,") for it in rows[1:-1]), rows[-1]]
+    (tmp_path / "b.csv").write_text("\n".join([HEADER, *changed]))
+    ran = office("check", "b.csv", "--register", "reg.db")
+    assert ran.returncode == 1 and found_in(ran.stdout) == {(at, "day", "error") for at in range(3, 53)}, ran
+    assert ran.stdout.endswith("not tried: 21 rows of children that the register has. Correct first the 50 that import refuses\n72 rows, 50 errors, 0 changes\n"), ran
+    (tmp_path / "b.csv").write_text("\n".join([HEADER, *changed[:51]]))
+    ran = office("check", "b.csv", "--register", "reg.db")
+    assert "not tried" not in ran.stdout and "51 rows, 50 errors" in ran.stdout, ran
+
+
+@pytest.mark.parametrize("answer, status, said", [
+    ('{"name":"RegisterFull","refused":7,"row":1}', 3, 'column child, "1": expected a row that import takes (it refuses this: RegisterFull)'),
+    ("fault: row 1: BadText", 1, 'column child, "1": expected a row that import takes (it refuses this: BadText)'),
+    ("fault: Disk", 1, "the rows cannot be tried on a copy of reg.db: fault: Disk"), ("", 137, "the rows cannot be tried on a copy of reg.db: the program ended with status 137"),
+    ("[]", 0, "reg.db: the program shows another document"),
+])
+def test_whatever_the_program_says_of_a_row(office, town, tmp_path, answer, status, said):
+    """A stand-in for the program, which answers so to an import and is the program otherwise."""
+    (tmp_path / "reg.db").write_bytes(town.read_bytes())
+    (tmp_path / "a.csv").write_text(f"{HEADER}\n1,Ann Abel,0,10,no,,,2024-10-20,OAK;ELM,\n")
+    assert office("", "import", "reg.db", "a.csv").returncode == 0
+    stream = 2 if answer.startswith("fault") else 1
+    fake = tmp_path / "fake"
+    fake.write_text(f"#!/bin/bash\n[ \"$1\" = import ] || exec {PROGRAM} \"$@\"\necho '{answer}' >&{stream}\nexit {status}\n")
+    fake.chmod(0o755)
+    ran = office("check", "a.csv", "--register", "reg.db", program=fake)
+    assert ran.returncode == 1 and said in ran.stdout + ran.stderr and "error in this command" not in ran.stderr, ran
+
+
+def test_beside_a_register_that_is_served(office, town, tmp_path):
+    """By its address a file is compared with what the register has now, and none of it is sent: a difference is to be looked at, as import may take the row; what no import
+    can take is an error. All else is found as beside the file."""
+    copy = tmp_path / "reg.db"
+    copy.write_bytes(town.read_bytes())
+    rows = [HEADER, "1,Ann Abel,0,10,no,,,2024-10-20,OAK;ELM,", "2,Bo Bell,900,20,no,,,2024-10-21,ELM,", "3,Cy Cole,1800,20,no,,,2024-10-22,OAK,"]
+    (tmp_path / "a.csv").write_text("\n".join(rows))
+    assert office("", "import", "reg.db", "a.csv").returncode == 0
+    do(copy, [{**child(1, east=5, name="Ann Amber"), "north": 10, "cmd": "amend"}, {"cmd": "name_plan", "child": 2, "school": "OAK"}])
+    with served(copy) as (address, _):
+        with urllib.request.urlopen(f"{address}/register") as answer:
+            shown = answer.read()
+        ran = office("check", "a.csv", "--register", address, "--fix", "fixed.csv", "--user", "jane", stdin="secret\n")
+        assert (ran.returncode, found_in(ran.stdout)) == (0, {(2, "name", "look at"), (2, "east", "look at")}), ran
+        assert 'look at row 2, column name, "Ann Abel": the register has now for child 1: "Ann Amber"; is this the row that was imported?' in ran.stdout, ran
+        said = "compared with the register, and not tried, as it is served: 3 rows of children that the register has. Import decides whether they are those that were imported\n"
+        assert said in ran.stdout and (tmp_path / "fixed.csv").exists(), ran
+        (tmp_path / "b.csv").write_text("\n".join([HEADER, rows[2].replace("900", "901"), "7,Old Hand,100,0,no,,,2024-10-20,OAK,", "8,New One,9000,0,no,,,2024-10-20,ASH,"]))
+        ran = office("check", "b.csv", "--register", address)
+        assert (ran.returncode, found_in(ran.stdout)) == (1, {(2, "east", "look at"), (3, "child", "error"), (4, "preferences", "error")}), ran
+        assert 'a number that is new: the register has child 7, "Old Hand", which was added by a command' in ran.stdout
+        with urllib.request.urlopen(f"{address}/register") as answer:
+            assert answer.read() == shown
+    assert office("check", "a.csv", "--user", "jane").returncode == 2
 
 
 def test_the_program_and_the_check_agree_on_random_files(town, tmp_path, capsys):
@@ -251,7 +358,7 @@ def test_the_program_and_the_check_agree_on_random_files(town, tmp_path, capsys)
     values["day"] += ["1990-01-01", "1989-12-31", "2110-12-31", "2025-12-31", "٢٠٢٤-١٠-٢٠"]
     values["looked_after"] += ["no ", "ja"]
     chance = random.Random(48)
-    reg = register.read(str(town))
+    reg = model.read(str(town))
     counts = {True: 0, False: 0}
     for at in range(160):
         rows = [good(it) for it in chance.sample(range(70), 3)]
