@@ -6,7 +6,6 @@ import os
 import pty
 import re
 import signal
-import socket
 import socketserver
 import sqlite3
 import ssl
@@ -17,6 +16,7 @@ from typing import ClassVar
 
 import pytest
 from conftest import PROGRAM, ROOT, apply, child, do, make, school
+from serving import served
 
 from office import commands, rules, senders
 
@@ -185,7 +185,8 @@ def wait_for(task, is_good):
 def test_the_program_dies(office, reg, tmp_path):
     """What is stopped by a program that ends is not taken for done, and all lines are in the file of the rest or answered."""
     fake = tmp_path / "fake"
-    fake.write_text(f'#!/bin/bash\nif [ -e once ]; then for it in 1 2 3; do IFS= read -r it; printf "%s\\n" "$it"; done | {PROGRAM} "$@"; kill -9 $$; fi\n: > once\nexec {PROGRAM} "$@"\n')
+    fake.write_text(f'#!/bin/bash\n[ "$1" = do ] || exec {PROGRAM} "$@"\n'
+        f'if [ -e once ]; then for it in 1 2 3; do IFS= read -r it; printf "%s\\n" "$it"; done | {PROGRAM} "$@"; kill -9 $$; fi\n: > once\nexec {PROGRAM} "$@"\n')
     fake.chmod(0o755)
     (tmp_path / "a.jsonl").write_text(text(child(it) for it in range(11, 20)))
     environment = {**os.environ, "ADMISSIONS": str(fake)}
@@ -313,18 +314,9 @@ def test_asked_on_a_terminal(tools, reg, tmp_path, said, done, lost):
 
 @pytest.fixture(name="desk")
 def desk_fixture(reg):
-    """The address at which the register is served."""
-    with socket.socket() as held:
-        # (a port that is bound so is given to nobody else, and the program can listen on it)
-        held.setsockopt(socket.SOL_SOCKET, socket.SO_REUSEADDR, 1)
-        held.bind(("127.0.0.1", 0))
-        port = held.getsockname()[1]
-        run = subprocess.Popen([PROGRAM, "serve", str(reg), str(port)], stdout=subprocess.PIPE, text=True)
-        assert run.stdout and run.stdout.readline() == f"serving on 127.0.0.1:{port}\n"
-        yield f"http://127.0.0.1:{port}", run
-        run.terminate()
-        run.wait()
-        run.stdout.close()
+    """The address at which the register is served, and the run that serves it."""
+    with served(reg) as found:
+        yield found
 
 
 def test_over_http(office, desk, tmp_path):
@@ -337,16 +329,38 @@ def test_over_http(office, desk, tmp_path):
     assert ran.returncode == 1 and 'line 1: leave_list of child 2: the name given is "Bea Bell"' in ran.stdout and "line 2" not in ran.stdout
     assert "nothing was sent" in ran.stderr
     assert "in use" in office("send", "b.jsonl", *TODAY).stderr
+    (tmp_path / "c.jsonl").write_text(text([child(11), {"cmd": "name_plan", "child": 2, "school": "OAK"}, {"cmd": "decline", "child": 2, "school": "OAK"}]))
+    ran = office("send", "c.jsonl", *TODAY, "--register", desk[0])
+    assert (ran.returncode, ran.stderr) == (1, "") and ran.stdout.splitlines()[0] == "line 3: child 2 has its place at OAK by a plan, which no command ends (NotOffered)", ran
     desk[1].terminate()
     desk[1].wait()
     ran = office("send", "b.jsonl", *TODAY, "--url", desk[0])
-    assert ran.returncode == 1 and "no connection" in ran.stderr and "lines 1, 2: not tried\n" in ran.stdout and "may be done" not in ran.stdout
-    assert (tmp_path / "b.left.jsonl").read_bytes() == (tmp_path / "b.jsonl").read_bytes()
+    assert ran.returncode == 1 and ran.stderr.startswith(f"admissions-send: nothing was sent: {desk[0]} cannot be read: no connection: ") and not ran.stdout, ran
+    assert [it.name for it in tmp_path.glob("b.*")] == ["b.jsonl"]
+
+
+@pytest.mark.parametrize("lines, part, how", RISKS)
+def test_the_same_is_asked_over_http(office, desk, reg, tmp_path, lines, part, how):
+    """Of a register that is served all is asked that is asked of its file; but whether there is a copy cannot be seen from there, and that stays a question."""
+    (tmp_path / "a.jsonl").write_text(text(lines))
+    (tmp_path / "names.csv").write_text("reply;child;name\nleave;2;Bea Bell\n")
+    names, has_draw = ("--names", "names.csv") if "names" in how else (), any(it["cmd"] in ("round", "fill") for it in lines)
+    ran = office("send", "a.jsonl", *TODAY, *names, "--url", desk[0])
+    is_there = part in ran.stdout or part == "without a copy of this very register"
+    assert ran.returncode == 1 and is_there and "nothing was sent: " in ran.stderr and not list(tmp_path.glob("a.answers*")), ran
+    assert ("over HTTP: whether there is a copy of the register from before it cannot be seen from here" in ran.stdout) == has_draw, ran
+    ran = office("send", "a.jsonl", *TODAY, *names, "--url", desk[0], "--yes")
+    assert ran.stdout.count("Before anything is sent") == 1 and (tmp_path / "a.answers").exists(), ran
 
 
 class Site(http.server.BaseHTTPRequestHandler):
-    """What a site asks of a request, and how it refuses: the names of `answers` are those of the users."""
+    """What a site asks of a request, and how it refuses: the names of `answers` are those of the users. It gives its register to all but those whose name
+    ends in -blind."""
 
+    register = {
+        "children": [], "draws": [], "schools": [],
+        "season": {"closing": "2024-10-31", "holidays": [], "last_list_day": "2025-12-31", "offer_day": "2025-03-03", "phase": "secondary", "year": 2025},
+    }
     answers: ClassVar[dict[str, tuple[int, str]]] = {
         "jane": (200, '{"done":true}'), "busy": (503, '{"busy":true}'), "gone": (502, '{"unanswered":true}'), "full": (429, '{"reason":"wait","status":429}'),
         "none": (401, '{"reason":"sign in","status":401}'), "page": (500, "<html>"), "lost": (404, "<html>"),
@@ -357,15 +371,22 @@ class Site(http.server.BaseHTTPRequestHandler):
         """Notes what is sent."""
         body = self.rfile.read(int(self.headers["Content-Length"])).decode()
         self.seen.append((self.headers["Origin"], self.headers["Content-Type"], self.user()[1], body))
-        self.do_GET()
+        self.answer(*self.answers[self.user()[0]])
 
     def user(self):
         """The name and the password."""
         return base64.b64decode(self.headers["Authorization"].removeprefix("Basic ")).decode().split(":")
 
     def do_GET(self):
-        """Answers by the name."""
-        status, said = self.answers[self.user()[0]]
+        """Answers by the path and the name."""
+        name = self.user()[0]
+        if name.endswith("-blind") or self.path != "/register":
+            self.answer(*self.answers[name.removesuffix("-blind")])
+        else:
+            self.answer(200, json.dumps(self.register))
+
+    def answer(self, status, said):
+        """Answers."""
         self.send_response(status)
         self.end_headers()
         self.wfile.write(said.encode())
@@ -403,17 +424,27 @@ def test_what_a_site_refuses(office, site, tmp_path, user, said, may_be_done):
     assert ("line 1: no answer; it may be done" in ran.stdout) == may_be_done and ("lines 1, 2: not tried" in ran.stdout) != may_be_done
 
 
-UNNAMED = [*(it[:2] for it in REFUSALS), ("jane", "the server answered with status 200, and no letter of this child"), ("lost", "")]
+BLIND = [
+    *((user, f"/register cannot be read: {said}") for user, said, _ in REFUSALS), ("lost", "/register cannot be read: the server answered with status 404"),
+    ("jane", ": the program shows another document than this command reads (KeyError('season')): both must be of one release"),
+]
 
 
 @pytest.mark.parametrize("name, lines", [("a.csv", "decline,23,ELM,Somebody Else\n"), ("a.jsonl", text([{"cmd": "name_plan", "child": 23, "school": "ELM"}]))])
-@pytest.mark.parametrize("user, said", UNNAMED)
-def test_a_name_that_cannot_be_read(office, site, tmp_path, user, said, name, lines):
-    """Nothing is sent of a file with a child whose name cannot be compared or shown. A child that the register does not have (404) stops nothing."""
+@pytest.mark.parametrize("user, said", BLIND)
+def test_a_register_that_cannot_be_read(office, site, tmp_path, user, said, name, lines):
+    """Nothing is sent where nothing can be asked of the register."""
     (tmp_path / name).write_text(lines)
-    ran = office("send", name, *TODAY, "--url", f"http://127.0.0.1:{site}", "--user", user, stdin="secret\n")
-    assert ran.returncode == 1 and len(Site.seen) == (not said) == len(list(tmp_path.glob("a.answers*"))), ran
-    assert not said or ran.stderr.endswith(f"admissions-send: nothing was sent: the name of child 23 cannot be read: {said}\n"), ran
+    url = f"http://127.0.0.1:{site}"
+    ran = office("send", name, *TODAY, "--url", url, "--user", f"{user}-blind", stdin="secret\n")
+    assert ran.returncode == 1 and ran.stderr.endswith(f"admissions-send: nothing was sent: {url}{said}\n") and not Site.seen and not list(tmp_path.glob("a.answers*")), ran
+
+
+@pytest.mark.parametrize("name, lines", [("a.csv", "decline,23,ELM,Somebody Else\n"), ("a.jsonl", text([{"cmd": "name_plan", "child": 23, "school": "ELM"}]))])
+def test_a_child_that_the_register_does_not_have_stops_nothing(office, site, tmp_path, name, lines):
+    (tmp_path / name).write_text(lines)
+    ran = office("send", name, *TODAY, "--url", f"http://127.0.0.1:{site}", "--user", "lost", stdin="secret\n")
+    assert ran.returncode == 1 and len(Site.seen) == 1 == len(list(tmp_path.glob("a.answers*"))), ran
 
 
 def test_no_password(office, tmp_path):
@@ -466,9 +497,10 @@ def test_a_certificate_that_nobody_has_signed(office, tmp_path, monkeypatch):
     try:
         given = ("a.jsonl", *TODAY, "--url", f"https://localhost:{server.server_address[1]}", "--user", "jane")
         ran = office("send", *given, stdin="secret\n")
-        assert ran.returncode == 1 and "stopped: no connection: the certificate of localhost is not trusted: self-signed certificate\n" in ran.stderr and not Site.seen, ran
+        said = f"{given[-3]} cannot be read: no connection: the certificate of localhost is not trusted: self-signed certificate\n"
+        assert ran.returncode == 1 and ran.stderr.endswith(f"admissions-send: nothing was sent: {said}") and not Site.seen, ran
         monkeypatch.setenv("SSL_CERT_FILE", str(tmp_path / "crt"))
-        ran = office("send", *given, "--again", stdin="secret\n")
+        ran = office("send", *given, stdin="secret\n")
         assert ran.returncode == 0 and len(Site.seen) == 1, ran
     finally:
         server.shutdown()

@@ -1,19 +1,29 @@
-"""admissions-send: another terminal changes the register while a round or a fill waits for its answer."""
+"""admissions-send: another changes the register while a round or a fill waits for its answer, or between the lines of a file."""
+import http.server
+import json
 import os
 import pty
+import socketserver
 import subprocess
+import threading
+import urllib.error
+import urllib.request
 
 import pytest
 from conftest import apply, child, do
+from serving import do_over, served
 from test_send import ROUND, TODAY, count, text
 
-PAIRS_DIFFER = "reg.db has changed since it was compared, and the lots would go to other children: print the pairs again, make the sheet anew, and draw again"
+OTHER_PAIRS = "has changed since it was compared, and the lots would go to other children: print the pairs again, make the sheet anew, and draw again"
+PAIRS_DIFFER = f"reg.db {OTHER_PAIRS}"
+# child 1 gets a plan and child 3 applies: the pairs are four again, and the lots would go to other children
+OTHERS = [{"cmd": "name_plan", "child": 1, "school": "OAK"}, apply(3, ["OAK", "ELM"])]
 
 
-def changed_while_asked(tools, folder, changes):
+def changed_while_asked(tools, folder, changes, *where):
     """Sends a.jsonl on a terminal where `changes` is called at the question, and then yes is typed: the status and the output."""
     ours, theirs = pty.openpty()
-    run = subprocess.Popen([tools / "admissions-send", "a.jsonl", *TODAY], cwd=folder, stdin=theirs, stdout=subprocess.PIPE, stderr=subprocess.STDOUT,
+    run = subprocess.Popen([tools / "admissions-send", "a.jsonl", *TODAY, *where], cwd=folder, stdin=theirs, stdout=subprocess.PIPE, stderr=subprocess.STDOUT,
                            env={**os.environ, "ADMISSIONS": str(tools / "admissions"), "PYTHONUNBUFFERED": "1"})
     os.close(theirs)
     assert run.stdout
@@ -35,9 +45,8 @@ def late_fixture(reg):
 
 
 def test_a_round_of_other_pairs_is_not_sent(tools, late, tmp_path):
-    """Child 1 gets a plan and child 3 applies: the pairs are four again, and the lots would go to other children."""
     (tmp_path / "a.jsonl").write_text(text([ROUND]))
-    status, out = changed_while_asked(tools, tmp_path, lambda: do(late, [{"cmd": "name_plan", "child": 1, "school": "OAK"}, apply(3, ["OAK", "ELM"])]))
+    status, out = changed_while_asked(tools, tmp_path, lambda: do(late, OTHERS))
     assert status == 1 and f"nothing was sent: {PAIRS_DIFFER}\n" in out and count(late, "draw") == 0, out
     assert not list(tmp_path.glob("a.answers*"))
 
@@ -45,7 +54,7 @@ def test_a_round_of_other_pairs_is_not_sent(tools, late, tmp_path):
 def test_what_comes_before_the_round_is_sent_and_what_follows_is_not(tools, late, tmp_path):
     lines = [child(8, name="Di Dow"), ROUND, child(9, name="Ed East")]
     (tmp_path / "a.jsonl").write_text(text(lines))
-    status, out = changed_while_asked(tools, tmp_path, lambda: do(late, [{"cmd": "name_plan", "child": 1, "school": "OAK"}, apply(3, ["OAK", "ELM"])]))
+    status, out = changed_while_asked(tools, tmp_path, lambda: do(late, OTHERS))
     assert status == 1 and f"stopped: {PAIRS_DIFFER}\n" in out and "lines 2, 3: not tried\n" in out and count(late, "draw") == 0 and count(late) == 4, out
     assert (tmp_path / "a.left.jsonl").read_text() == text(lines[1:])
 
@@ -69,3 +78,102 @@ def test_a_fill_is_sent_where_nothing_changed_and_not_after_another_draw(tools, 
     assert status == 1 and PAIRS_DIFFER in out and count(reg, "draw") == 1, out
     status, out = changed_while_asked(tools, tmp_path, lambda: None)
     assert status == 0 and "child 3 was offered the place" in out and count(reg, "draw") == 2, out
+
+
+def test_what_changed_at_the_question_over_http(tools, late, tmp_path):
+    """Other pairs; the same pairs and another home; and nothing, where the round is held."""
+    (tmp_path / "a.jsonl").write_text(text([ROUND]))
+    with served(late) as (address, _):
+        ask = lambda *changes: changed_while_asked(tools, tmp_path, lambda: do_over(address, changes), "--url", address)  # noqa: E731
+        status, out = ask({**child(2, east=400, name="Bo Bell"), "cmd": "amend"})
+        assert status == 1 and f"nothing was sent: {address} has changed since it was compared: see what was changed, and send the line again\n" in out, out
+        status, out = ask(*OTHERS)
+        assert status == 1 and f"nothing was sent: {address} {OTHER_PAIRS}\n" in out and not list(tmp_path.glob("a.answers*")), out
+        assert json.load(urllib.request.urlopen(f"{address}/register"))["draws"] == []
+        status, out = ask()
+        assert status == 0 and "line 1: round 1: 2 children were offered a place, 0 kept theirs, 0 have none\n1 of 1 line done" in out, out
+
+
+class Between(http.server.BaseHTTPRequestHandler):
+    """Passes each request on to the desk of its server, and first lets another act."""
+
+    def do_GET(self):
+        """Passes it on."""
+        body = self.rfile.read(int(self.headers.get("Content-Length") or 0))
+        self.server.act(self.path, json.loads(body)["cmd"] if body else None)
+        request = urllib.request.Request(self.server.desk + self.path, body or None)
+        try:
+            with urllib.request.urlopen(request) as answer:
+                status, said = answer.status, answer.read()
+        except urllib.error.HTTPError as error:
+            status, said = error.code, error.read()
+        self.send_response(status)
+        self.end_headers()
+        self.wfile.write(said)
+
+    do_POST = do_GET
+
+    def log_message(self, *_):
+        """Prints nothing."""
+
+
+def sent_between(office, tmp_path, desk, lines, act):
+    """Sends lines past one that acts: `act` is called with the path and the command of each request, before it."""
+    (tmp_path / "a.jsonl").write_text(text(lines))
+    with socketserver.TCPServer(("127.0.0.1", 0), Between) as server:
+        server.desk, server.act = desk, act
+        thread = threading.Thread(target=server.serve_forever, daemon=True)
+        thread.start()
+        try:
+            url = f"http://127.0.0.1:{server.server_address[1]}"
+            return office("send", "a.jsonl", *TODAY, "--yes", "--url", url), url
+        finally:
+            server.shutdown()
+            thread.join()
+
+
+def test_a_change_between_the_lines_over_http(office, late, tmp_path):
+    """Another sends after the first line of the file: the round, just before which the register is read once more, is not sent."""
+    with served(late) as (desk, _):
+        lines, reads = [child(8, name="Di Dow"), ROUND, child(9, name="Ed East")], []
+
+        def act(path, _):
+            reads.extend([path] * (path == "/register"))
+            if len(reads) == 3 and path == "/register":
+                do_over(desk, OTHERS)
+
+        ran, url = sent_between(office, tmp_path, desk, lines, act)
+        assert ran.returncode == 1 and ran.stderr == f"admissions-send: stopped: {url} {OTHER_PAIRS}\n" and "lines 2, 3: not tried\n1 of 3 lines done" in ran.stdout, ran
+        shown = json.load(urllib.request.urlopen(f"{desk}/register"))
+        assert shown["draws"] == [] and [it["child"] for it in shown["children"]] == [1, 2, 3, 8] and len(reads) == 3
+        assert (tmp_path / "a.left.jsonl").read_text() == text(lines[1:])
+
+
+def test_a_change_just_before_the_round_over_http(office, late, tmp_path):
+    """Another sends in the moment before the round itself, which nobody can prevent: its lots are read afterwards, and are seen to be of other children."""
+    with served(late) as (desk, _):
+        ran, url = sent_between(office, tmp_path, desk, [ROUND, child(9)], lambda _, command: command == "round" and do_over(desk, OTHERS))
+        said = f"stopped: draw 1 was held after another change of {url}, and its lots went to other children: restore the copy from before it, and draw again\n"
+        assert ran.returncode == 1 and ran.stderr == f"admissions-send: {said}" and "line 2: not tried\n1 of 2 lines done" in ran.stdout, ran
+
+
+def test_a_file_may_change_the_pairs_itself(office, late, tmp_path):
+    """What the lines before a round do to the pairs is meant; and what another does meanwhile to nobody's pairs stops nothing. Then a fill of the same file."""
+    with served(late) as (desk, _):
+        lines = [apply(3, ["OAK", "ELM"]), {**ROUND, "lots": [1, 2, 3, 1, 2, 3]}, {"cmd": "decline", "child": 1, "school": "OAK"},
+            {"cmd": "fill", "draw": 2, "school": "OAK", "day": "2025-03-10", "lots": [7, 5]}]
+        other = {"cmd": "raise_pan", "school": "ELM", "pan": 3}
+        ran, _ = sent_between(office, tmp_path, desk, lines, lambda _, command: command == "round" and do_over(desk, [other]))
+        # (all three live at one place: the lots of OAK are 1, 2 and 3, so child 1 has it, and for its place those of 2 and 3 are 7 and 5)
+        assert ran.returncode == 0 and "line 2: round 1: 3 children were offered a place, 0 kept theirs, 0 have none\n" in ran.stdout, ran
+        assert "line 4: child 3 was offered the place\n4 of 4 lines done" in ran.stdout, ran
+
+
+def test_a_change_between_two_draws_over_http(office, late, tmp_path):
+    """A fill after the round of the same file is compared with what the round left: another's answer before it is seen."""
+    with served(late) as (desk, _):
+        lines = [apply(3, ["OAK", "ELM"]), {**ROUND, "lots": [1, 2, 3, 1, 2, 3]}, {"cmd": "decline", "child": 1, "school": "OAK"},
+            {"cmd": "fill", "draw": 2, "school": "OAK", "day": "2025-03-10", "lots": [7, 5]}]
+        other = {"cmd": "leave_list", "child": 2, "school": "OAK"}
+        ran, url = sent_between(office, tmp_path, desk, lines, lambda _, command: command == "decline" and do_over(desk, [other]))
+        assert ran.returncode == 1 and ran.stderr == f"admissions-send: stopped: {url} {OTHER_PAIRS}\n" and "line 4: not tried\n3 of 4 lines done" in ran.stdout, ran
