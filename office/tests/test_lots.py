@@ -8,8 +8,9 @@ import openpyxl
 import pytest
 from conftest import PROGRAM
 from seasons import Town, file_of
+from serving import served
 
-from office import next_draw, ranking, register
+from office import model
 
 DAY = ("--day", "2025-06-09")
 
@@ -123,11 +124,13 @@ def test_the_pairs_are_those_of_the_program(tmp_path, office):
             town.answers()
         late = set(range(1, 9)) if seed % 3 == 0 else set()
         reg = file_of(town.season, tmp_path / f"{seed}.db", late)
-        problem = ranking.Problem(register.read(str(reg)))
+        shown = model.read(str(reg))
         as_printed = lambda found: "".join(f"{code} {number}\n" for code, number in sorted(found))  # noqa: E731
-        wanted = [(tuple(), next_draw.round_pairs(problem)), *(((it,), next_draw.fill_pairs(problem, it)) for it in "ABCD")]
+        wanted = [(tuple(), shown.pairs), *(((it,), shown.pairs_of_fill(it)) for it in "ABCD")]
         printed = [office("", "pairs", reg, *words).stdout for words, _ in wanted]
         assert printed == [as_printed(found) for _, found in wanted] and any(printed)
+        by_model = [it for it in town.season.pairs() if it[1] not in late]
+        assert sorted(shown.pairs) == by_model and (seed % 3 == 0 or [sorted(shown.pairs_of_fill(it)) for it in "ABCD"] == [fill_pairs(town.season, it) for it in "ABCD"])
 
 
 def command(office, name, sheet, number, *more):
@@ -169,6 +172,28 @@ def test_pairs_of_a_draw_that_the_register_has(office, town, tmp_path):
     for number in (2, 4):
         ran = command(office, "old.pairs", "old.csv", number)
         assert (ran.returncode, ran.stdout, ran.stderr) == (1, "", said), ran
+
+
+def test_by_the_address_of_a_register(office, town, tmp_path):
+    """The sheet with the names, the command of a round and of a fill, and what is refused: of a register that is served as of its file."""
+    for name, pairs in (("round", town.season.pairs()), ("fill", fill_pairs(town.season, "A"))):
+        (tmp_path / f"{name}.csv").write_text("".join(f"{code},{number},{at}\n" for at, (code, number) in enumerate(pairs)))
+    write_pairs(tmp_path / "old.pairs", town.before[0].pairs())
+    (tmp_path / "old.csv").write_text("".join(f"{code},{number},{at}\n" for at, (code, number) in enumerate(town.before[0].pairs())))
+    draw = ("--number", "2", *DAY)
+    forms = [("round.pairs", "round.csv", *draw), ("fill.pairs", "fill.csv", *draw, "--school", "A"), ("fill.pairs", "fill.csv", *draw), ("old.pairs", "old.csv", *draw),
+        ("round.pairs", "round.csv", "--number", "1", *DAY), ("fill.pairs", "fill.csv", *draw, "--school", "A", "--user", "jane")]
+    by_file = [office("lots", *it[:-2 if "jane" in it else None], "--register", "reg.db") for it in forms]
+    assert [it.returncode for it in by_file] == [0, 0, 1, 1, 1, 0]
+    assert office("lots", "round.pairs", "--sheet", "file.csv", "--register", "reg.db", "--names").returncode == 0
+    with served(tmp_path / "reg.db") as (address, _):
+        for given, wanted in zip(forms, by_file):
+            ran = office("lots", *given, "--register", address, stdin="secret\n")
+            said = ran.stderr.replace(address, "reg.db")
+            assert (ran.returncode, ran.stdout) == (wanted.returncode, wanted.stdout) and (said == wanted.stderr or "jane" in given), (given, ran)
+        assert office("lots", "round.pairs", "--sheet", "served.csv", "--register", address, "--names").returncode == 0
+    assert (tmp_path / "served.csv").read_bytes() == (tmp_path / "file.csv").read_bytes()
+    assert office("lots", *forms[-1], "--register", "reg.db").returncode == 2
 
 
 def test_a_sheet_of_other_pairs_is_named_as_a_whole(office, tmp_path):
