@@ -1,12 +1,16 @@
 // @ts-check
 // Days, counts and the register's own terms in plain English.
 
+// (made once: a list of 2,000 children has as many days)
 /** @type {Intl.DateTimeFormatOptions} */
 const FORM = { timeZone: "UTC", day: "numeric", month: "long", year: "numeric" };
+const DAYS = new Intl.DateTimeFormat("en-GB", FORM);
+const WEEKDAYS = new Intl.DateTimeFormat("en-GB", { ...FORM, weekday: "long" });
+const NUMBERS = new Intl.NumberFormat("en-GB");
 export const DAY_LENGTH = 86400000;
 
-// A day of the register, 2025-03-03, as people read it: 3 March 2025
-export const day = (text) => new Date(text + "T00:00:00Z").toLocaleDateString("en-GB", FORM);
+// A day of the register, 2025-03-03, as people read it: 3 March 2025. One that is none, as 12025-03-03, as it is
+export const day = (text) => formatted(DAYS, text);
 
 // The days that the register accepts
 export const FIRST_DAY = "1990-01-01";
@@ -33,7 +37,12 @@ function dayOf(year, month, date) {
   return [year, String(month).padStart(2, "0"), String(date).padStart(2, "0")].join("-");
 }
 
-export const weekday = (text) => new Date(text + "T00:00:00Z").toLocaleDateString("en-GB", { timeZone: "UTC", weekday: "long" }) + " " + day(text);
+export const weekday = (text) => formatted(WEEKDAYS, text).replace(",", "");
+
+function formatted(format, text) {
+  const on = new Date(text + "T00:00:00Z");
+  return Number.isNaN(on.valueOf()) ? text : format.format(on);
+}
 
 export const daysBetween = (from, to) => (Date.parse(to) - Date.parse(from)) / DAY_LENGTH;
 export const daysAfter = (from, count) => new Date(Date.parse(from) + count * DAY_LENGTH).toISOString().slice(0, 10);
@@ -46,7 +55,7 @@ export function today() {
 
 export const time = (moment) => moment.toLocaleString("en-GB",
   { day: "numeric", month: "long", year: "numeric", hour: "2-digit", minute: "2-digit", second: "2-digit" });
-export const count = (number) => Number(number).toLocaleString("en-GB");
+export const count = (number) => NUMBERS.format(Number(number));
 export const plural = (number, one, many) => `${count(number)} ${number === 1 ? one : many}`;
 
 // What a question says of an offer that a child loses

@@ -11,6 +11,7 @@ const child = (number) => register.children.get(number);
 
 test("a day as people read it", () => {
   assert.deepEqual([day("2025-03-03"), weekday("2025-04-02")], ["3 March 2025", "Wednesday 2 April 2025"]);
+  assert.deepEqual([day("12025-03-03"), weekday("12025-03-03")], ["12025-03-03", "12025-03-03"]);
 });
 
 test("a day as somebody types it, with the day first", () => {
